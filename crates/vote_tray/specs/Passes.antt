@@ -1,0 +1,41 @@
+-- What contracts see of a tray and of a pass.
+use Rattle.std.specs.Prelude.{ℕ, ◌+◌, ◌<◌, ◌≤◌, max, List, [], ◌∷◌, ◌++◌, Contains}
+use Rattle.atomic_table.specs.Seated.{TableId}
+use Rattle.vote_tray.specs.Numbers.{AtMostOnce}
+
+-- which tray it is, the number of its places, which are numbered from 0, and the number of passes that it handed out
+pub record TrayId : Type 0 where
+  pub table : TableId
+  pub size : ℕ
+  pub passes : ℕ
+
+-- the pass's tray, the number of taken places that it has seen, the places that it took, in that order, and its parts, which are numbered from 0
+pub record PassState : Type 0 where
+  pub tray : TrayId
+  pub seen : ℕ
+  pub places : List ℕ
+  pub parts : List ℕ
+
+-- a pass that has taken nothing, and has this part alone
+abbrev pub new_pass : TrayId → ℕ → PassState
+new_pass t part = record { tray = t; seen = 0; places = []; parts = part ∷ [] }
+
+-- the pass once it has seen this many places taken
+abbrev pub with_seen : PassState → ℕ → PassState
+with_seen p word = record p { seen = word }
+
+-- the pass once it has taken this place
+abbrev pub with_place : PassState → ℕ → PassState
+with_place p place = record p { seen = place + 1; places = p.places ++ place ∷ [] }
+
+-- the places of the first and then those of the second, the parts of both, and the greater of the two numbers seen
+abbrev pub joined : PassState → PassState → PassState
+joined p q = record p { seen = max p.seen q.seen; places = p.places ++ q.places; parts = p.parts ++ q.parts }
+
+-- the pass has seen at most the size, its places are distinct and below the size, and its parts are distinct and below the number of passes
+abbrev pub IsSound : PassState → Type 0
+IsSound p = (p.seen ≤ p.tray.size) × AtMostOnce p.tray.size p.places × AtMostOnce p.tray.passes p.parts
+
+-- the pass has every part of its tray, as it has once all passes were joined into it
+abbrev pub HasAllParts : PassState → Type 0
+HasAllParts p = (part : ℕ) → part < p.tray.passes → Contains p.parts part
