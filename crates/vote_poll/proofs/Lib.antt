@@ -1,0 +1,12 @@
+mod Assembly
+pub mod Equality
+mod BallotLaws
+mod FirstBad
+mod GrammarLaws
+mod LinesLaws
+mod NamesLaws
+mod OneReading
+mod Places
+mod PollFileLaws
+mod ReadingLaws
+pub mod OptionLaws

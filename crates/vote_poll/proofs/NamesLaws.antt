@@ -1,0 +1,44 @@
+-- Look-ups of a name.
+use Rattle.std.proofs.Common.{◌≡◌, ◌<◌, ℕ, Bool, true, not, List, [], ◌∷◌, map, refl, length, get_or, Option, Some, None, arith}
+use Rattle.std.specs.List.{position, prefix_len, AllPass, list_all}
+use Rattle.std.specs.Str.{IsUtf8, bytes_eq}
+use Rattle.std.specs.Cmp.Lexicographic.{bytes_decides}
+use Rattle.std.proofs.lemmas.Bool.{and_parts}
+use Rattle.std.proofs.lemmas.Bool.Decides.{nat_tests}
+use Rattle.std.proofs.lemmas.List.Quantifiers.{position-Some}
+use Rattle.std.proofs.lemmas.List.{length-map}
+use Rattle.std.proofs.lemmas.List.Elements.{All-weaker}
+use Rattle.std.proofs.lemmas.List.Sums.{AllPass-from_list_all}
+use Rattle.std.proofs.lemmas.Str.{IsUtf8-from_ascii}
+use Rattle.std.proofs.lemmas.Str.Ascii.{IsAscii-from_all}
+use Rattle.vote_poll.specs.Names.{is_within, is_voter_byte, is_voter_name, place_of}
+use Rattle.vote_poll.specs.declared.TheConstants.{MAX_VOTER_NAME}
+
+prefix_len-map : {X Y : Type 0} (p : Y → Bool) (f : X → Y) (xs : List X) → prefix_len p (map f xs) ≡ prefix_len (λ x. p (f x)) xs
+prefix_len-map p f [] = refl
+prefix_len-map p f (x ∷ xs) = rw (prefix_len-map p f xs)
+
+pub position-map : {X Y : Type 0} (p : Y → Bool) (f : X → Y) (xs : List X) → position p (map f xs) ≡ position (λ x. p (f x)) xs
+position-map p f xs = rw (prefix_len-map (λ y. not (p y)) f xs, length-map)
+
+-- ---- a voter's name is text
+voter_byte_is_ascii : (b : ℕ) → is_voter_byte b ≡ true → b < 128
+voter_byte_is_ascii b h = grind (arith, nat_tests)
+
+voter_name_is_text : (name : List ℕ) → is_voter_name name ≡ true → IsUtf8 name
+voter_name_is_text name h =
+    let (long, letters) = and_parts (is_within 1 MAX_VOTER_NAME (length name)) (list_all is_voter_byte name) h in
+    IsUtf8-from_ascii name (IsAscii-from_all name (All-weaker (λ b. is_voter_byte b ≡ true) (λ b. b < 128) voter_byte_is_ascii name (AllPass-from_list_all is_voter_byte name letters)))
+
+none_if_not_some : {X : Type 0} (o : Option X) → ((x : X) → o ≡ Some x → ⊥) → o ≡ None
+none_if_not_some None h = refl
+none_if_not_some (Some x) h = absurd (h x refl)
+
+-- bytes that are no text are nowhere among voters' names
+pub place_of-no_text : (name : List ℕ) (roll : List (List ℕ)) → AllPass is_voter_name roll → ¬ (IsUtf8 name) → place_of name roll ≡ None
+place_of-no_text name roll names no_text = none_if_not_some (place_of name roll) (λ i found.
+    let at = position-Some (bytes_eq name) roll i [] found in
+    let same : name ≡ get_or roll i [] = (bytes_decides name (get_or roll i [])).0 at.1 in
+    no_text (rw same (voter_name_is_text (get_or roll i []) (names i [] at.0))))
+
+pub ruleset name_laws = (position-map)

@@ -1,0 +1,16 @@
+-- what the contracts of public calls say
+pub mod Options
+pub mod Ranks
+pub mod Names
+pub mod PollContent
+pub mod PollFile
+pub mod BallotLine
+pub mod Readings
+pub mod Comparisons
+pub mod Lines
+pub mod Lists
+-- what types stand for, and what private functions say of their parts
+pub mod PollView
+pub mod PollParts
+pub mod FieldsView
+pub mod Parsing

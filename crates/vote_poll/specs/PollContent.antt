@@ -1,0 +1,39 @@
+-- What a poll file says. The quorum is of section 4.2 of the Constitution, the default option and the ratios of A.5 of its
+-- Appendix A; that a poll sets the multiple of Q is this project's own.
+use Rattle.std.specs.Prelude.{◌≡◌, ℕ, ◌+◌, ◌≤◌, List, length, None, IsTrue}
+use Rattle.std.specs.List.{All}
+use Rattle.vote_poll.specs.Names.{first_bad, is_option_name, is_title, is_voter_name}
+use Rattle.vote_poll.specs.Options.{at_option}
+use Rattle.vote_poll.specs.declared.TheConstants.{MAX_OPTIONS, MAX_ELECTORS, MAX_RATIO, MAX_QUORUM_MULTIPLE}
+
+-- The default option is the last one. The options but the default have a ratio each.
+pub record PollContent : Type 0 where
+  pub title : List ℕ
+  pub options : List (List ℕ)
+  pub ratios : List ℕ
+  pub quorum_multiple : ℕ
+  pub roll : List (List ℕ)
+
+-- the number of options, which is the number of the default option
+abbrev pub option_count : PollContent → ℕ
+option_count poll = length poll.options
+
+abbrev pub elector_count : PollContent → ℕ
+elector_count poll = length poll.roll
+
+-- the majority ratio of an option other than the default
+abbrev pub ratio_of : PollContent → ℕ → ℕ
+ratio_of poll option = at_option poll.ratios option 0
+
+-- the limits that each poll keeps
+pub record IsPoll (poll : PollContent) : Type 0 where
+  pub title : IsTrue (is_title poll.title)
+  pub options_min : 2 ≤ option_count poll
+  pub options_max : option_count poll ≤ MAX_OPTIONS
+  pub option_names : first_bad is_option_name poll.options ≡ None
+  pub ratio_count : length poll.ratios + 1 ≡ option_count poll
+  pub ratio_range : All (λ ratio. (1 ≤ ratio) × (ratio ≤ MAX_RATIO)) poll.ratios
+  pub quorum_range : poll.quorum_multiple ≤ MAX_QUORUM_MULTIPLE
+  pub electors_min : 1 ≤ elector_count poll
+  pub electors_max : elector_count poll ≤ MAX_ELECTORS
+  pub voter_names : first_bad is_voter_name poll.roll ≡ None

@@ -1,0 +1,17 @@
+-- What a ballot says: for each option its rank, or none. By A.5 of the Constitution's Appendix A ranked options are preferred
+-- to unranked ones, which are equal with one another; that a rank is a number, and the smaller preferred, is this project's own.
+use Rattle.std.specs.Prelude.{ℕ, List, Bool, true, false, nat_lt, Option, Some, None}
+use Rattle.vote_poll.specs.Options.{at_option}
+
+abbrev pub rank_of : List (Option ℕ) → ℕ → Option ℕ
+rank_of ranks option = at_option ranks option None
+
+-- whether one rank is preferred to another: any rank to none, and of two ranks the smaller
+abbrev pub is_preferred : Option ℕ → Option ℕ → Bool
+is_preferred None other = false
+is_preferred (Some rank) None = true
+is_preferred (Some rank) (Some other) = nat_lt rank other
+
+-- whether a ballot with these ranks prefers option a to option b
+abbrev pub prefers : List (Option ℕ) → ℕ → ℕ → Bool
+prefers ranks a b = is_preferred (rank_of ranks a) (rank_of ranks b)

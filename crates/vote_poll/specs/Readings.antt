@@ -1,0 +1,65 @@
+-- What a poll reads in a line.
+use Rattle.std.specs.Prelude.{◌≡◌, ◌≢◌, ℕ, ◌<◌, List, [], ◌∷◌, length, map, Bool, ◌==◌, ◌&&◌, nat_le, if◌then◌else◌, Option, Some, None, option_map, ◌*◌, ◌+◌, ◌-◌}
+use Rattle.std.specs.List.{slice_split, before_first, after_first}
+use Rattle.std.specs.Str.{byte}
+use Rattle.vote_poll.specs.Names.{is_voter_name, is_within, place_of}
+use Rattle.vote_poll.specs.BallotLine.{IsBallotLine}
+use Rattle.vote_poll.specs.Lists.{all_some}
+use Rattle.vote_poll.specs.PollContent.{PollContent, option_count}
+use Rattle.vote_poll.specs.declared.TheConstants.{MAX_LINE}
+use Rattle.vote_poll.specs.declared.reading.Reading.{Reading}
+use Rattle.vote_poll.specs.declared.reading.Reading.TheVariants.{Ballot, Bad}
+use Rattle.vote_poll.specs.declared.reading.LineFault.TheVariants.{Shape, RankCount, Roll}
+
+-- The first case that holds: the line is no ballot line; it has another number of ranks than the poll has options; its voter
+-- is not on the roll; it is a ballot of the voter at this place of the roll.
+abbrev pub IsReading : PollContent → List ℕ → Reading → Type 0
+IsReading poll line (Bad Shape) = (voter : List ℕ) (ranks : List (Option ℕ)) → IsBallotLine line voter ranks → ⊥
+IsReading poll line (Bad RankCount) = (voter : List ℕ) × (ranks : List (Option ℕ)) × IsBallotLine line voter ranks × (length ranks ≢ option_count poll)
+IsReading poll line (Bad Roll) = (voter : List ℕ) × (ranks : List (Option ℕ)) × IsBallotLine line voter ranks × (length ranks ≡ option_count poll) × (place_of voter poll.roll ≡ None)
+IsReading poll line (Ballot place ranks) = (voter : List ℕ) × IsBallotLine line voter ranks × (length ranks ≡ option_count poll) × (place_of voter poll.roll ≡ Some place)
+
+-- a ballot is of one of the electors, and has a rank or none for each option
+abbrev pub ReadingFits : ℕ → ℕ → Reading → Type 0
+ReadingFits options electors (Bad line_fault) = Unit {0}
+ReadingFits options electors (Ballot voter ranks) = (voter < electors) × (length ranks ≡ options)
+
+-- ---- the same as a function, by the first space and by the commas after it
+
+-- the rank that a text spells
+abbrev pub rank_in : List ℕ → Option (Option ℕ)
+rank_in [] = None
+rank_in (a ∷ []) = if a == byte "-" then Some None else (if is_within (byte "1") (byte "9") a then Some (Some (a - byte "0")) else None)
+rank_in (a ∷ b ∷ []) = if is_within (byte "1") (byte "9") a && is_within (byte "0") (byte "9") b then Some (Some (10 * (a - byte "0") + (b - byte "0"))) else None
+rank_in (a ∷ b ∷ c ∷ rest) = None
+
+-- the ranks that a text lists
+abbrev pub ranks_in : List ℕ → Option (List (Option ℕ))
+ranks_in text = all_some (map rank_in (slice_split (λ b. b == byte ",") text))
+
+-- a voter's name, and ranks
+abbrev pub NamedRanks : Type 0
+NamedRanks = List ℕ × List (Option ℕ)
+
+abbrev pub is_space : ℕ → Bool
+is_space b = b == byte " "
+
+abbrev pub named : List ℕ → List (Option ℕ) → NamedRanks
+named voter ranks = (voter, ranks)
+
+-- the voter and the ranks of a ballot line
+abbrev pub ballot_in : List ℕ → Option NamedRanks
+ballot_in line =
+    if nat_le (length line) MAX_LINE && is_voter_name (before_first is_space line)
+    then option_map (named (before_first is_space line)) (ranks_in (after_first is_space line)) else None
+
+abbrev pub reading_at : List (Option ℕ) → Option ℕ → Reading
+reading_at ranks None = Bad Roll
+reading_at ranks (Some place) = Ballot place ranks
+
+abbrev pub reading_of : PollContent → Option NamedRanks → Reading
+reading_of poll None = Bad Shape
+reading_of poll (Some ballot) = if length ballot.1 == option_count poll then reading_at ballot.1 (place_of ballot.0 poll.roll) else Bad RankCount
+
+abbrev pub reading : PollContent → List ℕ → Reading
+reading poll line = reading_of poll (ballot_in line)

@@ -1,0 +1,93 @@
+//! Why a poll file is refused, and the words for it.
+ghost use Rattle.std.specs.Prelude.{◌≡◌};
+ghost use Rattle.vote_poll.specs.declared.fault.PollFault.TheVariants.{Memory};
+
+use std::alloc::{AllocError, AllocFailed};
+use std::fmt;
+use thiserror::Error;
+
+/// A key that a poll file has to have, in the order in which they are looked for. It is displayed as it stands in
+/// the file.
+#[derive(Clone, Copy, Debug, PartialEq, Eq)]
+pub enum PollKey {
+    /// `title`, a text.
+    Title,
+    /// `options`, a list of texts: the names of the options but the default.
+    Options,
+    /// `ratios`, a list of whole numbers: the majority ratios of these options.
+    Ratios,
+    /// `default`, a text: the name of the default option.
+    DefaultOption,
+    /// `quorum`, a whole number: the multiple of Q.
+    Quorum,
+    /// `roll`, a list of texts: the names of the voters.
+    Roll,
+}
+
+impl fmt::Display for PollKey {
+    fn fmt<W: fmt::Write>(&self, f: &mut fmt::Formatter<W>) -> fmt::Result {
+        f.write_str(match self {
+            PollKey::Title => "title",
+            PollKey::Options => "options",
+            PollKey::Ratios => "ratios",
+            PollKey::DefaultOption => "default",
+            PollKey::Quorum => "quorum",
+            PollKey::Roll => "roll",
+        })
+    }
+}
+
+/// Why a poll file is refused. Where several of these hold, the first in this order is answered; memory alone can
+/// take the place of another.
+#[derive(Clone, Copy, Debug, PartialEq, Eq, Error)]
+pub enum PollFault {
+    /// The text is no UTF-8, or no TOML document.
+    #[error("poll refused: syntax")]
+    Syntax,
+    /// The key is missing or of the wrong kind, or an entry of its list is; each key before it is there and right.
+    #[error("poll refused: key {0}")]
+    Key(PollKey),
+    /// The title has no byte or more than [`MAX_TITLE`](crate::MAX_TITLE), or one outside 0x20 to 0x7E.
+    #[error("poll refused: title")]
+    Title,
+    /// With the default there are fewer than 2 options, or more than [`MAX_OPTIONS`](crate::MAX_OPTIONS).
+    #[error("poll refused: number of options")]
+    OptionCount,
+    /// The option with this number (from 1) is the first whose name is misshapen, or is that of an option before it.
+    /// A name has 1 to [`MAX_OPTION_NAME`](crate::MAX_OPTION_NAME) bytes from 0x20 to 0x7E, no space first or last.
+    #[error("poll refused: name of option {0}")]
+    OptionName(u8),
+    /// There is not one ratio for each option but the default, or a ratio is not from 1 to
+    /// [`MAX_RATIO`](crate::MAX_RATIO).
+    #[error("poll refused: ratios")]
+    Ratio,
+    /// The multiple of Q is not from 0 to [`MAX_QUORUM_MULTIPLE`](crate::MAX_QUORUM_MULTIPLE).
+    #[error("poll refused: quorum")]
+    Quorum,
+    /// The roll has no name, or more than [`MAX_ELECTORS`](crate::MAX_ELECTORS).
+    #[error("poll refused: size of roll")]
+    RollSize,
+    /// The voter at this place of the roll (from 0) is the first whose name is misshapen, or is that of a voter before.
+    /// A name has 1 to [`MAX_VOTER_NAME`](crate::MAX_VOTER_NAME) bytes of `a` to `z`, `0` to `9`, `.` and `-`.
+    #[error("poll refused: voter at position {0}")]
+    VoterName(usize),
+    /// Memory was asked for and refused. It can come in place of any other answer.
+    #[error("out of memory")]
+    Memory,
+}
+
+impl From<AllocError> for PollFault {
+    ghost from_gives = { λ _ e. e ≡ Memory };
+
+    fn from(_error: AllocError) -> PollFault {
+        PollFault::Memory
+    }
+}
+
+impl<T: Drop> From<AllocFailed<T>> for PollFault {
+    ghost from_gives = { λ _ e. e ≡ Memory };
+
+    fn from(_error: AllocFailed<T>) -> PollFault {
+        PollFault::Memory
+    }
+}

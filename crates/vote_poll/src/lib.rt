@@ -1,0 +1,71 @@
+//! What was written down before the count: the poll, its roll, and the lines of the ballot file.
+//!
+//! The words of this crate:
+//! - [`Poll`]: what a poll file says. It has a title, two to [`MAX_OPTIONS`] options of which the last is the
+//!   default option, a majority ratio for each other option, the multiple of Q that is its quorum, and the
+//!   roll of its electors. [`Poll::from_text`] reads it, or answers the first [`PollFault`].
+//! - [`Lines`]: the lines of a ballot file, each an envelope. [`Lines::split`] makes them.
+//! - [`Ranks`]: what one ballot says of the options, and which option it prefers to which.
+//! - [`Reading`]: what a poll reads in a line, by [`read_line`]: a ballot of an elector, or a [`LineFault`].
+//!
+//! Options are numbered from 1, as in the file, and the default option has the greatest number. Voters are
+//! numbered from 0, by their place on the roll. Places of lines are numbered from 0; the line at place `i` is
+//! the envelope with stamp `i + 1`. All texts are bytes, and names are compared byte for byte.
+//!
+//! What is promised, memory aside:
+//! - A poll file means one poll or one fault (`specs/PollFile.antt`), and `from_text` answers just that. Where
+//!   several faults hold it is the first in the order of [`PollFault`].
+//! - A text has one list of lines (`specs/Lines.antt`, [`lines_are_unique`]), and `split` answers that list, or
+//!   that it is too long.
+//! - A poll reads one thing in a line (`specs/Readings.antt`, [`readings_are_unique`]), by a grammar that says
+//!   how a ballot is spelled (`specs/BallotLine.antt`). `read_line` answers it for each line of bytes, whatever
+//!   they are; it takes no memory and refuses nothing.
+//! - A ballot that was read is of a voter on the roll, and has a rank or none for each option.
+//!
+//! The Constitution's sections are named where a rule is the Constitution's: 4.2 for the quorum, and A.5 of
+//! Appendix A for ranks, ratios and the default option. The formats of the two files are this project's own.
+#![tactic(auto)]
+
+mod fault;
+mod limits;
+mod lines;
+mod poll;
+mod poll_file;
+mod ranks;
+mod reading;
+
+pub use fault::{PollFault, PollKey};
+pub use lines::{Lines, LinesFault, MAX_LINES, lines_are_unique};
+pub use poll::Poll;
+pub use ranks::Ranks;
+pub use reading::{LineFault, Reading, read_line, readings_are_unique};
+
+/// The most options that a poll can have, the default among them. It has two at least.
+pub const MAX_OPTIONS: usize = 16;
+
+/// The most electors that a roll can have. It has one at least.
+pub const MAX_ELECTORS: usize = 10_000;
+
+/// The greatest majority ratio of an option. The least is 1.
+pub const MAX_RATIO: u8 = 10;
+
+/// The greatest multiple of Q that can be a poll's quorum. The least is 0, which is no quorum.
+pub const MAX_QUORUM_MULTIPLE: u8 = 10;
+
+/// The greatest rank that a ballot can give an option. The least is 1.
+pub const MAX_RANK: u8 = 99;
+
+/// The most bytes that a ballot line can have, its line feed not counted.
+pub const MAX_LINE: usize = 200;
+
+/// The most bytes that the name of a voter can have.
+pub const MAX_VOTER_NAME: usize = 32;
+
+/// The most bytes that the title of a poll can have.
+pub const MAX_TITLE: usize = 80;
+
+/// The most bytes that the name of an option can have.
+pub const MAX_OPTION_NAME: usize = 40;
+
+#[cfg(test)]
+mod tests;

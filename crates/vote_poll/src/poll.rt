@@ -1,0 +1,141 @@
+//! The poll: its options, its quorum and its roll of voters.
+ghost use Rattle.std.specs.Prelude.{◌≡◌, ◌≤◌, ◌<◌, ◌+◌, ◌-◌, Some, length, slice_get, option_map, position, string_bytes};
+ghost use Rattle.std.specs.Str.{bytes_eq};
+ghost use Rattle.vote_poll.specs.Names.{place_of};
+ghost use Rattle.vote_poll.specs.Options.{IsOption};
+ghost use Rattle.vote_poll.specs.PollContent.{IsPoll, option_count, elector_count, ratio_of};
+ghost use Rattle.vote_poll.specs.PollParts.{content_of};
+
+use crate::{MAX_ELECTORS, MAX_OPTIONS};
+use indexmap::IndexSet;
+use std::marker::Model;
+
+/// What a poll file says; contracts see it as a `PollContent`. Options are numbered from 1, and the last is the default
+/// option of A.5 of the Constitution's Appendix A. Voters are numbered from 0, by their place on the roll. No two
+/// options and no two voters have the same name.
+#[derive(Drop)]
+pub struct Poll {
+    title: String,
+    options: Vec<String>,
+    ratios: Vec<u8>,
+    quorum_multiple: u8,
+    roll: IndexSet<String>,
+}
+
+/// The place of a name among the names of options.
+fn place_of(options: &[String], name: &[u8]) -> Option<usize>
+    ensures { result ≡ position (λ option. bytes_eq name.now (string_bytes option)) options.now }
+{
+    options.iter().position(|option| name == option.as_bytes())
+}
+
+impl Model for Poll {
+    ghost use Rattle.vote_poll.specs.PollContent.{PollContent};
+
+    ghost Value = { PollContent };
+
+    ghost use Rattle.vote_poll.specs.PollView.{content};
+    ghost use Rattle.vote_poll.specs.PollContent.{IsPoll};
+
+    ghost view = { content };
+
+    ghost invariant = { λ p. IsPoll (content p) };
+}
+
+impl Poll {
+    /// A poll of these parts, where the last option is the default.
+    pub(crate) fn new(
+        title: String,
+        options: Vec<String>,
+        ratios: Vec<u8>,
+        quorum_multiple: u8,
+        roll: IndexSet<String>,
+    ) -> Poll
+        requires { IsPoll (content_of title options ratios quorum_multiple roll) }
+        ensures { result ≡ content_of title options ratios quorum_multiple roll }
+    {
+        Poll {
+            title,
+            options,
+            ratios,
+            quorum_multiple,
+            roll,
+        }
+    }
+
+    /// How many options there are, the default among them; so this is the number of the default option, too.
+    pub fn options(&self) -> u8
+        ensures number { result ≡ option_count self.now }
+        ensures at_least { 2 ≤ result }
+        ensures at_most { result ≤ MAX_OPTIONS }
+    {
+        self.options.len() as u8
+    }
+
+    /// How many electors there are, which is the number of names on the roll: the N of which section 4.2 of the
+    /// Constitution takes the square root.
+    pub fn electors(&self) -> usize
+        ensures number { result ≡ elector_count self.now }
+        ensures at_least { 1 ≤ result }
+        ensures at_most { result ≤ MAX_ELECTORS }
+    {
+        self.roll.len()
+    }
+
+    /// The multiple of Q that is the quorum, 0 to [`MAX_QUORUM_MULTIPLE`](crate::MAX_QUORUM_MULTIPLE), where 0 is no
+    /// quorum. Section 4.2 of the Constitution has 3 for general resolutions; that a poll sets it is this project's own.
+    pub fn quorum_multiple(&self) -> u8
+        ensures multiple { result ≡ self.now.quorum_multiple }
+        ensures at_most { result ≤ 10 }
+    {
+        self.quorum_multiple
+    }
+
+    /// The title of the poll: 1 to [`MAX_TITLE`](crate::MAX_TITLE) printable ASCII bytes.
+    pub fn title(&self) -> &str
+        ensures { result.now ≡ self.now.title }
+    {
+        self.title.as_str()
+    }
+
+    /// The majority ratio of an option other than the default, 1 to [`MAX_RATIO`](crate::MAX_RATIO): by A.5 of the
+    /// Constitution's Appendix A, S where it needs a supermajority of S to 1, and 1 where it needs none.
+    #[tactic(auto, using(crate::proofs::OptionLaws::options))]
+    pub fn ratio(&self, option: u8) -> u8
+        requires first { 1 ≤ option }
+        requires below_default { option < option_count self.now }
+        ensures ratio { result ≡ ratio_of self.now option }
+        ensures range { (1 ≤ result) × (result ≤ 10) }
+    {
+        self.ratios[option as usize - 1]
+    }
+
+    /// The name of an option, the default among them: 1 to [`MAX_OPTION_NAME`](crate::MAX_OPTION_NAME) printable ASCII
+    /// bytes.
+    pub fn option_name(&self, option: u8) -> &str
+        requires { IsOption (option_count self.now) option }
+        ensures { slice_get self.now.options (option - 1) ≡ Some result.now }
+    {
+        self.options[option as usize - 1].as_str()
+    }
+
+    /// The number (from 1) of the option with this name, or none where no option has it.
+    #[tactic(auto, using(crate::proofs::NamesLaws::name_laws))]
+    pub fn option_of(&self, name: &[u8]) -> Option<u8>
+        ensures { result ≡ option_map (λ place. place + 1) (place_of name.now self.now.options) }
+    {
+        let place = place_of(&self.options, name)?;
+        Some(place as u8 + 1)
+    }
+
+    /// The number (from 0) of the voter with this name, which is the place on the roll, or none where no voter has it. The
+    /// bytes may be anything. The roll is hashed, so the look-up does not grow with it.
+    pub fn voter_of(&self, name: &[u8]) -> Option<usize>
+        ensures { result ≡ place_of name.now self.now.roll }
+    {
+        match std::str::from_utf8(name) {
+            Ok(name) => self.roll.get_index_of(name),
+            Err(_) => None,
+        }
+    }
+}

@@ -1,0 +1,207 @@
+//! Reading a poll file.
+ghost use Rattle.std.specs.Prelude.{◌≡◌, map, option_map};
+ghost use Rattle.std.specs.Option.{ok_or};
+ghost use Rattle.vote_poll.specs.FieldsView.{fields_view};
+ghost use Rattle.vote_poll.specs.declared.fault.PollFault.TheVariants as fault;
+ghost use Rattle.toml.specs.Data.{get_member, as_array, as_str, as_integer};
+ghost use Rattle.toml.specs.View.{items_view, view, table_view};
+ghost use Rattle.vote_poll.specs.PollFile.{Gives, document, each_of, err_or, field, fields_of, first_fault, list_of, poll_in, poll_of};
+
+use crate::fault::{PollFault, PollKey};
+use crate::limits::{is_title, option_names, ratios_of, voters_of};
+use crate::poll::Poll;
+use crate::{MAX_ELECTORS, MAX_OPTIONS, MAX_QUORUM_MULTIPLE};
+use std::alloc::Global;
+use toml::{Table, Value};
+
+/// The table of a text.
+fn document(alloc: Global, text: &[u8]) -> Result<Table, PollFault>
+    ensures { Gives table_view result (document text.now) }
+{
+    match toml::table_from_slice(alloc, text) {
+        Ok(table) => Ok(table),
+        Err(error) => {
+            if error.is_memory() {
+                return Err(PollFault::Memory);
+            }
+            Err(PollFault::Syntax)
+        }
+    }
+}
+
+/// The value at a key of the table.
+fn value_at<'t>(table: &'t Table, name: &str) -> Option<&'t Value>
+    ensures { option_map (λ value. view value.now) result ≡ get_member name.now (table_view table.now) }
+{
+    table.get(name)
+}
+
+/// The text at a key.
+fn text_at<'t>(table: &'t Table, name: &str, key: PollKey) -> Result<&'t str, PollFault>
+    ensures { Gives (λ text. text.now) result (field key name.now as_str (table_view table.now)) }
+{
+    match value_at(table, name) {
+        Some(Value::String(text)) => Ok(text.as_str()),
+        _ => Err(PollFault::Key(key)),
+    }
+}
+
+/// The whole number at a key.
+fn integer_at(table: &Table, name: &str, key: PollKey) -> Result<i64, PollFault>
+    ensures { Gives (λ number. number) result (field key name.now as_integer (table_view table.now)) }
+{
+    match value_at(table, name) {
+        Some(Value::Integer(number)) => Ok(*number),
+        _ => Err(PollFault::Key(key)),
+    }
+}
+
+/// The list at a key.
+fn items_at<'t>(table: &'t Table, name: &str, key: PollKey) -> Result<&'t [Value], PollFault>
+    ensures { Gives (λ items. items_view items.now) result (field key name.now as_array (table_view table.now)) }
+{
+    match value_at(table, name) {
+        Some(Value::Array(items)) => Ok(items.as_slice()),
+        _ => Err(PollFault::Key(key)),
+    }
+}
+
+/// The texts of a list.
+fn texts_of(alloc: Global, items: &[Value], key: PollKey) -> Result<Vec<&str>, PollFault>
+    ensures { Gives (λ texts. map (λ text. text.now) texts.items) result (ok_or (each_of as_str (items_view items.now)) (fault.Key key)) }
+{
+    let mut texts = Vec::new(alloc);
+    for item in items {
+        let Some(text) = item.as_str() else {
+            return Err(PollFault::Key(key));
+        };
+        texts.push(text)?;
+    }
+    Ok(texts)
+}
+
+/// The whole numbers of a list.
+fn integers_of(alloc: Global, items: &[Value], key: PollKey) -> Result<Vec<i64>, PollFault>
+    ensures { Gives (λ numbers. numbers.items) result (ok_or (each_of as_integer (items_view items.now)) (fault.Key key)) }
+{
+    let mut numbers = Vec::new(alloc);
+    for item in items {
+        let Some(number) = item.as_integer() else {
+            return Err(PollFault::Key(key));
+        };
+        numbers.push(number)?;
+    }
+    Ok(numbers)
+}
+
+/// The texts of the list at a key.
+fn texts_at<'t>(
+    alloc: Global,
+    table: &'t Table,
+    name: &str,
+    key: PollKey,
+) -> Result<Vec<&'t str>, PollFault>
+    ensures { Gives (λ texts. map (λ text. text.now) texts.items) result (field key name.now (list_of as_str) (table_view table.now)) }
+{
+    let items = items_at(table, name, key)?;
+    texts_of(alloc, items, key)
+}
+
+/// The whole numbers of the list at a key.
+fn integers_at(
+    alloc: Global,
+    table: &Table,
+    name: &str,
+    key: PollKey,
+) -> Result<Vec<i64>, PollFault>
+    ensures { Gives (λ numbers. numbers.items) result (field key name.now (list_of as_integer) (table_view table.now)) }
+{
+    let items = items_at(table, name, key)?;
+    integers_of(alloc, items, key)
+}
+
+/// The six keys of a poll file, each of its kind.
+#[derive(Drop)]
+struct Fields<'t> {
+    title: &'t str,
+    options: Vec<&'t str>,
+    ratios: Vec<i64>,
+    default_option: &'t str,
+    quorum: i64,
+    roll: Vec<&'t str>,
+}
+
+/// The keys of a table.
+#[tactic(auto, unfolding(crate::specs::PollFile::fields_of))]
+fn fields_of(alloc: Global, table: &Table) -> Result<Fields<'_>, PollFault>
+    ensures { Gives fields_view result (fields_of (table_view table.now)) }
+{
+    let title = text_at(table, "title", PollKey::Title)?;
+    let options = texts_at(alloc, table, "options", PollKey::Options)?;
+    let ratios = integers_at(alloc, table, "ratios", PollKey::Ratios)?;
+    let default_option = text_at(table, "default", PollKey::DefaultOption)?;
+    let quorum = integer_at(table, "quorum", PollKey::Quorum)?;
+    let roll = texts_at(alloc, table, "roll", PollKey::Roll)?;
+    Ok(Fields {
+        title,
+        options,
+        ratios,
+        default_option,
+        quorum,
+        roll,
+    })
+}
+
+/// The poll that the keys give, or its first fault.
+fn poll_of(alloc: Global, fields: Fields<'_>) -> Result<Poll, PollFault>
+    ensures { Gives (λ poll. poll) result (err_or (first_fault (fields_view fields.entry)) (poll_of (fields_view fields.entry))) }
+{
+    let Fields {
+        title,
+        mut options,
+        ratios,
+        default_option,
+        quorum,
+        roll,
+    } = fields;
+    if !is_title(title.as_bytes()) {
+        return Err(PollFault::Title);
+    }
+    let ratio_count = options.len();
+    options.push(default_option)?;
+    if options.len() < 2 || options.len() > MAX_OPTIONS {
+        return Err(PollFault::OptionCount);
+    }
+    let options = option_names(alloc, &options)?;
+    if ratios.len() != ratio_count {
+        return Err(PollFault::Ratio);
+    }
+    let ratios = ratios_of(alloc, &ratios)?;
+    if quorum < 0 || quorum > i64::from(MAX_QUORUM_MULTIPLE) {
+        return Err(PollFault::Quorum);
+    }
+    if roll.is_empty() || roll.len() > MAX_ELECTORS {
+        return Err(PollFault::RollSize);
+    }
+    let roll = voters_of(alloc, &roll)?;
+    let title = String::from_str(alloc, title)?;
+    Ok(Poll::new(title, options, ratios, quorum as u8, roll))
+}
+
+impl Poll {
+    /// The poll that the text of a poll file means, or the first of its faults. The text is TOML with the six keys of
+    /// [`PollKey`]; other keys are passed over.
+    ///
+    /// # Errors
+    ///
+    /// The first [`PollFault`] that holds, in the order of that type, each just where it holds; or
+    /// [`PollFault::Memory`].
+    #[tactic(auto, unfolding(crate::specs::PollFile::poll_in))]
+    pub fn from_text(alloc: Global, text: &[u8]) -> Result<Poll, PollFault>
+        ensures { Gives (λ poll. poll) result (poll_in text.now) }
+    {
+        let table = document(alloc, text)?;
+        let fields = fields_of(alloc, &table)?;
+        poll_of(alloc, fields)
+    }
+}

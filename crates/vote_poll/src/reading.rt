@@ -1,0 +1,196 @@
+//! Reading a line of the ballot file.
+ghost use Rattle.std.specs.Prelude.{◌≡◌, ◌==◌, ◌<◌, ◌≤◌, ◌↔◌, ℕ, List, length, take, position, option_map, IfSome, IsTrue, IfNone, None, []};
+ghost use Rattle.std.specs.List.{before_first, after_first, list_all};
+ghost use Rattle.std.specs.Str.{byte};
+ghost use Rattle.vote_poll.specs.Comparisons.{is_same_reading};
+ghost use Rattle.vote_poll.specs.Names.{is_voter_byte, is_voter_name};
+ghost use Rattle.vote_poll.specs.Parsing.{kept_and_count, voter_kept_and_count, reading_from};
+ghost use Rattle.vote_poll.specs.PollContent.{PollContent, elector_count, option_count};
+ghost use Rattle.vote_poll.specs.Readings.{IsReading, ReadingFits, reading, rank_in, ranks_in, ballot_in, is_space};
+ghost use Rattle.std.proofs.Common.{rules};
+ghost use Rattle.std.specs.Cmp.Rules.{comparing};
+
+use crate::poll::Poll;
+use crate::ranks::Ranks;
+use crate::{MAX_LINE, MAX_VOTER_NAME};
+
+/// What a poll reads in a line. Two readings are the same for `==` just where they are equal for contracts.
+#[derive(Clone, Copy, Debug)]
+pub enum Reading {
+    /// A ballot of the voter at this place of the roll (from 0), with a rank or none for each option of the poll.
+    Ballot { voter: usize, ranks: Ranks },
+    /// No ballot of this poll, for the first reason that holds.
+    Bad(LineFault),
+}
+
+/// Why a line is no ballot. Where several hold, the first in this order is answered.
+#[derive(Clone, Copy, Debug, PartialEq, Eq)]
+pub enum LineFault {
+    /// The line has more than [`MAX_LINE`] bytes, or is not a voter's name, one space, and ranks from 1 to
+    /// [`MAX_RANK`](crate::MAX_RANK) or hyphens with a comma between each two.
+    Shape,
+    /// The line has more or fewer ranks than there are options.
+    RankCount,
+    /// The voter's name is not on the roll.
+    Roll,
+}
+
+/// The rank that a text spells, a hyphen for none.
+fn rank_of(text: &[u8]) -> Option<Option<u8>>
+    ensures { result ≡ rank_in text.now }
+{
+    match text {
+        [b'-'] => Some(None),
+        [ones @ b'1'..=b'9'] => Some(Some(*ones - b'0')),
+        [tens @ b'1'..=b'9', ones @ b'0'..=b'9'] => {
+            Some(Some(10 * (*tens - b'0') + (*ones - b'0')))
+        }
+        _ => None,
+    }
+}
+
+/// Whether a voter's name may have this byte.
+fn is_voter_byte(byte: u8) -> bool
+    ensures { result ≡ is_voter_byte byte }
+{
+    matches!(byte, b'a'..=b'z' | b'0'..=b'9' | b'.' | b'-')
+}
+
+/// Whether a voter's name may have each of these bytes.
+fn are_voter_bytes(text: &[u8]) -> bool
+    ensures { result ≡ list_all is_voter_byte text.now }
+{
+    text.iter().all(|byte| is_voter_byte(*byte))
+}
+
+/// Whether a text is a voter's name.
+pub(crate) fn is_voter_name(text: &[u8]) -> bool
+    ensures { result ≡ is_voter_name text.now }
+{
+    1 <= text.len() && text.len() <= MAX_VOTER_NAME && are_voter_bytes(text)
+}
+
+/// The ranks that a text lists, of which as many are kept as a poll can have options, and how many there are.
+fn ranks_of(text: &[u8]) -> Option<(Ranks, usize)>
+    requires { length text.now ≤ MAX_LINE }
+    ensures { result ≡ option_map kept_and_count (ranks_in text.now) }
+{
+    let mut ranks = Ranks::new();
+    let mut count = 0;
+    for part in text.split(|byte| *byte == b',') {
+        let rank = rank_of(part)?;
+        ranks.push_if_room(rank);
+        count += 1;
+    }
+    Some((ranks, count))
+}
+
+/// The place of the first space.
+fn first_space(line: &[u8]) -> Option<usize>
+    ensures { result ≡ position is_space line.now }
+{
+    line.iter().position(|byte| *byte == b' ')
+}
+
+/// The texts before and after the first space, where there is one.
+#[tactic(auto, using(crate::proofs::ReadingLaws::space_laws))]
+fn split_at_space(line: &[u8]) -> Option<(&[u8], &[u8])>
+    ensures found { IfSome result (λ parts. (parts.0.now ≡ before_first is_space line.now) × (parts.1.now ≡ after_first is_space line.now)) }
+    ensures none { IfNone result (after_first is_space line.now ≡ []) }
+{
+    let end = first_space(line)?;
+    Some((&line[..end], &line[end + 1..]))
+}
+
+/// The parts of a ballot line.
+#[derive(Clone, Copy)]
+struct BallotLine<'t> {
+    voter: &'t [u8],
+    /// The first ranks, as many as a poll can have options.
+    ranks: Ranks,
+    /// How many ranks there are.
+    count: usize,
+}
+
+/// The parts of a line, where it is a ballot line.
+fn parse(line: &[u8]) -> Option<BallotLine<'_>>
+    ensures { option_map (λ parts. (parts.voter.now, parts.ranks, parts.count)) result ≡ option_map voter_kept_and_count (ballot_in line.now) }
+{
+    if line.len() > MAX_LINE {
+        return None;
+    }
+    let (voter, ranks) = split_at_space(line)?;
+    if !is_voter_name(voter) {
+        return None;
+    }
+    let (ranks, count) = ranks_of(ranks)?;
+    Some(BallotLine {
+        voter,
+        ranks,
+        count,
+    })
+}
+
+/// The ballot that a line gives, as the voter's place on the roll and the ranks.
+fn ballot(poll: &Poll, line: &[u8]) -> Result<(usize, Ranks), LineFault>
+    ensures { reading_from result ≡ reading poll.now line.now }
+{
+    let Some(parts) = parse(line) else {
+        return Err(LineFault::Shape);
+    };
+    if parts.count != poll.options() as usize {
+        return Err(LineFault::RankCount);
+    }
+    let voter = poll.voter_of(parts.voter).ok_or(LineFault::Roll)?;
+    Ok((voter, parts.ranks))
+}
+
+/// What the poll reads in a line, which is given without its line feed. Each line has a reading, whatever its bytes.
+/// A ballot gives the `k`-th rank to option `k`; by A.5 of the Constitution's Appendix A what it leaves unranked is
+/// below all that it ranks.
+#[tactic(auto, using(crate::proofs::GrammarLaws::reading_laws))]
+pub fn read_line(poll: &Poll, line: &[u8]) -> Reading
+    ensures same { result ≡ reading poll.now line.now }
+    ensures grammar { IsReading poll.now line.now result }
+    ensures fits { ReadingFits (option_count poll.now) (elector_count poll.now) result }
+{
+    match ballot(poll, line) {
+        Ok((voter, ranks)) => Reading::Ballot { voter, ranks },
+        Err(fault) => Reading::Bad(fault),
+    }
+}
+
+/// A law: a poll reads one thing in a line, so what [`read_line`] answers is the only reading.
+#[tactic(auto, using(crate::proofs::OneReading::readings_are_one))]
+pub fn readings_are_unique()
+    ensures { (poll : PollContent) (line : List ℕ) (a b : Reading) → IsReading poll line a → IsReading poll line b → a ≡ b }
+{}
+
+impl PartialEq for Reading {
+    ghost eq = { is_same_reading };
+
+    ghost laws = { Prim.search (comparing, rules) depth 9 };
+
+    /// Whether two readings are ballots of one voter with the same ranks, or have the same fault.
+    #[tactic(auto, using(crate::proofs::Equality::same_reading))]
+    fn eq(&self, other: &Reading) -> bool
+        ensures test { result ≡ is_same_reading self.now other.now }
+        ensures same { IsTrue result ↔ (self.now ≡ other.now) }
+    {
+        match (self, other) {
+            (
+                Reading::Ballot { voter, ranks },
+                Reading::Ballot {
+                    voter: other_voter,
+                    ranks: other_ranks,
+                },
+            ) => voter == other_voter && ranks == other_ranks,
+            (Reading::Bad(fault), Reading::Bad(other_fault)) => fault == other_fault,
+            _ => false,
+        }
+    }
+}
+
+impl Eq for Reading {
+    ghost laws = { Prim.search (comparing, rules) depth 9 };
+}
