@@ -1,0 +1,10 @@
+pub mod Cells
+pub mod Closure
+pub mod Rows
+pub mod Squares
+pub mod RoundLemmas
+pub mod Sizes
+pub mod LawLemmas
+pub mod Winners
+pub mod FoundLemmas
+pub mod BitLemmas

@@ -1,0 +1,76 @@
+use Rattle.std.proofs.Common.{ℕ, ◌-◌, length, ◌≤◌, inl, inr, refl, sym, ◌∙◌, subst, arith}
+use Rattle.std.proofs.lemmas.Bool.{cases_Bool, cases_eq, both_ways}
+use Rattle.std.specs.Prelude.{Option, None}
+use Rattle.std.proofs.lemmas.List.{length-replicate, length-set}
+use Rattle.vote_poll.specs.declared.TheConstants.{MAX_OPTIONS}
+use Rattle.vote_count.specs.declared.rounds.Cause.{Cause}
+use Rattle.vote_poll.specs.PollContent.{option_count}
+use Rattle.vote_count.specs.Sets.{In, Pairs, has, has_pair}
+use Rattle.vote_count.specs.Rules.{IsKept, PairwiseDefeats}
+use Rattle.vote_count.specs.Rounds.{HasCause}
+use Rattle.vote_poll.proofs.OptionLaws.{at_option-replicate, at_option-set, at_option-set_other}
+use Rattle.vote_count.proofs.RoundLemmas.{rounds_same, rounds_kept}
+use Rattle.vote_count.proofs.LawLemmas.{some_final, default_law, default_alone_law}
+use Rattle.vote_count.proofs.rounds.outcome.Goals as goal
+
+pub loop-option-init : goal.loop-option-init
+loop-option-init c = record {
+  start = (omega arith, length-replicate {A = Option Cause} MAX_OPTIONS None);
+  found = λ o is lt. absurd (omega (arith, is.0));
+  later = λ o _. at_option-replicate {X = Option Cause} MAX_OPTIONS o None;
+}
+
+pub loop-option-preserved : goal.loop-option-preserved
+loop-option-preserved c =
+    let at = c.loop-option.option in
+    let low : 1 ≤ at = c.loop-option.invariant.start.0 in
+    let high : at ≤ length c.loop-option.causes = omega arith in
+    record {
+      start = (omega arith, length-set c.loop-option.causes (at - 1) c.dropped_for.result ∙ c.loop-option.invariant.start.1);
+      found = λ o is lt.
+          let P : ℕ → Option Cause → Type 0 = HasCause c.args.poll.now c.args.matrix.now in
+          elim (cases_eq o at) [
+            | inl same ↦ subst (P o) (sym (at_option-set c.loop-option.causes o at c.dropped_for.result None low high same)) (subst (λ (x : ℕ). P x c.dropped_for.result) (sym same) c.dropped_for.ensures)
+            | inr other ↦ subst (P o) (sym (at_option-set_other c.loop-option.causes o at c.dropped_for.result None low other)) (c.loop-option.invariant.found o is (omega arith))
+          ];
+      later = λ o le. at_option-set_other c.loop-option.causes o at c.dropped_for.result None low (omega arith) ∙ c.loop-option.invariant.later o (omega arith);
+    }
+
+pub returns-clause-rounds : goal.returns-clause-rounds
+returns-clause-rounds c =
+    let kept = IsKept c.args.poll.now c.args.matrix.now in
+    let standing = In c.standing_with-standing.result in
+    let is = c.standing_with-standing.ensures in
+    let of = c.of-defeats.ensures in
+    rounds_same kept c.args.matrix.now (Pairs c.of-defeats.result) (PairwiseDefeats kept c.args.matrix.now)
+    (λ a b p. let d = (of a b).0 p in ((is a).0 d.0, (is b).0 d.1, d.2))
+    (λ a b d. (of a b).1 ((is a).1 d.0, (is b).1 d.1, d.2))
+    c.in_ok-rounds.rounds.items
+    (rounds_kept standing kept c.args.matrix.now (λ o. (is o).0) (λ o. (is o).1) (Pairs c.of-defeats.result) c.in_ok-rounds.rounds.items c.in_ok-rounds.ensures)
+
+-- an option that stands is one of the poll's
+is_option : (c : goal.In_ok-rounds) (o : ℕ) → In c.standing_with-standing.result o → (1 ≤ o) × (o ≤ option_count c.args.poll.now)
+is_option c o h =
+    elim ((c.standing_with-standing.ensures o).0 h) [
+      | inl default ↦ (omega (arith, default, c.options-option-end.ensures.at_least), omega (arith, default))
+      | inr other ↦ (other.0, omega (arith, other.1))
+    ]
+
+pub returns-clause-some : goal.returns-clause-some
+returns-clause-some c =
+    let standing = In c.standing_with-standing.result in
+    some_final standing c.args.matrix.now
+    (λ o. elim (cases_Bool (has c.standing_with-standing.result o)) [ inl kept ↦ inl kept | inr dropped ↦ inr (λ kept. both_ways _ dropped kept) ])
+    (option_count c.args.poll.now) (is_option c)
+    (option_count c.args.poll.now, (c.standing_with-standing.ensures (option_count c.args.poll.now)).1 (inl refl))
+    c.in_ok-rounds.rounds.items (has_pair c.of-defeats.result)
+    (λ a b p. is_option c a ((c.of-defeats.ensures a b).0 p).0)
+    c.in_ok-rounds.ensures
+
+pub returns-clause-default : goal.returns-clause-default
+returns-clause-default c =
+    default_law c.args.poll.now c.args.matrix.now c.in_ok-rounds.rounds.items (returns-clause-rounds c)
+
+pub returns-clause-default_alone : goal.returns-clause-default_alone
+returns-clause-default_alone c h =
+    default_alone_law c.args.poll.now c.args.matrix.now c.in_ok-rounds.rounds.items (returns-clause-rounds c) h

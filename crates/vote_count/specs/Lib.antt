@@ -1,0 +1,12 @@
+-- what the contracts of public calls say
+pub mod Ballots
+pub mod Votes
+pub mod Sets
+pub mod Rules
+pub mod Rounds
+pub mod Laws
+-- what types stand for, and what private functions say of their parts
+pub mod Bits
+pub mod Found
+pub mod Places
+pub mod Weakest

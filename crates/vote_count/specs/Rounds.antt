@@ -1,0 +1,74 @@
+-- The rounds of the count and its decision, from Appendix A of the Constitution, Vote Counting.
+use Rattle.std.specs.Prelude.{◌≡◌, ℕ, ◌<◌, ◌⊎◌, ◌↔◌, Bool, List, [], ◌∷◌, Option, None, Some, ⊤}
+use Rattle.vote_poll.specs.PollContent.{PollContent, option_count}
+use Rattle.vote_count.specs.declared.rounds.Round.{Round}
+use Rattle.vote_count.specs.declared.rounds.Cause.{Cause}
+use Rattle.vote_count.specs.declared.rounds.Cause.TheVariants.{Quorum, Majority}
+use Rattle.vote_count.specs.declared.rounds.Decision.{Decision}
+use Rattle.vote_count.specs.declared.rounds.Decision.TheVariants.{Winner, Tie, CastingOutside}
+use Rattle.vote_poll.specs.Options.{at_option}
+use Rattle.vote_count.specs.Rules.{MeetsQuorum, MeetsMajority, IsKept, PairwiseDefeats, TransitivelyDefeats, InSchwartzSet, IsWeakest, Without}
+use Rattle.vote_count.specs.Sets.{In, Pairs}
+use Rattle.vote_count.specs.Votes.{Votes, votes}
+
+-- One round over the defeats that are left: its set is the Schwartz set, and it removes the weakest defeats within that set.
+pub record IsRound (options : ℕ → Type 0) (matrix : Votes) (defeats : ℕ → ℕ → Type 0) (round : Round) : Type 0 where
+  pub set : (a : ℕ) → In round.set a ↔ InSchwartzSet options (TransitivelyDefeats defeats) a
+  pub removed : (a b : ℕ) → Pairs round.removed a b ↔ IsWeakest matrix (In round.set) defeats a b
+
+abbrev pub RemovesNothing : Round → Type 0
+RemovesNothing round = (a b : ℕ) → ¬ Pairs round.removed a b
+
+abbrev pub RemovesSome : Round → Type 0
+RemovesSome round = (a : ℕ) × (b : ℕ) × Pairs round.removed a b
+
+-- The rounds of a count: the last removes nothing, and each round before it something, which the next goes without.
+abbrev pub AreRounds : (ℕ → Type 0) → Votes → (ℕ → ℕ → Type 0) → List Round → Type 0
+AreRounds options matrix defeats [] = ⊥
+AreRounds options matrix defeats (round ∷ []) = IsRound options matrix defeats round × RemovesNothing round
+AreRounds options matrix defeats (round ∷ next ∷ later) =
+    IsRound options matrix defeats round × RemovesSome round × AreRounds options matrix (Without defeats (Pairs round.removed)) (next ∷ later)
+
+-- the set of the last round
+abbrev pub final_set : List Round → List Bool
+final_set [] = []
+final_set (round ∷ []) = round.set
+final_set (round ∷ next ∷ later) = final_set (next ∷ later)
+
+-- why an option is dropped, if it is: for the quorum, where it fails both
+abbrev pub HasCause : PollContent → Votes → ℕ → Option Cause → Type 0
+HasCause poll matrix o None = IsKept poll matrix o
+HasCause poll matrix o (Some Quorum) = (o < option_count poll) × ¬ MeetsQuorum poll (votes matrix o (option_count poll))
+HasCause poll matrix o (Some Majority) = (o < option_count poll) × MeetsQuorum poll (votes matrix o (option_count poll)) × ¬ MeetsMajority poll matrix o
+
+-- two rounds have the same options in their sets and remove the same defeats
+pub record IsSameRound (round other : Round) : Type 0 where
+  pub set : (a : ℕ) → In round.set a ↔ In other.set a
+  pub removed : (a b : ℕ) → Pairs round.removed a b ↔ Pairs other.removed a b
+
+abbrev pub AreSameRounds : List Round → List Round → Type 0
+AreSameRounds [] [] = ⊤
+AreSameRounds [] (other ∷ others) = ⊥
+AreSameRounds (round ∷ rounds) [] = ⊥
+AreSameRounds (round ∷ rounds) (other ∷ others) = IsSameRound round other × AreSameRounds rounds others
+
+-- the rounds of a count are determined: two lists of them are the same
+abbrev pub RoundsAreDetermined : Type 0
+RoundsAreDetermined =
+    (poll : PollContent) (matrix : Votes) (rounds others : List Round) →
+    let defeats = PairwiseDefeats (IsKept poll matrix) matrix in
+    AreRounds (IsKept poll matrix) matrix defeats rounds → AreRounds (IsKept poll matrix) matrix defeats others → AreSameRounds rounds others
+
+-- where no option is alone in the set, the casting vote decides
+abbrev pub IsByCasting : List Bool → Option ℕ → Decision → Type 0
+IsByCasting set None decision = decision ≡ Tie
+IsByCasting set (Some choice) decision = (In set choice × (decision ≡ Winner choice)) ⊎ (¬ In set choice × (decision ≡ CastingOutside choice))
+
+-- what a count came to
+pub record Outcome : Type 0 where
+  pub causes : List (Option Cause)
+  pub defeats : List (List Bool)
+  pub rounds : List Round
+
+abbrev pub cause_of : Outcome → ℕ → Option Cause
+cause_of outcome o = at_option outcome.causes o None

@@ -1,0 +1,60 @@
+-- The rules of the count, from Appendix A of the Constitution, Vote Counting, and for the quorum from section 4.2. A set of options is a fact on an option, and a list of defeats a fact on two.
+use Rattle.std.specs.Prelude.{◌≡◌, ℕ, ◌*◌, ◌^◌, ◌<◌, ◌≤◌, ◌⊎◌, List, [], ◌∷◌, ◌++◌, ⊤}
+use Rattle.vote_poll.specs.PollContent.{PollContent, elector_count, option_count, ratio_of}
+use Rattle.vote_count.specs.Votes.{Votes, votes}
+
+-- `n` votes are as many as the quorum (section 4.2): the poll's multiple of Q, which is half of the square root of the number of electors
+abbrev pub MeetsQuorum : PollContent → ℕ → Type 0
+MeetsQuorum poll n = poll.quorum_multiple ^ 2 * elector_count poll ≤ (2 * n) ^ 2
+
+-- `n` are the fewest votes that are as many as the quorum
+abbrev pub IsQuorum : PollContent → ℕ → Type 0
+IsQuorum poll n = MeetsQuorum poll n × ((m : ℕ) → MeetsQuorum poll m → n ≤ m)
+
+-- A defeats the default option by A's majority ratio
+abbrev pub MeetsMajority : PollContent → Votes → ℕ → Type 0
+MeetsMajority poll matrix a =
+    let default = option_count poll in
+    (ratio_of poll a * votes matrix default a ≤ votes matrix a default) × (votes matrix default a < votes matrix a default)
+
+-- A is not dropped: it is the default option, or it meets the quorum and its majority
+abbrev pub IsKept : PollContent → Votes → ℕ → Type 0
+IsKept poll matrix a =
+    let default = option_count poll in
+    (a ≡ default) ⊎ ((1 ≤ a) × (a < default) × MeetsQuorum poll (votes matrix a default) × MeetsMajority poll matrix a)
+
+-- A is one of the options and defeats B, which is another of them
+abbrev pub PairwiseDefeats : (ℕ → Type 0) → Votes → ℕ → ℕ → Type 0
+PairwiseDefeats options matrix a b = options a × options b × (votes matrix b a < votes matrix a b)
+
+-- each option of a list defeats the next one
+abbrev pub EachDefeatsNext : (ℕ → ℕ → Type 0) → List ℕ → Type 0
+EachDefeatsNext defeats [] = ⊤
+EachDefeatsNext defeats (a ∷ []) = ⊤
+EachDefeatsNext defeats (a ∷ b ∷ rest) = defeats a b × EachDefeatsNext defeats (b ∷ rest)
+
+-- A transitively defeats C: there is a list of options, from A to C, each of which defeats the next one
+abbrev pub TransitivelyDefeats : (ℕ → ℕ → Type 0) → ℕ → ℕ → Type 0
+TransitivelyDefeats defeats a c = (between : List ℕ) × EachDefeatsNext defeats (a ∷ between ++ c ∷ [])
+
+-- A is in the Schwartz set: for each option B, A transitively defeats B, or B does not transitively defeat A
+abbrev pub InSchwartzSet : (ℕ → Type 0) → (ℕ → ℕ → Type 0) → ℕ → Type 0
+InSchwartzSet options transitively_defeats a =
+    options a × ((b : ℕ) → options b → transitively_defeats a b ⊎ ¬ transitively_defeats b a)
+
+-- the defeat (A,X) is weaker than the defeat (B,Y)
+abbrev pub IsWeaker : Votes → ℕ → ℕ → ℕ → ℕ → Type 0
+IsWeaker matrix a x b y =
+    (votes matrix a x < votes matrix b y) ⊎ ((votes matrix a x ≡ votes matrix b y) × (votes matrix y b < votes matrix x a))
+
+-- the defeats between options of a set
+abbrev pub Within : (ℕ → Type 0) → (ℕ → ℕ → Type 0) → ℕ → ℕ → Type 0
+Within set defeats a b = defeats a b × set a × set b
+
+-- (A,B) is a weakest of the defeats between options of a set: no other is weaker
+abbrev pub IsWeakest : Votes → (ℕ → Type 0) → (ℕ → ℕ → Type 0) → ℕ → ℕ → Type 0
+IsWeakest matrix set defeats a b = Within set defeats a b × ((x y : ℕ) → Within set defeats x y → ¬ IsWeaker matrix x y a b)
+
+-- the defeats that are left without the removed ones
+abbrev pub Without : (ℕ → ℕ → Type 0) → (ℕ → ℕ → Type 0) → ℕ → ℕ → Type 0
+Without defeats removed a b = defeats a b × ¬ removed a b

@@ -1,0 +1,12 @@
+-- V(A,B), the number of voters who prefer A to B (Constitution, Appendix A, Vote Counting).
+use Rattle.std.specs.Prelude.{ℕ, List, []}
+use Rattle.vote_poll.specs.Options.{at_option}
+
+-- a matrix of votes: for each option one row, with one number for each option
+pub record Votes : Type 0 where
+  pub options : ℕ
+  pub rows : List (List ℕ)
+
+-- V(A,B)
+abbrev pub votes : Votes → ℕ → ℕ → ℕ
+votes matrix a b = at_option (at_option matrix.rows a []) b 0

@@ -1,0 +1,15 @@
+-- One of the weakest defeats.
+use Rattle.std.specs.Prelude.{◌≡◌, ℕ, ◌⊎◌, Option, Some, None}
+use Rattle.vote_count.specs.Rules.{IsWeaker}
+use Rattle.vote_count.specs.Votes.{Votes}
+
+-- a defeat, or the one so far, whichever is the weaker
+abbrev pub IsWeakerOf : Votes → ℕ × ℕ → Option (ℕ × ℕ) → ℕ × ℕ → Type 0
+IsWeakerOf matrix defeat None result = result ≡ defeat
+IsWeakerOf matrix defeat (Some other) result =
+    ((result ≡ defeat) × IsWeaker matrix defeat.0 defeat.1 other.0 other.1) ⊎ ((result ≡ other) × ¬ IsWeaker matrix defeat.0 defeat.1 other.0 other.1)
+
+-- a defeat than which none is weaker, or that there is no defeat
+abbrev pub IsOneWeakest : Votes → (ℕ → ℕ → Type 0) → Option (ℕ × ℕ) → Type 0
+IsOneWeakest matrix defeats None = (a b : ℕ) → ¬ defeats a b
+IsOneWeakest matrix defeats (Some weakest) = defeats weakest.0 weakest.1 × ((a b : ℕ) → defeats a b → ¬ IsWeaker matrix a b weakest.0 weakest.1)

@@ -1,0 +1,50 @@
+//! What the Debian Constitution says of counting votes: section 4.2, the quorum, and Appendix A,
+//! Vote Counting.
+//!
+//! A [`Matrix`] has V(A,B), the number of voters who prefer option A to option B, for each two
+//! options of a poll. Ballots are added to it and taken out of it one at a time, and [`recount`]
+//! makes it from a list of them.
+//!
+//! [`outcome`] counts a matrix by the rules of a poll. It drops the options that miss the quorum
+//! or their majority ([`quorum_votes`], [`meets_quorum`], [`meets_majority`],
+//! [`standing_options`]) and lists the defeats among the others ([`Defeats`]). Then it goes round:
+//! the transitive defeats of the list ([`reach`]), the Schwartz set of these ([`schwartz`]), and
+//! the [`weakest`] defeats within it, which are removed from the list, until there are none.
+//! [`decide`] names the winner in the set of the last round, with the casting vote where it needs
+//! one.
+//!
+//! Options are numbered from 1, and the last is the default option. Votes are numbers of voters.
+//! A set has no other members than options: asked for 0, or for a number past the last option, it
+//! answers no.
+//!
+//! Each contract says the rule and not the steps of the code. The rules stand in `specs/`, in the
+//! words of the Constitution: `Ballots` and `Votes`, `Sets`, `Rules`, `Rounds`. `Laws` has what
+//! the literature on voting asks of such rules, and each of these laws is the contract of a
+//! function that does nothing: [`ballots_are_anonymous`], [`condorcet_winners_win`],
+//! [`final_set_is_in_smith_set`], [`rounds_are_determined`].
+//!
+//! A set of options is a word of bits, and a list of defeats has one such word for each option.
+//! Only `outcome` takes memory, for its rounds. No round takes more steps than the third power of
+//! the number of options.
+#![tactic(auto)]
+
+mod found;
+mod laws;
+mod options;
+mod pairs;
+mod rounds;
+mod rules;
+mod tally;
+
+pub use found::reach_by_pairs;
+pub use laws::{
+    ballots_are_anonymous, condorcet_winners_win, final_set_is_in_smith_set, rounds_are_determined,
+};
+pub use options::{OptionSet, Word};
+pub use pairs::{Chains, Defeats, reach};
+pub use rounds::{Cause, Decision, Round, Verdict, decide, outcome};
+pub use rules::{meets_majority, meets_quorum, quorum_votes, schwartz, standing_options, weakest};
+pub use tally::{Matrix, recount};
+
+#[cfg(test)]
+mod tests;

@@ -1,0 +1,194 @@
+//! Sets of pairs of options: defeats, and transitive defeats.
+ghost use Rattle.std.specs.Prelude.{◌≡◌, ℕ, ◌-◌, ◌≤◌, ◌⊎◌, ◌↔◌, ◌&&◌, not, false, length, IsTrue};
+ghost use Rattle.std.specs.Int.{bit_at};
+ghost use Rattle.vote_poll.specs.Options.{IsOption};
+ghost use Rattle.vote_count.specs.Rules.{PairwiseDefeats, TransitivelyDefeats, Within};
+ghost use Rattle.vote_count.specs.Sets.{has_pair, pair_count, In, Pairs};
+
+use crate::{Matrix, OptionSet, Word};
+use std::marker::Model;
+use vote_poll::MAX_OPTIONS;
+
+/// A list of pairwise defeats, each of one option by another (Appendix A, Vote Counting). Their
+/// order says nothing, so it is a set: for each option a row of those that it defeats.
+#[derive(Clone, Copy, Debug, PartialEq, Eq)]
+pub struct Defeats {
+    rows: [OptionSet; MAX_OPTIONS],
+}
+
+impl Model for Defeats {
+    ghost use Rattle.std.specs.Prelude.{◌≡◌, List, Bool, length};
+    ghost use Rattle.vote_poll.specs.declared.TheConstants.{MAX_OPTIONS};
+
+    ghost Value = { List (List Bool) };
+
+    ghost view = { λ d. d.rows };
+
+    ghost invariant = { λ d. length d.rows ≡ MAX_OPTIONS };
+
+    ghost inverse = { λ rows. record { rows = rows } };
+}
+
+#[tactic(auto, using(vote_poll::proofs::OptionLaws::options))]
+impl Defeats {
+    // The list with no defeats.
+    pub(crate) fn empty() -> Self
+        ensures { (a b : ℕ) → has_pair result a b ≡ false }
+    {
+        Self {
+            rows: [OptionSet::empty(); MAX_OPTIONS],
+        }
+    }
+
+    // Puts the defeat of `b` by `a` into the list.
+    pub(crate) fn insert(&mut self, a: u8, b: u8)
+        requires a { IsOption MAX_OPTIONS a }
+        requires b { IsOption MAX_OPTIONS b }
+        ensures { (x y : ℕ) → Pairs self.new x y ↔ (((x ≡ a) × (y ≡ b)) ⊎ Pairs self.old x y) }
+    {
+        self.rows[a as usize - 1].insert(b);
+    }
+
+    /// The defeats among the options of a set: A defeats B where more voters prefer A to B than B
+    /// to A (Appendix A, Vote Counting).
+    pub fn of(set: &OptionSet, matrix: &Matrix) -> Self
+        requires { (o : ℕ) → In set.now o → IsOption matrix.now.options o }
+        ensures { (a b : ℕ) → Pairs result a b ↔ PairwiseDefeats (In set.now) matrix.now a b }
+    {
+        let mut defeats = Self::empty();
+        for a in 1..=matrix.options() {
+            for b in 1..=matrix.options() {
+                if set.has(a) && set.has(b) && matrix.votes(a, b) > matrix.votes(b, a) {
+                    defeats.insert(a, b);
+                }
+            }
+        }
+        defeats
+    }
+
+    /// Whether the list has the defeat of `b` by `a`. It has none of what is no option.
+    pub fn has(&self, a: u8, b: u8) -> bool
+        ensures { result ≡ has_pair self.now a b }
+    {
+        let a = a as usize;
+        a >= 1 && a <= MAX_OPTIONS && self.rows[a - 1].has(b)
+    }
+
+    /// The options that `a` defeats, as a word in which option `c` has bit `c - 1`. `a` is from 1 to
+    /// `MAX_OPTIONS`.
+    pub fn row(&self, a: u8) -> Word
+        requires { IsOption MAX_OPTIONS a }
+        ensures { (c : ℕ) → 1 ≤ c → (bit_at result (c - 1) ≡ 1) ↔ Pairs self.now a c }
+    {
+        self.rows[a as usize - 1].word()
+    }
+
+    /// How many defeats there are.
+    pub fn len(&self) -> usize
+        ensures { result ≡ pair_count self.now }
+    {
+        let mut count = 0;
+        for row in &self.rows {
+            count += row.len();
+        }
+        count
+    }
+
+    /// Whether there are no defeats.
+    pub fn is_empty(&self) -> bool
+        ensures { IsTrue result ↔ (pair_count self.now ≡ 0) }
+    {
+        self.len() == 0
+    }
+
+    // The defeats between options of a set.
+    pub(crate) fn within(&self, set: &OptionSet) -> Self
+        ensures { (a b : ℕ) → Pairs result a b ↔ Within (In set.now) (Pairs self.now) a b }
+    {
+        let mut inside = Self::empty();
+        for (i, row) in self.rows.iter().enumerate() {
+            if set.has(i as u8 + 1) {
+                inside.rows[i] = row.common(set);
+            }
+        }
+        inside
+    }
+
+    /// The defeats that are not among the removed ones.
+    pub fn minus(&self, removed: &Self) -> Self
+        ensures { (a b : ℕ) → has_pair result a b ≡ (has_pair self.now a b && not (has_pair removed.now a b)) }
+    {
+        let mut rest = *self;
+        for (i, row) in removed.rows.iter().enumerate() {
+            rest.rows[i] = rest.rows[i].minus(row);
+        }
+        rest
+    }
+}
+
+/// The transitive defeats of a list of defeats (Appendix A, Vote Counting): for each option a row
+/// of those that it transitively defeats.
+#[derive(Clone, Copy, Debug, PartialEq, Eq)]
+pub struct Chains {
+    reached: [OptionSet; MAX_OPTIONS],
+}
+
+impl Model for Chains {
+    ghost use Rattle.std.specs.Prelude.{◌≡◌, List, Bool, length};
+    ghost use Rattle.vote_poll.specs.declared.TheConstants.{MAX_OPTIONS};
+
+    ghost Value = { List (List Bool) };
+
+    ghost view = { λ c. c.reached };
+
+    ghost invariant = { λ c. length c.reached ≡ MAX_OPTIONS };
+
+    ghost inverse = { λ rows. record { reached = rows } };
+}
+
+#[tactic(auto, using(vote_poll::proofs::OptionLaws::options))]
+impl Chains {
+    // The set with these rows.
+    pub(crate) fn of_rows(rows: [OptionSet; MAX_OPTIONS]) -> Self
+        requires { length rows ≡ MAX_OPTIONS }
+        ensures { (a c : ℕ) → has_pair result a c ≡ has_pair rows a c }
+    {
+        Self { reached: rows }
+    }
+
+    /// Whether `a` transitively defeats `c`. What is no option does not, and is not defeated.
+    pub fn has(&self, a: u8, c: u8) -> bool
+        ensures { result ≡ has_pair self.now a c }
+    {
+        let a = a as usize;
+        a >= 1 && a <= MAX_OPTIONS && self.reached[a - 1].has(c)
+    }
+
+    /// The options that `a` transitively defeats, as a word in which option `c` has bit `c - 1`. `a`
+    /// is from 1 to `MAX_OPTIONS`.
+    pub fn row(&self, a: u8) -> Word
+        requires { IsOption MAX_OPTIONS a }
+        ensures { (c : ℕ) → 1 ≤ c → (bit_at result (c - 1) ≡ 1) ↔ Pairs self.now a c }
+    {
+        self.reached[a as usize - 1].word()
+    }
+}
+
+/// The transitive defeats: A transitively defeats C where A defeats C, or where A defeats some B
+/// that transitively defeats C (Appendix A, Vote Counting).
+///
+/// For one option after another, each row that has it takes in the row of that option.
+pub fn reach(defeats: &Defeats) -> Chains
+    ensures { (a c : ℕ) → Pairs result a c ↔ TransitivelyDefeats (Pairs defeats.now) a c }
+{
+    let mut rows = defeats.rows;
+    for b in 1..=MAX_OPTIONS as u8 {
+        let through = rows[b as usize - 1];
+        for row in rows.iter_mut() {
+            if row.has(b) {
+                row.take_in(&through);
+            }
+        }
+    }
+    Chains { reached: rows }
+}

@@ -1,0 +1,183 @@
+//! The rounds of the count, and the decision.
+ghost use Rattle.std.specs.Prelude.{◌≡◌, ℕ, ◌<◌, ◌≤◌, ◌↔◌, ◌⊎◌, IsTrue, IfOk, None, Some};
+ghost use Rattle.vote_poll.specs.Options.{IsOption};
+ghost use Rattle.vote_poll.specs.PollContent.{option_count};
+ghost use Rattle.vote_count.specs.Rounds.{AreRounds, HasCause, IsByCasting, cause_of, final_set};
+ghost use Rattle.vote_count.specs.Rules.{IsKept, IsQuorum, PairwiseDefeats};
+ghost use Rattle.vote_count.specs.Sets.{In, Pairs, IsAlone};
+
+use crate::rules::{has_quorum, standing_with};
+use crate::{Defeats, Matrix, OptionSet, meets_majority, quorum_votes, reach, schwartz, weakest};
+use std::alloc::{AllocError, Global};
+use std::marker::Model;
+use vote_poll::{MAX_OPTIONS, Poll};
+
+/// Why an option is dropped (Appendix A, Vote Counting).
+#[derive(Clone, Copy, Debug, PartialEq, Eq)]
+pub enum Cause {
+    /// Its votes over the default option do not meet the quorum, whatever its majority.
+    Quorum,
+    /// It meets the quorum, and does not defeat the default option by its majority ratio.
+    Majority,
+}
+
+/// One round of the count (Appendix A, Vote Counting).
+#[derive(Clone, Copy, Debug, PartialEq, Eq)]
+pub struct Round {
+    /// The Schwartz set.
+    pub set: OptionSet,
+    /// The weakest defeats within it, which the next round goes without. The last round has none.
+    pub removed: Defeats,
+}
+
+/// What is decided (Appendix A, Vote Counting).
+#[derive(Clone, Copy, Debug, PartialEq, Eq)]
+pub enum Decision {
+    /// This option wins: it is alone in the final set, or the casting vote chooses it from the set.
+    Winner(u8),
+    /// The final set has several options, and there is no casting vote.
+    Tie,
+    /// The final set has several options, and the casting vote is for this one, outside the set.
+    CastingOutside(u8),
+}
+
+/// What a count came to: which options were dropped and why, the defeats, and the rounds.
+#[derive(Drop)]
+pub struct Verdict {
+    causes: [Option<Cause>; MAX_OPTIONS],
+    defeats: Defeats,
+    rounds: Vec<Round>,
+}
+
+impl Model for Verdict {
+    ghost use Rattle.std.specs.Prelude.{ℕ, ◌<◌, length};
+    ghost use Rattle.vote_count.specs.Rounds.{Outcome};
+
+    ghost Value = { Outcome };
+
+    ghost view = { λ v. record { causes = v.causes; defeats = v.defeats; rounds = v.rounds.items } };
+
+    ghost invariant = { λ v. 0 < length v.rounds.items };
+}
+
+// The rounds over a list of defeats.
+fn rounds_of(
+    alloc: Global,
+    matrix: &Matrix,
+    standing: &OptionSet,
+    mut defeats: Defeats,
+) -> Result<Vec<Round>, AllocError>
+    requires few { matrix.now.options ≤ MAX_OPTIONS }
+    requires standing { (o : ℕ) → In standing.now o → IsOption matrix.now.options o }
+    ensures { IfOk result (λ rounds. AreRounds (In standing.now) matrix.now (Pairs defeats) rounds.items) }
+{
+    let mut rounds = Vec::new(alloc);
+    loop {
+        let set = schwartz(standing, &reach(&defeats));
+        let removed = weakest(&set, &defeats, matrix);
+        rounds.push(Round { set, removed })?;
+        if removed.is_empty() {
+            return Ok(rounds);
+        }
+        defeats = defeats.minus(&removed);
+    }
+}
+
+// Why an option is dropped, if it is, where the fewest votes that meet the quorum are known.
+fn dropped_for(poll: &Poll, matrix: &Matrix, option: u8, quorum: u64) -> Option<Cause>
+    requires matrix { matrix.now.options ≡ option_count poll.now }
+    requires option { IsOption (option_count poll.now) option }
+    requires quorum { IsQuorum poll.now quorum }
+    ensures { HasCause poll.now matrix.now option result }
+{
+    if option == poll.options() {
+        None
+    } else if !has_quorum(poll, matrix, option, quorum) {
+        Some(Cause::Quorum)
+    } else if !meets_majority(poll, matrix, option) {
+        Some(Cause::Majority)
+    } else {
+        None
+    }
+}
+
+/// Counts the votes of a matrix by the rules of its poll (section 4.2; Appendix A, Vote Counting).
+///
+/// # Errors
+///
+/// Where memory for the list of rounds is refused.
+#[tactic(auto, using(vote_poll::proofs::OptionLaws::options))]
+pub fn outcome(alloc: Global, poll: &Poll, matrix: &Matrix) -> Result<Verdict, AllocError>
+    requires { matrix.now.options ≡ option_count poll.now }
+    ensures causes { IfOk result (λ verdict. (o : ℕ) → IsOption (option_count poll.now) o → HasCause poll.now matrix.now o (cause_of verdict o)) }
+    ensures defeats { IfOk result (λ verdict. (a b : ℕ) → Pairs verdict.defeats a b ↔ PairwiseDefeats (IsKept poll.now matrix.now) matrix.now a b) }
+    ensures rounds { IfOk result (λ verdict. let kept = IsKept poll.now matrix.now in AreRounds kept matrix.now (PairwiseDefeats kept matrix.now) verdict.rounds) }
+
+    // The final set is never empty. The default is in it exactly where no other option is kept, and then it is alone.
+    ensures some { IfOk result (λ verdict. (o : ℕ) × In (final_set verdict.rounds) o) }
+    ensures default { IfOk result (λ verdict. In (final_set verdict.rounds) (option_count poll.now) ↔ ((o : ℕ) → IsKept poll.now matrix.now o → o ≡ option_count poll.now)) }
+    ensures default_alone { IfOk result (λ verdict. In (final_set verdict.rounds) (option_count poll.now) → IsAlone (final_set verdict.rounds) (option_count poll.now)) }
+{
+    let quorum = quorum_votes(poll);
+    let standing = standing_with(poll, matrix, quorum);
+    let mut causes = [None; MAX_OPTIONS];
+    for option in 1..poll.options() {
+        causes[option as usize - 1] = dropped_for(poll, matrix, option, quorum);
+    }
+    let defeats = Defeats::of(&standing, matrix);
+    let rounds = rounds_of(alloc, matrix, &standing, defeats)?;
+    Ok(Verdict {
+        causes,
+        defeats,
+        rounds,
+    })
+}
+
+#[tactic(auto, using(vote_poll::proofs::OptionLaws::options))]
+impl Verdict {
+    /// Why an option was dropped, if it was. `option` is from 1 to `MAX_OPTIONS`.
+    pub fn dropped(&self, option: u8) -> Option<Cause>
+        requires { IsOption MAX_OPTIONS option }
+        ensures { result ≡ cause_of self.now option }
+    {
+        self.causes[option as usize - 1]
+    }
+
+    /// The defeats among the options that are not dropped, before any removal.
+    pub fn defeats(&self) -> Defeats
+        ensures { result ≡ self.now.defeats }
+    {
+        self.defeats
+    }
+
+    /// The rounds in order, of which there is at least one.
+    pub fn rounds(&self) -> &[Round]
+        ensures { result.now ≡ self.now.rounds }
+    {
+        self.rounds.as_slice()
+    }
+
+    /// The final set: that of the last round.
+    pub fn final_set(&self) -> OptionSet
+        ensures { result ≡ final_set self.now.rounds }
+    {
+        self.rounds[self.rounds.len() - 1].set
+    }
+}
+
+/// Who wins: the option that is alone in the final set, whatever the casting vote, and else the one
+/// that the casting vote chooses from the set (Appendix A, Vote Counting).
+pub fn decide(verdict: &Verdict, casting: Option<u8>) -> Decision
+    ensures alone { (o : ℕ) → IsAlone (final_set verdict.now.rounds) o → result ≡ Decision.Winner o }
+    ensures several { ((o : ℕ) → ¬ IsAlone (final_set verdict.now.rounds) o) → IsByCasting (final_set verdict.now.rounds) casting result }
+{
+    let set = verdict.final_set();
+    if let Some(winner) = set.only() {
+        return Decision::Winner(winner);
+    }
+    match casting {
+        None => Decision::Tie,
+        Some(choice) if set.has(choice) => Decision::Winner(choice),
+        Some(choice) => Decision::CastingOutside(choice),
+    }
+}

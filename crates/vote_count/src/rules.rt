@@ -1,0 +1,189 @@
+//! The rules of the count.
+ghost use Rattle.std.specs.Prelude.{◌≡◌, ℕ, ◌^◌, ◌≤◌, ◌<◌, ◌↔◌, ◌⊎◌, IsTrue, IfSome};
+ghost use Rattle.vote_poll.specs.Options.{IsOption};
+ghost use Rattle.vote_poll.specs.PollContent.{option_count};
+ghost use Rattle.vote_count.specs.Rules.{MeetsQuorum, IsQuorum, MeetsMajority, IsKept, InSchwartzSet, IsWeaker, IsWeakest};
+ghost use Rattle.vote_count.specs.Weakest.{IsWeakerOf, IsOneWeakest};
+ghost use Rattle.vote_count.specs.Sets.{In, Pairs};
+ghost use Rattle.vote_count.specs.Votes.{votes};
+
+use crate::{Chains, Defeats, Matrix, OptionSet};
+use vote_poll::{MAX_OPTIONS, Poll};
+
+/// The fewest votes that meet the quorum (section 4.2): the poll's multiple of Q, which is half of
+/// the square root of the number of electors, and is not rounded. With a multiple of 0 it is 0.
+pub fn quorum_votes(poll: &Poll) -> u64
+    ensures enough { MeetsQuorum poll.now result }
+    ensures least { (n : ℕ) → MeetsQuorum poll.now n → result ≤ n }
+{
+    let multiple = u64::from(poll.quorum_multiple());
+    let bound = multiple * multiple * poll.electors() as u64;
+    let mut votes: u64 = 0;
+    while 2 * votes * (2 * votes) < bound {
+        votes += 1;
+    }
+    votes
+}
+
+/// Whether the votes of an option over the default option meet the quorum (section 4.2; Appendix A,
+/// Vote Counting). The option is another than the default.
+pub fn meets_quorum(poll: &Poll, matrix: &Matrix, option: u8) -> bool
+    requires options { matrix.now.options ≡ option_count poll.now }
+    requires first { 1 ≤ option }
+    requires below_default { option < option_count poll.now }
+    ensures { IsTrue result ↔ MeetsQuorum poll.now (votes matrix.now option (option_count poll.now)) }
+{
+    has_quorum(poll, matrix, option, quorum_votes(poll))
+}
+
+// The same, where the fewest votes that meet the quorum are known.
+pub(crate) fn has_quorum(poll: &Poll, matrix: &Matrix, option: u8, quorum: u64) -> bool
+    requires options { matrix.now.options ≡ option_count poll.now }
+    requires first { 1 ≤ option }
+    requires below_default { option < option_count poll.now }
+    requires quorum { IsQuorum poll.now quorum }
+    ensures { IsTrue result ↔ MeetsQuorum poll.now (votes matrix.now option (option_count poll.now)) }
+{
+    u64::from(matrix.votes(option, poll.options())) >= quorum
+}
+
+/// Whether an option defeats the default option by its majority ratio, for which it must also have
+/// more votes than the default option (Appendix A, Vote Counting). It is another than the default.
+pub fn meets_majority(poll: &Poll, matrix: &Matrix, option: u8) -> bool
+    requires options { matrix.now.options ≡ option_count poll.now }
+    requires first { 1 ≤ option }
+    requires below_default { option < option_count poll.now }
+    ensures { IsTrue result ↔ MeetsMajority poll.now matrix.now option }
+{
+    let default = poll.options();
+    let won = u64::from(matrix.votes(option, default));
+    let lost = u64::from(matrix.votes(default, option));
+    won >= u64::from(poll.ratio(option)) * lost && won > lost
+}
+
+/// The options that are not dropped (Appendix A, Vote Counting): each that meets the quorum and
+/// defeats the default option by its majority ratio, and the default option, which is never dropped.
+pub fn standing_options(poll: &Poll, matrix: &Matrix) -> OptionSet
+    requires { matrix.now.options ≡ option_count poll.now }
+    ensures { (o : ℕ) → In result o ↔ IsKept poll.now matrix.now o }
+{
+    standing_with(poll, matrix, quorum_votes(poll))
+}
+
+// The same, where the fewest votes that meet the quorum are known.
+pub(crate) fn standing_with(poll: &Poll, matrix: &Matrix, quorum: u64) -> OptionSet
+    requires options { matrix.now.options ≡ option_count poll.now }
+    requires quorum { IsQuorum poll.now quorum }
+    ensures { (o : ℕ) → In result o ↔ IsKept poll.now matrix.now o }
+{
+    let default = poll.options();
+    let mut standing = OptionSet::empty();
+    standing.insert(default);
+    for option in 1..default {
+        if has_quorum(poll, matrix, option, quorum) && meets_majority(poll, matrix, option) {
+            standing.insert(option);
+        }
+    }
+    standing
+}
+
+// Whether `a` transitively defeats each option of the set that transitively defeats it.
+fn is_unbeaten(set: &OptionSet, chains: &Chains, a: u8) -> bool
+    requires { (o : ℕ) → In set.now o → IsOption MAX_OPTIONS o }
+    ensures { IsTrue result ↔ ((b : ℕ) → In set.now b → Pairs chains.now a b ⊎ ¬ Pairs chains.now b a) }
+{
+    for b in 1..=MAX_OPTIONS as u8 {
+        if set.has(b) && chains.has(b, a) && !chains.has(a, b) {
+            return false;
+        }
+    }
+    true
+}
+
+/// The Schwartz set of a set of options (Appendix A, Vote Counting): each of them that, for each
+/// option B of the set, transitively defeats B or is not transitively defeated by B.
+pub fn schwartz(set: &OptionSet, chains: &Chains) -> OptionSet
+    requires { (o : ℕ) → In set.now o → IsOption MAX_OPTIONS o }
+    ensures { (a : ℕ) → In result a ↔ InSchwartzSet (In set.now) (Pairs chains.now) a }
+{
+    let mut schwartz = OptionSet::empty();
+    for a in 1..=MAX_OPTIONS as u8 {
+        if set.has(a) && is_unbeaten(set, chains, a) {
+            schwartz.insert(a);
+        }
+    }
+    schwartz
+}
+
+// Whether a defeat is weaker than another. Each is an option and one that it defeats.
+fn is_weaker(matrix: &Matrix, defeat: (u8, u8), other: (u8, u8)) -> bool
+    requires defeat { IsOption matrix.now.options defeat.0 × IsOption matrix.now.options defeat.1 }
+    requires other { IsOption matrix.now.options other.0 × IsOption matrix.now.options other.1 }
+    ensures { IsTrue result ↔ IsWeaker matrix.now defeat.0 defeat.1 other.0 other.1 }
+{
+    let won = matrix.votes(defeat.0, defeat.1);
+    let lost = matrix.votes(defeat.1, defeat.0);
+    let other_won = matrix.votes(other.0, other.1);
+    let other_lost = matrix.votes(other.1, other.0);
+    won < other_won || (won == other_won && lost > other_lost)
+}
+
+// The weaker one of a defeat and the weakest one so far.
+fn weaker_of(matrix: &Matrix, defeat: (u8, u8), so_far: Option<(u8, u8)>) -> (u8, u8)
+    requires defeat { IsOption matrix.now.options defeat.0 × IsOption matrix.now.options defeat.1 }
+    requires so_far { IfSome so_far (λ other. IsOption matrix.now.options other.0 × IsOption matrix.now.options other.1) }
+    ensures { IsWeakerOf matrix.now defeat so_far result }
+{
+    match so_far {
+        Some(other) if !is_weaker(matrix, defeat, other) => other,
+        _ => defeat,
+    }
+}
+
+// One of the weakest defeats, if there is a defeat.
+fn one_weakest(defeats: &Defeats, matrix: &Matrix) -> Option<(u8, u8)>
+    requires { (a b : ℕ) → Pairs defeats.now a b → IsOption matrix.now.options a × IsOption matrix.now.options b }
+    ensures { IsOneWeakest matrix.now (Pairs defeats.now) result }
+{
+    let mut weakest = None;
+    for a in 1..=matrix.options() {
+        for b in 1..=matrix.options() {
+            if defeats.has(a, b) {
+                weakest = Some(weaker_of(matrix, (a, b), weakest));
+            }
+        }
+    }
+    weakest
+}
+
+// The defeats than which this one is no weaker.
+fn no_stronger_than(weakest: (u8, u8), defeats: &Defeats, matrix: &Matrix) -> Defeats
+    requires weakest { IsOption matrix.now.options weakest.0 × IsOption matrix.now.options weakest.1 }
+    requires defeats { (a b : ℕ) → Pairs defeats.now a b → IsOption matrix.now.options a × IsOption matrix.now.options b }
+    ensures { (a b : ℕ) → Pairs result a b ↔ (Pairs defeats.now a b × ¬ IsWeaker matrix.now weakest.0 weakest.1 a b) }
+{
+    let mut found = Defeats::empty();
+    for a in 1..=matrix.options() {
+        for b in 1..=matrix.options() {
+            if defeats.has(a, b) && !is_weaker(matrix, weakest, (a, b)) {
+                found.insert(a, b);
+            }
+        }
+    }
+    found
+}
+
+/// The weakest of the defeats between options of a set (Appendix A, Vote Counting): those than
+/// which none is weaker, of which there may be several. There are none where no defeat lies inside
+/// the set. Of two defeats the one with fewer votes for it is weaker, and where these are equal the
+/// one with more votes against it.
+pub fn weakest(set: &OptionSet, defeats: &Defeats, matrix: &Matrix) -> Defeats
+    requires { (o : ℕ) → In set.now o → IsOption matrix.now.options o }
+    ensures { (a b : ℕ) → Pairs result a b ↔ IsWeakest matrix.now (In set.now) (Pairs defeats.now) a b }
+{
+    let inside = defeats.within(set);
+    match one_weakest(&inside, matrix) {
+        Some(weakest) => no_stronger_than(weakest, &inside, matrix),
+        None => inside,
+    }
+}

@@ -1,0 +1,153 @@
+//! The matrix of votes.
+ghost use Rattle.std.specs.Prelude.{◌≡◌, ℕ, ◌+◌, ◌-◌, ◌^◌, ◌<◌, ◌≤◌, length, slice_index_or, count_by, All, None, nat_lt, IsSome, IfSome, IsTrue, if◌then◌else◌};
+ghost use Rattle.vote_count.specs.Ballots.{entry_prefers, IsBallotOf};
+ghost use Rattle.vote_poll.specs.Ranks.{prefers};
+ghost use Rattle.vote_poll.specs.Options.{IsOption};
+ghost use Rattle.vote_count.specs.Places.{IsPlace};
+ghost use Rattle.vote_count.specs.Votes.{votes};
+
+use std::marker::Model;
+use vote_poll::{MAX_ELECTORS, MAX_OPTIONS, Ranks};
+
+/// V(A,B) for each two options A and B: the number of voters who prefer A to B (Appendix A, Vote
+/// Counting).
+#[derive(Clone, Copy, Debug, PartialEq, Eq)]
+pub struct Matrix {
+    options: u8,
+    counts: [[u32; MAX_OPTIONS]; MAX_OPTIONS],
+}
+
+impl Model for Matrix {
+    ghost use Rattle.std.specs.Prelude.{◌≡◌, ℕ, ◌<◌, ◌≤◌, [], length, slice_index_or};
+    ghost use Rattle.vote_count.specs.Votes.{Votes};
+    ghost use Rattle.vote_poll.specs.declared.TheConstants.{MAX_OPTIONS};
+
+    ghost Value = { Votes };
+
+    ghost view = { λ m. record { options = m.options; rows = m.counts } };
+
+    ghost invariant = { λ m. (m.options ≤ MAX_OPTIONS) × ((a : ℕ) → a < MAX_OPTIONS → length (slice_index_or m.counts a []) ≡ MAX_OPTIONS) };
+
+    ghost inverse = { λ v. record { options = v.options; counts = v.rows } };
+}
+
+#[tactic(auto, using(vote_poll::proofs::OptionLaws::options))]
+impl Matrix {
+    /// The matrix of no votes, of so many options.
+    pub fn zero(options: u8) -> Self
+        requires { options ≤ MAX_OPTIONS }
+        ensures options { result.options ≡ options }
+        ensures votes { (a b : ℕ) → IsOption options a → IsOption options b → votes result a b ≡ 0 }
+    {
+        Self {
+            options,
+            counts: [[0; MAX_OPTIONS]; MAX_OPTIONS],
+        }
+    }
+
+    /// The number of options, which is also the number of the default option.
+    pub fn options(&self) -> u8
+        ensures same { result ≡ self.now.options }
+        ensures at_most { result ≤ MAX_OPTIONS }
+    {
+        self.options
+    }
+
+    /// V(a,b): how many voters prefer option `a` to option `b`.
+    pub fn votes(&self, a: u8, b: u8) -> u32
+        requires a { IsOption self.now.options a }
+        requires b { IsOption self.now.options b }
+        ensures { result ≡ votes self.now a b }
+    {
+        self.counts[a as usize - 1][b as usize - 1]
+    }
+
+    /// Counts a ballot: one more vote for each two options of which it prefers one to the other.
+    pub fn add(&mut self, ranks: &Ranks)
+        requires options { length ranks.now ≡ self.old.options }
+        requires room { (a b : ℕ) → IsOption self.old.options a → IsOption self.old.options b → IsTrue (prefers ranks.now a b) → votes self.old a b < 2 ^ 32 - 1 }
+        ensures options { self.new.options ≡ self.old.options }
+        ensures votes { (a b : ℕ) → IsOption self.old.options a → IsOption self.old.options b → votes self.new a b ≡ votes self.old a b + (if prefers ranks.now a b then 1 else 0) }
+    {
+        let places = places(ranks.as_slice());
+        for option in 0..self.options as usize {
+            raise(&mut self.counts[option], places[option], &places);
+        }
+    }
+
+    /// Takes a ballot out that was counted: the votes that it added are taken back.
+    pub fn take_out(&mut self, ranks: &Ranks)
+        requires options { length ranks.now ≡ self.old.options }
+        requires counted { (a b : ℕ) → IsOption self.old.options a → IsOption self.old.options b → IsTrue (prefers ranks.now a b) → 0 < votes self.old a b }
+        ensures options { self.new.options ≡ self.old.options }
+        ensures votes { (a b : ℕ) → IsOption self.old.options a → IsOption self.old.options b → votes self.new a b + (if prefers ranks.now a b then 1 else 0) ≡ votes self.old a b }
+    {
+        let places = places(ranks.as_slice());
+        for option in 0..self.options as usize {
+            lower(&mut self.counts[option], places[option], &places);
+        }
+    }
+}
+
+// Where an option of this rank stands in the order of a ballot: behind all ranks where it has none.
+fn place(rank: Option<u8>) -> u16
+    ensures { IsPlace rank result }
+{
+    match rank {
+        Some(rank) => u16::from(rank),
+        None => 256,
+    }
+}
+
+// Where the options of a ballot stand in its order. What is no option stands before all.
+fn places(ranks: &[Option<u8>]) -> [u16; MAX_OPTIONS]
+    requires { length ranks.now ≤ MAX_OPTIONS }
+    ensures options { (k : ℕ) → k < length ranks.now → IsPlace (slice_index_or ranks.now k None) (slice_index_or result k 0) }
+    ensures others { (k : ℕ) → length ranks.now ≤ k → slice_index_or result k 0 ≡ 0 }
+{
+    let mut places = [0; MAX_OPTIONS];
+    for (option, rank) in ranks.iter().enumerate() {
+        places[option] = place(*rank);
+    }
+    places
+}
+
+// One more vote, in the row of the option at this place, over each option behind it.
+fn raise(row: &mut [u32], place: u16, places: &[u16])
+    requires options { length places.now ≤ length row.old }
+    requires room { (k : ℕ) → k < length places.now → place < slice_index_or places.now k 0 → slice_index_or row.old k 0 < 2 ^ 32 - 1 }
+    ensures { (k : ℕ) → k < length places.now → slice_index_or row.new k 0 ≡ slice_index_or row.old k 0 + (if nat_lt place (slice_index_or places.now k 0) then 1 else 0) }
+{
+    for (option, other) in places.iter().enumerate() {
+        row[option] += u32::from(place < *other);
+    }
+}
+
+// One vote less, in the row of the option at this place, over each option behind it.
+fn lower(row: &mut [u32], place: u16, places: &[u16])
+    requires options { length places.now ≤ length row.old }
+    requires some { (k : ℕ) → k < length places.now → place < slice_index_or places.now k 0 → 0 < slice_index_or row.old k 0 }
+    ensures { (k : ℕ) → k < length places.now → slice_index_or row.new k 0 + (if nat_lt place (slice_index_or places.now k 0) then 1 else 0) ≡ slice_index_or row.old k 0 }
+{
+    for (option, other) in places.iter().enumerate() {
+        row[option] -= u32::from(place < *other);
+    }
+}
+
+/// The matrix of a list of ballots of so many options, with one entry for each voter: `None` where a
+/// voter has none. There are at most `MAX_ELECTORS` entries.
+pub fn recount(options: u8, ballots: &[Option<Ranks>]) -> Matrix
+    requires options { options ≤ MAX_OPTIONS }
+    requires few { length ballots.now ≤ MAX_ELECTORS }
+    requires ballots { All (IsBallotOf options) ballots.now }
+    ensures options { result.options ≡ options }
+    ensures votes { (a b : ℕ) → IsOption options a → IsOption options b → votes result a b ≡ count_by (entry_prefers a b) ballots.now }
+{
+    let mut matrix = Matrix::zero(options);
+    for entry in ballots {
+        if let Some(ranks) = entry {
+            matrix.add(ranks);
+        }
+    }
+    matrix
+}

@@ -1,0 +1,344 @@
+//! Worked examples, with values from outside.
+ghost use Rattle.std.specs.Prelude.{◌≡◌, ℕ, ◌≤◌, IfOk, All};
+ghost use Rattle.vote_poll.specs.PollContent.{option_count};
+ghost use Rattle.vote_poll.specs.Options.{IsOption};
+ghost use Rattle.vote_count.specs.Ballots.{IsBallotOf};
+ghost use Rattle.vote_count.specs.Sets.{Pairs};
+
+use crate::{
+    Cause, Chains, Decision, Defeats, Matrix, Verdict, decide, outcome, quorum_votes, reach,
+    reach_by_pairs, recount, standing_options,
+};
+use std::alloc::{AllocError, Global};
+use std::test::Fail;
+use vote_poll::{MAX_ELECTORS, MAX_OPTIONS, Poll, Ranks, Reading, read_line};
+
+/// A poll of these options and the default, each with its ratio, and so many electors.
+fn poll(
+    alloc: Global,
+    names: &str,
+    ratios: &str,
+    quorum: u8,
+    electors: usize,
+) -> Result<Poll, Fail> {
+    let mut roll = String::new(alloc);
+    for voter in 0..electors {
+        let name = format!(in alloc; "\"v{voter}\", ")?;
+        roll.push_str(name.as_str())?;
+    }
+    let text = format!(in alloc;
+        "title = \"Test\"\noptions = [{names}]\nratios = [{ratios}]\ndefault = \"None\"\nquorum = {quorum}\nroll = [{roll}]\n"
+    )?;
+    Ok(Poll::from_text(alloc, text.as_bytes())?)
+}
+
+/// The ballot of a line.
+fn ballot(poll: &Poll, line: &str) -> Result<Option<Ranks>, Fail>
+    ensures { IfOk result (IsBallotOf (option_count poll.now)) }
+{
+    match read_line(poll, line.as_bytes()) {
+        Reading::Ballot { voter: _, ranks } => Ok(Some(ranks)),
+        Reading::Bad(_) => Err(Fail::from("not a ballot")),
+    }
+}
+
+/// The matrix of the ballots of these lines, each as often as the number beside it says.
+fn count(alloc: Global, poll: &Poll, lines: &[(usize, &str)]) -> Result<Matrix, Fail>
+    ensures { IfOk result (λ matrix. matrix.options ≡ option_count poll.now) }
+{
+    let mut ballots = Vec::new(alloc);
+    for (number, line) in lines {
+        for _ in 0..*number {
+            ballots.push(ballot(poll, line)?)?;
+        }
+    }
+    if ballots.len() > MAX_ELECTORS {
+        return Err(Fail::from("too many ballots"));
+    }
+    Ok(recount(poll.options(), &ballots))
+}
+
+/// The line of a ballot that ranks `a` and next `b`, all others before or behind them, and the
+/// default last.
+fn line(alloc: Global, options: u8, a: u8, b: u8, others_first: bool) -> Result<String, AllocError>
+    requires { options ≤ MAX_OPTIONS }
+{
+    let mut line = String::from_str(alloc, "v0 ")?;
+    for option in 1..options {
+        let rank = if option == a {
+            30
+        } else if option == b {
+            31
+        } else if others_first {
+            29 - option
+        } else {
+            40 + option
+        };
+        let text = format!(in alloc; "{rank},")?;
+        line.push_str(text.as_str())?;
+    }
+    line.push_str("99")?;
+    Ok(line)
+}
+
+/// Two ballots that prefer `a` to `b`, and one of them alone each other option to a further one.
+fn prefer(
+    alloc: Global,
+    poll: &Poll,
+    a: u8,
+    b: u8,
+    ballots: &mut Vec<Option<Ranks>>,
+) -> Result<(), Fail>
+    requires { All (IsBallotOf (option_count poll.now)) ballots.old.items }
+    ensures { All (IsBallotOf (option_count poll.now)) ballots.new.items }
+{
+    let others_last = line(alloc, poll.options(), a, b, false)?;
+    let others_first = line(alloc, poll.options(), a, b, true)?;
+    ballots.push(ballot(poll, others_last.as_str())?)?;
+    ballots.push(ballot(poll, others_first.as_str())?)?;
+    Ok(())
+}
+
+const NO_BALLOTS: &[(usize, &str)] = &[];
+
+const CYCLE: &[(usize, &str)] = &[(4, "v0 1,2,3,4"), (3, "v0 3,1,2,4"), (2, "v0 2,3,1,4")];
+
+const EVEN_CYCLE: &[(usize, &str)] = &[(1, "v0 1,2,3,4"), (1, "v0 3,1,2,4"), (1, "v0 2,3,1,4")];
+
+const CYCLE_WITH_EQUAL_RANKS: &[(usize, &str)] = &[
+    (4, "v0 1,2,3,4"),
+    (3, "v0 3,1,2,4"),
+    (1, "v0 2,3,1,4"),
+    (1, "v0 2,2,1,3"),
+];
+
+/// The defeats of a count of these ballots, of which none drops an option.
+fn kept_defeats(poll: &Poll, ballots: &[Option<Ranks>]) -> Result<Defeats, Fail>
+    requires { All (IsBallotOf (option_count poll.now)) ballots.now }
+    ensures { IfOk result (λ defeats. (a b : ℕ) → Pairs defeats a b → IsOption MAX_OPTIONS a × IsOption MAX_OPTIONS b) }
+{
+    if ballots.len() > MAX_ELECTORS {
+        return Err(Fail::from("too many ballots"));
+    }
+    let matrix = recount(poll.options(), ballots);
+    let standing = standing_options(poll, &matrix);
+    if standing.len() < poll.options() as usize {
+        return Err(Fail::from("an option is dropped"));
+    }
+    Ok(Defeats::of(&standing, &matrix))
+}
+
+/// What a count of these lines comes to, under a poll of three options and the default.
+fn verdict(
+    alloc: Global,
+    lines: &[(usize, &str)],
+    quorum: u8,
+    electors: usize,
+) -> Result<Verdict, Fail> {
+    let poll = poll(alloc, "\"A\", \"B\", \"C\"", "1, 1, 1", quorum, electors)?;
+    let matrix = count(alloc, &poll, lines)?;
+    Ok(outcome(alloc, &poll, &matrix)?)
+}
+
+/// Whether the three options have this cause, and the default has none.
+fn have_cause(verdict: &Verdict, cause: Option<Cause>) -> bool {
+    verdict.dropped(1) == cause
+        && verdict.dropped(2) == cause
+        && verdict.dropped(3) == cause
+        && verdict.dropped(4).is_none()
+}
+
+/// Whether the first round removes these defeats and no other.
+fn removes(verdict: &Verdict, pairs: &[(u8, u8)]) -> bool {
+    match verdict.rounds().first() {
+        Some(round) => {
+            round.removed.len() == pairs.len()
+                && pairs.iter().all(|(a, b)| round.removed.has(*a, *b))
+        }
+        None => false,
+    }
+}
+
+#[test]
+fn three_options(rt: HostRuntime) -> Result<(), Fail> {
+    let dropped = Some(Cause::Quorum);
+    let all = &[(1, 2), (2, 3), (3, 1)][..];
+    let last = &[(3, 1)][..];
+    for (lines, quorum, electors, cause, removed, casting, decision) in [
+        (
+            NO_BALLOTS,
+            3,
+            9,
+            dropped,
+            &[][..],
+            None,
+            Decision::Winner(4),
+        ),
+        (CYCLE, 3, 9, None, last, None, Decision::Winner(1)),
+        (CYCLE, 3, 9, None, last, Some(4), Decision::Winner(1)),
+        (EVEN_CYCLE, 1, 3, None, all, None, Decision::Tie),
+        (EVEN_CYCLE, 1, 3, None, all, Some(2), Decision::Winner(2)),
+        (
+            EVEN_CYCLE,
+            1,
+            3,
+            None,
+            all,
+            Some(4),
+            Decision::CastingOutside(4),
+        ),
+        (
+            CYCLE_WITH_EQUAL_RANKS,
+            3,
+            9,
+            None,
+            last,
+            None,
+            Decision::Winner(1),
+        ),
+    ] {
+        let verdict = verdict(rt.alloc(), lines, quorum, electors)?;
+        assert!(rt; have_cause(&verdict, cause));
+        assert!(rt; removes(&verdict, removed));
+        assert_eq!(rt; decide(&verdict, casting), decision);
+    }
+    Ok(())
+}
+
+#[test]
+fn one_option(rt: HostRuntime) -> Result<(), Fail> {
+    let alloc = rt.alloc();
+    for (ratio, won, lost, cause, winner) in [
+        ("3", 9, 3, None, 1),
+        ("3", 8, 3, Some(Cause::Majority), 2),
+        ("1", 2, 2, Some(Cause::Majority), 2),
+    ] {
+        let poll = poll(alloc, "\"A\"", ratio, 0, 12)?;
+        let matrix = count(alloc, &poll, &[(won, "v0 1,2"), (lost, "v1 2,1")])?;
+        let verdict = outcome(alloc, &poll, &matrix)?;
+        assert_eq!(rt; verdict.dropped(1), cause);
+        assert_eq!(rt; decide(&verdict, None), Decision::Winner(winner));
+    }
+    Ok(())
+}
+
+#[test]
+fn fewest_votes_of_a_quorum(rt: HostRuntime) -> Result<(), Fail> {
+    let alloc = rt.alloc();
+    for (multiple, electors, votes) in [
+        (3, 9, 5),
+        (1, 3, 1),
+        (3, 16, 6),
+        (3, 17, 7),
+        (0, 9, 0),
+        (10, 10_000, 500),
+    ] {
+        let poll = poll(alloc, "\"A\"", "1", multiple, electors)?;
+        assert_eq!(rt;
+            quorum_votes(&poll),
+            votes,
+            "{multiple} times Q of {electors}"
+        );
+    }
+    Ok(())
+}
+
+const PAIRS: [(u8, u8); 6] = [(1, 2), (1, 3), (1, 4), (2, 3), (2, 4), (3, 4)];
+
+/// Ballots by which each of the six pairs of four options is a defeat one way, the other way, or
+/// none: the digits of `relation` to the base 3 say which.
+fn ballots_of(alloc: Global, poll: &Poll, relation: u16) -> Result<Vec<Option<Ranks>>, Fail>
+    ensures { IfOk result (λ ballots. All (IsBallotOf (option_count poll.now)) ballots.items) }
+{
+    let mut ballots = vec![in alloc; ballot(poll, "v0 1,1,1,1,2")?]?;
+    let mut rest = relation;
+    for (a, b) in PAIRS {
+        if rest % 3 == 1 {
+            prefer(alloc, poll, a, b, &mut ballots)?;
+        }
+        if rest % 3 == 2 {
+            prefer(alloc, poll, b, a, &mut ballots)?;
+        }
+        rest /= 3;
+    }
+    Ok(ballots)
+}
+
+/// Whether the defeats among the four options are those of `relation`.
+fn is_relation(defeats: &Defeats, relation: u16) -> bool {
+    let mut rest = relation;
+    for (a, b) in PAIRS {
+        if defeats.has(a, b) != (rest % 3 == 1) || defeats.has(b, a) != (rest % 3 == 2) {
+            return false;
+        }
+        rest /= 3;
+    }
+    true
+}
+
+#[test]
+fn both_forms_of_reach_agree(rt: HostRuntime) -> Result<(), Fail> {
+    let alloc = rt.alloc();
+    let poll = poll(alloc, "\"A\", \"B\", \"C\", \"D\"", "1, 1, 1, 1", 0, 13)?;
+    for relation in 0..729 {
+        let ballots = ballots_of(alloc, &poll, relation)?;
+        let defeats = kept_defeats(&poll, &ballots)?;
+        assert!(rt; is_relation(&defeats, relation));
+        let (chains, plain) = (reach(&defeats), reach_by_pairs(&defeats));
+        assert!(rt; chains == plain);
+    }
+    Ok(())
+}
+
+/// Ballots by which each option defeats the next one, and the last one before the default the first.
+fn cycle(alloc: Global, poll: &Poll) -> Result<Vec<Option<Ranks>>, Fail>
+    ensures { IfOk result (λ ballots. All (IsBallotOf (option_count poll.now)) ballots.items) }
+{
+    let mut ballots = Vec::new(alloc);
+    let last = poll.options() - 1;
+    for a in 1..last {
+        prefer(alloc, poll, a, a + 1, &mut ballots)?;
+    }
+    prefer(alloc, poll, last, 1, &mut ballots)?;
+    Ok(ballots)
+}
+
+/// Whether each option up to the last one reaches each, and itself.
+fn all_reach_all(chains: &Chains, last: u8) -> bool {
+    for a in 1..=last {
+        for c in 1..=last {
+            if !chains.has(a, c) {
+                return false;
+            }
+        }
+    }
+    true
+}
+
+#[test]
+fn a_cycle_of_fifteen_options(rt: HostRuntime) -> Result<(), Fail> {
+    let alloc = rt.alloc();
+    let names =
+        "\"A\", \"B\", \"C\", \"D\", \"E\", \"F\", \"G\", \"H\", \"I\", \"J\", \"K\", \"L\", \"M\", \"N\", \"O\"";
+    let poll = poll(
+        alloc,
+        names,
+        "1, 1, 1, 1, 1, 1, 1, 1, 1, 1, 1, 1, 1, 1, 1",
+        0,
+        30,
+    )?;
+    let ballots = cycle(alloc, &poll)?;
+    assert_eq!(rt; ballots.len(), 30);
+    let matrix = recount(poll.options(), &ballots);
+    let verdict = outcome(alloc, &poll, &matrix)?;
+    assert!(rt; all_reach_all(&reach(&verdict.defeats()), 15));
+    assert_eq!(rt; decide(&verdict, None), Decision::Tie);
+    match verdict.rounds() {
+        [first, second] => {
+            assert_eq!(rt; (first.set.len(), first.removed.len()), (15, 15));
+            assert_eq!(rt; (second.set.len(), second.removed.len()), (15, 0));
+        }
+        _ => return Err(Fail::from("not two rounds")),
+    }
+    Ok(())
+}
