@@ -1,0 +1,150 @@
+-- What a history says: a list of steps, oldest first, each the cast of an envelope at a desk, with its reply, or the close.
+-- Desks, stamps and voters range over all natural numbers here; a legal history keeps them within the box.
+use Rattle.std.specs.Prelude.{ℕ, ◌+◌, ◌==◌, nat_lt, Bool, true, false, if◌then◌else◌, List, [], ◌∷◌, Option, Some, None, option_and_then, is_some, map, count_by}
+use Rattle.std.specs.List.{filter_map, list_any, range_with_len}
+use Rattle.vote_poll.specs.Ranks.{prefers}
+use Rattle.vote_poll.specs.declared.Reading.{Reading}
+use Rattle.vote_poll.specs.declared.Reading.TheVariants.{Ballot, Bad}
+use Rattle.vote_steps.specs.declared.step.Reply.{Reply}
+use Rattle.vote_steps.specs.declared.step.Reply.TheVariants.{BoxClosed, BadLine, Superseded, Replaced, Counted}
+use Rattle.vote_steps.specs.declared.step.Received.{Received}
+use Rattle.vote_steps.specs.declared.step.Step.{Step}
+use Rattle.vote_steps.specs.declared.step.Step.TheVariants.{Cast, Close}
+
+-- ---- the close
+
+abbrev pub is_close : Step → Bool
+is_close Close = true
+is_close (Cast desk stamp reading reply) = false
+
+abbrev pub is_cast : Step → Bool
+is_cast Close = false
+is_cast (Cast desk stamp reading reply) = true
+
+-- whether the box was closed
+abbrev pub is_closed : List Step → Bool
+is_closed steps = list_any is_close steps
+
+-- the steps up to the first close
+abbrev pub before_close : List Step → List Step
+before_close [] = []
+before_close (step ∷ steps) = if is_close step then [] else step ∷ before_close steps
+
+-- the steps after the first close
+abbrev pub after_close : List Step → List Step
+after_close [] = []
+after_close (step ∷ steps) = if is_close step then steps else after_close steps
+
+-- ---- the stamps of the envelopes
+
+abbrev pub stamp_of : Step → Option ℕ
+stamp_of Close = None
+stamp_of (Cast desk stamp reading reply) = Some stamp
+
+-- the stamps of the casts
+abbrev pub stamps : List Step → List ℕ
+stamps steps = filter_map stamp_of steps
+
+-- whether a cast has this stamp
+abbrev pub is_used : List Step → ℕ → Bool
+is_used steps stamp = list_any (λ used. used == stamp) (stamps steps)
+
+-- ---- the ballot of a voter that stands
+
+-- what a line gives a voter: a ballot, where it is one of that voter
+abbrev pub ballot_read : ℕ → ℕ → Reading → Option Received
+ballot_read voter stamp (Bad fault) = None
+ballot_read voter stamp (Ballot v ranks) = if v == voter then Some (record { stamp = stamp; ranks = ranks }) else None
+
+-- what a step gives a voter
+abbrev pub ballot_of : ℕ → Step → Option Received
+ballot_of voter Close = None
+ballot_of voter (Cast desk stamp reading reply) = ballot_read voter stamp reading
+
+-- the ballots of a voter that came before the close
+abbrev pub ballots : List Step → ℕ → List Received
+ballots steps voter = filter_map (ballot_of voter) (before_close steps)
+
+-- of two ballots the one with the greater stamp
+abbrev pub later : Received → Option Received → Option Received
+later ballot None = Some ballot
+later ballot (Some other) = if nat_lt other.stamp ballot.stamp then Some ballot else Some other
+
+-- the ballot with the greatest stamp
+abbrev pub latest : List Received → Option Received
+latest [] = None
+latest (ballot ∷ others) = later ballot (latest others)
+
+-- the ballot of a voter that stands: of those before the close the one with the greatest stamp
+abbrev pub standing : List Step → ℕ → Option Received
+standing steps voter = latest (ballots steps voter)
+
+-- the ranks of the ballot that stands
+abbrev pub standing_ranks : List Step → ℕ → Option (List (Option ℕ))
+standing_ranks steps voter = option_and_then (λ ballot. Some ballot.ranks) (standing steps voter)
+
+-- ---- the reply to a cast
+
+-- the reply to a ballot, beside the ballot of its voter that stands
+abbrev pub reply_beside : Option Received → ℕ → Reply
+reply_beside None stamp = Counted
+reply_beside (Some ballot) stamp = if nat_lt stamp ballot.stamp then Superseded else Replaced
+
+-- the reply of an open box
+abbrev pub reply_while_open : List Step → ℕ → Reading → Reply
+reply_while_open steps stamp (Bad fault) = BadLine fault
+reply_while_open steps stamp (Ballot voter ranks) = reply_beside (standing steps voter) stamp
+
+-- the reply to an envelope that comes after these steps
+abbrev pub reply_to : List Step → ℕ → Reading → Reply
+reply_to steps stamp reading = if is_closed steps then BoxClosed else reply_while_open steps stamp reading
+
+-- whether a reply says that the line is a valid ballot
+abbrev pub is_valid : Reply → Bool
+is_valid Counted = true
+is_valid Replaced = true
+is_valid Superseded = true
+is_valid (BadLine fault) = false
+is_valid BoxClosed = false
+
+-- ---- the counts
+
+-- the ballots that stand, by voter
+abbrev pub roll : List Step → ℕ → List (Option Received)
+roll steps electors = map (standing steps) (range_with_len 0 electors)
+
+-- whether an entry of the roll is a ballot that prefers option a to option b
+abbrev pub is_for : ℕ → ℕ → Option Received → Bool
+is_for a b None = false
+is_for a b (Some ballot) = prefers ballot.ranks a b
+
+-- how many voters prefer option a to option b, by the ballots that stand
+abbrev pub standing_votes : List Step → ℕ → ℕ → ℕ → ℕ
+standing_votes steps electors a b = count_by (is_for a b) (roll steps electors)
+
+-- whether a step is the cast of a ballot, or of a line that is none
+abbrev pub is_ballot : Step → Bool
+is_ballot Close = false
+is_ballot (Cast desk stamp (Bad fault) reply) = false
+is_ballot (Cast desk stamp (Ballot voter ranks) reply) = true
+
+abbrev pub is_bad : Step → Bool
+is_bad Close = false
+is_bad (Cast desk stamp (Bad fault) reply) = true
+is_bad (Cast desk stamp (Ballot voter ranks) reply) = false
+
+-- the ballots that came before the close
+abbrev pub valid : List Step → ℕ
+valid steps = count_by is_ballot (before_close steps)
+
+-- the lines before the close that are no ballot, and all that came after it
+abbrev pub refused : List Step → ℕ
+refused steps = count_by is_bad (before_close steps) + count_by is_cast (after_close steps)
+
+-- the ranks of the ballots that stand, one entry for each voter
+abbrev pub standing_ballots : List Step → ℕ → List (Option (List (Option ℕ)))
+standing_ballots steps electors = map (standing_ranks steps) (range_with_len 0 electors)
+
+-- the voters with a ballot that stands
+abbrev pub voters : List Step → ℕ → ℕ
+voters steps electors = count_by is_some (roll steps electors)

@@ -1,0 +1,281 @@
+//! The ballot box.
+ghost use Rattle.std.specs.Prelude.{◌≡◌, ℕ, ◌+◌, ◌<◌, ◌≤◌, ◌↔◌, ◌∷◌, ◌++◌, [], true, length, Ok, Err, vec_len, vec_capacity, if◌then◌else◌, ◌⊎◌, IsTrue, IfOk, OnOk, OnErr};
+ghost use Rattle.vote_poll.specs.Options.{IsOption};
+ghost use Rattle.vote_count.specs.Ballots.{IsBallotOf};
+ghost use Rattle.vote_count.specs.Votes.{votes};
+ghost use Rattle.vote_steps.specs.History.{is_closed, is_used, is_valid, reply_to, standing_ranks, valid, refused, voters, standing_votes};
+ghost use Rattle.vote_poll.specs.Readings.{ReadingFits};
+ghost use Rattle.vote_steps.specs.Boxes.{IsLegal, UsesAll};
+
+use crate::MAX_DESKS;
+use crate::roll::Roll;
+use crate::step::{Received, Reply, Step};
+use std::alloc::{AllocError, Global};
+use std::marker::Model;
+use vote_count::Matrix;
+use vote_poll::{MAX_ELECTORS, MAX_LINES, MAX_OPTIONS, Ranks, Reading};
+
+/// Why a cast is refused. No step is made, and nothing changes.
+#[derive(Clone, Copy, Debug, PartialEq, Eq)]
+pub enum StepFault {
+    /// The stamp is 0, or greater than the limit of the box.
+    StampRange,
+    /// A step of the box has this stamp.
+    StampUsed,
+}
+
+/// Why a close is refused: the box was closed before. No step is made, and nothing changes.
+#[derive(Clone, Copy, Debug, PartialEq, Eq)]
+pub struct AlreadyClosed;
+
+/// How many lines counted and how many did not, and how many voters have a ballot that stands.
+#[derive(Clone, Copy, Debug, PartialEq, Eq)]
+pub struct Totals {
+    /// The casts that were answered `Counted`, `Replaced` or `Superseded`: the ballots that came before the close.
+    pub valid: u64,
+    /// The casts that were answered `BadLine` or `BoxClosed`: all others.
+    pub refused: u64,
+    /// The voters with a ballot that stands.
+    pub voters: u64,
+}
+
+/// A ballot box. Contracts see its sizes and its history.
+#[derive(Drop)]
+pub struct BallotBox {
+    limit: u32,
+    roll: Roll,
+    /// For each stamp whether a step has it, from stamp 1.
+    used: Vec<bool>,
+    steps: Vec<Step>,
+    valid: u64,
+    refused: u64,
+    closed: bool,
+}
+
+impl Model for BallotBox {
+    ghost use Rattle.vote_steps.specs.Boxes.{BoxState};
+
+    ghost Value = { BoxState };
+
+    ghost use Rattle.vote_steps.specs.Keeping.{state_of, Keeps};
+
+    ghost view = { state_of };
+
+    ghost invariant = { Keeps };
+}
+
+impl BallotBox {
+    /// An open box with no steps, for `options` options with the default, `electors` electors and the stamps 1 to `limit`.
+    /// All memory is taken here: a ballot for each elector, a mark for each stamp, and a step for each stamp and the close.
+    pub fn new(
+        alloc: Global,
+        options: u8,
+        electors: usize,
+        limit: u32,
+    ) -> Result<BallotBox, AllocError>
+        requires options { (2 ≤ options) × (options ≤ MAX_OPTIONS) }
+        requires electors { (1 ≤ electors) × (electors ≤ MAX_ELECTORS) }
+        requires limit { limit ≤ MAX_LINES }
+        ensures { IfOk result (λ b. b ≡ record { options = options; electors = electors; limit = limit; steps = [] }) }
+    {
+        let ballots = vec![in alloc; None; electors]?;
+        let used = vec![in alloc; false; limit as usize]?;
+        let steps = Vec::with_capacity(alloc, limit as usize + 1)?;
+        Ok(BallotBox {
+            limit,
+            roll: Roll {
+                ballots,
+                voters: 0,
+                matrix: Matrix::zero(options),
+            },
+            used,
+            steps,
+            valid: 0,
+            refused: 0,
+            closed: false,
+        })
+    }
+
+    /// Casts an envelope at a desk, from 1 to `MAX_DESKS`, which makes a step with the reply. A ballot in it is of an elector
+    /// of this box, and has a rank or none for each of its options.
+    ///
+    /// The reply is the first of `Reply` that fits, `BoxClosed` first; a ballot that is `Counted` or `Replaced` stands from
+    /// now on. `StampRange` and then `StampUsed` are found before, and change nothing: no step, no mark, no count.
+    pub fn cast(&mut self, desk: u8, stamp: u32, reading: Reading) -> Result<Reply, StepFault>
+        requires desk { (1 ≤ desk) × (desk ≤ MAX_DESKS) }
+        requires reading { ReadingFits self.old.options self.old.electors reading }
+
+        // An envelope that is taken makes one step, with the reply that the steps before it call for.
+        ensures reply { IfOk result (λ reply. reply ≡ reply_to self.old.steps stamp reading) }
+        ensures step { IfOk result (λ reply. self.new ≡ record self.old { steps = self.old.steps ++ Step.Cast desk stamp reading reply ∷ [] }) }
+        ensures valid { IfOk result (λ reply. valid self.new.steps ≡ valid self.old.steps + (if is_valid reply then 1 else 0)) }
+        ensures refused { IfOk result (λ reply. refused self.new.steps ≡ refused self.old.steps + (if is_valid reply then 0 else 1)) }
+
+        // When each refusal comes.
+        ensures range { (result ≡ Err StepFault.StampRange) ↔ ((stamp ≡ 0) ⊎ (self.old.limit < stamp)) }
+        ensures used { (result ≡ Err StepFault.StampUsed) ↔ ((1 ≤ stamp) × (stamp ≤ self.old.limit) × IsTrue (is_used self.old.steps stamp)) }
+        ensures err { OnErr result (self.new ≡ self.old) }
+    {
+        if stamp == 0 || stamp > self.limit {
+            return Err(StepFault::StampRange);
+        }
+        let place = stamp as usize - 1;
+        if self.used[place] {
+            return Err(StepFault::StampUsed);
+        }
+        let reply = if self.closed {
+            self.refused += 1;
+            Reply::BoxClosed
+        } else {
+            match reading {
+                Reading::Bad(fault) => {
+                    self.refused += 1;
+                    Reply::BadLine(fault)
+                }
+                Reading::Ballot { voter, ranks } => {
+                    self.valid += 1;
+                    self.roll.receive(voter, Received { stamp, ranks })
+                }
+            }
+        };
+        self.used[place] = true;
+        let step = Step::Cast {
+            desk,
+            stamp,
+            reading,
+            reply,
+        };
+        push_step(&mut self.steps, step);
+        Ok(reply)
+    }
+
+    /// Closes the box, which makes a step. `AlreadyClosed` comes where the box was closed before, and changes nothing.
+    pub fn close(&mut self) -> Result<(), AlreadyClosed>
+        ensures ok { OnOk result (self.new ≡ record self.old { steps = self.old.steps ++ Step.Close ∷ [] }) }
+        ensures valid { OnOk result (valid self.new.steps ≡ valid self.old.steps) }
+        ensures refused { OnOk result (refused self.new.steps ≡ refused self.old.steps) }
+        ensures closed { IsTrue (is_closed self.new.steps) }
+        ensures legal { IsLegal self.new }
+        ensures already { (result ≡ Err record {}) ↔ IsTrue (is_closed self.old.steps) }
+        ensures err { OnErr result (self.new ≡ self.old) }
+    {
+        if self.closed {
+            return Err(AlreadyClosed);
+        }
+        self.closed = true;
+        push_step(&mut self.steps, Step::Close);
+        Ok(())
+    }
+
+    /// The ranks of the ballot of a voter that stands: of those cast before the close the one with the greatest stamp. Voters
+    /// are numbered from 0. None where the voter has cast none, and where there is no such voter.
+    pub fn standing(&self, voter: usize) -> Option<Ranks>
+        ensures ranks { result ≡ standing_ranks self.now.steps voter }
+        ensures fits { IsBallotOf self.now.options result }
+    {
+        self.roll.standing(voter)
+    }
+
+    /// How many voters prefer each option to each other option, by the ballots that stand. Options are numbered from 1. This
+    /// copies the matrix that the box keeps, and counts nothing.
+    pub fn matrix(&self) -> Matrix
+        ensures options { result.options ≡ self.now.options }
+        ensures votes { (a b : ℕ) → IsOption self.now.options a → IsOption self.now.options b → votes result a b ≡ standing_votes self.now.steps self.now.electors a b }
+    {
+        self.roll.matrix
+    }
+
+    /// How many lines counted and how many did not, and how many voters have a ballot that stands.
+    pub fn totals(&self) -> Totals
+        ensures { result ≡ record { valid = valid self.now.steps; refused = refused self.now.steps; voters = voters self.now.steps self.now.electors } }
+    {
+        Totals {
+            valid: self.valid,
+            refused: self.refused,
+            voters: self.roll.voters,
+        }
+    }
+
+    /// The steps, oldest first: step 1 is at place 0. They are a legal history.
+    pub fn steps(&self) -> &[Step]
+        ensures steps { result.now ≡ self.now.steps }
+
+        // What every legal history has.
+        ensures legal { IsLegal self.now }
+        ensures len { length self.now.steps ≤ self.now.limit + 1 }
+        ensures all_used { UsesAll self.now }
+    {
+        self.steps.as_slice()
+    }
+
+    /// Whether the box has not been closed.
+    pub fn is_open(&self) -> bool
+        ensures { IsTrue result ↔ ¬ IsTrue (is_closed self.now.steps) }
+    {
+        !self.closed
+    }
+
+    /// The number of options, with the default.
+    pub fn options(&self) -> u8
+        ensures same { result ≡ self.now.options }
+        ensures at_most { result ≤ MAX_OPTIONS }
+    {
+        self.roll.matrix.options()
+    }
+
+    /// The number of electors.
+    pub fn electors(&self) -> usize
+        ensures same { result ≡ self.now.electors }
+        ensures at_most { result ≤ MAX_ELECTORS }
+    {
+        self.roll.ballots.len()
+    }
+
+    /// The greatest stamp that the box takes.
+    pub fn limit(&self) -> u32
+        ensures same { result ≡ self.now.limit }
+        ensures at_most { result ≤ MAX_LINES }
+    {
+        self.limit
+    }
+}
+
+// Adds an item, for which room is kept.
+fn append<T: Drop>(items: &mut Vec<T>, item: T)
+    requires { vec_len items.old < vec_capacity items.old }
+    ensures items { items.new.items ≡ items.old.items ++ item ∷ [] }
+    ensures len { vec_len items.new ≡ vec_len items.old + 1 }
+    ensures capacity { vec_capacity items.old ≤ vec_capacity items.new }
+{
+    let Ok(()) = items.push(item) else {
+        unreachable!()
+    };
+}
+
+// Adds a step, for which room is kept. It is taken apart and put together again, since the kit does not prove a function that
+// moves a `Step` into a call and has no value of type `Reading` in its hands, as `steps.push(Step::Close)` in `close`: a type of
+// another crate inside an enum of this one. The copy is of one step.
+fn push_step(steps: &mut Vec<Step>, step: Step)
+    requires { vec_len steps.old < vec_capacity steps.old }
+    ensures items { steps.new.items ≡ steps.old.items ++ step ∷ [] }
+    ensures len { vec_len steps.new ≡ vec_len steps.old + 1 }
+    ensures capacity { vec_capacity steps.old ≤ vec_capacity steps.new }
+{
+    match step {
+        Step::Cast {
+            desk,
+            stamp,
+            reading,
+            reply,
+        } => append(
+            steps,
+            Step::Cast {
+                desk,
+                stamp,
+                reading,
+                reply,
+            },
+        ),
+        Step::Close => append(steps, Step::Close),
+    }
+}

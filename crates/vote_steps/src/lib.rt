@@ -1,0 +1,35 @@
+//! The ballot box of one thread, and the history of its steps.
+//!
+//! Envelopes come to the box at desks, each with a stamp and with what the poll reads in its line. A call of
+//! [`BallotBox::cast`] or [`BallotBox::close`] makes one [`Step`] or refuses to, and then nothing has changed. The steps are
+//! the history of the box. All else that the box tells is a replay of them: the ballot of each voter that stands, the matrix
+//! of votes, the totals, whether the box is open. The contracts say it so: they see a box as its sizes and its steps
+//! (`BoxState`), and each answer as a definition on the steps (`History`).
+//!
+//! What is promised:
+//!
+//! - The history is legal (`IsLegal`): each cast has a desk, a stamp of the box that no step before it has, a reading that fits
+//!   the box, and the reply that the steps before it call for; and a close comes only to an open box.
+//! - Of each voter the ballot with the greatest stamp stands, of those cast before the close. So a line further down in the
+//!   ballot file replaces one further up, in whatever order the two come to the box.
+//! - The matrix is at each time that of a recount of the ballots that stand.
+//! - The functions of [`laws`] say what follows of every history, whoever made it.
+//!
+//! Numbering: desks from 1 to [`MAX_DESKS`], stamps from 1 to the limit of the box, options from 1 with the default last,
+//! voters from 0 by their place on the roll, steps from 1. `BallotBox::new` takes all memory that a box needs. No other call
+//! takes memory, and a cast takes the same time whatever the number of voters, lines and steps.
+#![tactic(auto)]
+
+mod ballot_box;
+pub mod laws;
+mod roll;
+mod step;
+
+pub use ballot_box::{AlreadyClosed, BallotBox, StepFault, Totals};
+pub use step::{Received, Reply, Step};
+
+/// The most desks at which envelopes are cast. Desks are numbered from 1.
+pub const MAX_DESKS: u8 = 8;
+
+#[cfg(test)]
+mod tests;

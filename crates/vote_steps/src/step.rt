@@ -1,0 +1,45 @@
+//! The steps of a ballot box, and the replies to its casts.
+use vote_poll::{LineFault, Ranks, Reading};
+
+/// What a cast is answered: the first of these that fits, in the order `BoxClosed`, `BadLine`, `Superseded`, `Replaced`,
+/// `Counted`.
+#[derive(Clone, Copy, Debug, PartialEq, Eq)]
+pub enum Reply {
+    /// The line is a ballot of a voter who has none yet. It stands.
+    Counted,
+    /// The voter's ballot that stood has a smaller stamp. This one stands in its place.
+    Replaced,
+    /// The voter's ballot that stands has a greater stamp. It goes on to stand.
+    Superseded,
+    /// The line is no ballot, for the fault that is given.
+    BadLine(LineFault),
+    /// The box was closed before. The line does not count, whatever it says.
+    BoxClosed,
+}
+
+/// One step of a ballot box. The steps of a box are numbered from 1.
+#[derive(Clone, Copy, Debug, PartialEq, Eq)]
+pub enum Step {
+    /// An envelope was cast.
+    Cast {
+        /// The desk at which it was cast, from 1 to [`MAX_DESKS`](crate::MAX_DESKS).
+        desk: u8,
+        /// Its stamp, from 1 to the limit of the box.
+        stamp: u32,
+        /// What the poll reads in its line.
+        reading: Reading,
+        /// What the cast was answered.
+        reply: Reply,
+    },
+    /// The box was closed.
+    Close,
+}
+
+/// A ballot as it came.
+#[derive(Clone, Copy, Debug, PartialEq, Eq)]
+pub struct Received {
+    /// The stamp of its envelope, from 1.
+    pub stamp: u32,
+    /// The rank that it gives each option, or none.
+    pub ranks: Ranks,
+}
