@@ -1,0 +1,14 @@
+pub mod CastLemmas
+pub mod Counted
+pub mod Counts
+pub mod Deciding
+pub mod Holding
+pub mod Orders
+pub mod Padding
+pub mod PrintedSheets
+pub mod Separators
+pub mod Stamps
+pub mod Texts
+pub mod Uniqueness
+pub mod Writing
+pub mod Written

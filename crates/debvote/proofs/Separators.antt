@@ -1,0 +1,33 @@
+-- The first place in a text where a test holds.
+use Rattle.std.proofs.Common.{◌≡◌, ◌<◌, ℕ, Bool, true, false, nat_lt, length, Some, None, ap, ◌∙◌, arith}
+use Rattle.std.specs.List.{position, position_or_len, range_with_len}
+use Rattle.std.proofs.Common.{get_or}
+use Rattle.std.proofs.lemmas.Bool.Decides.{nat_tests}
+use Rattle.std.proofs.lemmas.List.FromFn.{length-range_with_len, get_or-range_with_len}
+use Rattle.std.proofs.lemmas.List.Sums.{position_or_len_is}
+
+module _ (test : ℕ → Bool) (n : ℕ) where
+  at_place : (k : ℕ) → k < n → get_or (range_with_len 0 n) k 0 ≡ k
+  at_place k within = get_or-range_with_len 0 n k 0 within ∙ omega arith
+
+  -- it holds here, and nowhere before
+  pub first_place : (at : ℕ) → at < n → ((k : ℕ) → k < at → test k ≡ false) → test at ≡ true → position test (range_with_len 0 n) ≡ Some at
+  first_place at within before here =
+      let long : length (range_with_len 0 n) ≡ n = length-range_with_len 0 n in
+      let first : position_or_len test (range_with_len 0 n) ≡ at =
+      position_or_len_is test (range_with_len 0 n) at 0 (omega arith)
+      (λ k below. ap test (at_place k (omega arith)) ∙ before k below)
+      (λ _. ap test (at_place at within) ∙ here) in
+      let found : nat_lt at n ≡ true = grind (arith, nat_tests) in
+      rw (first, long, found)
+
+  -- it holds nowhere
+  pub no_place : ((k : ℕ) → k < n → test k ≡ false) → position test (range_with_len 0 n) ≡ None
+  no_place none =
+      let long : length (range_with_len 0 n) ≡ n = length-range_with_len 0 n in
+      let first : position_or_len test (range_with_len 0 n) ≡ n =
+      position_or_len_is test (range_with_len 0 n) n 0 (omega arith)
+      (λ k below. ap test (at_place k below) ∙ none k below)
+      (λ past. absurd (omega arith)) in
+      let missing : nat_lt n n ≡ false = grind (arith, nat_tests) in
+      rw (first, long, missing)

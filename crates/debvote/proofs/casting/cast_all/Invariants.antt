@@ -1,0 +1,15 @@
+use Rattle.std.proofs.Common.{◌≡◌, length}
+use Rattle.vote_poll.specs.PollContent.{elector_count, option_count}
+use Rattle.debvote.specs.LastBallots.{readings}
+use Rattle.debvote.proofs.CastLemmas.{casts_of}
+use Rattle.debvote.proofs.casting.cast_all.Given as goal
+
+-- the lines before this one are cast
+abbrev pub invariant-loop-place : goal.invariant-loop-place
+invariant-loop-place l =
+    l.ballot_box ≡ record {
+      options = option_count l.poll;
+      electors = elector_count l.poll;
+      limit = length l.lines;
+      steps = casts_of (readings l.poll l.lines) l.place;
+    }

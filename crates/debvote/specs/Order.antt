@@ -1,0 +1,49 @@
+-- What the words ask for, from what `clap` found in them.
+use Rattle.std.specs.Prelude.{◌≡◌, ◌⊎◌, List, Option, Some, codes, option_map}
+use Rattle.clap.specs.Words.{Row, Text, first_of}
+use Rattle.clap.specs.Kinds.{IsAmong, Kinds}
+use Rattle.clap.specs.declared.error.kind.ErrorKind.{ErrorKind}
+use Rattle.clap.specs.declared.error.kind.ErrorKind.TheVariants as kind
+use Rattle.debvote.specs.declared.order.OrderFault.{OrderFault}
+use Rattle.debvote.specs.declared.order.OrderFault.TheVariants.{Help, Refused, Memory}
+use Rattle.debvote.specs.declared.order.Task.{Task}
+use Rattle.debvote.specs.declared.order.Task.TheVariants.{Count, Steps, Check}
+
+-- the value of a subcommand's option
+abbrev pub HasText : List Row → Text → Text → Type 0
+HasText rows name text = first_of name rows ≡ Some text
+
+-- the subcommand that asks for the task
+abbrev pub subcommand_name : Task → Text
+subcommand_name (Count poll ballots casting) = codes "count"
+subcommand_name (Steps poll ballots) = codes "steps"
+subcommand_name (Check poll) = codes "check"
+
+-- the task has the values of the subcommand's options
+abbrev pub HasValues : List Row → Task → Type 0
+HasValues rows (Count poll ballots casting) =
+    HasText rows (codes "poll") poll.now
+    × HasText rows (codes "ballots") ballots.now
+    × (option_map (λ name. name.now) casting ≡ first_of (codes "casting") rows)
+HasValues rows (Steps poll ballots) = HasText rows (codes "poll") poll.now × HasText rows (codes "ballots") ballots.now
+HasValues rows (Check poll) = HasText rows (codes "poll") poll.now
+
+-- the subcommand that was given asks for the task
+abbrev pub AsksFor : Option (Text × List Row) → Task → Type 0
+AsksFor subcommand task = (rows : List Row) × (subcommand ≡ Some (subcommand_name task, rows)) × HasValues rows task
+
+-- the kinds of `clap` that ask for help
+abbrev pub AsksForHelp : ErrorKind → Type 0
+AsksForHelp k = (k ≡ kind.DisplayHelp) ⊎ (k ≡ kind.DisplayVersion)
+
+-- an error of this kind is answered with help only where it asks for help
+abbrev pub HelpsByKind : ErrorKind → OrderFault → Type 0
+HelpsByKind k (Help text) = AsksForHelp k
+HelpsByKind k (Refused text) = Unit {0}
+HelpsByKind k Memory = Unit {0}
+
+-- help is answered only where the words ask for it
+abbrev pub HelpsIfAsked : Kinds → OrderFault → Type 0
+HelpsIfAsked kinds (Help text) = (k : ErrorKind) × AsksForHelp k × IsAmong k kinds
+HelpsIfAsked kinds (Refused text) = Unit {0}
+HelpsIfAsked kinds Memory = Unit {0}

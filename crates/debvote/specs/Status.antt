@@ -1,0 +1,41 @@
+-- The exit status of the program.
+use Rattle.std.specs.Prelude.{ℕ, Result, Ok, Err}
+use Rattle.vote_poll.specs.declared.fault.PollFault.{PollFault}
+use Rattle.vote_poll.specs.declared.fault.PollFault.TheVariants as poll
+use Rattle.vote_poll.specs.declared.lines.LinesFault.{LinesFault}
+use Rattle.vote_poll.specs.declared.lines.LinesFault.TheVariants as lines
+use Rattle.debvote.specs.declared.fault.Ended.{Ended}
+use Rattle.debvote.specs.declared.fault.Ended.TheVariants as ended
+use Rattle.debvote.specs.declared.fault.RunFault.{RunFault}
+use Rattle.debvote.specs.declared.fault.RunFault.TheVariants as run
+use Rattle.debvote.specs.declared.order.OrderFault.{OrderFault}
+use Rattle.debvote.specs.declared.order.OrderFault.TheVariants as order
+
+abbrev pub poll_status : PollFault → ℕ
+poll_status poll.Memory = 5
+poll_status _ = 3
+
+abbrev pub lines_status : LinesFault → ℕ
+lines_status lines.TooMany = 4
+lines_status lines.Memory = 5
+
+abbrev pub fault_status : RunFault → ℕ
+fault_status (run.Poll fault) = poll_status fault
+fault_status run.NoSuchOption = 8
+fault_status (run.Lines fault) = lines_status fault
+fault_status run.Memory = 5
+fault_status run.Output = 7
+
+abbrev pub ended_status : Ended → ℕ
+ended_status (ended.Decided option) = 0
+ended_status ended.Tie = 1
+ended_status (ended.CastingOutside option) = 8
+
+abbrev pub status : Result Ended RunFault → ℕ
+status (Ok end) = ended_status end
+status (Err fault) = fault_status fault
+
+abbrev pub order_status : OrderFault → ℕ
+order_status (order.Help text) = 0
+order_status (order.Refused text) = 2
+order_status order.Memory = 5

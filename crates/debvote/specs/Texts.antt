@@ -1,0 +1,10 @@
+-- Texts are lists of bytes.
+use Rattle.std.specs.Prelude.{ℕ, List, [], ◌∷◌, ◌++◌, codes}
+
+abbrev pub Text : Type 0
+Text = List ℕ
+
+-- the pieces, one after another, on a line
+abbrev pub line : List Text → Text
+line [] = codes "\n"
+line (piece ∷ pieces) = piece ++ line pieces

@@ -1,0 +1,51 @@
+//! One desk that casts the lines of a ballot file.
+
+ghost use Rattle.std.specs.Prelude.{◌≡◌, ◌≤◌, ◌∷◌, ◌++◌, [], false, IfOk};
+ghost use Rattle.vote_poll.specs.Readings.{ReadingFits};
+ghost use Rattle.vote_steps.specs.History.{is_used, reply_to};
+ghost use Rattle.vote_steps.specs.declared.Step.TheVariants.{Cast};
+ghost use Rattle.debvote.specs.LastBallots.{readings};
+ghost use Rattle.debvote.specs.Casting.{AreCastInOrder, HoldsLines, OrderLeavesNoChoice};
+
+use std::alloc::{AllocError, Global};
+use vote_poll::{Lines, Poll, Reading, read_line};
+use vote_steps::BallotBox;
+
+// Casts at desk 1 what was read in the line with this stamp, which is a new one.
+fn cast_at_desk_1(ballot_box: &mut BallotBox, stamp: u32, reading: Reading)
+    requires stamp { (1 ≤ stamp) × (stamp ≤ ballot_box.old.limit) }
+    requires unused { is_used ballot_box.old.steps stamp ≡ false }
+    requires reading { ReadingFits ballot_box.old.options ballot_box.old.electors reading }
+    ensures { ballot_box.new ≡ record ballot_box.old { steps = ballot_box.old.steps ++ Cast 1 stamp reading (reply_to ballot_box.old.steps stamp reading) ∷ [] } }
+{
+    let Ok(_) = ballot_box.cast(1, stamp, reading) else {
+        unreachable!()
+    };
+}
+
+/// The closed box of the poll in which desk 1 cast the lines in their order. The stamp of a line
+/// is its number, from 1.
+pub fn cast_all(alloc: Global, poll: &Poll, lines: &Lines<'_>) -> Result<BallotBox, AllocError>
+    ensures held { IfOk result (HoldsLines poll.now lines.now) }
+    ensures in_order { IfOk result (λ ballot_box. AreCastInOrder (readings poll.now lines.now) ballot_box.steps) }
+{
+    let mut ballot_box = BallotBox::new(
+        alloc,
+        poll.options(),
+        poll.electors(),
+        lines.len() as u32,
+    )?;
+    for place in 0..lines.len() {
+        let reading = read_line(poll, lines.line(place));
+        cast_at_desk_1(&mut ballot_box, place as u32 + 1, reading);
+    }
+    let Ok(()) = ballot_box.close() else {
+        unreachable!()
+    };
+    Ok(ballot_box)
+}
+
+/// There is one history in which desk 1 casts the lines of a poll in their order.
+pub fn order_leaves_no_choice()
+    ensures { OrderLeavesNoChoice }
+{}

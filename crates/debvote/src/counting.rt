@@ -1,0 +1,79 @@
+//! The command `count`: the sheet of a poll file and a ballot file.
+
+ghost use Rattle.std.specs.Prelude.{◌≡◌, ◌<◌, ◌↔◌, IfNone, IfSome, IsErrOf, option_map};
+ghost use Rattle.vote_poll.specs.Lines.{lines_of};
+ghost use Rattle.vote_poll.specs.Options.{IsOption};
+ghost use Rattle.vote_poll.specs.PollContent.{option_count};
+ghost use Rattle.debvote.specs.Counting.{AnswersCasting, NamesNoOption, WritesCount, casting_option, ended_of};
+ghost use Rattle.debvote.specs.Runs.{AnswersLines, AnswersPoll};
+
+use crate::casting::cast_all;
+use crate::device::{DeviceFault, Sink};
+use crate::fault::{Ended, RunFault};
+use crate::output::write_text;
+use crate::sheet::sheet_and_decision;
+use std::alloc::Global;
+use vote_count::Decision;
+use vote_poll::{Lines, Poll};
+
+/// The option that the casting vote names, if there is one; `None` where no option has the name.
+fn named_option(poll: &Poll, casting: Option<&[u8]>) -> Option<Option<u8>>
+    ensures none { IfNone result (NamesNoOption poll.now (option_map (λ name. name.now) casting.entry)) }
+    ensures named { IfSome result (λ option. ¬ NamesNoOption poll.now (option_map (λ name. name.now) casting.entry)) }
+    ensures option { IfSome result (λ option. option ≡ casting_option poll.now (option_map (λ name. name.now) casting.entry)) }
+    ensures range { IfSome result (λ option. IfSome option (IsOption (option_count poll.now))) }
+{
+    match casting {
+        None => Some(None),
+        Some(name) => {
+            let option = poll.option_of(name)?;
+            Some(Some(option))
+        }
+    }
+}
+
+/// How a count ends that is decided so.
+fn ended_of(decision: Decision) -> Ended
+    ensures { result ≡ ended_of decision }
+{
+    match decision {
+        Decision::Winner(option) => Ended::Decided(option),
+        Decision::Tie => Ended::Tie,
+        Decision::CastingOutside(option) => Ended::CastingOutside(option),
+    }
+}
+
+/// Casts the lines in order at one desk, closes the box, and writes its sheet, with the option that the casting vote names.
+/// Nothing is written before the sheet is whole.
+pub fn run<W: Sink>(
+    alloc: Global,
+    poll_text: &[u8],
+    ballots: &[u8],
+    casting: Option<&[u8]>,
+    sink: &mut W,
+) -> Result<Ended, RunFault>
+    ensures poll { AnswersPoll poll_text.now result }
+    ensures casting { AnswersCasting poll_text.now (option_map (λ name. name.now) casting.entry) result }
+    ensures lines { AnswersLines (lines_of ballots.now) result }
+    ensures writes { WritesCount poll_text.now ballots.now (option_map (λ name. name.now) casting.entry) (W.contents sink.old) (W.contents sink.new) result }
+    ensures output { IsErrOf result RunFault.Output ↔ (W.faults sink.old < W.faults sink.new) }
+{
+    let poll = match Poll::from_text(alloc, poll_text) {
+        Ok(poll) => poll,
+        Err(fault) => return Err(RunFault::Poll(fault)),
+    };
+    let Some(casting) = named_option(&poll, casting) else {
+        return Err(RunFault::NoSuchOption);
+    };
+    let lines = match Lines::split(alloc, ballots) {
+        Ok(lines) => lines,
+        Err(fault) => return Err(RunFault::Lines(fault)),
+    };
+    let ballot_box = cast_all(alloc, &poll, &lines)?;
+    let (text, decision) = sheet_and_decision(alloc, &poll, &lines, &ballot_box, casting)?;
+    let ended = ended_of(decision);
+    match write_text(sink, text.as_bytes()) {
+        Ok(()) => Ok(ended),
+        Err(DeviceFault) => Err(RunFault::Output),
+    }
+}

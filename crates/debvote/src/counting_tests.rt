@@ -1,0 +1,235 @@
+//! Counts by the call that the program makes, and command lines.
+
+ghost use Rattle.std.specs.Prelude.{◌≡◌};
+
+use crate::counting::run;
+use crate::fault::{Ended, RunFault};
+use crate::order::{OrderFault, Task, order, order_status};
+use crate::sheet_tests::{ballots_text, poll_text};
+use crate::tests::Paper;
+use std::alloc::Global;
+use std::marker::Brand;
+use std::sync::ledger::{Blank, Ledger};
+use std::test::Fail;
+use vote_poll::{LinesFault, PollFault};
+
+/// How much a paper takes at once and in all, and whether it can be flushed.
+#[derive(Clone, Copy)]
+struct Kind {
+    at_once: usize,
+    limit: usize,
+    flushes: bool,
+}
+
+/// A paper that takes everything.
+const ENDLESS: Kind = Kind {
+    at_once: usize::MAX,
+    limit: usize::MAX,
+    flushes: true,
+};
+
+/// What is counted.
+#[derive(Clone, Copy)]
+struct Election<'a> {
+    poll: &'a str,
+    ballots: &'a str,
+    casting: Option<&'a str>,
+}
+
+fn count_metered<L: Ledger>(
+    alloc: Global,
+    kind: Kind,
+    election: &Election<'_>,
+    blank: Blank,
+) -> (Vec<u8>, Result<Ended, RunFault>)
+    requires name { blank.name ≡ L.name }
+    requires parts { blank.parts ≡ L.parts }
+    requires two { blank.parts ≡ 2 }
+{
+    let mut paper = Paper::<L>::new(alloc, kind.at_once, kind.limit, kind.flushes, blank);
+    let casting = election.casting.map(|name| name.as_bytes());
+    let ended = run(
+        alloc,
+        election.poll.as_bytes(),
+        election.ballots.as_bytes(),
+        casting,
+        &mut paper,
+    );
+    (paper.into_written(), ended)
+}
+
+fn count(alloc: Global, kind: Kind, election: &Election<'_>) -> (Vec<u8>, Result<Ended, RunFault>) {
+    count_metered::<Brand>(alloc, kind, election, Blank::new(2))
+}
+
+/// How the count of these ballots ends, by a poll of these options and so many voters.
+fn end_of(
+    alloc: Global,
+    options: &[&str],
+    numbers: (u8, u8, usize),
+    ballots: &[(usize, &str)],
+    casting: Option<&str>,
+) -> Result<Option<Ended>, Fail> {
+    let (ratio, quorum, voters) = numbers;
+    let poll = poll_text(alloc, "A poll", options, ratio, quorum, voters)?;
+    let ballots = ballots_text(alloc, ballots)?;
+    let election = Election {
+        poll: poll.as_str(),
+        ballots: ballots.as_str(),
+        casting,
+    };
+    Ok(count(alloc, ENDLESS, &election).1.ok())
+}
+
+#[test]
+fn a_count_ends_as_its_sheet_decides(rt: HostRuntime) -> Result<(), Fail> {
+    let alloc = rt.alloc();
+    let three = ["A", "B", "C"];
+    let tie = [(1, "1,2,3,4"), (1, "3,1,2,4"), (1, "2,3,1,4")];
+    for (casting, ended) in [
+        (None, Ended::Tie),
+        (Some("B"), Ended::Decided(2)),
+        (Some("None"), Ended::CastingOutside(4)),
+    ] {
+        assert_eq!(rt;
+            end_of(alloc, &three, (1, 1, 3), &tie, casting)?,
+            Some(ended)
+        );
+    }
+    let cycle = [(4, "1,2,3,4"), (3, "3,1,2,4"), (2, "2,3,1,4")];
+    let end = end_of(alloc, &three, (1, 3, 9), &cycle, Some("None"))?;
+    assert_eq!(rt; end, Some(Ended::Decided(1)));
+    let uneven = [
+        (4, "1,2,3,4"),
+        (3, "3,1,2,4"),
+        (1, "2,3,1,4"),
+        (1, "2,2,1,3"),
+    ];
+    let end = end_of(alloc, &three, (1, 3, 9), &uneven, None)?;
+    assert_eq!(rt; end, Some(Ended::Decided(1)));
+    Ok(())
+}
+
+#[test]
+fn an_option_needs_its_majority(rt: HostRuntime) -> Result<(), Fail> {
+    for (ratio, yes, no, winner) in [(3, 9, 3, 1), (3, 8, 3, 2), (1, 2, 2, 2)] {
+        let ballots = [(yes, "1,2"), (no, "2,1")];
+        let end = end_of(rt.alloc(), &["A"], (ratio, 0, 12), &ballots, None)?;
+        assert_eq!(rt; end, Some(Ended::Decided(winner)));
+    }
+    Ok(())
+}
+
+/// Whether the count is refused for this fault, with nothing written.
+fn ends_by(
+    alloc: Global,
+    poll: &str,
+    ballots: &str,
+    casting: Option<&str>,
+    fault: RunFault,
+) -> bool {
+    let election = Election {
+        poll,
+        ballots,
+        casting,
+    };
+    let (written, ended) = count(alloc, ENDLESS, &election);
+    written.is_empty() && ended == Err(fault)
+}
+
+#[test]
+fn a_refused_count_writes_nothing(rt: HostRuntime) -> Result<(), Fail> {
+    let alloc = rt.alloc();
+    let poll = poll_text(alloc, "A poll", &["A", "B"], 1, 0, 2)?;
+    let poll = poll.as_str();
+    let many = String::from_utf8(vec![in alloc; b'\n'; 100_001]?)
+        .ok()
+        .ok_or("text")?;
+    let many = many.as_str();
+    let syntax = RunFault::Poll(PollFault::Syntax);
+    assert!(rt; ends_by(alloc, "title =", many, Some("Zed"), syntax));
+    assert!(rt; ends_by(alloc, poll, many, Some("Zed"), RunFault::NoSuchOption));
+    let long = RunFault::Lines(LinesFault::TooMany);
+    assert!(rt; ends_by(alloc, poll, many, Some("B"), long));
+    Ok(())
+}
+
+#[test]
+fn a_sheet_is_written_up_to_the_fault(rt: HostRuntime) -> Result<(), Fail> {
+    let alloc = rt.alloc();
+    let poll = poll_text(alloc, "A poll", &["A"], 1, 0, 1)?;
+    let election = Election {
+        poll: poll.as_str(),
+        ballots: "v0 1,2\n",
+        casting: None,
+    };
+    let (whole, ended) = count(alloc, ENDLESS, &election);
+    assert_eq!(rt; ended, Ok(Ended::Decided(1)));
+    let size = whole.len();
+    for (at_once, limit, flushes, len, ends) in [
+        (1, usize::MAX, true, size, true),
+        (10, 10, true, 10, false),
+        (0, usize::MAX, true, 0, false),
+        (usize::MAX, usize::MAX, false, size, false),
+    ] {
+        let kind = Kind {
+            at_once,
+            limit,
+            flushes,
+        };
+        let (written, ended) = count(alloc, kind, &election);
+        assert!(rt; whole.starts_with(written.as_slice()));
+        assert_eq!(rt; written.len(), len);
+        assert_eq!(rt; ended.is_ok(), ends);
+    }
+    Ok(())
+}
+
+fn is_refused(alloc: Global, words: &[&str]) -> bool {
+    match order(alloc, words) {
+        Err(fault) => matches!(&fault, OrderFault::Refused(_)) && order_status(&fault) == 2,
+        Ok(_) => false,
+    }
+}
+
+fn is_help(alloc: Global, words: &[&str]) -> bool {
+    match order(alloc, words) {
+        Err(fault) => matches!(&fault, OrderFault::Help(_)) && order_status(&fault) == 0,
+        Ok(_) => false,
+    }
+}
+
+#[test]
+fn words_that_are_no_task(rt: HostRuntime) {
+    let alloc = rt.alloc();
+    assert!(rt; is_refused(alloc, &["count", "--poll", "p"]));
+    assert!(rt; is_refused(alloc, &["steps", "--ballots", "b"]));
+    assert!(rt; is_refused(alloc, &["vote"]));
+    assert!(rt; is_help(alloc, &["--help"]));
+    assert!(rt; is_help(alloc, &["count", "--help"]));
+}
+
+#[test]
+fn words_of_each_task(rt: HostRuntime) {
+    let alloc = rt.alloc();
+    let count = ["count", "--poll", "p", "--ballots", "b", "--casting", "B"];
+    let task = order(alloc, count.as_slice()).ok();
+    assert!(rt;
+        task == Some(Task::Count {
+            poll: "p",
+            ballots: "b",
+            casting: Some("B"),
+        })
+    );
+    let steps = ["steps", "--ballots", "b", "--poll", "p"];
+    let task = order(alloc, steps.as_slice()).ok();
+    assert!(rt;
+        task == Some(Task::Steps {
+            poll: "p",
+            ballots: "b"
+        })
+    );
+    let check = ["check", "--poll=p"];
+    let task = order(alloc, check.as_slice()).ok();
+    assert!(rt; task == Some(Task::Check { poll: "p" }));
+}

@@ -1,0 +1,172 @@
+//! Whole sheets, by the calls that a program makes.
+
+ghost use Rattle.std.specs.Prelude.{IfSome};
+ghost use Rattle.vote_poll.specs.Options.{IsOption};
+ghost use Rattle.vote_poll.specs.PollContent.{option_count};
+
+use crate::casting::cast_all;
+use crate::sheet::{sheet, sheet_and_decision};
+use std::alloc::{AllocError, Global};
+use std::test::Fail;
+use vote_count::Decision;
+use vote_poll::{Lines, Poll};
+
+/// A poll of voters v0, v1, .. in which each option has this ratio.
+pub(crate) fn poll_text(
+    alloc: Global,
+    title: &str,
+    options: &[&str],
+    ratio: u8,
+    quorum: u8,
+    voters: usize,
+) -> Result<String, AllocError> {
+    let mut text = String::new(alloc);
+    writeln!(
+        text,
+        "title = \"{title}\"\ndefault = \"None\"\nquorum = {quorum}"
+    )?;
+    write!(text, "options = [")?;
+    for option in options {
+        write!(text, "\"{option}\",")?;
+    }
+    write!(text, "]\nratios = [")?;
+    for _ in 0..options.len() {
+        write!(text, "{ratio},")?;
+    }
+    write!(text, "]\nroll = [")?;
+    for voter in 0..voters {
+        write!(text, "\"v{voter}\",")?;
+    }
+    writeln!(text, "]")?;
+    Ok(text)
+}
+
+/// A ballot of another voter for each of the ranks, as often as is said.
+pub(crate) fn ballots_text(alloc: Global, ballots: &[(usize, &str)]) -> Result<String, AllocError> {
+    let mut text = String::new(alloc);
+    let mut voter = 0u64;
+    for (count, ranks) in ballots {
+        for _ in 0..*count {
+            writeln!(text, "v{voter} {ranks}")?;
+            voter = voter.wrapping_add(1);
+        }
+    }
+    Ok(text)
+}
+
+/// The option of a name.
+#[tactic(auto, using(crate::proofs::Deciding::named_option))]
+fn option_of(poll: &Poll, name: &str) -> Option<u8>
+    ensures { IfSome result (IsOption (option_count poll.now)) }
+{
+    poll.option_of(name.as_bytes())
+}
+
+fn printed(
+    alloc: Global,
+    poll: &str,
+    ballots: &str,
+    casting: Option<&str>,
+) -> Result<(String, Decision), Fail> {
+    let poll = Poll::from_text(alloc, poll.as_bytes())?;
+    let lines = Lines::split(alloc, ballots.as_bytes())?;
+    let ballot_box = cast_all(alloc, &poll, &lines)?;
+    let casting = match casting {
+        Some(name) => option_of(&poll, name),
+        None => None,
+    };
+    let text = sheet(alloc, &poll, &lines, &ballot_box, casting)?;
+    let (same, decision) = sheet_and_decision(alloc, &poll, &lines, &ballot_box, casting)?;
+    if same.as_str() != text.as_str() {
+        return Err(Fail::from("two sheets"));
+    }
+    Ok((text, decision))
+}
+
+const A_CYCLE: &str =
+    "Poll: A cycle\nElectors: 9\nQuorum: 3Q, 5 votes\nLines: 9\nValid: 9\nRefused: 0\nVoters: 9\nOptions:\n  1 ratio 1 A\n  2 ratio 1 B\n  3 ratio 1 C\n  4 default None\nVotes:\n        1     2     3     4\n  1     -     6     4     9\n  2     3     -     7     9\n  3     5     2     -     9\n  4     0     0     0     -\nDropped:\n  none\nDefeats:\n  1 over 2 by 6 to 3\n  1 over 4 by 9 to 0\n  2 over 3 by 7 to 2\n  2 over 4 by 9 to 0\n  3 over 1 by 5 to 4\n  3 over 4 by 9 to 0\nRound 1: 1 2 3\n  drop 3 over 1\nRound 2: 1\nWinner: 1 A\n";
+
+const NO_BALLOTS: &str =
+    "Poll: No ballots\nElectors: 9\nQuorum: 3Q, 5 votes\nLines: 0\nValid: 0\nRefused: 0\nVoters: 0\nOptions:\n  1 ratio 1 A\n  2 ratio 1 B\n  3 ratio 1 C\n  4 default None\nVotes:\n        1     2     3     4\n  1     -     0     0     0\n  2     0     -     0     0\n  3     0     0     -     0\n  4     0     0     0     -\nDropped:\n  1 quorum\n  2 quorum\n  3 quorum\nDefeats:\n  none\nRound 1: 4\nWinner: 4 None\n";
+
+const A_TIE: &str =
+    "Poll: A tie\nElectors: 3\nQuorum: 1Q, 1 votes\nLines: 3\nValid: 3\nRefused: 0\nVoters: 3\nOptions:\n  1 ratio 1 A\n  2 ratio 1 B\n  3 ratio 1 C\n  4 default None\nVotes:\n        1     2     3     4\n  1     -     2     1     3\n  2     1     -     2     3\n  3     2     1     -     3\n  4     0     0     0     -\nDropped:\n  none\nDefeats:\n  1 over 2 by 2 to 1\n  1 over 4 by 3 to 0\n  2 over 3 by 2 to 1\n  2 over 4 by 3 to 0\n  3 over 1 by 2 to 1\n  3 over 4 by 3 to 0\nRound 1: 1 2 3\n  drop 1 over 2\n  drop 2 over 3\n  drop 3 over 1\nRound 2: 1 2 3\n";
+
+const A_HUNDRED_ENVELOPES: &str =
+    "Poll: A hundred envelopes\nElectors: 10\nQuorum: 3Q, 5 votes\nLines: 100\nValid: 95\nRefused: 5\nVoters: 10\nOptions:\n  1 ratio 1 A\n  2 ratio 1 B\n  3 default None\nVotes:\n        1     2     3\n  1     -     5    10\n  2     5     -    10\n  3     0     0     -\nDropped:\n  none\nDefeats:\n  1 over 3 by 10 to 0\n  2 over 3 by 10 to 0\nRound 1: 1 2\nTie: 1 2\n";
+
+#[test]
+fn few_ballots(rt: HostRuntime) -> Result<(), Fail> {
+    let alloc = rt.alloc();
+    let poll = poll_text(alloc, "No ballots", &["A", "B", "C"], 1, 3, 9)?;
+    let (text, decision) = printed(alloc, poll.as_str(), "", None)?;
+    assert!(rt; text.as_str() == NO_BALLOTS, "{}", text);
+    assert_eq!(rt; decision, Decision::Winner(4));
+
+    let poll = poll_text(alloc, "A cycle", &["A", "B", "C"], 1, 3, 9)?;
+    let ballots = ballots_text(alloc, &[(4, "1,2,3,4"), (3, "3,1,2,4"), (2, "2,3,1,4")])?;
+    for casting in [None, Some("None")] {
+        let (text, decision) = printed(alloc, poll.as_str(), ballots.as_str(), casting)?;
+        assert!(rt; text.as_str() == A_CYCLE, "{}", text);
+        assert_eq!(rt; decision, Decision::Winner(1));
+    }
+    Ok(())
+}
+
+#[test]
+fn endings_of_a_tie(rt: HostRuntime) -> Result<(), Fail> {
+    let alloc = rt.alloc();
+    let poll = poll_text(alloc, "A tie", &["A", "B", "C"], 1, 1, 3)?;
+    let ballots = ballots_text(alloc, &[(1, "1,2,3,4"), (1, "3,1,2,4"), (1, "2,3,1,4")])?;
+    for (casting, decided, ending) in [
+        (None, Decision::Tie, "Tie: 1 2 3\n"),
+        (
+            Some("B"),
+            Decision::Winner(2),
+            "Winner: 2 B by casting vote\n",
+        ),
+        (
+            Some("None"),
+            Decision::CastingOutside(4),
+            "Tie: 1 2 3, casting option 4 is not among them\n",
+        ),
+    ] {
+        let (text, decision) = printed(alloc, poll.as_str(), ballots.as_str(), casting)?;
+        let whole = format!(in alloc; "{A_TIE}{ending}")?;
+        assert!(rt; text.as_str() == whole.as_str(), "{}", text);
+        assert_eq!(rt; decision, decided);
+    }
+    Ok(())
+}
+
+#[test]
+fn a_hundred_envelopes(rt: HostRuntime) -> Result<(), Fail> {
+    let alloc = rt.alloc();
+    let poll = poll_text(alloc, "A hundred envelopes", &["A", "B"], 1, 3, 10)?;
+    let mut ballots = String::new(alloc);
+    for number in 1..101u32 {
+        if number % 20 == 0 {
+            writeln!(ballots, "bad")?;
+        } else if number % 2 == 1 {
+            writeln!(ballots, "v{} 1,2,3", number % 10)?;
+        } else {
+            writeln!(ballots, "v{} 2,1,3", number % 10)?;
+        }
+    }
+    let (text, decision) = printed(alloc, poll.as_str(), ballots.as_str(), None)?;
+    assert!(rt; text.as_str() == A_HUNDRED_ENVELOPES, "{}", text);
+    assert_eq!(rt; decision, Decision::Tie);
+    Ok(())
+}
+
+#[test]
+fn the_greatest_roll(rt: HostRuntime) -> Result<(), Fail> {
+    let alloc = rt.alloc();
+    let poll = poll_text(alloc, "All agree", &["A"], 10, 10, 10_000)?;
+    let ballots = ballots_text(alloc, &[(10_000, "1,2")])?;
+    let (text, decision) = printed(alloc, poll.as_str(), ballots.as_str(), None)?;
+    assert!(rt; text.contains("Quorum: 10Q, 500 votes\n"), "{}", text);
+    assert!(rt; text.contains("\n  1     - 10000\n"), "{}", text);
+    assert_eq!(rt; decision, Decision::Winner(1));
+    Ok(())
+}

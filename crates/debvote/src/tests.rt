@@ -1,0 +1,337 @@
+//! What no clause says: that calls succeed, and printed text.
+
+ghost use Rattle.std.specs.Prelude.{◌≡◌};
+
+use crate::device::{DeviceFault, Sink, Source};
+use crate::fault::{Ended, RunFault, status};
+use crate::input::{ReadFault, read_limited};
+use crate::meter::Meter;
+use crate::output::write_text;
+use crate::steps::{check_poll, print_steps, steps_joined};
+use std::alloc::{AllocError, Global};
+use std::marker::Brand;
+use std::sync::ledger::{Blank, Ledger};
+use std::test::Fail;
+use vote_poll::{LinesFault, PollFault, PollKey};
+
+/// A sink in memory that takes so many bytes at once, and fails once it holds as many as its limit.
+#[derive(Drop)]
+pub(crate) struct Paper<L: Ledger> {
+    written: Vec<u8>,
+    at_once: usize,
+    limit: usize,
+    flushes: bool,
+    meter: Meter<L>,
+}
+
+impl<L: Ledger> Paper<L> {
+    pub(crate) fn new(
+        alloc: Global,
+        at_once: usize,
+        limit: usize,
+        flushes: bool,
+        blank: Blank,
+    ) -> Paper<L>
+        requires name { blank.name ≡ L.name }
+        requires parts { blank.parts ≡ L.parts }
+        requires two { blank.parts ≡ 2 }
+    {
+        Paper {
+            written: Vec::new(alloc),
+            at_once,
+            limit,
+            flushes,
+            meter: Meter::<L>::new(blank),
+        }
+    }
+
+    /// The bytes that it holds.
+    pub(crate) fn into_written(self) -> Vec<u8> {
+        let Paper {
+            written,
+            at_once: _,
+            limit: _,
+            flushes: _,
+            meter: _,
+        } = self;
+        written
+    }
+}
+
+impl<L: Ledger> Sink for Paper<L> {
+    ghost use Rattle.std.specs.Prelude.{Some};
+
+    ghost calls = { λ s. s.meter.calls };
+
+    ghost faults = { λ s. s.meter.faults };
+
+    ghost contents = { λ s. Some s.written.items };
+
+    fn put(&mut self, text: &[u8]) -> Result<usize, DeviceFault> {
+        self.meter.count_call();
+        let count = text.len().min(self.at_once);
+        if self.written.len() >= self.limit
+            || self.written.extend_from_slice(&text[..count]).is_err()
+        {
+            self.meter.count_fault();
+            return Err(DeviceFault);
+        }
+        if count == 0 && !text.is_empty() {
+            self.meter.count_fault();
+        }
+        Ok(count)
+    }
+
+    fn flush(&mut self) -> Result<(), DeviceFault> {
+        self.meter.count_call();
+        if !self.flushes {
+            self.meter.count_fault();
+            return Err(DeviceFault);
+        }
+        Ok(())
+    }
+}
+
+fn write_metered<L: Ledger>(
+    alloc: Global,
+    at_once: usize,
+    limit: usize,
+    flushes: bool,
+    text: &[u8],
+    blank: Blank,
+) -> (Vec<u8>, bool)
+    requires name { blank.name ≡ L.name }
+    requires parts { blank.parts ≡ L.parts }
+    requires two { blank.parts ≡ 2 }
+{
+    let mut paper = Paper::<L>::new(alloc, at_once, limit, flushes, blank);
+    let ended = write_text(&mut paper, text).is_ok();
+    (paper.into_written(), ended)
+}
+
+fn write(
+    alloc: Global,
+    at_once: usize,
+    limit: usize,
+    flushes: bool,
+    text: &[u8],
+) -> (Vec<u8>, bool) {
+    write_metered::<Brand>(alloc, at_once, limit, flushes, text, Blank::new(2))
+}
+
+#[test]
+fn a_text_is_written_whole_or_to_the_fault(rt: HostRuntime) {
+    let text = b"Poll: Votes";
+    for (at_once, limit, flushes, len, ends) in [
+        (100, 100, true, 11, true),
+        (1, 100, true, 11, true),
+        (10, 10, true, 10, false),
+        (0, 100, true, 0, false),
+        (100, 100, false, 11, false),
+        (1, 3, true, 3, false),
+    ] {
+        let (written, ended) = write(rt.alloc(), at_once, limit, flushes, text);
+        assert!(rt; text.starts_with(written.as_slice()));
+        assert_eq!(rt; written.len(), len);
+        assert_eq!(rt; ended, ends);
+    }
+}
+
+/// A source over bytes that fails after some reads.
+#[derive(Drop)]
+struct Tape<'a, L: Ledger> {
+    rest: &'a [u8],
+    reads: u8,
+    meter: Meter<L>,
+}
+
+impl<L: Ledger> Source for Tape<'_, L> {
+    ghost use Rattle.std.specs.Prelude.{Some};
+
+    ghost reads = { λ s. s.meter.calls };
+
+    ghost faults = { λ s. s.meter.faults };
+
+    ghost remaining = { λ s. Some s.rest.now };
+
+    fn get(&mut self, buffer: &mut [u8]) -> Result<usize, DeviceFault> {
+        self.meter.count_call();
+        if self.reads == 0 {
+            self.meter.count_fault();
+            return Err(DeviceFault);
+        }
+        self.reads -= 1;
+        let count = buffer.len().min(self.rest.len()).min(3);
+        buffer[..count].copy_from_slice(&self.rest[..count]);
+        self.rest = &self.rest[count..];
+        Ok(count)
+    }
+}
+
+fn read_metered<L: Ledger>(
+    alloc: Global,
+    bytes: &[u8],
+    reads: u8,
+    limit: usize,
+    blank: Blank,
+) -> Result<Vec<u8>, ReadFault>
+    requires name { blank.name ≡ L.name }
+    requires parts { blank.parts ≡ L.parts }
+    requires two { blank.parts ≡ 2 }
+{
+    let mut tape = Tape {
+        rest: bytes,
+        reads,
+        meter: Meter::<L>::new(blank),
+    };
+    read_limited(alloc, &mut tape, limit)
+}
+
+fn read(alloc: Global, bytes: &[u8], reads: u8, limit: usize) -> Result<Vec<u8>, ReadFault> {
+    read_metered::<Brand>(alloc, bytes, reads, limit, Blank::new(2))
+}
+
+#[test]
+fn an_input_is_read_to_its_end_or_refused(rt: HostRuntime) {
+    let bytes = b"hello";
+    let all = read(rt.alloc(), bytes, 9, 5).ok().expect(&rt, "five bytes");
+    assert!(rt; all.as_slice() == bytes.as_slice());
+    assert!(rt; matches!(&read(rt.alloc(), bytes, 9, 4), Err(ReadFault::TooLong)));
+    assert!(rt; matches!(&read(rt.alloc(), bytes, 1, 9), Err(ReadFault::Device)));
+}
+
+/// What is run on a paper.
+#[derive(Clone, Copy)]
+enum Job<'a> {
+    Steps { poll: &'a str, ballots: &'a str },
+    Joined(&'a str),
+    Check(&'a str),
+}
+
+fn run_metered<L: Ledger>(
+    alloc: Global,
+    job: &Job<'_>,
+    blank: Blank,
+) -> (Vec<u8>, Result<(), RunFault>)
+    requires name { blank.name ≡ L.name }
+    requires parts { blank.parts ≡ L.parts }
+    requires two { blank.parts ≡ 2 }
+{
+    let mut paper = Paper::<L>::new(alloc, usize::MAX, usize::MAX, true, blank);
+    let ended = match job {
+        Job::Steps { poll, ballots } => {
+            print_steps(alloc, poll.as_bytes(), ballots.as_bytes(), &mut paper)
+        }
+        Job::Joined(input) => steps_joined(alloc, input.as_bytes(), &mut paper),
+        Job::Check(poll) => check_poll(alloc, poll.as_bytes(), &mut paper),
+    };
+    (paper.into_written(), ended)
+}
+
+fn run_job(alloc: Global, job: &Job<'_>) -> (Vec<u8>, Result<(), RunFault>) {
+    run_metered::<Brand>(alloc, job, Blank::new(2))
+}
+
+const TWO_ELECTORS: &str =
+    "title = \"Two electors\"\noptions = [\"A\", \"B\"]\nratios = [1, 1]\ndefault = \"None\"\nquorum = 0\nroll = [\"v0\", \"v1\"]\n";
+
+const ELEVEN_LINES: &str =
+    "v1\nv1  1,2,3\nv1 1,2\nv1 0,1,2\nv1 01,2,3\nv1 100,1,2\n\nzz 1,2,3\nzz 1,2\nv1 1,2,3\r\nv1 1,2,3";
+
+const JOINED: &str =
+    "title = \"Two electors\"\noptions = [\"A\", \"B\"]\nratios = [1, 1]\ndefault = \"None\"\nquorum = 0\nroll = [\"ann\", \"bob\"]\n%%\nann 1,2,3\nbob 2,1,3\nann 3,2,1\n";
+
+#[test]
+fn runs_write_their_texts(rt: HostRuntime) {
+    for (job, text) in [
+        (
+            Job::Steps {
+                poll: TWO_ELECTORS,
+                ballots: ELEVEN_LINES,
+            },
+            "1 bad shape\n2 bad shape\n3 bad rank count\n4 bad shape\n5 bad shape\n6 bad shape\n7 bad shape\n8 bad not on roll\n9 bad rank count\n10 bad shape\n11 counted\n",
+        ),
+        (Job::Joined(JOINED), "1 counted\n2 counted\n3 replaced\n"),
+        (Job::Joined(TWO_ELECTORS), ""),
+        (Job::Check(TWO_ELECTORS), "poll ok: 3 options, 2 electors\n"),
+    ] {
+        let (written, ended) = run_job(rt.alloc(), &job);
+        assert_eq!(rt; ended, Ok(()));
+        assert!(rt; written.as_slice() == text.as_bytes());
+    }
+}
+
+#[test]
+fn a_refused_run_writes_nothing(rt: HostRuntime) -> Result<(), Fail> {
+    let many = String::from_utf8(vec![in rt.alloc(); b'\n'; 100_001]?)
+        .ok()
+        .ok_or("text")?;
+    for (job, fault) in [
+        (Job::Check("title ="), RunFault::Poll(PollFault::Syntax)),
+        (
+            Job::Joined("%%\nann 1,2,3\n"),
+            RunFault::Poll(PollFault::Key(PollKey::Title)),
+        ),
+        (
+            Job::Steps {
+                poll: TWO_ELECTORS,
+                ballots: many.as_str(),
+            },
+            RunFault::Lines(LinesFault::TooMany),
+        ),
+    ] {
+        let (written, ended) = run_job(rt.alloc(), &job);
+        assert_eq!(rt; ended, Err(fault));
+        assert!(rt; written.is_empty());
+    }
+    Ok(())
+}
+
+#[test]
+fn statuses_of_runs(rt: HostRuntime) {
+    for (outcome, number) in [
+        (Ok(Ended::Decided(1)), 0),
+        (Ok(Ended::Tie), 1),
+        (Ok(Ended::CastingOutside(4)), 8),
+        (Err(RunFault::Poll(PollFault::Title)), 3),
+        (Err(RunFault::Poll(PollFault::Memory)), 5),
+        (Err(RunFault::NoSuchOption), 8),
+        (Err(RunFault::Lines(LinesFault::TooMany)), 4),
+        (Err(RunFault::Lines(LinesFault::Memory)), 5),
+        (Err(RunFault::Memory), 5),
+        (Err(RunFault::Output), 7),
+    ] {
+        assert_eq!(rt; status(&outcome), number);
+    }
+}
+
+fn reads_as(alloc: Global, fault: RunFault, words: &str) -> Result<bool, AllocError> {
+    let text = fault.to_string(alloc)?;
+    Ok(text.as_str() == words)
+}
+
+#[test]
+fn fault_lines(rt: HostRuntime) -> Result<(), Fail> {
+    for (fault, words) in [
+        (
+            RunFault::Poll(PollFault::Key(PollKey::DefaultOption)),
+            "poll refused: key default",
+        ),
+        (
+            RunFault::Poll(PollFault::OptionName(3)),
+            "poll refused: name of option 3",
+        ),
+        (RunFault::Poll(PollFault::Memory), "out of memory"),
+        (
+            RunFault::Lines(LinesFault::TooMany),
+            "ballots refused: too many lines",
+        ),
+        (RunFault::Lines(LinesFault::Memory), "out of memory"),
+        (RunFault::NoSuchOption, "casting option is not in the poll"),
+        (RunFault::Memory, "out of memory"),
+        (RunFault::Output, "output failed"),
+    ] {
+        assert!(rt; reads_as(rt.alloc(), fault, words)?);
+    }
+    Ok(())
+}
