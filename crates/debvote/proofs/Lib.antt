@@ -1,3 +1,4 @@
+pub mod Audits
 pub mod CastLemmas
 pub mod Counted
 pub mod Counts

@@ -5,7 +5,7 @@ use Rattle.vote_poll.specs.declared.lines.TheConstants.{MAX_LINES}
 use Rattle.debvote.specs.Runs.{AnswersLines, AnswersPoll, Writes}
 use Rattle.debvote.specs.Texts.{Text}
 use Rattle.debvote.specs.declared.fault.RunFault.{RunFault}
-use Rattle.debvote.specs.declared.fault.RunFault.TheVariants.{Poll, NoSuchOption, Lines, Memory, Output}
+use Rattle.debvote.specs.declared.fault.RunFault.TheVariants.{Poll, NoSuchOption, Lines, Vote, Memory, Output}
 
 -- the fault, if there is one, is the output's
 abbrev pub OnlyOutput : {T : Type 0} → Result T RunFault → Type 0
@@ -16,6 +16,7 @@ answers_poll text (Ok end) read only = read
 answers_poll text (Err (Poll fault)) read only = cc
 answers_poll text (Err NoSuchOption) read only = read
 answers_poll text (Err (Lines fault)) read only = read
+answers_poll text (Err (Vote fault)) read only = read
 answers_poll text (Err Memory) read only = read
 answers_poll text (Err Output) read only = read
 
@@ -24,6 +25,7 @@ answers_lines lines (Ok end) few only = few
 answers_lines lines (Err (Poll fault)) few only = tt
 answers_lines lines (Err NoSuchOption) few only = tt
 answers_lines lines (Err (Lines fault)) few only = cc
+answers_lines lines (Err (Vote fault)) few only = few
 answers_lines lines (Err Memory) few only = few
 answers_lines lines (Err Output) few only = few
 
@@ -34,5 +36,6 @@ writes_meant IsMeant old new text (Ok end) meant wrote = (wrote.0, subst IsMeant
 writes_meant IsMeant old new text (Err (Poll fault)) meant wrote = wrote
 writes_meant IsMeant old new text (Err NoSuchOption) meant wrote = wrote
 writes_meant IsMeant old new text (Err (Lines fault)) meant wrote = wrote
+writes_meant IsMeant old new text (Err (Vote fault)) meant wrote = wrote
 writes_meant IsMeant old new text (Err Memory) meant wrote = wrote
 writes_meant IsMeant old new text (Err Output) meant wrote = (wrote.0, subst IsMeant (sym wrote.1) meant, wrote.2)

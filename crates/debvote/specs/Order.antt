@@ -1,6 +1,7 @@
 -- What the words ask for, from what `clap` found in them.
-use Rattle.std.specs.Prelude.{◌≡◌, ◌⊎◌, List, Option, Some, codes, option_map}
-use Rattle.clap.specs.Words.{Row, Text, first_of}
+use Rattle.std.specs.Prelude.{◌≡◌, ◌≤◌, ◌⊎◌, ℕ, List, Option, Some, codes, option_map}
+use Rattle.std.specs.Str.Parse.{digits_value, without_leading_plus}
+use Rattle.clap.specs.Words.{Row, Text, first_of, one_of}
 use Rattle.clap.specs.Kinds.{IsAmong, Kinds}
 use Rattle.clap.specs.declared.error.kind.ErrorKind.{ErrorKind}
 use Rattle.clap.specs.declared.error.kind.ErrorKind.TheVariants as kind
@@ -13,17 +14,25 @@ use Rattle.debvote.specs.declared.order.Task.TheVariants.{Count, Steps, Check}
 abbrev pub HasText : List Row → Text → Text → Type 0
 HasText rows name text = first_of name rows ≡ Some text
 
+-- the value in decimal digits
+abbrev pub HasNumber : List Row → Text → ℕ → Type 0
+HasNumber rows name n = (text : Text) × (one_of name rows ≡ Some text) × (n ≡ digits_value 10 (without_leading_plus text))
+
+abbrev pub HasDesks : List Row → ℕ → Type 0
+HasDesks rows desks = (1 ≤ desks) × (desks ≤ 8) × HasNumber rows (codes "desks") desks
+
 -- the subcommand that asks for the task
 abbrev pub subcommand_name : Task → Text
-subcommand_name (Count poll ballots casting) = codes "count"
+subcommand_name (Count poll ballots desks casting) = codes "count"
 subcommand_name (Steps poll ballots) = codes "steps"
 subcommand_name (Check poll) = codes "check"
 
 -- the task has the values of the subcommand's options
 abbrev pub HasValues : List Row → Task → Type 0
-HasValues rows (Count poll ballots casting) =
+HasValues rows (Count poll ballots desks casting) =
     HasText rows (codes "poll") poll.now
     × HasText rows (codes "ballots") ballots.now
+    × HasDesks rows desks
     × (option_map (λ name. name.now) casting ≡ first_of (codes "casting") rows)
 HasValues rows (Steps poll ballots) = HasText rows (codes "poll") poll.now × HasText rows (codes "ballots") ballots.now
 HasValues rows (Check poll) = HasText rows (codes "poll") poll.now

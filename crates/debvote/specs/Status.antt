@@ -4,6 +4,10 @@ use Rattle.vote_poll.specs.declared.fault.PollFault.{PollFault}
 use Rattle.vote_poll.specs.declared.fault.PollFault.TheVariants as poll
 use Rattle.vote_poll.specs.declared.lines.LinesFault.{LinesFault}
 use Rattle.vote_poll.specs.declared.lines.LinesFault.TheVariants as lines
+use Rattle.vote_desks.specs.declared.DeskFault.{DeskFault}
+use Rattle.vote_desks.specs.declared.DeskFault.TheVariants as desk
+use Rattle.vote_desks.specs.declared.VoteFault.{VoteFault}
+use Rattle.vote_desks.specs.declared.VoteFault.TheVariants as vote
 use Rattle.debvote.specs.declared.fault.Ended.{Ended}
 use Rattle.debvote.specs.declared.fault.Ended.TheVariants as ended
 use Rattle.debvote.specs.declared.fault.RunFault.{RunFault}
@@ -19,10 +23,23 @@ abbrev pub lines_status : LinesFault → ℕ
 lines_status lines.TooMany = 4
 lines_status lines.Memory = 5
 
+abbrev pub desk_status : DeskFault → ℕ
+desk_status desk.MissingDesk = 6
+desk_status desk.Memory = 5
+
+abbrev pub vote_status : VoteFault → ℕ
+vote_status vote.Memory = 5
+vote_status vote.Thread = 5
+vote_status (vote.Gate number) = 6
+vote_status (vote.Enter number fault) = 6
+vote_status (vote.Desk fault) = desk_status fault
+vote_status (vote.Audit fault) = 6
+
 abbrev pub fault_status : RunFault → ℕ
 fault_status (run.Poll fault) = poll_status fault
 fault_status run.NoSuchOption = 8
 fault_status (run.Lines fault) = lines_status fault
+fault_status (run.Vote fault) = vote_status fault
 fault_status run.Memory = 5
 fault_status run.Output = 7
 

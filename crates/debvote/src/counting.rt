@@ -1,20 +1,25 @@
 //! The command `count`: the sheet of a poll file and a ballot file.
 
-ghost use Rattle.std.specs.Prelude.{◌≡◌, ◌<◌, ◌↔◌, IfNone, IfSome, IsErrOf, option_map};
+ghost use Rattle.std.specs.Prelude.{◌≡◌, ◌<◌, ◌≤◌, ◌↔◌, Err, IfNone, IfSome, IsErrOf, option_map};
 ghost use Rattle.vote_poll.specs.Lines.{lines_of};
 ghost use Rattle.vote_poll.specs.Options.{IsOption};
 ghost use Rattle.vote_poll.specs.PollContent.{option_count};
+ghost use Rattle.vote_desks.specs.Faults.{CanStopVotes};
+ghost use Rattle.vote_desks.specs.declared.VoteFault.{VoteFault};
 ghost use Rattle.debvote.specs.Counting.{AnswersCasting, NamesNoOption, WritesCount, casting_option, ended_of};
 ghost use Rattle.debvote.specs.Runs.{AnswersLines, AnswersPoll};
 
-use crate::casting::cast_all;
 use crate::device::{DeviceFault, Sink};
 use crate::fault::{Ended, RunFault};
 use crate::output::write_text;
 use crate::sheet::sheet_and_decision;
 use std::alloc::Global;
+use std::sync::Wait;
+use std::thread::Threads;
 use vote_count::Decision;
+use vote_desks::{Gate, take_votes};
 use vote_poll::{Lines, Poll};
+use vote_steps::MAX_DESKS;
 
 /// The option that the casting vote names, if there is one; `None` where no option has the name.
 fn named_option(poll: &Poll, casting: Option<&[u8]>) -> Option<Option<u8>>
@@ -43,19 +48,24 @@ fn ended_of(decision: Decision) -> Ended
     }
 }
 
-/// Casts the lines in order at one desk, closes the box, and writes its sheet, with the option that the casting vote names.
-/// Nothing is written before the sheet is whole.
-pub fn run<W: Sink>(
+/// Takes the votes of a ballot file at so many desks, each in a thread of its own, and writes the sheet of the audited box,
+/// with the option that the casting vote names. Nothing is written before the sheet is whole.
+pub fn run<G: Gate + Sync, W: Sink, R: Threads + Wait + Sync>(
+    rt: &R,
     alloc: Global,
     poll_text: &[u8],
     ballots: &[u8],
+    desks: u8,
     casting: Option<&[u8]>,
+    gate: &G,
     sink: &mut W,
 ) -> Result<Ended, RunFault>
+    requires { (1 ≤ desks) × (desks ≤ MAX_DESKS) }
     ensures poll { AnswersPoll poll_text.now result }
     ensures casting { AnswersCasting poll_text.now (option_map (λ name. name.now) casting.entry) result }
     ensures lines { AnswersLines (lines_of ballots.now) result }
     ensures writes { WritesCount poll_text.now ballots.now (option_map (λ name. name.now) casting.entry) (W.contents sink.old) (W.contents sink.new) result }
+    ensures votes { (fault : VoteFault) → result ≡ Err (RunFault.Vote fault) → CanStopVotes fault }
     ensures output { IsErrOf result RunFault.Output ↔ (W.faults sink.old < W.faults sink.new) }
 {
     let poll = match Poll::from_text(alloc, poll_text) {
@@ -69,8 +79,11 @@ pub fn run<W: Sink>(
         Ok(lines) => lines,
         Err(fault) => return Err(RunFault::Lines(fault)),
     };
-    let ballot_box = cast_all(alloc, &poll, &lines)?;
-    let (text, decision) = sheet_and_decision(alloc, &poll, &lines, &ballot_box, casting)?;
+    let audited = match take_votes(rt, alloc, &poll, &lines, desks, gate) {
+        Ok(audited) => audited,
+        Err(fault) => return Err(RunFault::Vote(fault)),
+    };
+    let (text, decision) = sheet_and_decision(alloc, &poll, &lines, &audited, casting)?;
     let ended = ended_of(decision);
     match write_text(sink, text.as_bytes()) {
         Ok(()) => Ok(ended),

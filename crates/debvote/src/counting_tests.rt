@@ -9,8 +9,11 @@ use crate::sheet_tests::{ballots_text, poll_text};
 use crate::tests::Paper;
 use std::alloc::Global;
 use std::marker::Brand;
+use std::sync::Wait;
 use std::sync::ledger::{Blank, Ledger};
 use std::test::Fail;
+use std::thread::Threads;
+use vote_desks::NoGate;
 use vote_poll::{LinesFault, PollFault};
 
 /// How much a paper takes at once and in all, and whether it can be flushed.
@@ -36,7 +39,8 @@ struct Election<'a> {
     casting: Option<&'a str>,
 }
 
-fn count_metered<L: Ledger>(
+fn count_metered<L: Ledger, R: Threads + Wait + Sync>(
+    rt: &R,
     alloc: Global,
     kind: Kind,
     election: &Election<'_>,
@@ -49,21 +53,30 @@ fn count_metered<L: Ledger>(
     let mut paper = Paper::<L>::new(alloc, kind.at_once, kind.limit, kind.flushes, blank);
     let casting = election.casting.map(|name| name.as_bytes());
     let ended = run(
+        rt,
         alloc,
         election.poll.as_bytes(),
         election.ballots.as_bytes(),
+        2,
         casting,
+        &NoGate,
         &mut paper,
     );
     (paper.into_written(), ended)
 }
 
-fn count(alloc: Global, kind: Kind, election: &Election<'_>) -> (Vec<u8>, Result<Ended, RunFault>) {
-    count_metered::<Brand>(alloc, kind, election, Blank::new(2))
+fn count<R: Threads + Wait + Sync>(
+    rt: &R,
+    alloc: Global,
+    kind: Kind,
+    election: &Election<'_>,
+) -> (Vec<u8>, Result<Ended, RunFault>) {
+    count_metered::<Brand, R>(rt, alloc, kind, election, Blank::new(2))
 }
 
 /// How the count of these ballots ends, by a poll of these options and so many voters.
-fn end_of(
+fn end_of<R: Threads + Wait + Sync>(
+    rt: &R,
     alloc: Global,
     options: &[&str],
     numbers: (u8, u8, usize),
@@ -78,7 +91,7 @@ fn end_of(
         ballots: ballots.as_str(),
         casting,
     };
-    Ok(count(alloc, ENDLESS, &election).1.ok())
+    Ok(count(rt, alloc, ENDLESS, &election).1.ok())
 }
 
 #[test]
@@ -92,12 +105,12 @@ fn a_count_ends_as_its_sheet_decides(rt: HostRuntime) -> Result<(), Fail> {
         (Some("None"), Ended::CastingOutside(4)),
     ] {
         assert_eq!(rt;
-            end_of(alloc, &three, (1, 1, 3), &tie, casting)?,
+            end_of(&rt, alloc, &three, (1, 1, 3), &tie, casting)?,
             Some(ended)
         );
     }
     let cycle = [(4, "1,2,3,4"), (3, "3,1,2,4"), (2, "2,3,1,4")];
-    let end = end_of(alloc, &three, (1, 3, 9), &cycle, Some("None"))?;
+    let end = end_of(&rt, alloc, &three, (1, 3, 9), &cycle, Some("None"))?;
     assert_eq!(rt; end, Some(Ended::Decided(1)));
     let uneven = [
         (4, "1,2,3,4"),
@@ -105,7 +118,7 @@ fn a_count_ends_as_its_sheet_decides(rt: HostRuntime) -> Result<(), Fail> {
         (1, "2,3,1,4"),
         (1, "2,2,1,3"),
     ];
-    let end = end_of(alloc, &three, (1, 3, 9), &uneven, None)?;
+    let end = end_of(&rt, alloc, &three, (1, 3, 9), &uneven, None)?;
     assert_eq!(rt; end, Some(Ended::Decided(1)));
     Ok(())
 }
@@ -114,14 +127,15 @@ fn a_count_ends_as_its_sheet_decides(rt: HostRuntime) -> Result<(), Fail> {
 fn an_option_needs_its_majority(rt: HostRuntime) -> Result<(), Fail> {
     for (ratio, yes, no, winner) in [(3, 9, 3, 1), (3, 8, 3, 2), (1, 2, 2, 2)] {
         let ballots = [(yes, "1,2"), (no, "2,1")];
-        let end = end_of(rt.alloc(), &["A"], (ratio, 0, 12), &ballots, None)?;
+        let end = end_of(&rt, rt.alloc(), &["A"], (ratio, 0, 12), &ballots, None)?;
         assert_eq!(rt; end, Some(Ended::Decided(winner)));
     }
     Ok(())
 }
 
 /// Whether the count is refused for this fault, with nothing written.
-fn ends_by(
+fn ends_by<R: Threads + Wait + Sync>(
+    rt: &R,
     alloc: Global,
     poll: &str,
     ballots: &str,
@@ -133,7 +147,7 @@ fn ends_by(
         ballots,
         casting,
     };
-    let (written, ended) = count(alloc, ENDLESS, &election);
+    let (written, ended) = count(rt, alloc, ENDLESS, &election);
     written.is_empty() && ended == Err(fault)
 }
 
@@ -147,10 +161,10 @@ fn a_refused_count_writes_nothing(rt: HostRuntime) -> Result<(), Fail> {
         .ok_or("text")?;
     let many = many.as_str();
     let syntax = RunFault::Poll(PollFault::Syntax);
-    assert!(rt; ends_by(alloc, "title =", many, Some("Zed"), syntax));
-    assert!(rt; ends_by(alloc, poll, many, Some("Zed"), RunFault::NoSuchOption));
+    assert!(rt; ends_by(&rt, alloc, "title =", many, Some("Zed"), syntax));
+    assert!(rt; ends_by(&rt, alloc, poll, many, Some("Zed"), RunFault::NoSuchOption));
     let long = RunFault::Lines(LinesFault::TooMany);
-    assert!(rt; ends_by(alloc, poll, many, Some("B"), long));
+    assert!(rt; ends_by(&rt, alloc, poll, many, Some("B"), long));
     Ok(())
 }
 
@@ -163,7 +177,7 @@ fn a_sheet_is_written_up_to_the_fault(rt: HostRuntime) -> Result<(), Fail> {
         ballots: "v0 1,2\n",
         casting: None,
     };
-    let (whole, ended) = count(alloc, ENDLESS, &election);
+    let (whole, ended) = count(&rt, alloc, ENDLESS, &election);
     assert_eq!(rt; ended, Ok(Ended::Decided(1)));
     let size = whole.len();
     for (at_once, limit, flushes, len, ends) in [
@@ -177,7 +191,7 @@ fn a_sheet_is_written_up_to_the_fault(rt: HostRuntime) -> Result<(), Fail> {
             limit,
             flushes,
         };
-        let (written, ended) = count(alloc, kind, &election);
+        let (written, ended) = count(&rt, alloc, kind, &election);
         assert!(rt; whole.starts_with(written.as_slice()));
         assert_eq!(rt; written.len(), len);
         assert_eq!(rt; ended.is_ok(), ends);
@@ -203,6 +217,10 @@ fn is_help(alloc: Global, words: &[&str]) -> bool {
 fn words_that_are_no_task(rt: HostRuntime) {
     let alloc = rt.alloc();
     assert!(rt; is_refused(alloc, &["count", "--poll", "p"]));
+    for desks in ["0", "9", "x"] {
+        let words = ["count", "--poll", "p", "--ballots", "b", "--desks", desks];
+        assert!(rt; is_refused(alloc, &words));
+    }
     assert!(rt; is_refused(alloc, &["steps", "--ballots", "b"]));
     assert!(rt; is_refused(alloc, &["vote"]));
     assert!(rt; is_help(alloc, &["--help"]));
@@ -218,6 +236,7 @@ fn words_of_each_task(rt: HostRuntime) {
         task == Some(Task::Count {
             poll: "p",
             ballots: "b",
+            desks: 1,
             casting: Some("B"),
         })
     );

@@ -1,11 +1,12 @@
 //! How a run ends, and the exit status that says so.
 
 ghost use Rattle.std.specs.Prelude.{◌≡◌};
-ghost use Rattle.debvote.specs.Status.{fault_status, status};
+ghost use Rattle.debvote.specs.Status.{fault_status, status, vote_status};
 
 use crate::device::DeviceFault;
 use std::alloc::AllocError;
 use thiserror::Error;
+use vote_desks::{DeskFault, VoteFault};
 use vote_poll::{LinesFault, PollFault};
 
 /// What a count decided. Options are numbered from 1, and the default option is the last.
@@ -32,6 +33,9 @@ pub enum RunFault {
     /// The ballot file is refused, or memory ran out while it was split. Nothing was written.
     #[error(transparent)]
     Lines(LinesFault),
+    /// The votes were not taken, or memory ran out meanwhile. Nothing was written.
+    #[error(transparent)]
+    Vote(VoteFault),
     /// Memory ran out. Nothing was written.
     #[error("out of memory")]
     Memory,
@@ -62,6 +66,18 @@ impl From<AllocError> for RunFault {
     }
 }
 
+fn vote_status(fault: &VoteFault) -> u8
+    ensures { result ≡ vote_status fault.now }
+{
+    match fault {
+        VoteFault::Memory | VoteFault::Thread | VoteFault::Desk(DeskFault::Memory) => 5,
+        VoteFault::Gate(_)
+        | VoteFault::Enter(_, _)
+        | VoteFault::Desk(DeskFault::MissingDesk)
+        | VoteFault::Audit(_) => 6,
+    }
+}
+
 /// The exit status of a run that did not end.
 pub fn fault_status(fault: &RunFault) -> u8
     ensures { result ≡ fault_status fault.now }
@@ -71,6 +87,7 @@ pub fn fault_status(fault: &RunFault) -> u8
         RunFault::Poll(_) => 3,
         RunFault::NoSuchOption => 8,
         RunFault::Lines(LinesFault::TooMany) => 4,
+        RunFault::Vote(fault) => vote_status(fault),
         RunFault::Memory => 5,
         RunFault::Output => 7,
     }

@@ -54,8 +54,12 @@ use std::io::{self, Read, Write};
 use std::marker::Brand;
 use std::process::ExitCode;
 use std::rt::{Env, Files};
+use std::sync::Wait;
 use std::sync::ledger::{Blank, Ledger};
+use std::thread::Threads;
 use thiserror::Error;
+use vote_desks::NoGate;
+use vote_steps::MAX_DESKS;
 
 /// The most bytes of a poll file.
 const POLL_LIMIT: usize = 1_048_576;
@@ -167,6 +171,7 @@ enum Job<'a> {
     Count {
         poll: Vec<u8>,
         ballots: Vec<u8>,
+        desks: u8,
         casting: Option<&'a str>,
     },
     Steps {
@@ -187,10 +192,12 @@ fn job_of<'a, R: Files + AllocGlobal>(rt: &R, task: Task<'a>) -> Result<Job<'a>,
         Task::Count {
             poll,
             ballots,
+            desks,
             casting,
         } => Ok(Job::Count {
             poll: read_poll(rt, poll)?,
             ballots: read_ballots(rt, ballots)?,
+            desks,
             casting,
         }),
         Task::Steps { poll, ballots } => Ok(Job::Steps {
@@ -203,7 +210,8 @@ fn job_of<'a, R: Files + AllocGlobal>(rt: &R, task: Task<'a>) -> Result<Job<'a>,
     }
 }
 
-fn perform_metered<W: Write + Drop, L: Ledger>(
+fn perform_metered<W: Write + Drop, L: Ledger, R: Threads + Wait + Sync>(
+    rt: &R,
     alloc: Global,
     job: &Job<'_>,
     writer: W,
@@ -218,14 +226,18 @@ fn perform_metered<W: Write + Drop, L: Ledger>(
         Job::Count {
             poll,
             ballots,
+            desks,
             casting,
         } => {
             let casting = casting.map(|name| name.as_bytes());
             let ended = run(
+                rt,
                 alloc,
                 poll.as_slice(),
                 ballots.as_slice(),
+                (*desks).clamp(1, MAX_DESKS),
                 casting,
+                &NoGate,
                 &mut sink,
             )?;
             Ok(status(&Ok(ended)))
@@ -246,8 +258,13 @@ fn perform_metered<W: Write + Drop, L: Ledger>(
 }
 
 /// Does the job, and gives the exit status.
-fn perform<W: Write + Drop>(alloc: Global, job: &Job<'_>, writer: W) -> Result<u8, RunFault> {
-    perform_metered::<W, Brand>(alloc, job, writer, Blank::new(2))
+fn perform<W: Write + Drop, R: Threads + Wait + Sync>(
+    rt: &R,
+    alloc: Global,
+    job: &Job<'_>,
+    writer: W,
+) -> Result<u8, RunFault> {
+    perform_metered::<W, Brand, R>(rt, alloc, job, writer, Blank::new(2))
 }
 
 /// Prints the text of words that are no task: help on standard output, a refusal on standard error.
@@ -267,7 +284,7 @@ fn explain<R: Print + Eprint>(rt: &R, fault: &OrderFault) -> Result<u8, Failure>
 }
 
 /// Acts on the words, or without any on standard input, and gives the exit status.
-fn act<R: Files + Input + Print + Eprint + AllocGlobal>(
+fn act<R: Files + Input + Print + Eprint + AllocGlobal + Threads + Wait + Sync>(
     rt: &R,
     words: &[&str],
 ) -> Result<u8, Failure> {
@@ -281,10 +298,10 @@ fn act<R: Files + Input + Print + Eprint + AllocGlobal>(
             Err(fault) => return explain(rt, &fault),
         }
     };
-    Ok(perform(alloc, &job, io::writer(rt))?)
+    Ok(perform(rt, alloc, &job, io::writer(rt))?)
 }
 
-fn run_program<R: Files + Input + Print + Eprint + Env + AllocGlobal>(
+fn run_program<R: Files + Input + Print + Eprint + Env + AllocGlobal + Threads + Wait + Sync>(
     rt: &R,
 ) -> Result<u8, Failure> {
     let alloc = rt.alloc();

@@ -5,8 +5,8 @@ ghost use Rattle.clap.specs.Faults.{fault_of};
 ghost use Rattle.clap.specs.Values.{kind_of};
 ghost use Rattle.clap.specs.declared.builder.command.Command.TheViews.{out-Command as fields_of};
 ghost use Rattle.clap.specs.Words.{app_of, found_of, rows_of, rule_of, subcommand_of, subcommand_rows_of};
-ghost use Rattle.debvote.specs.CommandLine.{bare_command, check_command, count_command, debvote_command, option, required_option, steps_command};
-ghost use Rattle.debvote.specs.Order.{AsksFor, HasText, HasValues, HelpsByKind, HelpsIfAsked, subcommand_name};
+ghost use Rattle.debvote.specs.CommandLine.{bare_command, check_command, count_command, debvote_command, desks_option, option, required_option, steps_command};
+ghost use Rattle.debvote.specs.Order.{AsksFor, HasDesks, HasText, HasValues, HelpsByKind, HelpsIfAsked, subcommand_name};
 ghost use Rattle.debvote.specs.Status.{order_status};
 
 use clap::error::ErrorKind;
@@ -20,6 +20,7 @@ pub enum Task<'a> {
     Count {
         poll: &'a str,
         ballots: &'a str,
+        desks: u8,
         casting: Option<&'a str>,
     },
     /// Print the reply to each ballot.
@@ -119,6 +120,15 @@ fn steps_command<'a>(alloc: Global) -> Result<Command<'a>, AllocError>
         .arg(ballots_arg(alloc))
 }
 
+fn desks_arg<'a>(alloc: Global) -> Arg<'a>
+    ensures rule { rule_of result ≡ desks_option }
+    ensures local { result.global ≡ false }
+{
+    value_arg(alloc, "desks", "K", "How many desks enter the ballots")
+        .value_parser(clap::value_parser!(u8).range(1..=8))
+        .default_value("1")
+}
+
 fn count_command<'a>(alloc: Global) -> Result<Command<'a>, AllocError>
     ensures app { IfOk result (λ c. app_of c ≡ count_command) }
     ensures local { IfOk result (λ c. (fields_of c).has_globals ≡ false) }
@@ -127,6 +137,7 @@ fn count_command<'a>(alloc: Global) -> Result<Command<'a>, AllocError>
         .about("Counts the ballots and prints the result")
         .arg(poll_arg(alloc))?
         .arg(ballots_arg(alloc))?
+        .arg(desks_arg(alloc))?
         .arg(casting_arg(alloc))
 }
 
@@ -152,6 +163,15 @@ fn debvote_command<'a>(alloc: Global) -> Result<Command<'a>, AllocError>
         .subcommand(check_command(alloc)?)
 }
 
+fn desks(given: &ArgMatches<'_>) -> Option<u8>
+    ensures { IfSome result (HasDesks (rows_of (found_of given.now))) }
+{
+    match given.get_one::<u8>("desks") {
+        Some(desks @ 1..=8) => Some(desks),
+        _ => None,
+    }
+}
+
 #[tactic(auto, using(crate::proofs::Orders::first_value_rows))]
 fn file<'a>(given: &ArgMatches<'a>, id: &str) -> Option<&'a str>
     ensures { IfSome result (λ name. HasText (rows_of (found_of given.now)) id.now name.now) }
@@ -167,6 +187,7 @@ fn count_task<'a>(given: &ArgMatches<'a>) -> Option<Task<'a>>
     Some(Task::Count {
         poll: file(given, "poll")?,
         ballots: file(given, "ballots")?,
+        desks: desks(given)?,
         casting: given.get_str("casting"),
     })
 }

@@ -3,6 +3,7 @@
 ghost use Rattle.std.specs.Prelude.{◌≡◌, IfOk, IfSome, string_bytes};
 ghost use Rattle.vote_poll.specs.Options.{IsOption};
 ghost use Rattle.vote_poll.specs.PollContent.{option_count};
+ghost use Rattle.vote_desks.specs.Audit.{IsAudited};
 ghost use Rattle.debvote.specs.Casting.{HoldsLines};
 ghost use Rattle.debvote.specs.Sheet.{Sheet, sheet_text};
 ghost use Rattle.debvote.specs.SheetOf.{IsSheet, IsSheetOf, SheetIsUnique};
@@ -11,14 +12,12 @@ use crate::results::Results;
 use crate::sheet_text::sheet_text;
 use std::alloc::{AllocError, Global};
 use vote_count::{Decision, decide, outcome, quorum_votes};
+use vote_desks::Audited;
 use vote_poll::{Lines, Poll};
 use vote_steps::BallotBox;
 
-/// The result sheet of a closed box that holds the lines of the poll, with the option of the
-/// casting vote, and what the sheet says is decided. Options are numbered from 1.
-///
-/// The sheet is the same for every order in which the lines were cast.
-pub fn sheet_and_decision(
+/// The sheet and the decision of a closed box that holds the lines of the poll.
+fn sheet_of_box(
     alloc: Global,
     poll: &Poll,
     lines: &Lines<'_>,
@@ -45,20 +44,38 @@ pub fn sheet_and_decision(
     Ok((text, decision))
 }
 
-/// The result sheet of a closed box that holds the lines of the poll, with the option of the
-/// casting vote. Options are numbered from 1.
+/// The result sheet of an audited box, with the option of the casting vote, and what the sheet
+/// says is decided. Options are numbered from 1.
+///
+/// The sheet is the same for every number of desks and every order in which the lines were cast.
+pub fn sheet_and_decision(
+    alloc: Global,
+    poll: &Poll,
+    lines: &Lines<'_>,
+    audited: &Audited,
+    casting: Option<u8>,
+) -> Result<(String, Decision), AllocError>
+    requires audited { IsAudited poll.now lines.now audited.now.ballot_box audited.now.sheets }
+    requires casting { IfSome casting (IsOption (option_count poll.now)) }
+    ensures { IfOk result (λ printed. (s : Sheet) × IsSheetOf poll.now lines.now casting s × (string_bytes printed.0 ≡ sheet_text s) × (printed.1 ≡ s.decision)) }
+{
+    sheet_of_box(alloc, poll, lines, audited.ballot_box(), casting)
+}
+
+/// The result sheet of an audited box, with the option of the casting vote. Options are numbered
+/// from 1.
 pub fn sheet(
     alloc: Global,
     poll: &Poll,
     lines: &Lines<'_>,
-    ballot_box: &BallotBox,
+    audited: &Audited,
     casting: Option<u8>,
 ) -> Result<String, AllocError>
-    requires held { HoldsLines poll.now lines.now ballot_box.now }
+    requires audited { IsAudited poll.now lines.now audited.now.ballot_box audited.now.sheets }
     requires casting { IfSome casting (IsOption (option_count poll.now)) }
     ensures { IfOk result (λ text. IsSheet poll.now lines.now casting (string_bytes text)) }
 {
-    let (text, _) = sheet_and_decision(alloc, poll, lines, ballot_box, casting)?;
+    let (text, _) = sheet_and_decision(alloc, poll, lines, audited, casting)?;
     Ok(text)
 }
 

@@ -1,15 +1,18 @@
 //! Whole sheets, by the calls that a program makes.
 
-ghost use Rattle.std.specs.Prelude.{IfSome};
+ghost use Rattle.std.specs.Prelude.{◌≤◌, IfSome};
 ghost use Rattle.vote_poll.specs.Options.{IsOption};
 ghost use Rattle.vote_poll.specs.PollContent.{option_count};
 
-use crate::casting::cast_all;
 use crate::sheet::{sheet, sheet_and_decision};
 use std::alloc::{AllocError, Global};
+use std::sync::Wait;
 use std::test::Fail;
+use std::thread::Threads;
 use vote_count::Decision;
+use vote_desks::{NoGate, take_votes};
 use vote_poll::{Lines, Poll};
+use vote_steps::MAX_DESKS;
 
 /// A poll of voters v0, v1, .. in which each option has this ratio.
 pub(crate) fn poll_text(
@@ -62,21 +65,25 @@ fn option_of(poll: &Poll, name: &str) -> Option<u8>
     poll.option_of(name.as_bytes())
 }
 
-fn printed(
+fn printed<R: Threads + Wait + Sync>(
+    rt: &R,
     alloc: Global,
+    desks: u8,
     poll: &str,
     ballots: &str,
     casting: Option<&str>,
-) -> Result<(String, Decision), Fail> {
+) -> Result<(String, Decision), Fail>
+    requires { (1 ≤ desks) × (desks ≤ MAX_DESKS) }
+{
     let poll = Poll::from_text(alloc, poll.as_bytes())?;
     let lines = Lines::split(alloc, ballots.as_bytes())?;
-    let ballot_box = cast_all(alloc, &poll, &lines)?;
+    let audited = take_votes(rt, alloc, &poll, &lines, desks, &NoGate)?;
     let casting = match casting {
         Some(name) => option_of(&poll, name),
         None => None,
     };
-    let text = sheet(alloc, &poll, &lines, &ballot_box, casting)?;
-    let (same, decision) = sheet_and_decision(alloc, &poll, &lines, &ballot_box, casting)?;
+    let text = sheet(alloc, &poll, &lines, &audited, casting)?;
+    let (same, decision) = sheet_and_decision(alloc, &poll, &lines, &audited, casting)?;
     if same.as_str() != text.as_str() {
         return Err(Fail::from("two sheets"));
     }
@@ -99,14 +106,14 @@ const A_HUNDRED_ENVELOPES: &str =
 fn few_ballots(rt: HostRuntime) -> Result<(), Fail> {
     let alloc = rt.alloc();
     let poll = poll_text(alloc, "No ballots", &["A", "B", "C"], 1, 3, 9)?;
-    let (text, decision) = printed(alloc, poll.as_str(), "", None)?;
+    let (text, decision) = printed(&rt, alloc, 8, poll.as_str(), "", None)?;
     assert!(rt; text.as_str() == NO_BALLOTS, "{}", text);
     assert_eq!(rt; decision, Decision::Winner(4));
 
     let poll = poll_text(alloc, "A cycle", &["A", "B", "C"], 1, 3, 9)?;
     let ballots = ballots_text(alloc, &[(4, "1,2,3,4"), (3, "3,1,2,4"), (2, "2,3,1,4")])?;
     for casting in [None, Some("None")] {
-        let (text, decision) = printed(alloc, poll.as_str(), ballots.as_str(), casting)?;
+        let (text, decision) = printed(&rt, alloc, 1, poll.as_str(), ballots.as_str(), casting)?;
         assert!(rt; text.as_str() == A_CYCLE, "{}", text);
         assert_eq!(rt; decision, Decision::Winner(1));
     }
@@ -131,7 +138,7 @@ fn endings_of_a_tie(rt: HostRuntime) -> Result<(), Fail> {
             "Tie: 1 2 3, casting option 4 is not among them\n",
         ),
     ] {
-        let (text, decision) = printed(alloc, poll.as_str(), ballots.as_str(), casting)?;
+        let (text, decision) = printed(&rt, alloc, 1, poll.as_str(), ballots.as_str(), casting)?;
         let whole = format!(in alloc; "{A_TIE}{ending}")?;
         assert!(rt; text.as_str() == whole.as_str(), "{}", text);
         assert_eq!(rt; decision, decided);
@@ -153,9 +160,11 @@ fn a_hundred_envelopes(rt: HostRuntime) -> Result<(), Fail> {
             writeln!(ballots, "v{} 2,1,3", number % 10)?;
         }
     }
-    let (text, decision) = printed(alloc, poll.as_str(), ballots.as_str(), None)?;
-    assert!(rt; text.as_str() == A_HUNDRED_ENVELOPES, "{}", text);
-    assert_eq!(rt; decision, Decision::Tie);
+    for desks in [1, 2, 8] {
+        let (text, decision) = printed(&rt, alloc, desks, poll.as_str(), ballots.as_str(), None)?;
+        assert!(rt; text.as_str() == A_HUNDRED_ENVELOPES, "{}", text);
+        assert_eq!(rt; decision, Decision::Tie);
+    }
     Ok(())
 }
 
@@ -164,7 +173,7 @@ fn the_greatest_roll(rt: HostRuntime) -> Result<(), Fail> {
     let alloc = rt.alloc();
     let poll = poll_text(alloc, "All agree", &["A"], 10, 10, 10_000)?;
     let ballots = ballots_text(alloc, &[(10_000, "1,2")])?;
-    let (text, decision) = printed(alloc, poll.as_str(), ballots.as_str(), None)?;
+    let (text, decision) = printed(&rt, alloc, 1, poll.as_str(), ballots.as_str(), None)?;
     assert!(rt; text.contains("Quorum: 10Q, 500 votes\n"), "{}", text);
     assert!(rt; text.contains("\n  1     - 10000\n"), "{}", text);
     assert_eq!(rt; decision, Decision::Winner(1));

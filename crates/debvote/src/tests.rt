@@ -12,6 +12,7 @@ use std::alloc::{AllocError, Global};
 use std::marker::Brand;
 use std::sync::ledger::{Blank, Ledger};
 use std::test::Fail;
+use vote_desks::{AuditFault, DeskFault, EnterFault, VoteFault};
 use vote_poll::{LinesFault, PollFault, PollKey};
 
 /// A sink in memory that takes so many bytes at once, and fails once it holds as many as its limit.
@@ -298,6 +299,13 @@ fn statuses_of_runs(rt: HostRuntime) {
         (Err(RunFault::NoSuchOption), 8),
         (Err(RunFault::Lines(LinesFault::TooMany)), 4),
         (Err(RunFault::Lines(LinesFault::Memory)), 5),
+        (Err(RunFault::Vote(VoteFault::Thread)), 5),
+        (Err(RunFault::Vote(VoteFault::Desk(DeskFault::Memory))), 5),
+        (Err(RunFault::Vote(VoteFault::Gate(1))), 6),
+        (
+            Err(RunFault::Vote(VoteFault::Audit(AuditFault::CountDiffers))),
+            6,
+        ),
         (Err(RunFault::Memory), 5),
         (Err(RunFault::Output), 7),
     ] {
@@ -328,6 +336,27 @@ fn fault_lines(rt: HostRuntime) -> Result<(), Fail> {
         ),
         (RunFault::Lines(LinesFault::Memory), "out of memory"),
         (RunFault::NoSuchOption, "casting option is not in the poll"),
+        (RunFault::Vote(VoteFault::Memory), "out of memory"),
+        (
+            RunFault::Vote(VoteFault::Thread),
+            "a desk could not be started",
+        ),
+        (
+            RunFault::Vote(VoteFault::Gate(2)),
+            "desk 2 stopped at its gate",
+        ),
+        (
+            RunFault::Vote(VoteFault::Enter(3, EnterFault::StampUsed)),
+            "desk 3 was refused by the box",
+        ),
+        (
+            RunFault::Vote(VoteFault::Desk(DeskFault::MissingDesk)),
+            "the desks could not be gathered",
+        ),
+        (
+            RunFault::Vote(VoteFault::Audit(AuditFault::StepDiffers(1))),
+            "audit failed",
+        ),
         (RunFault::Memory, "out of memory"),
         (RunFault::Output, "output failed"),
     ] {

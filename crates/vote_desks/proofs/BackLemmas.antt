@@ -1,0 +1,158 @@
+-- What the workers give back, one after the other.
+use Rattle.std.proofs.Common.{◌≡◌, ℕ, ◌+◌, ◌<◌, zero, suc, Bool, true, false, not, cond, List, [], ◌∷◌, ◌++◌, max, length, map, sum_by, Contains, refl, sym, ap, ◌∙◌, subst, arith, length-append}
+use Rattle.std.specs.List.{All, AllByRecursion, range_with_len, enumerate_from}
+use Rattle.std.proofs.lemmas.List.Elements.{All-from_recursion, recursion_from_All}
+use Rattle.std.proofs.lemmas.List.Sums.{sum_by_push, sum_by-cons}
+use Rattle.std.proofs.lemmas.List.FromFn.{length-range_with_len, get_or-range_with_len}
+use Rattle.std.specs.List.Sorted.{IsPermutation}
+use Rattle.std.proofs.lemmas.List.Sorted.{sum_by-IsPermutation, All-permutation}
+use Rattle.vote_tray.specs.Passes.{TrayId, PassState, new_pass, joined}
+use Rattle.vote_desks.specs.declared.slip.Slip.{Slip}
+use Rattle.vote_desks.specs.Slips.{Rises, valid_slips, refused_slips}
+use Rattle.vote_desks.specs.Desks.{DeskState, fresh_desk}
+use Rattle.vote_steps.specs.History.{is_valid}
+use Rattle.vote_desks.specs.Work.{IsFresh, IsUnused, HasCastAll, tray_and_parts}
+use Rattle.vote_desks.specs.Back.{AreBackFrom, AreHandedIn}
+
+range-more : (n m : ℕ) → range_with_len n (suc m) ≡ range_with_len n m ++ (n + m) ∷ []
+range-more n zero = let at : n + 0 ≡ n = omega arith in ap (λ k. k ∷ []) (sym at)
+range-more n (suc m) = let at : n + 1 + m ≡ n + suc m = omega arith in ap (λ ks. n ∷ ks) (range-more (n + 1) m ∙ ap (λ k. range_with_len (n + 1) m ++ k ∷ []) at)
+
+pub Contains-range : (n x : ℕ) → x < n → Contains (range_with_len 0 n) x
+Contains-range n x low = (x, (let a = length-range_with_len 0 n in omega arith), get_or-range_with_len 0 n x x low ∙ omega arith)
+
+map-push : {X Y : Type 0} (f : X → Y) (xs : List X) (x : X) → map f (xs ++ x ∷ []) ≡ map f xs ++ f x ∷ []
+map-push f [] x = refl
+map-push f (y ∷ ys) x = ap (λ zs. f y ∷ zs) (map-push f ys x)
+
+ByRecursion-push : {X : Type 0} (P : X → Type 0) (xs : List X) (x : X) → AllByRecursion P xs → P x → AllByRecursion P (xs ++ x ∷ [])
+ByRecursion-push P [] x all one = (one, tt)
+ByRecursion-push P (y ∷ ys) x all one = (all.0, ByRecursion-push P ys x all.1 one)
+
+pub length_map : {X Y : Type 0} (f : X → Y) (xs : List X) → length (map f xs) ≡ length xs
+length_map f [] = refl
+length_map f (x ∷ xs) = omega (arith, length_map f xs)
+
+-- a desk has as many slips as its pass has places
+as_many : (desk : DeskState) (pass : PassState) → HasCastAll desk pass → length desk.slips ≡ length pass.places
+as_many desk pass h =
+    sym (length_map (λ (s : Slip). s.stamp) desk.slips) ∙ ap length h.stamps ∙ length_map (λ (place : ℕ). place + 1) pass.places
+
+pub handed_first : (tray : TrayId) (desk : DeskState) (pass : PassState) → desk.number ≡ 1 → pass.tray ≡ tray → pass.parts ≡ 0 ∷ [] → HasCastAll desk pass
+    → AreHandedIn tray 1 (desk ∷ []) pass
+handed_first tray desk pass number its_tray parts done =
+    record {
+      numbers = ap (λ k. k ∷ []) number;
+      rising = All-from_recursion (λ (d : DeskState). Rises d.slips) (desk ∷ []) (done.rising, tt);
+      its_tray = its_tray;
+      parts = parts;
+      emptied = done.emptied ∙ ap (λ (t : TrayId). t.size) its_tray;
+      cast = omega (arith, as_many desk pass done, sum_by-cons (λ (d : DeskState). length d.slips) desk []);
+    }
+
+pub handed_more : (tray : TrayId) (n : ℕ) (desks : List DeskState) (pass all : PassState) (desk : DeskState) (more : PassState) → AreHandedIn tray n desks pass
+    → desk.number ≡ n + 1 → more.tray ≡ tray → more.parts ≡ n ∷ [] → HasCastAll desk more → all ≡ joined pass more → AreHandedIn tray (n + 1) (desks ++ desk ∷ []) all
+handed_more tray n desks pass all desk more h number its_tray parts done is =
+    let next : suc n ≡ n + 1 = omega arith in
+    let one : 1 + n ≡ n + 1 = omega arith in
+    let seen : all.seen ≡ max pass.seen more.seen = ap (λ (p : PassState). p.seen) is in
+    let size : more.tray.size ≡ tray.size = ap (λ (t : TrayId). t.size) its_tray in
+    let places : length all.places ≡ length pass.places + length more.places = ap (λ (p : PassState). length p.places) is ∙ length-append pass.places more.places in
+    record {
+      numbers = map-push (λ (d : DeskState). d.number) desks desk ∙ ap (λ ks. ks ++ desk.number ∷ []) h.numbers ∙ ap (λ k. range_with_len 1 n ++ k ∷ []) (number ∙ sym one)
+          ∙ sym (range-more 1 n) ∙ ap (range_with_len 1) next;
+      rising = All-from_recursion (λ (d : DeskState). Rises d.slips) (desks ++ desk ∷ [])
+          (ByRecursion-push (λ (d : DeskState). Rises d.slips) desks desk (recursion_from_All (λ (d : DeskState). Rises d.slips) desks h.rising) done.rising);
+      its_tray = ap (λ (p : PassState). p.tray) is ∙ h.its_tray;
+      parts = ap (λ (p : PassState). p.parts) is ∙ ap (λ ks. ks ++ more.parts) h.parts ∙ ap (λ ks. range_with_len 0 n ++ ks) parts ∙ sym (range-more 0 n ∙ ap (λ k. range_with_len 0 n ++ k ∷ []) (let z : 0 + n ≡ n = omega arith in z)) ∙ ap (range_with_len 0) next;
+      emptied = omega (arith, seen, h.emptied, done.emptied, size);
+      cast = omega (arith, sum_by_push (λ (d : DeskState). length d.slips) desks desk, h.cast, as_many desk more done, places);
+    }
+
+-- of those who are back, the first and the others
+pub first_back : {W : Type 0} (pair : W → DeskState × PassState) (tray : TrayId) (n : ℕ) (rest : List W) (w : W) (others : List W) → rest ≡ w ∷ others → AreBackFrom tray n (map pair rest)
+    → AreBackFrom tray n (pair w ∷ map pair others)
+first_back pair tray n rest w others is back = subst (λ xs. AreBackFrom tray n (map pair xs)) is back
+
+-- all who were given desks and passes in order, and stopped when the tray was empty
+pub back_from : {W : Type 0} (desk : W → DeskState) (pass : W → PassState) (tray : TrayId) (n m : ℕ) (all : List W)
+    → map (λ w. (desk w).number) all ≡ range_with_len (n + 1) m → map (λ w. tray_and_parts (pass w)) all ≡ map tray_and_parts (map (new_pass tray) (range_with_len n m))
+    → AllByRecursion (λ w. HasCastAll (desk w) (pass w)) all → AreBackFrom tray n (map {B = DeskState × PassState} (λ w. (desk w, pass w)) all)
+back_from desk pass tray n m [] numbers passes done = tt
+back_from desk pass tray n zero (w ∷ all) numbers passes done = cc
+back_from desk pass tray n (suc m) (w ∷ all) numbers passes done =
+    let number : (desk w).number ≡ n + 1 = cc in
+    let others : map (λ v. (desk v).number) all ≡ range_with_len (n + 1 + 1) m = cc in
+    let both : tray_and_parts (pass w) ≡ tray_and_parts (new_pass tray n) = cc in
+    let rest : map (λ v. tray_and_parts (pass v)) all ≡ map tray_and_parts (map (new_pass tray) (range_with_len (n + 1) m)) = cc in
+    (number, ap (λ p. p.0) both, ap (λ p. p.1) both, done.0, back_from desk pass tray (n + 1) m all others rest done.1)
+
+-- desks and passes that are new
+pub are_fresh : (lines n m : ℕ) → AllByRecursion (IsFresh lines) (map (fresh_desk lines) (range_with_len n m))
+are_fresh lines n zero = tt
+are_fresh lines n (suc m) = (record { room = refl; empty = refl }, are_fresh lines (n + 1) m)
+
+pub are_unused : (tray : TrayId) (n m : ℕ) → AllByRecursion (IsUnused tray) (map (new_pass tray) (range_with_len n m))
+are_unused tray n zero = tt
+are_unused tray n (suc m) = (record { its_tray = refl; empty = refl }, are_unused tray (n + 1) m)
+
+-- the numbers of such desks
+pub fresh_numbers : (lines n m : ℕ) → map (λ (d : DeskState). d.number) (map (fresh_desk lines) (range_with_len n m)) ≡ range_with_len n m
+fresh_numbers lines n zero = refl
+fresh_numbers lines n (suc m) = ap (λ ks. n ∷ ks) (fresh_numbers lines (n + 1) m)
+
+-- sheets that are numbered in order have as many slips as they have without numbers
+pub sum_numbered : (n : ℕ) (sheets : List (List Slip)) → sum_by (λ (at : ℕ × List Slip). length at.1) (enumerate_from n sheets) ≡ sum_by length sheets
+sum_numbered n [] = refl
+sum_numbered n (sheet ∷ sheets) =
+    omega (arith, sum_by-cons (λ (at : ℕ × List Slip). length at.1) (n, sheet) (enumerate_from (n + 1) sheets), sum_by-cons {X = List Slip} length sheet sheets, sum_numbered (n + 1) sheets)
+
+pub sum_paired : (desks : List DeskState) → sum_by (λ (at : ℕ × List Slip). length at.1) (map {B = ℕ × List Slip} (λ (d : DeskState). (d.number, d.slips)) desks) ≡ sum_by (λ (d : DeskState). length d.slips) desks
+sum_paired [] = refl
+sum_paired (desk ∷ desks) =
+    omega (
+      arith,
+      sum_by-cons (λ (at : ℕ × List Slip). length at.1) (desk.number, desk.slips) (map {B = ℕ × List Slip} (λ (d : DeskState). (d.number, d.slips)) desks),
+      sum_by-cons (λ (d : DeskState). length d.slips) desk desks,
+      sum_paired desks,
+    )
+
+-- all sheets rise, by number or not
+pub rise_numbered : (n : ℕ) (sheets : List (List Slip)) → AllByRecursion (λ (at : ℕ × List Slip). Rises at.1) (enumerate_from n sheets) → AllByRecursion Rises sheets
+rise_numbered n [] h = tt
+rise_numbered n (sheet ∷ sheets) h = (h.0, rise_numbered (n + 1) sheets h.1)
+
+pub rise_paired : (desks : List DeskState) → AllByRecursion (λ (d : DeskState). Rises d.slips) desks
+    → AllByRecursion (λ (at : ℕ × List Slip). Rises at.1) (map {B = ℕ × List Slip} (λ (d : DeskState). (d.number, d.slips)) desks)
+rise_paired [] h = tt
+rise_paired (desk ∷ desks) h = (h.0, rise_paired desks h.1)
+
+-- each slip is valid or refused
+either_slip : (sheet : List Slip) → valid_slips sheet + refused_slips sheet ≡ length sheet
+either_slip [] = refl
+either_slip (slip ∷ sheet) =
+    omega (arith, sum_by-cons (λ (s : Slip). cond {A = ℕ} (is_valid s.reply) 1 0) slip sheet, sum_by-cons (λ (s : Slip). cond {A = ℕ} (not (is_valid s.reply)) 1 0) slip sheet, either_slip sheet, one_of (is_valid slip.reply))
+  where
+    one_of : (t : Bool) → cond {A = ℕ} t 1 0 + cond {A = ℕ} (not t) 1 0 ≡ 1
+    one_of true = omega arith
+    one_of false = omega arith
+
+pub all_slips : (sheets : List (List Slip)) → sum_by valid_slips sheets + sum_by refused_slips sheets ≡ sum_by length sheets
+all_slips [] = refl
+all_slips (sheet ∷ sheets) =
+    omega (arith, sum_by-cons valid_slips sheet sheets, sum_by-cons refused_slips sheet sheets, sum_by-cons {X = List Slip} length sheet sheets, either_slip sheet, all_slips sheets)
+
+abbrev pub paired : List DeskState → List (ℕ × List Slip)
+paired desks = map {B = ℕ × List Slip} (λ (d : DeskState). (d.number, d.slips)) desks
+
+-- the sheets that were gathered are those of the desks
+pub gathered_count : (desks : List DeskState) (sheets : List (List Slip)) → IsPermutation (paired desks) (enumerate_from 1 sheets) → sum_by length sheets ≡ sum_by (λ (d : DeskState). length d.slips) desks
+gathered_count desks sheets same =
+    sym (sum_numbered 1 sheets) ∙ sum_by-IsPermutation (λ (at : ℕ × List Slip). length at.1) (paired desks) (enumerate_from 1 sheets) same ∙ sum_paired desks
+
+pub gathered_rise : (desks : List DeskState) (sheets : List (List Slip)) → IsPermutation (paired desks) (enumerate_from 1 sheets) → All (λ (d : DeskState). Rises d.slips) desks → All Rises sheets
+gathered_rise desks sheets same rising =
+    let P : ℕ × List Slip → Type 0 = λ at. Rises at.1 in
+    let before : All P (paired desks) = All-from_recursion P (paired desks) (rise_paired desks (recursion_from_All (λ (d : DeskState). Rises d.slips) desks rising)) in
+    let after : All P (enumerate_from 1 sheets) = All-permutation P (paired desks) (enumerate_from 1 sheets) same before in
+    All-from_recursion Rises sheets (rise_numbered 1 sheets (recursion_from_All P (enumerate_from 1 sheets) after))

@@ -1,0 +1,231 @@
+-- What an audited box counts is what the lines say.
+use Rattle.std.proofs.Common.{◌≡◌, ℕ, ◌+◌, ◌-◌, ◌<◌, ◌≤◌, zero, suc, cond, eqb, leb, Bool, true, false, ◌&&◌, ◌||◌, List, [], ◌∷◌, ◌++◌, Option, Some, None, length, take, map, refl, sym, ap, ◌∙◌, subst, ⊎_elim, arith, append_assoc}
+use Rattle.std.specs.Prelude.{slice_get, is_some, option_and_then}
+use Rattle.std.specs.List.{All, AllByRecursion, count_by, range_with_len}
+use Rattle.std.proofs.lemmas.Bool.{cases_eq, cases_lt, eq-eqb, ne_eqb, le-leb, lt-leb}
+use Rattle.std.proofs.lemmas.List.{take_all}
+use Rattle.std.proofs.lemmas.List.Elements.{recursion_from_All}
+use Rattle.std.proofs.lemmas.List.Sums.{sum_by-cons, sum_by_push}
+use Rattle.std.proofs.lemmas.Option.{slice_get_within}
+use Rattle.vote_poll.specs.PollContent.{PollContent}
+use Rattle.vote_poll.specs.declared.Reading.{Reading}
+use Rattle.vote_poll.specs.declared.Reading.TheVariants.{Ballot, Bad}
+use Rattle.vote_count.specs.Ballots.{entry_prefers}
+use Rattle.vote_desks.specs.declared.slip.Slip.{Slip}
+use Rattle.vote_steps.specs.declared.Received.{Received}
+use Rattle.vote_steps.specs.declared.Step.{Step}
+use Rattle.vote_steps.specs.declared.Step.TheVariants.{Cast, Close}
+use Rattle.vote_steps.specs.History.{is_cast, is_ballot, is_used, is_for, before_close, standing, standing_ranks, standing_votes, valid, refused, voters}
+use Rattle.vote_steps.specs.Boxes.{BoxState, IsLegal, UsesAll}
+use Rattle.vote_steps.specs.Order.{HasOwnReading, last_ballot}
+use Rattle.vote_steps.proofs.HistoryLemmas.{valid-refused, is_used-cast, is_used-close}
+use Rattle.vote_desks.specs.Audit.{readings, IsAudited}
+use Rattle.vote_desks.specs.Standing.{LinesAreCounted, CountsLines, is_ballot_reading, last_ballots}
+use Rattle.vote_desks.proofs.SlipLemmas.{take-suc-get}
+use Rattle.vote_desks.proofs.StandingLemmas.{as_long, last_lines_stand_lem}
+
+abbrev one : Bool → ℕ
+one t = cond {A = ℕ} t 1 0
+
+count-cons : {X : Type 0} (p : X → Bool) (x : X) (xs : List X) → count_by p (x ∷ xs) ≡ one (p x) + count_by p xs
+count-cons p x xs = sum_by-cons (λ y. one (p y)) x xs
+
+-- each envelope is cast once
+
+abbrev has_stamp : ℕ → Step → Bool
+has_stamp n Close = false
+has_stamp n (Cast d stamp r p) = eqb stamp n
+
+abbrev casts_of : ℕ → List Step → ℕ
+casts_of n steps = count_by (has_stamp n) steps
+
+-- after steps that have used a stamp no cast has it, and else at most one
+at_most_once : (b : BoxState) → IsLegal b → (n : ℕ) (before after : List Step) → b.steps ≡ before ++ after → casts_of n after ≤ cond {A = ℕ} (is_used before n) 0 1
+at_most_once b legal n before [] here = omega arith
+at_most_once b legal n before (Close ∷ after) here =
+    let next = at_most_once b legal n (before ++ Close ∷ []) after (here ∙ sym (append_assoc before (Close ∷ []) after)) in
+    let same = ap (λ t. cond {A = ℕ} t 0 1) (is_used-close before n) in
+    omega (arith, count-cons (has_stamp n) Close after, next, same)
+at_most_once b legal n before (Cast d s r p ∷ after) here =
+    let next = at_most_once b legal n (before ++ Cast d s r p ∷ []) after (here ∙ sym (append_assoc before (Cast d s r p ∷ []) after)) in
+    let same = ap (λ t. cond {A = ℕ} t 0 1) (is_used-cast before d s r p n) in
+    let fresh : is_used before s ≡ false = (legal before after (Cast d s r p) here).stamp_new in
+    let more = count-cons (has_stamp n) (Cast d s r p) after in
+    ⊎_elim
+    (λ (is : s ≡ n).
+    let unused : is_used before n ≡ false = sym (ap (is_used before) is) ∙ fresh in
+    let now : (is_used before n || eqb s n) ≡ true = ap (λ t. t || eqb s n) unused ∙ eq-eqb s n is in
+    omega (arith, more, next, same, ap (λ t. cond {A = ℕ} t 0 1) now, ap (λ t. cond {A = ℕ} t 0 1) unused, ap one (eq-eqb s n is)))
+    (λ (other : s ≡ n → ⊥).
+    let now : (is_used before n || eqb s n) ≡ is_used before n = ap (λ t. is_used before n || t) (ne_eqb s n other) ∙ or_false (is_used before n) in
+    omega (arith, more, next, same, ap (λ t. cond {A = ℕ} t 0 1) now, ap one (ne_eqb s n other)))
+    (cases_eq s n)
+  where
+    or_false : (t : Bool) → (t || false) ≡ t
+    or_false true = refl
+    or_false false = refl
+
+used_is_cast : (n : ℕ) (steps : List Step) → is_used steps n ≡ true → 1 ≤ casts_of n steps
+used_is_cast n [] used = cc
+used_is_cast n (Close ∷ steps) used = omega (arith, count-cons (has_stamp n) Close steps, used_is_cast n steps used)
+used_is_cast n (Cast d s r p ∷ steps) used =
+    ⊎_elim
+    (λ (is : s ≡ n). omega (arith, count-cons (has_stamp n) (Cast d s r p) steps, ap one (eq-eqb s n is)))
+    (λ (other : s ≡ n → ⊥).
+    let rest : is_used steps n ≡ true = sym (ap (λ t. t || is_used steps n) (ne_eqb s n other)) ∙ used in
+    omega (arith, count-cons (has_stamp n) (Cast d s r p) steps, used_is_cast n steps rest))
+    (cases_eq s n)
+
+-- the ballots among the casts of the first envelopes
+
+abbrev is_early : ℕ → Step → Bool
+is_early n Close = false
+is_early n (Cast d s (Bad fault) p) = false
+is_early n (Cast d s (Ballot voter ranks) p) = leb s n
+
+abbrev is_ballot_of : ℕ → Step → Bool
+is_ballot_of n Close = false
+is_ballot_of n (Cast d s (Bad fault) p) = false
+is_ballot_of n (Cast d s (Ballot voter ranks) p) = eqb s n
+
+leb-suc : (s n : ℕ) → one (leb s (suc n)) ≡ one (leb s n) + one (eqb s (suc n))
+leb-suc s n =
+    ⊎_elim
+    (λ (is : s ≡ suc n). omega (arith, ap one (le-leb s (suc n) (omega arith)), ap one (lt-leb s n (omega arith)), ap one (eq-eqb s (suc n) is)))
+    (λ (other : s ≡ suc n → ⊥).
+    ⊎_elim
+    (λ (above : n < s). let more : suc n < s = omega arith in omega (arith, ap one (lt-leb s (suc n) more), ap one (lt-leb s n above), ap one (ne_eqb s (suc n) other)))
+    (λ (within : s ≤ n). omega (arith, ap one (le-leb s (suc n) (omega arith)), ap one (le-leb s n within), ap one (ne_eqb s (suc n) other)))
+    (cases_lt n s))
+    (cases_eq s (suc n))
+
+one_envelope_more : (n : ℕ) (steps : List Step) → count_by (is_early (suc n)) steps ≡ count_by (is_early n) steps + count_by (is_ballot_of (suc n)) steps
+one_envelope_more n [] = refl
+one_envelope_more n (step ∷ steps) =
+    omega (arith, count-cons (is_early (suc n)) step steps, count-cons (is_early n) step steps, count-cons (is_ballot_of (suc n)) step steps, of_step step, one_envelope_more n steps)
+  where
+    of_step : (s : Step) → one (is_early (suc n) s) ≡ one (is_early n s) + one (is_ballot_of (suc n) s)
+    of_step Close = refl
+    of_step (Cast d s (Bad fault) p) = refl
+    of_step (Cast d s (Ballot voter ranks) p) = leb-suc s n
+
+-- the line of an envelope
+
+either_nothing : (t : Bool) → cond {A = ℕ} t 0 0 ≡ 0
+either_nothing true = refl
+either_nothing false = refl
+
+its_reading : (readings : List Reading) (n : ℕ) (r reading : Reading) (s : ℕ) → slice_get readings n ≡ Some r → slice_get readings (s - 1) ≡ Some reading → s ≡ suc n → reading ≡ r
+its_reading readings n r reading s line own is =
+    let at : s - 1 ≡ n = omega arith in
+    let same : Some reading ≡ Some r = sym own ∙ ap (slice_get readings) at ∙ line in cc
+
+ballot_at : (readings : List Reading) (n : ℕ) (r : Reading) (step : Step) → slice_get readings n ≡ Some r → HasOwnReading readings step
+    → one (is_ballot_of (suc n) step) ≡ cond {A = ℕ} (is_ballot_reading r) (one (has_stamp (suc n) step)) 0
+ballot_at readings n r Close line own = sym (either_nothing (is_ballot_reading r))
+ballot_at readings n r (Cast d s (Bad fault) p) line own =
+    ⊎_elim
+    (λ (is : s ≡ suc n). sym (ap (λ t. cond {A = ℕ} t (one (eqb s (suc n))) 0) (sym (ap is_ballot_reading (its_reading readings n r (Bad fault) s line own.1 is)))))
+    (λ (other : s ≡ suc n → ⊥). sym (ap (λ t. cond {A = ℕ} (is_ballot_reading r) (one t) 0) (ne_eqb s (suc n) other) ∙ either_nothing (is_ballot_reading r)))
+    (cases_eq s (suc n))
+ballot_at readings n r (Cast d s (Ballot voter ranks) p) line own =
+    ⊎_elim
+    (λ (is : s ≡ suc n). sym (ap (λ t. cond {A = ℕ} t (one (eqb s (suc n))) 0) (sym (ap is_ballot_reading (its_reading readings n r (Ballot voter ranks) s line own.1 is)))))
+    (λ (other : s ≡ suc n → ⊥).
+    ap one (ne_eqb s (suc n) other) ∙ sym (ap (λ t. cond {A = ℕ} (is_ballot_reading r) (one t) 0) (ne_eqb s (suc n) other) ∙ either_nothing (is_ballot_reading r)))
+    (cases_eq s (suc n))
+
+add_cond : (t : Bool) (x y : ℕ) → cond {A = ℕ} t x 0 + cond {A = ℕ} t y 0 ≡ cond {A = ℕ} t (x + y) 0
+add_cond true x y = refl
+add_cond false x y = refl
+
+ballots_at : (readings : List Reading) (n : ℕ) (r : Reading) (steps : List Step) → slice_get readings n ≡ Some r → AllByRecursion (HasOwnReading readings) steps
+    → count_by (is_ballot_of (suc n)) steps ≡ cond {A = ℕ} (is_ballot_reading r) (casts_of (suc n) steps) 0
+ballots_at readings n r [] line own = sym (either_nothing (is_ballot_reading r))
+ballots_at readings n r (step ∷ steps) line own =
+    let t = is_ballot_reading r in
+    let more : casts_of (suc n) (step ∷ steps) ≡ one (has_stamp (suc n) step) + casts_of (suc n) steps = count-cons (has_stamp (suc n)) step steps in
+    omega (
+      arith,
+      count-cons (is_ballot_of (suc n)) step steps,
+      ballot_at readings n r step line own.0,
+      ballots_at readings n r steps line own.1,
+      add_cond t (one (has_stamp (suc n) step)) (casts_of (suc n) steps),
+      ap (λ k. cond {A = ℕ} t k 0) more,
+    )
+
+none_early : (readings : List Reading) (steps : List Step) → AllByRecursion (HasOwnReading readings) steps → count_by (is_early 0) steps ≡ 0
+none_early readings [] own = refl
+none_early readings (Close ∷ steps) own = omega (arith, count-cons (is_early 0) Close steps, none_early readings steps own.1)
+none_early readings (Cast d s (Bad fault) p ∷ steps) own = omega (arith, count-cons (is_early 0) (Cast d s (Bad fault) p) steps, none_early readings steps own.1)
+none_early readings (Cast d s (Ballot voter ranks) p ∷ steps) own =
+    let first = own.0.0 in
+    omega (arith, count-cons (is_early 0) (Cast d s (Ballot voter ranks) p) steps, none_early readings steps own.1, ap one (lt-leb s 0 (omega arith)))
+
+all_early : (readings : List Reading) (steps : List Step) → AllByRecursion (HasOwnReading readings) steps → count_by (is_early (length readings)) steps ≡ count_by is_ballot steps
+all_early readings [] own = refl
+all_early readings (Close ∷ steps) own =
+    omega (arith, count-cons (is_early (length readings)) Close steps, count-cons is_ballot Close steps, all_early readings steps own.1)
+all_early readings (Cast d s (Bad fault) p ∷ steps) own =
+    let step : Step = Cast d s (Bad fault) p in
+    omega (arith, count-cons (is_early (length readings)) step steps, count-cons is_ballot step steps, all_early readings steps own.1)
+all_early readings (Cast d s (Ballot voter ranks) p ∷ steps) own =
+    let step : Step = Cast d s (Ballot voter ranks) p in
+    let inside = slice_get_within readings (s - 1) (Ballot voter ranks) own.0.1 in
+    omega (arith, count-cons (is_early (length readings)) step steps, count-cons is_ballot step steps, all_early readings steps own.1, ap one (le-leb s (length readings) (omega arith)))
+
+some_within : (readings : List Reading) (n : ℕ) → n < length readings → (r : Reading) × (slice_get readings n ≡ Some r)
+some_within [] n h = absurd (omega arith)
+some_within (r ∷ rs) zero h = (r, refl)
+some_within (r ∷ rs) (suc n) h = some_within rs n (omega arith)
+
+early_ballots : (readings : List Reading) (steps : List Step) → AllByRecursion (HasOwnReading readings) steps → ((n : ℕ) → n < length readings → casts_of (suc n) steps ≡ 1)
+    → (n : ℕ) → n ≤ length readings → count_by (is_early n) steps ≡ count_by is_ballot_reading (take n readings)
+early_ballots readings steps own once zero h = none_early readings steps own
+early_ballots readings steps own once (suc n) h =
+    let line = some_within readings n (omega arith) in
+    let t = is_ballot_reading line.0 in
+    let here : count_by is_ballot_reading (take (suc n) readings) ≡ count_by is_ballot_reading (take n readings) + one t =
+    ap (count_by is_ballot_reading) (take-suc-get readings n line.0 line.1) ∙ sum_by_push (λ r. one (is_ballot_reading r)) (take n readings) line.0 in
+    omega (
+      arith,
+      one_envelope_more n steps,
+      early_ballots readings steps own once n (omega arith),
+      ballots_at readings n line.0 steps line.1 own,
+      ap (λ k. cond {A = ℕ} t k 0) (once n (omega arith)),
+      here,
+    )
+
+-- the voters
+
+count-maps : {X Y Z : Type 0} (p : Y → Bool) (q : Z → Bool) (f : X → Y) (g : X → Z) (xs : List X) → ((x : X) → p (f x) ≡ q (g x)) → count_by p (map f xs) ≡ count_by q (map g xs)
+count-maps p q f g [] same = refl
+count-maps p q f g (x ∷ xs) same = omega (arith, count-cons p (f x) (map f xs), count-cons q (g x) (map g xs), ap one (same x), count-maps p q f g xs same)
+
+has_ranks : (o : Option Received) → is_some o ≡ is_some (option_and_then (λ (ballot : Received). Some ballot.ranks) o)
+has_ranks None = refl
+has_ranks (Some ballot) = refl
+
+prefers_alike : (a c : ℕ) (o : Option Received) → is_for a c o ≡ entry_prefers a c (option_and_then (λ (ballot : Received). Some ballot.ranks) o)
+prefers_alike a c None = refl
+prefers_alike a c (Some ballot) = refl
+
+pub lines_are_counted_lem : LinesAreCounted
+lines_are_counted_lem poll lines b sheets a all =
+    let rs = readings poll lines in
+    let stand : (voter : ℕ) → standing_ranks b.steps voter ≡ last_ballot rs voter = λ voter. last_lines_stand_lem poll lines b sheets voter a all in
+    let long = as_long poll lines in
+    let limit = a.sizes.2 in
+    let own = recursion_from_All (HasOwnReading rs) b.steps a.own_readings in
+    let once : (n : ℕ) → n < length rs → casts_of (suc n) b.steps ≡ 1 = λ n low.
+    (let used = all (a.casts ∙ sym a.sizes.2) (suc n) (omega arith) (omega (arith, low, long, limit)) in
+    omega (arith, at_most_once b a.legal (suc n) [] b.steps refl, used_is_cast (suc n) b.steps used)) in
+    let counted : count_by is_ballot b.steps ≡ count_by is_ballot_reading rs =
+    sym (all_early rs b.steps own) ∙ early_ballots rs b.steps own once (length rs) (omega arith) ∙ ap (count_by is_ballot_reading) (take_all (length rs) rs (omega arith)) in
+    let before : count_by is_ballot b.steps ≡ valid b.steps = ap (count_by is_ballot) a.closed_last ∙ sum_by_push (λ s. one (is_ballot s)) (before_close b.steps) Close ∙ omega arith in
+    record {
+      valid_is = sym before ∙ counted;
+      refused_is = valid-refused b.steps ∙ a.casts ∙ sym long;
+      voters_are = count-maps is_some is_some (standing b.steps) (last_ballot rs) (range_with_len 0 b.electors) (λ voter. has_ranks (standing b.steps voter) ∙ ap is_some (stand voter));
+      votes_are = λ x y. count-maps (is_for x y) (entry_prefers x y) (standing b.steps) (last_ballot rs) (range_with_len 0 b.electors) (λ voter. prefers_alike x y (standing b.steps voter) ∙ ap (entry_prefers x y) (stand voter));
+    }

@@ -1,0 +1,95 @@
+use Rattle.std.proofs.Common.{◌≡◌, ◌+◌, List, [], ◌∷◌, ◌++◌, Ok, Err, length, map, vec_items, sym, ap, ◌∙◌, subst, arith}
+use Rattle.std.specs.Prelude.{position}
+use Rattle.std.specs.List.{All, count_by}
+use Rattle.vote_desks.specs.declared.fault.AuditFault.TheVariants.{StepDiffers, SlipDiffers, ClosedEarly}
+use Rattle.vote_steps.specs.declared.Step.{Step}
+use Rattle.vote_steps.specs.declared.Step.TheVariants.{Close}
+use Rattle.vote_steps.specs.History.{is_cast, is_close, before_close}
+use Rattle.vote_desks.specs.Audit.{DiffersFirst, SheetDiffers, HasOwnReadings, HasSlips, IsEarlyClose, IsAudited}
+use Rattle.vote_desks.specs.Comparing.{HasDesk, HasEnvelope}
+use Rattle.vote_desks.proofs.AuditLemmas.{legal_desks, legal_envelopes, Found, ok_exact, fault_exact, close_found, closed_last_at, early_at}
+use Rattle.vote_desks.proofs.auditing.compare.Goals as goal
+
+pub first_other_reading-requires : goal.first_other_reading-requires
+first_other_reading-requires c =
+    let sizes = c.has_sizes.ensures.0 c.if-not-has_sizes.false in
+    subst (λ n. All (HasEnvelope n) c.steps-steps.result.now) sizes.2
+    (subst (λ (xs : List Step). All (HasEnvelope c.args.ballot_box.now.limit) xs) (sym c.steps-steps.ensures.steps) (legal_envelopes c.args.ballot_box.now c.steps-steps.ensures.legal))
+
+pub first_other_sheet-requires : goal.first_other_sheet-requires
+first_other_sheet-requires c =
+    subst (λ (xs : List Step). All HasDesk xs) (sym c.steps-steps.ensures.steps) (legal_desks c.args.ballot_box.now c.steps-steps.ensures.legal)
+
+pub returns-in-Some : goal.returns-in-Some
+returns-in-Some c =
+    let poll = c.args.poll.now in
+    let lines = c.args.lines.now in
+    let b = c.args.ballot_box.now in
+    let sheets = map vec_items c.args.sheets.now in
+    let here = c.steps-steps.ensures.steps in
+    let sizes = c.has_sizes.ensures.0 c.if-not-has_sizes.false in
+    let casts = ap (count_by is_cast) (sym here) ∙ sym c.count_casts.ensures ∙ c.if-count_casts-len.false ∙ c.len.ensures.number in
+    let found : Found poll lines b sheets (Err (StepDiffers c.in-Some.number)) = (sizes, casts, subst (λ (xs : List Step). DiffersFirst poll lines xs c.in-Some.number) here c.in-Some.ensures) in
+    record { ok = ok_exact poll lines b sheets (Err (StepDiffers c.in-Some.number)) found; fault = fault_exact poll lines b sheets (Err (StepDiffers c.in-Some.number)) found }
+
+pub returns-in-Some-first_other_sheet : goal.returns-in-Some-first_other_sheet
+returns-in-Some-first_other_sheet c =
+    let poll = c.args.poll.now in
+    let lines = c.args.lines.now in
+    let b = c.args.ballot_box.now in
+    let sheets = map vec_items c.args.sheets.now in
+    let here = c.steps-steps.ensures.steps in
+    let sizes = c.has_sizes.ensures.0 c.if-not-has_sizes.false in
+    let casts = ap (count_by is_cast) (sym here) ∙ sym c.count_casts.ensures ∙ c.if-count_casts-len.false ∙ c.len.ensures.number in
+    let readings = subst (λ (xs : List Step). HasOwnReadings poll lines xs) here c.in_default.ensures in
+    let found : Found poll lines b sheets (Err (SlipDiffers c.in-Some-first_other_sheet.desk c.in-Some-first_other_sheet.place)) = (sizes, casts, readings, subst (λ (xs : List Step). SheetDiffers xs sheets c.in-Some-first_other_sheet.desk c.in-Some-first_other_sheet.place) here c.in-Some-first_other_sheet.ensures) in
+    record { ok = ok_exact poll lines b sheets (Err (SlipDiffers c.in-Some-first_other_sheet.desk c.in-Some-first_other_sheet.place)) found; fault = fault_exact poll lines b sheets (Err (SlipDiffers c.in-Some-first_other_sheet.desk c.in-Some-first_other_sheet.place)) found }
+
+pub returns-in-Some-close_place : goal.returns-in-Some-close_place
+returns-in-Some-close_place c =
+    let poll = c.args.poll.now in
+    let lines = c.args.lines.now in
+    let b = c.args.ballot_box.now in
+    let sheets = map vec_items c.args.sheets.now in
+    let here = c.steps-steps.ensures.steps in
+    let sizes = c.has_sizes.ensures.0 c.if-not-has_sizes.false in
+    let casts = ap (count_by is_cast) (sym here) ∙ sym c.count_casts.ensures ∙ c.if-count_casts-len.false ∙ c.len.ensures.number in
+    let readings = subst (λ (xs : List Step). HasOwnReadings poll lines xs) here c.in_default.ensures in
+    let slips = subst (λ (xs : List Step). HasSlips xs sheets) here c.in_default-first_other_sheet.ensures in
+    let at = sym c.in-Some-close_place.ensures in
+    let early = subst (λ (xs : List Step). IsEarlyClose xs (c.in-Some-close_place.place + 1)) here (early_at c.steps-steps.result.now c.in-Some-close_place.place at c.if-place-steps.true) in
+    let found : Found poll lines b sheets (Err (ClosedEarly (c.in-Some-close_place.place + 1))) = (sizes, casts, readings, slips, early) in
+    record { ok = ok_exact poll lines b sheets (Err (ClosedEarly (c.in-Some-close_place.place + 1))) found; fault = fault_exact poll lines b sheets (Err (ClosedEarly (c.in-Some-close_place.place + 1))) found }
+
+pub returns-in_default-close_place : goal.returns-in_default-close_place
+returns-in_default-close_place c =
+    let poll = c.args.poll.now in
+    let lines = c.args.lines.now in
+    let b = c.args.ballot_box.now in
+    let sheets = map vec_items c.args.sheets.now in
+    let here = c.steps-steps.ensures.steps in
+    let sizes = c.has_sizes.ensures.0 c.if-not-has_sizes.false in
+    let casts = ap (count_by is_cast) (sym here) ∙ sym c.count_casts.ensures ∙ c.if-count_casts-len.false ∙ c.len.ensures.number in
+    let readings = subst (λ (xs : List Step). HasOwnReadings poll lines xs) here c.in_default.ensures in
+    let slips = subst (λ (xs : List Step). HasSlips xs sheets) here c.in_default-first_other_sheet.ensures in
+    let at = ap (position is_close) (sym here) ∙ sym c.in-Some-close_place.ensures in
+    let long = ap length here in
+    let last = closed_last_at b.steps c.in-Some-close_place.place c.requires.closed at (omega (arith, long, c.if-place-steps.false)) in
+    let found : Found poll lines b sheets (Ok tt) = (let a : IsAudited poll lines b sheets = record { sizes = sizes; casts = casts; legal = c.steps-steps.ensures.legal; closed_last = last; own_readings = readings; sheets_are = slips } in a) in
+    record { ok = ok_exact poll lines b sheets (Ok tt) found; fault = fault_exact poll lines b sheets (Ok tt) found }
+
+pub returns-in_default-close_place-2 : goal.returns-in_default-close_place-2
+returns-in_default-close_place-2 c =
+    let poll = c.args.poll.now in
+    let lines = c.args.lines.now in
+    let b = c.args.ballot_box.now in
+    let sheets = map vec_items c.args.sheets.now in
+    let here = c.steps-steps.ensures.steps in
+    let sizes = c.has_sizes.ensures.0 c.if-not-has_sizes.false in
+    let casts = ap (count_by is_cast) (sym here) ∙ sym c.count_casts.ensures ∙ c.if-count_casts-len.false ∙ c.len.ensures.number in
+    let readings = subst (λ (xs : List Step). HasOwnReadings poll lines xs) here c.in_default.ensures in
+    let slips = subst (λ (xs : List Step). HasSlips xs sheets) here c.in_default-first_other_sheet.ensures in
+    let at = ap (position is_close) (sym here) ∙ sym c.in_default-close_place.ensures in
+    let last : b.steps ≡ before_close b.steps ++ Close ∷ [] = absurd (close_found b.steps at c.requires.closed) in
+    let found : Found poll lines b sheets (Ok tt) = (let a : IsAudited poll lines b sheets = record { sizes = sizes; casts = casts; legal = c.steps-steps.ensures.legal; closed_last = last; own_readings = readings; sheets_are = slips } in a) in
+    record { ok = ok_exact poll lines b sheets (Ok tt) found; fault = fault_exact poll lines b sheets (Ok tt) found }

@@ -1,0 +1,19 @@
+use Rattle.std.proofs.Common.{length, ◌≡◌, ◌↔◌, ◌-◌, Some, subst, sym, ap, ◌∙◌, arith, IsTrue}
+use Rattle.std.specs.Prelude.{slice_get, option_map}
+use Rattle.std.proofs.lemmas.Option.{slice_get-map}
+use Rattle.vote_poll.specs.Readings.{reading}
+use Rattle.vote_steps.specs.declared.Step.{Step}
+use Rattle.vote_steps.specs.Order.{HasOwnReading}
+use Rattle.vote_desks.specs.Comparing.{HasEnvelope}
+use Rattle.vote_desks.specs.Audit.{readings}
+use Rattle.vote_desks.proofs.auditing.has_own_reading.Goals as goal
+
+pub returns-in-Cast : goal.returns-in-Cast
+returns-in-Cast c =
+    let read : slice_get (readings c.args.poll.now c.args.lines.now) (c.in-Cast.stamp - 1) ≡ Some c.read_line.result =
+    slice_get-map (reading c.args.poll.now) c.args.lines.now (c.in-Cast.stamp - 1) ∙ ap (option_map (reading c.args.poll.now)) c.line.ensures ∙ ap Some (sym c.read_line.ensures.same) in
+    let eq : IsTrue c.read_alike.result ↔ (c.read_line.result ≡ c.in-Cast.reading) = c.read_alike.ensures in
+    let P : Step → Type 0 = λ s. HasOwnReading (readings c.args.poll.now c.args.lines.now) s in (
+      (λ t. subst P (sym c.in-Cast.is) ((subst (HasEnvelope (length c.args.lines.now)) c.in-Cast.is c.requires).0, read ∙ ap Some (eq.0 t))),
+      λ own. let mine = subst P c.in-Cast.is own in eq.1 (let both : Some c.read_line.result ≡ Some c.in-Cast.reading = sym read ∙ mine.1 in cc),
+    )

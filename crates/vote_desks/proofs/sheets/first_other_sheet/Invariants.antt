@@ -1,0 +1,7 @@
+use Rattle.std.proofs.Common.{◌≡◌, ℕ, ◌<◌, ◌≤◌, map, vec_items}
+use Rattle.vote_desks.specs.Slips.{slips}
+use Rattle.vote_desks.specs.Desks.{sheet_at}
+use Rattle.vote_desks.proofs.sheets.first_other_sheet.Given as goal
+
+abbrev pub invariant-loop-desk : goal.invariant-loop-desk
+invariant-loop-desk l = (desk : ℕ) → 1 ≤ desk → desk < l.desk → sheet_at (map vec_items l.sheets) desk ≡ slips l.steps desk

@@ -1,0 +1,79 @@
+-- What an audit finds.
+use Rattle.std.specs.Prelude.{◌≡◌, ◌≢◌, ℕ, ◌+◌, ◌<◌, ◌≤◌, List, [], ◌∷◌, ◌++◌, length, map, take, slice_get, count_by, All}
+use Rattle.vote_poll.specs.PollContent.{PollContent, option_count, elector_count}
+use Rattle.vote_poll.specs.Readings.{reading}
+use Rattle.vote_poll.specs.declared.Reading.{Reading}
+use Rattle.vote_desks.specs.declared.slip.Slip.{Slip}
+use Rattle.vote_desks.specs.declared.fault.AuditFault.{AuditFault}
+use Rattle.vote_desks.specs.declared.fault.AuditFault.TheVariants.{SizeDiffers, CountDiffers, StepDiffers, SlipDiffers, ClosedEarly}
+use Rattle.vote_steps.specs.declared.TheConstants.{MAX_DESKS}
+use Rattle.vote_steps.specs.declared.Step.{Step}
+use Rattle.vote_steps.specs.declared.Step.TheVariants.{Close}
+use Rattle.vote_steps.specs.History.{is_cast, before_close}
+use Rattle.vote_steps.specs.Boxes.{BoxState, IsLegal}
+use Rattle.vote_steps.specs.Order.{HasOwnReading}
+use Rattle.vote_desks.specs.Slips.{slips}
+use Rattle.vote_desks.specs.Desks.{sheet_at}
+
+-- what the poll reads in the lines
+abbrev pub readings : PollContent → List (List ℕ) → List Reading
+readings poll lines = map (reading poll) lines
+
+-- the box is of the poll's size, and has a number for each line
+abbrev pub HasSizes : PollContent → List (List ℕ) → BoxState → Type 0
+HasSizes poll lines b = (b.options ≡ option_count poll) × (b.electors ≡ elector_count poll) × (b.limit ≡ length lines)
+
+-- each cast has the reading of the line with its stamp
+abbrev pub HasOwnReadings : PollContent → List (List ℕ) → List Step → Type 0
+HasOwnReadings poll lines steps = All (HasOwnReading (readings poll lines)) steps
+
+-- the sheet of each desk is the slips of its casts
+abbrev pub HasSlips : List Step → List (List Slip) → Type 0
+HasSlips steps sheets = (desk : ℕ) → 1 ≤ desk → desk ≤ MAX_DESKS → sheet_at sheets desk ≡ slips steps desk
+
+-- each line of a poll is one step of a legal history, whose only close is the last, and the sheets are those of its desks
+pub record IsAudited (poll : PollContent) (lines : List (List ℕ)) (b : BoxState) (sheets : List (List Slip)) : Type 0 where
+  pub sizes : HasSizes poll lines b
+  pub casts : count_by is_cast b.steps ≡ length lines
+  pub legal : IsLegal b
+  pub closed_last : b.steps ≡ before_close b.steps ++ Close ∷ []
+  pub own_readings : HasOwnReadings poll lines b.steps
+  pub sheets_are : HasSlips b.steps sheets
+
+-- the step of this number is the first cast with another reading than its line
+pub record DiffersFirst (poll : PollContent) (lines : List (List ℕ)) (steps : List Step) (number : ℕ) : Type 0 where
+  pub before : List Step
+  pub step : Step
+  pub after : List Step
+  pub here : steps ≡ before ++ step ∷ after
+  pub number_is : number ≡ length before + 1
+  pub so_far : HasOwnReadings poll lines before
+  pub differs : ¬ HasOwnReading (readings poll lines) step
+
+-- two sheets differ first at this place, counted from 1; one may have ended there
+pub record PartAt (sheet other : List Slip) (place : ℕ) : Type 0 where
+  pub before : ℕ
+  pub place_is : place ≡ before + 1
+  pub so_far : take before sheet ≡ take before other
+  pub differ : slice_get sheet before ≢ slice_get other before
+
+-- the first desk whose sheet is not the slips of its casts, and the first place where they differ
+pub record SheetDiffers (steps : List Step) (sheets : List (List Slip)) (desk place : ℕ) : Type 0 where
+  pub is_desk : (1 ≤ desk) × (desk ≤ MAX_DESKS)
+  pub others : (other : ℕ) → 1 ≤ other → other < desk → sheet_at sheets other ≡ slips steps other
+  pub part : PartAt (sheet_at sheets desk) (slips steps desk) place
+
+-- the close has this number, and steps come after it
+abbrev pub IsEarlyClose : List Step → ℕ → Type 0
+IsEarlyClose steps number = (number ≡ length (before_close steps) + 1) × (number < length steps)
+
+-- where each fault is found: what those before it test is as it should be
+abbrev pub IsFaultOf : PollContent → List (List ℕ) → BoxState → List (List Slip) → AuditFault → Type 0
+IsFaultOf poll lines b sheets SizeDiffers = ¬ HasSizes poll lines b
+IsFaultOf poll lines b sheets CountDiffers = HasSizes poll lines b × (count_by is_cast b.steps ≢ length lines)
+IsFaultOf poll lines b sheets (StepDiffers number) =
+    HasSizes poll lines b × (count_by is_cast b.steps ≡ length lines) × DiffersFirst poll lines b.steps number
+IsFaultOf poll lines b sheets (SlipDiffers desk place) =
+    HasSizes poll lines b × (count_by is_cast b.steps ≡ length lines) × HasOwnReadings poll lines b.steps × SheetDiffers b.steps sheets desk place
+IsFaultOf poll lines b sheets (ClosedEarly number) =
+    HasSizes poll lines b × (count_by is_cast b.steps ≡ length lines) × HasOwnReadings poll lines b.steps × HasSlips b.steps sheets × IsEarlyClose b.steps number

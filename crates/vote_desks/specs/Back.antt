@@ -1,0 +1,22 @@
+-- What all workers give back.
+use Rattle.std.specs.Prelude.{◌≡◌, ℕ, ◌+◌, List, [], ◌∷◌, length, map, sum_by, All}
+use Rattle.std.specs.List.{range_with_len}
+use Rattle.vote_tray.specs.Passes.{TrayId, PassState}
+use Rattle.vote_desks.specs.Slips.{Rises}
+use Rattle.vote_desks.specs.Desks.{DeskState}
+use Rattle.vote_desks.specs.Work.{HasCastAll}
+
+-- the desks and passes come from n on in order, and have emptied the tray
+abbrev pub AreBackFrom : TrayId → ℕ → List (DeskState × PassState) → Type 0
+AreBackFrom tray n [] = Unit {0}
+AreBackFrom tray n (back ∷ others) =
+    (back.0.number ≡ n + 1) × (back.1.tray ≡ tray) × (back.1.parts ≡ n ∷ []) × HasCastAll back.0 back.1 × AreBackFrom tray (n + 1) others
+
+-- the first n desks, and the pass that their passes were joined into
+pub record AreHandedIn (tray : TrayId) (n : ℕ) (desks : List DeskState) (pass : PassState) : Type 0 where
+  pub numbers : map (λ desk. desk.number) desks ≡ range_with_len 1 n
+  pub rising : All (λ desk. Rises desk.slips) desks
+  pub its_tray : pass.tray ≡ tray
+  pub parts : pass.parts ≡ range_with_len 0 n
+  pub emptied : pass.seen ≡ tray.size
+  pub cast : sum_by (λ desk. length desk.slips) desks ≡ length pass.places

@@ -1,0 +1,11 @@
+-- what the contracts of public calls say
+pub mod Slips
+pub mod Desks
+pub mod Audit
+pub mod Faults
+pub mod Standing
+-- what private functions say of their parts
+pub mod Comparing
+pub mod Work
+pub mod Back
+pub mod Stops

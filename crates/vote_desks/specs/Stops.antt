@@ -1,0 +1,19 @@
+-- Which desk's early stop is answered.
+use Rattle.std.specs.Prelude.{◌≡◌, ℕ, ◌≤◌, List, Option, Some, Contains}
+use Rattle.vote_desks.specs.declared.worked.Stop.{Stop}
+use Rattle.vote_desks.specs.declared.worked.Stop.TheVariants.{Barred, Refused}
+use Rattle.vote_desks.specs.declared.fault.VoteFault.{VoteFault}
+use Rattle.vote_desks.specs.declared.fault.VoteFault.TheVariants.{Gate, Enter}
+
+-- the fault that a desk's early stop is answered by
+abbrev pub fault_of : ℕ → Stop → VoteFault
+fault_of desk Barred = Gate desk
+fault_of desk (Refused fault) = Enter desk fault
+
+-- of the workers, given by their desks and by why they stopped early, the one with the least desk that did has this fault
+pub record IsLeastStop (workers : List (ℕ × Option Stop)) (fault : VoteFault) : Type 0 where
+  pub desk : ℕ
+  pub stop : Stop
+  pub stopped : Contains workers (desk, Some stop)
+  pub fault_is : fault ≡ fault_of desk stop
+  pub least : (other : ℕ) (why : Stop) → Contains workers (other, Some why) → desk ≤ other

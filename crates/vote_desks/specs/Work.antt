@@ -1,0 +1,25 @@
+-- What a worker is given, and what it gives back.
+use Rattle.std.specs.Prelude.{◌≡◌, ℕ, ◌+◌, List, [], map}
+use Rattle.vote_tray.specs.Passes.{TrayId, PassState}
+use Rattle.vote_desks.specs.Slips.{Rises, stamps_of}
+use Rattle.vote_desks.specs.Desks.{DeskState}
+
+-- a desk with room for as many slips as there are lines, and no slip yet
+pub record IsFresh (lines : ℕ) (desk : DeskState) : Type 0 where
+  pub room : desk.limit ≡ lines
+  pub empty : desk.slips ≡ []
+
+-- a pass of this tray that has taken nothing
+pub record IsUnused (tray : TrayId) (pass : PassState) : Type 0 where
+  pub its_tray : pass.tray ≡ tray
+  pub empty : pass.places ≡ []
+
+-- the desk has cast the envelopes of the places that its pass took, in order, and the tray is empty
+pub record HasCastAll (desk : DeskState) (pass : PassState) : Type 0 where
+  pub stamps : stamps_of desk.slips ≡ map (λ place. place + 1) pass.places
+  pub rising : Rises desk.slips
+  pub emptied : pass.seen ≡ pass.tray.size
+
+-- what a pass keeps, whatever it takes
+abbrev pub tray_and_parts : PassState → TrayId × List ℕ
+tray_and_parts pass = (pass.tray, pass.parts)

@@ -1,0 +1,167 @@
+//! Reading the lines once more, and comparing them with what the desks did.
+ghost use Rattle.std.specs.Prelude.{◌≡◌, ◌≤◌, ◌↔◌, Err, length, map, count_by, position, vec_items, IsTrue, IsOk, IfOk, MatchOption, All};
+ghost use Rattle.vote_steps.specs.History.{is_cast, is_close, is_closed};
+ghost use Rattle.vote_steps.specs.Order.{HasOwnReading};
+ghost use Rattle.vote_desks.specs.Desks.{sheet_at};
+ghost use Rattle.vote_desks.specs.Comparing.{HasEnvelope};
+ghost use Rattle.vote_desks.specs.Audit.{readings, HasSizes, HasOwnReadings, IsAudited, DiffersFirst, IsFaultOf};
+
+use crate::fault::AuditFault;
+use crate::sealed::Sealed;
+use crate::sheets::first_other_sheet;
+use crate::slip::Slip;
+use std::marker::Model;
+use vote_poll::{Lines, Poll, Reading, read_line};
+use vote_steps::{BallotBox, MAX_DESKS, Step};
+
+/// Whether the box is of the poll's size, and has a number for each line.
+fn has_sizes(poll: &Poll, lines: &Lines<'_>, ballot_box: &BallotBox) -> bool
+    ensures { IsTrue result ↔ HasSizes poll.now lines.now ballot_box.now }
+{
+    ballot_box.options() == poll.options()
+        && ballot_box.electors() == poll.electors()
+        && ballot_box.limit() as usize == lines.len()
+}
+
+/// The number of casts.
+fn count_casts(steps: &[Step]) -> usize
+    ensures { result ≡ count_by is_cast steps.now }
+{
+    steps
+        .iter()
+        .filter(|step| matches!(step, Step::Cast { .. }))
+        .count()
+}
+
+/// Whether two readings say the same.
+fn read_alike(reading: &Reading, other: &Reading) -> bool
+    ensures { IsTrue result ↔ (reading.now ≡ other.now) }
+{
+    match (reading, other) {
+        (
+            Reading::Ballot { voter, ranks },
+            Reading::Ballot {
+                voter: other,
+                ranks: others,
+            },
+        ) => voter == other && ranks.as_slice() == others.as_slice(),
+        (Reading::Bad(fault), Reading::Bad(other)) => fault == other,
+        _ => false,
+    }
+}
+
+/// Whether a cast has the reading of the line with its stamp.
+fn has_own_reading(poll: &Poll, lines: &Lines<'_>, step: &Step) -> bool
+    requires { HasEnvelope (length lines.now) step.now }
+    ensures { IsTrue result ↔ HasOwnReading (readings poll.now lines.now) step.now }
+{
+    match step {
+        Step::Close => true,
+        Step::Cast { stamp, reading, .. } => {
+            read_alike(&read_line(poll, lines.line(*stamp as usize - 1)), reading)
+        }
+    }
+}
+
+/// The number of the first step that has not the reading of its line.
+fn first_other_reading(poll: &Poll, lines: &Lines<'_>, steps: &[Step]) -> Option<u64>
+    requires { All (HasEnvelope (length lines.now)) steps.now }
+    ensures { MatchOption result (HasOwnReadings poll.now lines.now steps.now) (DiffersFirst poll.now lines.now steps.now) }
+{
+    for (place, step) in steps.iter().enumerate() {
+        if !has_own_reading(poll, lines, step) {
+            return Some(place as u64 + 1);
+        }
+    }
+    None
+}
+
+/// The place of the close.
+fn close_place(steps: &[Step]) -> Option<usize>
+    ensures { result ≡ position is_close steps.now }
+{
+    steps.iter().position(|step| matches!(step, Step::Close))
+}
+
+/// Compares a closed box and the sheets of its desks, that of desk `d` at place `d - 1`, with the lines.
+///
+/// Each line is read once, and the steps are gone through once for each kind of fault. It takes no memory.
+pub fn compare(
+    poll: &Poll,
+    lines: &Lines<'_>,
+    ballot_box: &BallotBox,
+    sheets: &[Vec<Slip>],
+) -> Result<(), AuditFault>
+    requires closed { IsTrue (is_closed ballot_box.now.steps) }
+    requires sheets { length sheets.now ≤ MAX_DESKS }
+    ensures ok { IsOk result ↔ IsAudited poll.now lines.now ballot_box.now (map vec_items sheets.now) }
+    ensures fault { (fault : AuditFault) → (result ≡ Err fault) ↔ IsFaultOf poll.now lines.now ballot_box.now (map vec_items sheets.now) fault }
+{
+    if !has_sizes(poll, lines, ballot_box) {
+        return Err(AuditFault::SizeDiffers);
+    }
+    let steps = ballot_box.steps();
+    if count_casts(steps) != lines.len() {
+        return Err(AuditFault::CountDiffers);
+    }
+    if let Some(number) = first_other_reading(poll, lines, steps) {
+        return Err(AuditFault::StepDiffers(number));
+    }
+    if let Some((desk, place)) = first_other_sheet(steps, sheets) {
+        return Err(AuditFault::SlipDiffers(desk, place));
+    }
+    match close_place(steps) {
+        Some(place) if place + 1 < steps.len() => Err(AuditFault::ClosedEarly(place as u64 + 1)),
+        _ => Ok(()),
+    }
+}
+
+/// A sealed box that an audit has found to be what the lines give.
+#[derive(Drop)]
+pub struct Audited {
+    sealed: Sealed,
+}
+
+impl Model for Audited {
+    ghost use Rattle.vote_desks.specs.Desks.{SealedState};
+
+    ghost Value = { SealedState };
+
+    ghost view = { λ a. a.sealed };
+}
+
+impl Audited {
+    /// The box.
+    pub fn ballot_box(&self) -> &BallotBox
+        ensures { result.now ≡ self.now.ballot_box }
+    {
+        self.sealed.ballot_box()
+    }
+
+    /// How many desks there were.
+    pub fn desks(&self) -> u8
+        ensures { result ≡ length self.now.sheets }
+    {
+        self.sealed.desks()
+    }
+
+    /// The sheet of a desk, by its number from 1.
+    pub fn sheet_of(&self, desk: u8) -> &[Slip]
+        requires { (1 ≤ desk) × (desk ≤ length self.now.sheets) }
+        ensures { result.now ≡ sheet_at self.now.sheets desk }
+    {
+        self.sealed.sheet_of(desk)
+    }
+}
+
+/// Compares a sealed box and its sheets with the lines, as `compare` does. On a fault the sealed box is given up.
+pub fn audit(poll: &Poll, lines: &Lines<'_>, sealed: Sealed) -> Result<Audited, AuditFault>
+    ensures same { IfOk result (λ audited. audited ≡ sealed) }
+    ensures ok { IsOk result ↔ IsAudited poll.now lines.now sealed.ballot_box sealed.sheets }
+    ensures fault { (fault : AuditFault) → (result ≡ Err fault) ↔ IsFaultOf poll.now lines.now sealed.ballot_box sealed.sheets fault }
+{
+    match compare(poll, lines, &sealed.ballot_box, sealed.sheets.as_slice()) {
+        Ok(()) => Ok(Audited { sealed }),
+        Err(fault) => Err(fault),
+    }
+}

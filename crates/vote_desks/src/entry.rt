@@ -1,0 +1,68 @@
+//! Entering an envelope at a desk.
+ghost use Rattle.std.specs.Prelude.{◌≡◌, ℕ, ◌+◌, ◌<◌, ◌≤◌, ◌↔◌, ◌⊎◌, Err, length, IsTrue, IfOk, OnErr};
+ghost use Rattle.vote_steps.specs.History.{is_used, reply_to};
+ghost use Rattle.vote_desks.specs.Desks.{FitsBox, HasRoom, with_cast, with_slip};
+
+use crate::desk::{Desk, Held, Tally};
+use crate::fault::EnterFault;
+use crate::slip::Slip;
+use vote_poll::Reading;
+use vote_steps::{BallotBox, Reply, StepFault};
+
+/// Casts an envelope at a desk, which notes the slip. It takes no memory.
+pub fn enter<VL: Tally, RL: Tally>(
+    held: &mut Held<VL, RL>,
+    desk: &mut Desk<VL, RL>,
+    stamp: u32,
+    reading: Reading,
+) -> Result<Slip, EnterFault>
+    ensures step { IfOk result (λ slip. held.new ≡ with_cast held.old desk.old.number stamp reading slip.reply) }
+    ensures slip { IfOk result (λ slip. slip ≡ record { number = length held.old.ballot_box.steps + 1; stamp = stamp; reply = reply_to held.old.ballot_box.steps stamp reading }) }
+    ensures noted { IfOk result (λ slip. desk.new ≡ with_slip desk.old slip) }
+
+    ensures sizes { (result ≡ Err EnterFault.Sizes) ↔ ¬ FitsBox held.old.ballot_box reading }
+    ensures full { (result ≡ Err EnterFault.SheetFull) ↔ (FitsBox held.old.ballot_box reading × ¬ HasRoom desk.old) }
+    ensures range { (result ≡ Err EnterFault.StampRange) ↔ (FitsBox held.old.ballot_box reading × HasRoom desk.old × ((stamp ≡ 0) ⊎ (held.old.ballot_box.limit < stamp))) }
+    ensures used { (result ≡ Err EnterFault.StampUsed) ↔ (FitsBox held.old.ballot_box reading × HasRoom desk.old × (1 ≤ stamp) × (stamp ≤ held.old.ballot_box.limit) × IsTrue (is_used held.old.ballot_box.steps stamp)) }
+    ensures err { OnErr result ((held.new ≡ held.old) × (desk.new ≡ desk.old)) }
+{
+    if !fits(&held.ballot_box, &reading) {
+        return Err(EnterFault::Sizes);
+    }
+    if desk.sheet.len() >= desk.limit as usize {
+        return Err(EnterFault::SheetFull);
+    }
+    let number = held.ballot_box.steps().len() as u64 + 1;
+    let reply = match held.ballot_box.cast(desk.number, stamp, reading) {
+        Ok(reply) => reply,
+        Err(StepFault::StampRange) => return Err(EnterFault::StampRange),
+        Err(StepFault::StampUsed) => return Err(EnterFault::StampUsed),
+    };
+    match reply {
+        Reply::Counted | Reply::Replaced | Reply::Superseded => {
+            held.valid_book.add(&mut desk.valid_share, 1);
+        }
+        Reply::BadLine(_) | Reply::BoxClosed => {
+            held.refused_book.add(&mut desk.refused_share, 1);
+        }
+    }
+    let slip = Slip {
+        number,
+        stamp,
+        reply,
+    };
+    let _ = desk.sheet.push(slip);
+    Ok(slip)
+}
+
+/// Whether a ballot is of a voter of the box, and has as many ranks as the box has options.
+fn fits(ballot_box: &BallotBox, reading: &Reading) -> bool
+    ensures { IsTrue result ↔ FitsBox ballot_box.now reading.now }
+{
+    match reading {
+        Reading::Ballot { voter, ranks } => {
+            *voter < ballot_box.electors() && ranks.options() == ballot_box.options()
+        }
+        Reading::Bad(_) => true,
+    }
+}

@@ -1,0 +1,115 @@
+//! Why a cast, a gathering, an audit or a whole vote ends without its result.
+ghost use Rattle.std.specs.Prelude.{◌≡◌};
+ghost use Rattle.vote_desks.specs.declared.fault.DeskFault.TheVariants.{Memory as DeskMemory};
+ghost use Rattle.vote_desks.specs.declared.fault.VoteFault.TheVariants.{Memory as VoteMemory};
+
+use std::alloc::{AllocError, AllocFailed};
+use std::error::Error;
+use std::fmt;
+
+/// Why a cast at a desk is refused. The first case that holds is answered, and nothing is changed.
+#[derive(Clone, Copy, Debug, PartialEq, Eq)]
+pub enum EnterFault {
+    /// The ballot is of a voter whom the box does not have, or has another number of ranks than the box has options.
+    Sizes,
+    /// The desk's sheet has as many slips as its limit.
+    SheetFull,
+    /// The stamp is 0, or above the limit of the box.
+    StampRange,
+    /// An envelope with this stamp was cast before.
+    StampUsed,
+}
+
+/// The box has no voter of this number.
+#[derive(Clone, Copy, Debug, PartialEq, Eq)]
+pub struct NoVoter;
+
+/// Why desks are not opened or not gathered.
+#[derive(Clone, Copy, Debug, PartialEq, Eq)]
+pub enum DeskFault {
+    /// The desks' numbers are not 1 to the number opened, each once.
+    MissingDesk,
+    /// No memory was left.
+    Memory,
+}
+
+impl From<AllocError> for DeskFault {
+    ghost from_gives = { λ _ fault. fault ≡ DeskMemory };
+
+    fn from(_error: AllocError) -> DeskFault {
+        DeskFault::Memory
+    }
+}
+
+impl<T: Drop> From<AllocFailed<T>> for DeskFault {
+    ghost from_gives = { λ _ fault. fault ≡ DeskMemory };
+
+    fn from(_error: AllocFailed<T>) -> DeskFault {
+        DeskFault::Memory
+    }
+}
+
+/// Where a box and its sheets are not what the lines give. Steps and places on a sheet are numbered from 1.
+#[derive(Clone, Copy, Debug, PartialEq, Eq)]
+pub enum AuditFault {
+    /// The box has not the poll's numbers of options and electors, or its limit is not the number of lines.
+    SizeDiffers,
+    /// The box has not as many casts as there are lines.
+    CountDiffers,
+    /// This step is the first cast that has not the reading of the line with its stamp.
+    StepDiffers(u64),
+    /// This desk is the least whose sheet is not the slips of its casts, and this the first place where they differ.
+    SlipDiffers(u8, u64),
+    /// This step is the close, and it is not the last.
+    ClosedEarly(u64),
+}
+
+/// Why the votes are not taken.
+#[derive(Clone, Copy, Debug, PartialEq, Eq)]
+pub enum VoteFault {
+    /// No memory was left.
+    Memory,
+    /// A worker could not be started. Those that were started have ended.
+    Thread,
+    /// The gate stopped a worker, and this desk is the least that stopped early.
+    Gate(u8),
+    /// A cast was refused, and this desk is the least that stopped early.
+    Enter(u8, EnterFault),
+    /// The desks could not be gathered. `take_votes` never answers this.
+    Desk(DeskFault),
+    /// The box is not what the lines give.
+    Audit(AuditFault),
+}
+
+impl fmt::Display for VoteFault {
+    fn fmt<W: fmt::Write>(&self, f: &mut fmt::Formatter<W>) -> fmt::Result {
+        match self {
+            VoteFault::Memory | VoteFault::Desk(DeskFault::Memory) => write!(f, "out of memory"),
+            VoteFault::Thread => write!(f, "a desk could not be started"),
+            VoteFault::Gate(desk) => write!(f, "desk {desk} stopped at its gate"),
+            VoteFault::Enter(desk, _) => write!(f, "desk {desk} was refused by the box"),
+            VoteFault::Desk(DeskFault::MissingDesk) => {
+                write!(f, "the desks could not be gathered")
+            }
+            VoteFault::Audit(_) => write!(f, "audit failed"),
+        }
+    }
+}
+
+impl Error for VoteFault {}
+
+impl From<AllocError> for VoteFault {
+    ghost from_gives = { λ _ fault. fault ≡ VoteMemory };
+
+    fn from(_error: AllocError) -> VoteFault {
+        VoteFault::Memory
+    }
+}
+
+impl<T: Drop> From<AllocFailed<T>> for VoteFault {
+    ghost from_gives = { λ _ fault. fault ≡ VoteMemory };
+
+    fn from(_error: AllocFailed<T>) -> VoteFault {
+        VoteFault::Memory
+    }
+}

@@ -1,0 +1,135 @@
+//! The box behind its lock, and the opening of its desks.
+ghost use Rattle.std.specs.Prelude.{◌≡◌, ◌≤◌, ◌<◌, ◌↔◌, ◌∷◌, ◌++◌, [], Err, length, map, IsTrue, IfOk, OnOk, IfErr, OnErr, vec_len};
+ghost use Rattle.std.specs.List.{range_with_len};
+ghost use Rattle.vote_steps.specs.History.{is_closed, standing_ranks};
+ghost use Rattle.vote_steps.specs.declared.Step.TheVariants.{Close};
+ghost use Rattle.vote_desks.specs.Slips.{CanReply};
+ghost use Rattle.vote_desks.specs.Desks.{HasRoom, fresh_desk, with_close, with_slip};
+
+use crate::desk::{Desk, Held, Tally};
+use crate::entry::enter;
+use crate::fault::{DeskFault, EnterFault, NoVoter};
+use crate::slip::Slip;
+use std::alloc::Global;
+use std::marker::Model;
+use std::sync::ledger::Blank;
+use std::sync::{Mutex, Wait};
+use vote_poll::{MAX_LINES, Poll, Ranks, Reading};
+use vote_steps::{AlreadyClosed, BallotBox, MAX_DESKS};
+
+/// A box that desks share, behind one lock. Contracts see how many desks were opened.
+#[derive(Drop)]
+pub struct SharedBox<VL: Tally, RL: Tally> {
+    pub(crate) desks: u8,
+    pub(crate) held: Mutex<Held<VL, RL>>,
+}
+
+impl<VL: Tally, RL: Tally> Model for SharedBox<VL, RL> {
+    ghost use Rattle.std.specs.Prelude.{◌≡◌, ◌≤◌, ℕ};
+    ghost use Rattle.vote_steps.specs.declared.TheConstants.{MAX_DESKS};
+
+    ghost Value = { ℕ };
+
+    ghost view = { λ s. s.desks };
+
+    ghost invariant = { λ s. (1 ≤ s.desks) × (s.desks ≤ MAX_DESKS) × (s.desks ≡ VL.desks) × (s.desks ≡ RL.desks) };
+}
+
+/// Opens an empty box for a poll, with desks 1 to `desks` that share it.
+///
+/// A desk's sheet has room for `limit` slips, which is also the greatest stamp that the box takes. The box and all sheets take
+/// their memory here. Each blank is for one ledger and is cut into as many parts as there are desks. The only fault is `Memory`.
+pub fn open_desks<VL: Tally, RL: Tally>(
+    alloc: Global,
+    poll: &Poll,
+    limit: u32,
+    desks: u8,
+    valid: Blank,
+    refused: Blank,
+) -> Result<(SharedBox<VL, RL>, Vec<Desk<VL, RL>>), DeskFault>
+    requires limit { limit ≤ MAX_LINES }
+    requires desks { (1 ≤ desks) × (desks ≤ MAX_DESKS) }
+    requires valid { (valid.name ≡ VL.name) × (valid.parts ≡ VL.parts) × (VL.parts ≡ desks) × (VL.desks ≡ desks) }
+    requires refused { (refused.name ≡ RL.name) × (refused.parts ≡ RL.parts) × (RL.parts ≡ desks) × (RL.desks ≡ desks) }
+    ensures opened { IfOk result (λ r. r.0 ≡ desks) }
+    ensures len { IfOk result (λ r. vec_len r.1 ≡ desks) }
+    ensures desks { IfOk result (λ r. r.1.items ≡ map (fresh_desk limit) (range_with_len 1 desks)) }
+    ensures err { IfErr result (λ fault. fault ≡ DeskFault.Memory) }
+{
+    let ballot_box = BallotBox::new(alloc, poll.options(), poll.electors(), limit)?;
+    let (valid_book, mut valid_rest) = valid.open::<VL>();
+    let (refused_book, mut refused_rest) = refused.open::<RL>();
+    let mut opened = Vec::new(alloc);
+    for place in 0..desks {
+        let sheet = Vec::with_capacity(alloc, limit as usize)?;
+        opened.push(Desk {
+            number: place + 1,
+            limit,
+            sheet,
+            valid_share: valid_rest.split_off(1, 0),
+            refused_share: refused_rest.split_off(1, 0),
+        })?;
+    }
+    let held = Held {
+        ballot_box,
+        valid_book,
+        refused_book,
+    };
+    let shared = SharedBox {
+        desks,
+        held: Mutex::new(held),
+    };
+    Ok((shared, opened))
+}
+
+impl<VL: Tally, RL: Tally> SharedBox<VL, RL> {
+    /// Casts an envelope at a desk, as `enter` does, and holds the lock for no longer.
+    pub fn cast(
+        &self,
+        rt: &impl Wait,
+        desk: &mut Desk<VL, RL>,
+        stamp: u32,
+        reading: Reading,
+    ) -> Result<Slip, EnterFault>
+        ensures noted { IfOk result (λ slip. desk.new ≡ with_slip desk.old slip) }
+        ensures stamp { IfOk result (λ slip. slip.stamp ≡ stamp) }
+        ensures reply { IfOk result (λ slip. CanReply reading slip.reply) }
+        ensures full { result ≡ Err EnterFault.SheetFull → ¬ HasRoom desk.old }
+        ensures err { OnErr result (desk.new ≡ desk.old) }
+    {
+        enter(&mut *self.held.lock(rt), desk, stamp, reading)
+    }
+
+    /// Closes the box. Casts that come later are answered `BoxClosed`.
+    pub fn close(&self, rt: &impl Wait) -> Result<(), AlreadyClosed> {
+        close(&mut *self.held.lock(rt))
+    }
+
+    /// The ranks of the ballot of a voter that stands, by the voter's number from 0.
+    pub fn standing(&self, rt: &impl Wait, voter: usize) -> Result<Option<Ranks>, NoVoter> {
+        standing(&*self.held.lock(rt), voter)
+    }
+}
+
+/// Closes a box.
+fn close<VL: Tally, RL: Tally>(held: &mut Held<VL, RL>) -> Result<(), AlreadyClosed>
+    ensures ok { OnOk result (held.new ≡ with_close held.old) }
+    ensures already { (result ≡ Err record {}) ↔ IsTrue (is_closed held.old.ballot_box.steps) }
+    ensures err { OnErr result (held.new ≡ held.old) }
+{
+    held.ballot_box.close()
+}
+
+/// The ranks of the ballot of a voter that stands.
+fn standing<VL: Tally, RL: Tally>(
+    held: &Held<VL, RL>,
+    voter: usize,
+) -> Result<Option<Ranks>, NoVoter>
+    ensures ok { IfOk result (λ ranks. ranks ≡ standing_ranks held.now.ballot_box.steps voter) }
+    ensures none { (result ≡ Err record {}) ↔ (held.now.ballot_box.electors ≤ voter) }
+{
+    if voter >= held.ballot_box.electors() {
+        return Err(NoVoter);
+    }
+    Ok(held.ballot_box.standing(voter))
+}

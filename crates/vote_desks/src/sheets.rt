@@ -1,0 +1,128 @@
+//! Comparing the sheets of all desks with the slips of their casts, in one pass over the steps.
+ghost use Rattle.std.specs.Prelude.{◌≡◌, ℕ, ◌+◌, ◌≤◌, ◌↔◌, ◌∷◌, ◌++◌, [], length, map, slice_get, Some, vec_items, IsTrue, MatchOption, All, List};
+ghost use Rattle.vote_desks.specs.Desks.{sheet_at};
+ghost use Rattle.vote_desks.specs.Audit.{HasSlips, PartAt, SheetDiffers};
+ghost use Rattle.vote_desks.specs.Comparing.{AgreesWith, AgreeWith, AreWithin, HasDesk};
+
+use crate::slip::Slip;
+use vote_steps::{MAX_DESKS, Step};
+
+/// A place for each desk that a box can have.
+const PLACES: usize = MAX_DESKS as usize;
+
+/// How far the sheet of a desk was compared with the slips of its casts.
+#[derive(Clone, Copy)]
+pub(crate) struct Compared {
+    /// How many slips are alike, from the first on.
+    pub alike: usize,
+    /// Whether the casts gave a slip after these that the sheet has not there.
+    pub parted: bool,
+}
+
+impl Compared {
+    /// What is known once the casts have given one more slip.
+    fn with(self, sheet: &[Slip], slip: &Slip) -> Compared
+        requires { self.alike ≤ length sheet.now }
+        ensures { (casts : List Slip) → AgreesWith sheet.now casts self → AgreesWith sheet.now (casts ++ slip.now ∷ []) result }
+    {
+        if self.parted {
+            return self;
+        }
+        if has_slip(sheet, self.alike, slip) {
+            Compared {
+                alike: self.alike + 1,
+                parted: false,
+            }
+        } else {
+            Compared {
+                alike: self.alike,
+                parted: true,
+            }
+        }
+    }
+
+    /// The first place, from 1, at which the sheet is not what the casts gave.
+    fn first_other(self, sheet: &[Slip]) -> Option<u64>
+        requires { self.alike ≤ length sheet.now }
+        ensures { (casts : List Slip) → AgreesWith sheet.now casts self → MatchOption result (sheet.now ≡ casts) (PartAt sheet.now casts) }
+    {
+        if self.parted || self.alike < sheet.len() {
+            Some(self.alike as u64 + 1)
+        } else {
+            None
+        }
+    }
+}
+
+/// Whether a sheet has this slip at a place.
+fn has_slip(sheet: &[Slip], place: usize, slip: &Slip) -> bool
+    ensures { IsTrue result ↔ (slice_get sheet.now place ≡ Some slip.now) }
+{
+    sheet.get(place) == Some(slip)
+}
+
+/// The sheet of a desk, which is empty where there is none.
+fn sheet_of(sheets: &[Vec<Slip>], desk: u8) -> &[Slip]
+    requires { 1 ≤ desk }
+    ensures { result.now ≡ sheet_at (map vec_items sheets.now) desk }
+{
+    match sheets.get(usize::from(desk) - 1) {
+        Some(sheet) => sheet.as_slice(),
+        None => &[],
+    }
+}
+
+/// Compares the slip that a step gives with the sheet of its desk.
+fn compare_step(compared: &mut [Compared], sheets: &[Vec<Slip>], number: u64, step: &Step)
+    requires places { length compared.old ≡ MAX_DESKS }
+    requires within { AreWithin (map vec_items sheets.now) compared.old }
+    requires desk { HasDesk step.now }
+    ensures { (before : List Step) → length before + 1 ≡ number → AgreeWith (map vec_items sheets.now) before compared.old → AgreeWith (map vec_items sheets.now) (before ++ step.now ∷ []) compared.new }
+{
+    let Step::Cast {
+        desk,
+        stamp,
+        reply,
+        ..
+    } = *step
+    else {
+        return;
+    };
+    let slip = Slip {
+        number,
+        stamp,
+        reply,
+    };
+    let place = usize::from(desk) - 1;
+    compared[place] = compared[place].with(sheet_of(sheets, desk), &slip);
+}
+
+/// Compares the slips that the steps give with the sheets of all desks.
+fn compare_steps(steps: &[Step], sheets: &[Vec<Slip>]) -> [Compared; PLACES]
+    requires { All HasDesk steps.now }
+    ensures { AgreeWith (map vec_items sheets.now) steps.now result }
+{
+    let mut compared = [Compared {
+        alike: 0,
+        parted: false,
+    }; PLACES];
+    for (place, step) in steps.iter().enumerate() {
+        compare_step(&mut compared, sheets, place as u64 + 1, step);
+    }
+    compared
+}
+
+/// The least desk whose sheet is not the slips of its casts, and the first place, from 1, where they differ.
+pub(crate) fn first_other_sheet(steps: &[Step], sheets: &[Vec<Slip>]) -> Option<(u8, u64)>
+    requires { All HasDesk steps.now }
+    ensures { MatchOption result (HasSlips steps.now (map vec_items sheets.now)) (λ at. SheetDiffers steps.now (map vec_items sheets.now) at.0 at.1) }
+{
+    let compared = compare_steps(steps, sheets);
+    for desk in 1..=MAX_DESKS {
+        let sheet = sheet_of(sheets, desk);
+        if let Some(place) = compared[usize::from(desk) - 1].first_other(sheet) {
+            return Some((desk, place));
+        }
+    }
+    None
+}

@@ -1,0 +1,581 @@
+//! Desks served by hand and in threads, audits that find a difference, and gates that wait for one another.
+ghost use Rattle.std.specs.Prelude.{◌≡◌, ◌≤◌};
+
+use crate::{
+    AuditFault, Audited, Desk, DeskFault, EnterFault, Gate, NoGate, NoVoter, Sealed, SharedBox,
+    Slip, Tally, VoteFault, audit, compare, gather, open_desks, take_votes,
+};
+use std::alloc::{AllocError, Global};
+use std::marker::Brand;
+use std::process::Abort;
+use std::sync::atomic::AtomicU64;
+use std::sync::atomic::Ordering::SeqCst;
+use std::sync::ledger::Blank;
+use std::sync::{OnceLock, Wait};
+use std::test::Fail;
+use std::thread;
+use std::thread::Threads;
+use vote_poll::{LineFault, Lines, MAX_LINES, Poll, Ranks, Reading, read_line};
+use vote_steps::{AlreadyClosed, BallotBox, MAX_DESKS, Reply, Step, Totals};
+
+const TWO_ELECTORS: &str =
+    "title = \"Two\"\noptions = [\"A\", \"B\"]\nratios = [1, 1]\ndefault = \"None\"\nquorum = 0\nroll = [\"ann\", \"bob\"]\n";
+
+const THREE_ELECTORS: &str =
+    "title = \"Three\"\noptions = [\"A\", \"B\"]\nratios = [1, 1]\ndefault = \"None\"\nquorum = 0\nroll = [\"ann\", \"bob\", \"cid\"]\n";
+
+const FOUR_OPTIONS: &str =
+    "title = \"Four\"\noptions = [\"A\", \"B\", \"C\"]\nratios = [1, 1, 1]\ndefault = \"None\"\nquorum = 0\nroll = [\"ann\", \"bob\"]\n";
+
+const TEN_ELECTORS: &str =
+    "title = \"Ten\"\noptions = [\"A\", \"B\"]\nratios = [1, 1]\ndefault = \"None\"\nquorum = 3\nroll = [\"v0\", \"v1\", \"v2\", \"v3\", \"v4\", \"v5\", \"v6\", \"v7\", \"v8\", \"v9\"]\n";
+
+const TEN_LINES: [&str; 10] = [
+    "v0 2,1,3\n",
+    "v1 1,2,3\n",
+    "v2 2,1,3\n",
+    "v3 1,2,3\n",
+    "v4 2,1,3\n",
+    "v5 1,2,3\n",
+    "v6 2,1,3\n",
+    "v7 1,2,3\n",
+    "v8 2,1,3\n",
+    "v9 1,2,3\n",
+];
+
+/// A hundred lines of the ten electors in turn, of which each twentieth is no ballot.
+fn hundred_lines(alloc: Global) -> Result<String, AllocError> {
+    let mut text = String::new(alloc);
+    for stamp in 1..=100usize {
+        let line = if stamp % 20 == 0 {
+            "bad\n"
+        } else {
+            TEN_LINES[stamp % 10]
+        };
+        text.push_str(line)?;
+    }
+    Ok(text)
+}
+
+/// Asserts what the hundred lines give: the totals, and the votes of each option over each.
+fn assert_hundred(rt: &impl Abort, ballot_box: &BallotBox) {
+    let totals = Totals {
+        valid: 95,
+        refused: 5,
+        voters: 10,
+    };
+    assert_eq!(rt; ballot_box.totals(), totals);
+    let matrix = ballot_box.matrix();
+    assert_eq!(rt; matrix.options(), 3);
+    let row = |a| [matrix.votes(a, 1), matrix.votes(a, 2), matrix.votes(a, 3)];
+    assert_eq!(rt;
+        [row(1), row(2), row(3)],
+        [[0, 5, 10], [5, 0, 10], [0, 0, 0]]
+    );
+}
+
+/// What is done at a shared box, and what it answers.
+#[derive(Clone, Copy)]
+enum Deed {
+    /// A cast at the desk at this place, of a stamp and a reading.
+    Cast(usize, u32, Reading, Result<Reply, EnterFault>),
+    Close(Result<(), AlreadyClosed>),
+    Standing(usize, Result<Option<Ranks>, NoVoter>),
+}
+
+/// A cast at the desk at this place, and its answer.
+fn cast(place: usize, stamp: u32, reading: &Reading, answer: Result<Reply, EnterFault>) -> Deed {
+    Deed::Cast(place, stamp, *reading, answer)
+}
+
+/// The ranks of a reading that is a ballot.
+fn ranks_in(reading: &Reading) -> Option<Ranks> {
+    match reading {
+        Reading::Ballot { ranks, .. } => Some(*ranks),
+        Reading::Bad(_) => None,
+    }
+}
+
+/// Which desks are gathered, and in which order.
+#[derive(Clone, Copy)]
+enum Back {
+    InOrder,
+    Reversed,
+    OneMissing,
+}
+
+/// Does the deeds at a box of a poll with some desks, asserts their answers, and gathers the desks.
+fn act<VL: Tally, RL: Tally, R: Wait + Abort>(
+    rt: &R,
+    alloc: Global,
+    poll: &Poll,
+    limit: u32,
+    desks: u8,
+    deeds: &[Deed],
+    back: Back,
+    valid: Blank,
+    refused: Blank,
+) -> Result<Sealed, DeskFault>
+    requires limit { limit ≤ MAX_LINES }
+    requires desks { (1 ≤ desks) × (desks ≤ MAX_DESKS) }
+    requires valid { (valid.name ≡ VL.name) × (valid.parts ≡ VL.parts) × (VL.parts ≡ desks) × (VL.desks ≡ desks) }
+    requires refused { (refused.name ≡ RL.name) × (refused.parts ≡ RL.parts) × (RL.parts ≡ desks) × (RL.desks ≡ desks) }
+{
+    let (shared, mut opened) = open_desks::<VL, RL>(alloc, poll, limit, desks, valid, refused)?;
+    for deed in deeds {
+        match *deed {
+            Deed::Cast(place, stamp, reading, answer) => {
+                let desk = opened.get_mut(place).expect(rt, "the desk");
+                let before = desk.slips().len();
+                let cast = shared.cast(rt, desk, stamp, reading);
+                assert_eq!(rt; cast.map(|slip| slip.reply), answer, "at stamp {stamp}");
+                assert_eq!(rt; desk.slips().len(), before + usize::from(answer.is_ok()));
+                assert!(rt; cast.is_err() || desk.slips().last() == cast.ok().as_ref());
+            }
+            Deed::Close(answer) => assert_eq!(rt; shared.close(rt), answer),
+            Deed::Standing(voter, answer) => assert_eq!(rt; shared.standing(rt, voter), answer),
+        }
+    }
+    match back {
+        Back::InOrder => {}
+        Back::Reversed => opened.reverse(),
+        Back::OneMissing => {
+            opened.pop();
+        }
+    }
+    gather(alloc, shared, opened)
+}
+
+/// Does the deeds at a box and desks of its own.
+fn acted<R: Wait + Abort>(
+    rt: &R,
+    alloc: Global,
+    poll: &Poll,
+    limit: u32,
+    desks: u8,
+    deeds: &[Deed],
+    back: Back,
+) -> Result<Sealed, DeskFault> {
+    assert!(rt; limit <= 100 && 1 <= desks && desks <= 8);
+    act::<Brand, Brand, R>(
+        rt,
+        alloc,
+        poll,
+        limit,
+        desks,
+        deeds,
+        back,
+        Blank::new(u64::from(desks)),
+        Blank::new(u64::from(desks)),
+    )
+}
+
+#[test]
+fn two_desks_by_hand(rt: HostRuntime) -> Result<(), Fail> {
+    let alloc = rt.alloc();
+    let poll = Poll::from_text(alloc, TWO_ELECTORS.as_bytes())?;
+    let ann = read_line(&poll, b"ann 1,2,3");
+    let bob = read_line(&poll, b"bob 2,1,3");
+    assert!(rt; ranks_in(&ann).is_some());
+    let deeds = [
+        Deed::Standing(0, Ok(None)),
+        cast(0, 2, &bob, Ok(Reply::Counted)),
+        cast(1, 1, &ann, Ok(Reply::Counted)),
+        Deed::Standing(0, Ok(ranks_in(&ann))),
+        Deed::Standing(2, Err(NoVoter)),
+    ];
+    for back in [Back::InOrder, Back::Reversed] {
+        let sealed = acted(&rt, alloc, &poll, 2, 2, &deeds, back)?;
+        let steps = sealed.ballot_box().steps();
+        assert_eq!(rt; steps.len(), 3);
+        assert_eq!(rt; steps[2], Step::Close);
+        assert_eq!(rt; sealed.desks(), 2);
+        assert_eq!(rt; sealed.sheet_of(1).first().map(|slip| slip.stamp), Some(2));
+        assert_eq!(rt; sealed.sheet_of(2).first().map(|slip| slip.number), Some(2));
+    }
+    let missing = acted(&rt, alloc, &poll, 2, 2, &deeds, Back::OneMissing).err();
+    assert_eq!(rt; missing, Some(DeskFault::MissingDesk));
+    Ok(())
+}
+
+#[test]
+fn refused_casts_change_nothing(rt: HostRuntime) -> Result<(), Fail> {
+    let alloc = rt.alloc();
+    let poll = Poll::from_text(alloc, TWO_ELECTORS.as_bytes())?;
+    let three = Poll::from_text(alloc, THREE_ELECTORS.as_bytes())?;
+    let four = Poll::from_text(alloc, FOUR_OPTIONS.as_bytes())?;
+    let ann = read_line(&poll, b"ann 1,2,3");
+    let cid = read_line(&three, b"cid 1,2,3");
+    let wide = read_line(&four, b"ann 1,2,3,4");
+    let narrow = [
+        cast(0, 1, &ann, Ok(Reply::Counted)),
+        cast(0, 1, &wide, Err(EnterFault::Sizes)),
+        cast(0, 1, &ann, Err(EnterFault::SheetFull)),
+    ];
+    let roomy = [
+        cast(0, 2, &wide, Err(EnterFault::Sizes)),
+        cast(0, 2, &cid, Err(EnterFault::Sizes)),
+        cast(0, 1, &ann, Ok(Reply::Counted)),
+        cast(0, 1, &ann, Err(EnterFault::StampUsed)),
+        cast(0, 3, &ann, Err(EnterFault::StampRange)),
+        cast(0, 0, &ann, Err(EnterFault::StampRange)),
+    ];
+    let totals = Totals {
+        valid: 1,
+        refused: 0,
+        voters: 1,
+    };
+    for (limit, deeds) in [(1, narrow.as_slice()), (2, roomy.as_slice())] {
+        let sealed = acted(&rt, alloc, &poll, limit, 1, deeds, Back::InOrder)?;
+        assert_eq!(rt; sealed.ballot_box().steps().len(), 2, "with limit {limit}");
+        assert_eq!(rt; sealed.ballot_box().totals(), totals, "with limit {limit}");
+        assert_eq!(rt; sealed.desks(), 1);
+        assert_eq!(rt; sealed.sheet_of(1).len(), 1, "with limit {limit}");
+    }
+    Ok(())
+}
+
+#[test]
+fn a_closed_box_refuses(rt: HostRuntime) -> Result<(), Fail> {
+    let alloc = rt.alloc();
+    let poll = Poll::from_text(alloc, TWO_ELECTORS.as_bytes())?;
+    let ann = read_line(&poll, b"ann 1,2,3");
+    let deeds = [
+        Deed::Close(Ok(())),
+        Deed::Close(Err(AlreadyClosed)),
+        cast(0, 1, &ann, Ok(Reply::BoxClosed)),
+        Deed::Standing(0, Ok(None)),
+    ];
+    let sealed = acted(&rt, alloc, &poll, 1, 1, &deeds, Back::InOrder)?;
+    assert_eq!(rt; sealed.ballot_box().totals().refused, 1);
+    Ok(())
+}
+
+/// A cast at the first desk, of the first ballot of its voter.
+fn counted(stamp: u32, reading: &Reading) -> Deed {
+    cast(0, stamp, reading, Ok(Reply::Counted))
+}
+
+/// Does the deeds at one desk with room for two slips, and asserts what an audit against the lines finds.
+fn assert_audit(
+    rt: &(impl Wait + Abort),
+    alloc: Global,
+    poll: &Poll,
+    lines: &Lines<'_>,
+    deeds: &[Deed],
+    fault: Option<AuditFault>,
+) -> Result<(), DeskFault> {
+    let sealed = acted(rt, alloc, poll, 2, 1, deeds, Back::InOrder)?;
+    assert_eq!(rt; audit(poll, lines, sealed).err(), fault);
+    Ok(())
+}
+
+#[test]
+fn audits_find_what_differs(rt: HostRuntime) -> Result<(), Fail> {
+    let alloc = rt.alloc();
+    let poll = Poll::from_text(alloc, TWO_ELECTORS.as_bytes())?;
+    let two = Lines::split(alloc, b"ann 1,2,3\nbob 2,1,3\n")?;
+    let three = Lines::split(alloc, b"ann 1,2,3\nbob 2,1,3\nbad\n")?;
+    let ann = read_line(&poll, b"ann 1,2,3");
+    let bob = read_line(&poll, b"bob 2,1,3");
+    let both = [counted(1, &ann), counted(2, &bob)];
+    assert_audit(&rt, alloc, &poll, &two, &both, None)?;
+    let one = [counted(1, &ann)];
+    assert_audit(
+        &rt,
+        alloc,
+        &poll,
+        &two,
+        &one,
+        Some(AuditFault::CountDiffers),
+    )?;
+    assert_audit(
+        &rt,
+        alloc,
+        &poll,
+        &three,
+        &one,
+        Some(AuditFault::SizeDiffers),
+    )?;
+    let mistaken = [counted(1, &bob), cast(0, 2, &bob, Ok(Reply::Replaced))];
+    assert_audit(
+        &rt,
+        alloc,
+        &poll,
+        &two,
+        &mistaken,
+        Some(AuditFault::StepDiffers(1)),
+    )?;
+    let late = cast(0, 2, &bob, Ok(Reply::BoxClosed));
+    let closed_between = [counted(1, &ann), Deed::Close(Ok(())), late];
+    assert_audit(
+        &rt,
+        alloc,
+        &poll,
+        &two,
+        &closed_between,
+        Some(AuditFault::ClosedEarly(2)),
+    )?;
+    let sealed = acted(&rt, alloc, &poll, 2, 1, &both, Back::InOrder)?;
+    assert_eq!(rt; sealed.desks(), 1);
+    let mut sheet = sealed.sheet_of(1).to_vec(alloc)?;
+    assert_eq!(rt; sheet.len(), 2);
+    sheet[0].reply = Reply::BadLine(LineFault::Shape);
+    let mut sheets = Vec::new(alloc);
+    let other = Err(AuditFault::SlipDiffers(1, 1));
+    assert_eq!(rt; compared(&rt, &poll, &two, &sealed, &sheets), other);
+    sheets.push(sheet)?;
+    assert_eq!(rt; compared(&rt, &poll, &two, &sealed, &sheets), other);
+    Ok(())
+}
+
+/// Compares a sealed box with at most one sheet.
+fn compared(
+    rt: &impl Abort,
+    poll: &Poll,
+    lines: &Lines<'_>,
+    sealed: &Sealed,
+    sheets: &[Vec<Slip>],
+) -> Result<(), AuditFault> {
+    assert!(rt; !sealed.ballot_box().is_open() && sheets.len() <= 1);
+    compare(poll, lines, sealed.ballot_box(), sheets)
+}
+
+/// Casts the lines of a range of stamps at a desk, in order.
+fn cast_range<VL: Tally, RL: Tally, R: Wait + Abort>(
+    rt: &R,
+    poll: &Poll,
+    lines: &Lines<'_>,
+    shared: &SharedBox<VL, RL>,
+    mut desk: Desk<VL, RL>,
+    first: u32,
+    last: u32,
+) -> Desk<VL, RL> {
+    assert_eq!(rt; lines.len(), 100);
+    assert!(rt; 1 <= first && last <= 100);
+    for stamp in first..=last {
+        let reading = read_line(poll, lines.line(stamp as usize - 1));
+        let cast = shared.cast(rt, &mut desk, stamp, reading);
+        assert!(rt; cast.is_ok(), "at stamp {stamp}");
+    }
+    desk
+}
+
+/// Two desks in threads of their own, one of which casts the later half of a hundred lines and the other the earlier half.
+fn halves<VL: Tally + Send + Sync, RL: Tally + Send + Sync, R: Threads + Wait + Abort + Sync>(
+    rt: &R,
+    alloc: Global,
+    poll: &Poll,
+    lines: &Lines<'_>,
+    valid: Blank,
+    refused: Blank,
+) -> Result<Sealed, DeskFault>
+    requires valid { (valid.name ≡ VL.name) × (valid.parts ≡ VL.parts) × (VL.parts ≡ 2) × (VL.desks ≡ 2) }
+    requires refused { (refused.name ≡ RL.name) × (refused.parts ≡ RL.parts) × (RL.parts ≡ 2) × (RL.desks ≡ 2) }
+{
+    let (shared, mut opened) = open_desks::<VL, RL>(alloc, poll, 100, 2, valid, refused)?;
+    let other = opened.pop().expect(rt, "the second desk");
+    let desk = opened.pop().expect(rt, "the first desk");
+    let open = &shared;
+    let (desk, other) = thread::join(
+        rt,
+        move || cast_range(rt, poll, lines, open, desk, 51, 100),
+        move || cast_range(rt, poll, lines, open, other, 1, 50),
+    );
+    opened.push(desk)?;
+    opened.push(other)?;
+    gather(alloc, shared, opened)
+}
+
+#[test]
+fn two_desks_in_threads(rt: HostRuntime) -> Result<(), Fail> {
+    let alloc = rt.alloc();
+    let poll = Poll::from_text(alloc, TEN_ELECTORS.as_bytes())?;
+    let text = hundred_lines(alloc)?;
+    let lines = Lines::split(alloc, text.as_bytes())?;
+    let sealed = halves::<Brand, Brand, _>(
+        &rt,
+        alloc,
+        &poll,
+        &lines,
+        Blank::new(2),
+        Blank::new(2),
+    )?;
+    let audited = audit(&poll, &lines, sealed)?;
+    assert_hundred(&rt, audited.ballot_box());
+    assert_eq!(rt; audited.desks(), 2);
+    assert_eq!(rt; audited.sheet_of(1).len(), 50);
+    assert_eq!(rt; audited.sheet_of(2).len(), 50);
+    Ok(())
+}
+
+#[test]
+fn any_number_of_desks_counts_alike(rt: HostRuntime) -> Result<(), Fail> {
+    let alloc = rt.alloc();
+    let poll = Poll::from_text(alloc, TEN_ELECTORS.as_bytes())?;
+    let text = hundred_lines(alloc)?;
+    let lines = Lines::split(alloc, text.as_bytes())?;
+    for desks in [1, 2, 8] {
+        assert!(rt; 1 <= desks && desks <= 8);
+        let audited = take_votes(&rt, alloc, &poll, &lines, desks, &NoGate)?;
+        assert_hundred(&rt, audited.ballot_box());
+        assert_eq!(rt; audited.desks(), desks);
+    }
+    Ok(())
+}
+
+/// Lets no envelope pass.
+struct Shut;
+
+impl Gate for Shut {
+    fn before(&self, _desk: u8, _stamp: u32) -> bool {
+        false
+    }
+
+    fn after(&self, _desk: u8, _slip: &Slip) {}
+}
+
+#[test]
+fn the_least_desk_that_stopped_is_named(rt: HostRuntime) -> Result<(), Fail> {
+    let alloc = rt.alloc();
+    let poll = Poll::from_text(alloc, TEN_ELECTORS.as_bytes())?;
+    let text = hundred_lines(alloc)?;
+    let lines = Lines::split(alloc, text.as_bytes())?;
+    let fault = take_votes(&rt, alloc, &poll, &lines, 8, &Shut).err();
+    assert_eq!(rt; fault, Some(VoteFault::Gate(1)));
+    let none = Lines::split(alloc, b"")?;
+    let audited = take_votes(&rt, alloc, &poll, &none, 8, &Shut)?;
+    assert_eq!(rt; audited.ballot_box().steps().len(), 1);
+    Ok(())
+}
+
+/// What a gate was told of one envelope.
+#[derive(Drop)]
+struct Told {
+    before: OnceLock<u8>,
+    after: OnceLock<(u8, Slip)>,
+}
+
+/// When a gate lets envelopes pass.
+#[derive(Drop)]
+enum Passes {
+    /// Each, once the gate was asked for both of two.
+    Together,
+    /// This one, once so many others were cast; and any other at once.
+    Behind(u32, u64),
+}
+
+/// A gate whose envelopes wait for one another, and which notes what it is told.
+#[derive(Drop)]
+struct Turnstile {
+    passes: Passes,
+    asked: AtomicU64,
+    cast: AtomicU64,
+    /// By stamp.
+    told: Vec<Told>,
+    /// The number of the first slip that it was given.
+    first: OnceLock<u64>,
+}
+
+/// Whether a count rose so far while it was read at most 1,000,000,000 times.
+fn reaches(count: &AtomicU64, least: u64) -> bool {
+    for turn in 0..1_000_000_000u32 {
+        if count.load(SeqCst) >= least {
+            return true;
+        }
+        if turn % 1024 == 0 {
+            thread::yield_now();
+        }
+    }
+    false
+}
+
+impl Turnstile {
+    fn new(alloc: Global, passes: Passes, lines: usize) -> Result<Turnstile, AllocError> {
+        let mut told = Vec::new(alloc);
+        for _ in 0..=lines {
+            told.push(Told {
+                before: OnceLock::new(),
+                after: OnceLock::new(),
+            })?;
+        }
+        Ok(Turnstile {
+            passes,
+            asked: AtomicU64::new(0),
+            cast: AtomicU64::new(0),
+            told,
+            first: OnceLock::new(),
+        })
+    }
+
+    /// Asserts that it was asked for each of so many lines once, and told of each once, by the desk that cast it and with its slip.
+    fn assert_told(&self, rt: &impl Abort, audited: &Audited, lines: u64) {
+        assert_eq!(rt; self.asked.load(SeqCst), lines);
+        assert_eq!(rt; self.cast.load(SeqCst), lines);
+        for desk in 1..=audited.desks() {
+            for slip in audited.sheet_of(desk) {
+                let told = self.told.get(slip.stamp as usize).expect(rt, "the stamp");
+                assert_eq!(rt; told.before.get(), Some(&desk));
+                assert_eq!(rt; told.after.get(), Some(&(desk, *slip)));
+            }
+        }
+    }
+}
+
+impl Gate for Turnstile {
+    fn before(&self, desk: u8, stamp: u32) -> bool {
+        if let Some(told) = self.told.get(stamp as usize) {
+            let _ = told.before.try_set(desk);
+        }
+        self.asked.fetch_add(1, SeqCst);
+        match self.passes {
+            Passes::Together => reaches(&self.asked, 2),
+            Passes::Behind(last, others) => stamp != last || reaches(&self.cast, others),
+        }
+    }
+
+    fn after(&self, desk: u8, slip: &Slip) {
+        if let Some(told) = self.told.get(slip.stamp as usize) {
+            let _ = told.after.try_set((desk, *slip));
+        }
+        let _ = self.first.try_set(slip.number);
+        self.cast.fetch_add(1, SeqCst);
+    }
+}
+
+#[test]
+fn envelopes_wait_for_one_another(rt: HostRuntime) -> Result<(), Fail> {
+    let alloc = rt.alloc();
+    let poll = Poll::from_text(alloc, TWO_ELECTORS.as_bytes())?;
+    let lines = Lines::split(alloc, b"ann 1,2,3\nbob 2,1,3\n")?;
+    let cases = [
+        (Passes::Together, None),
+        (Passes::Behind(1, 1), Some([2, 1])),
+        (Passes::Behind(2, 1), Some([1, 2])),
+    ];
+    for (passes, order) in cases {
+        let gate = Turnstile::new(alloc, passes, 2)?;
+        let audited = take_votes(&rt, alloc, &poll, &lines, 2, &gate)?;
+        gate.assert_told(&rt, &audited, 2);
+        if let Some(order) = order {
+            assert_eq!(rt; gate.first.get(), Some(&1));
+            for (step, wanted) in audited.ballot_box().steps().iter().zip(order) {
+                assert!(rt; matches!(step, Step::Cast { stamp, .. } if *stamp == wanted));
+            }
+        }
+    }
+    Ok(())
+}
+
+#[test]
+fn one_desk_waits_while_the_other_serves(rt: HostRuntime) -> Result<(), Fail> {
+    let alloc = rt.alloc();
+    let poll = Poll::from_text(alloc, TEN_ELECTORS.as_bytes())?;
+    let text = hundred_lines(alloc)?;
+    let lines = Lines::split(alloc, text.as_bytes())?;
+    let gate = Turnstile::new(alloc, Passes::Behind(1, 99), 100)?;
+    let audited = take_votes(&rt, alloc, &poll, &lines, 2, &gate)?;
+    gate.assert_told(&rt, &audited, 100);
+    assert_hundred(&rt, audited.ballot_box());
+    Ok(())
+}

@@ -1,0 +1,162 @@
+//! Taking the votes of all lines.
+ghost use Rattle.std.specs.Prelude.{◌≡◌, ◌<◌, ◌≤◌, IfOk, IfErr, IfSome, IsNone, All, None, length, map, vec_len};
+ghost use Rattle.std.specs.List.{range_with_len};
+ghost use Rattle.vote_desks.specs.Slips.{Rises};
+ghost use Rattle.vote_desks.specs.Audit.{IsAudited};
+ghost use Rattle.vote_desks.specs.Back.{AreBackFrom, AreHandedIn};
+ghost use Rattle.vote_desks.specs.Stops.{fault_of, IsLeastStop};
+ghost use Rattle.vote_desks.specs.Faults.{CanStopVotes};
+
+use crate::auditing::{Audited, audit};
+use crate::desk::{Desk, Tally};
+use crate::fault::{DeskFault, VoteFault};
+use crate::sealed::gather;
+use crate::shared::open_desks;
+use crate::work::{Gate, Hall, work_all};
+use crate::worked::{Stop, Worked};
+use std::alloc::{AllocError, Global};
+use std::marker::Brand;
+use std::sync::Wait;
+use std::sync::ledger::Blank;
+use std::thread::Threads;
+use vote_poll::{Lines, Poll};
+use vote_steps::MAX_DESKS;
+use vote_tray::{Pass, Tray, TrayFault};
+
+/// The fault by which a desk's early stop is answered.
+fn fault_of(desk: u8, stop: Stop) -> VoteFault
+    ensures { result ≡ fault_of desk stop }
+{
+    match stop {
+        Stop::Barred => VoteFault::Gate(desk),
+        Stop::Refused(fault) => VoteFault::Enter(desk, fault),
+    }
+}
+
+/// The fault of the least desk that stopped early.
+fn first_stop<VL: Tally, RL: Tally>(all: &[Worked<VL, RL>]) -> Option<VoteFault>
+    requires { map (λ worked. worked.desk.number) all.now ≡ range_with_len 1 (length all.now) }
+    ensures some { IfSome result (IsLeastStop (map (λ worked. (worked.desk.number, worked.stopped)) all.now)) }
+    ensures can { IfSome result CanStopVotes }
+    ensures none { IsNone result → All (λ worked. worked.stopped ≡ None) all.now }
+{
+    for worked in all {
+        if let Some(stop) = worked.stopped {
+            return Some(fault_of(worked.desk.number(), stop));
+        }
+    }
+    None
+}
+
+/// Takes the desks back, and joins their passes in order.
+fn hand_in<VL: Tally, RL: Tally>(
+    alloc: Global,
+    tray: &Tray,
+    all: Vec<Worked<VL, RL>>,
+) -> Result<(Vec<Desk<VL, RL>>, Pass), AllocError>
+    requires all { (0 < vec_len all) × (vec_len all ≡ tray.now.passes) }
+    requires back { AreBackFrom tray.now 0 (map (λ worked. (worked.desk, worked.pass)) all.items) }
+    ensures { IfOk result (λ handed. AreHandedIn tray.now tray.now.passes handed.0.items handed.1) }
+{
+    let mut all = all.into_iter();
+    let Some(Worked { desk, pass, .. }) = all.next() else {
+        unreachable!()
+    };
+    let mut desks = Vec::new(alloc);
+    desks.push(desk)?;
+    let mut joined = pass;
+    while let Some(Worked { desk, pass, .. }) = all.next() {
+        desks.push(desk)?;
+        joined = tray.join(joined, pass);
+    }
+    Ok((desks, joined))
+}
+
+/// Takes the votes at desks of one box. Its ledgers are named by the caller.
+fn serve<
+    VL: Tally + Send + Sync,
+    RL: Tally + Send + Sync,
+    G: Gate + Sync,
+    R: Threads + Wait + Sync,
+>(
+    rt: &R,
+    alloc: Global,
+    poll: &Poll,
+    lines: &Lines<'_>,
+    desks: u8,
+    gate: &G,
+    valid: Blank,
+    refused: Blank,
+) -> Result<Audited, VoteFault>
+    requires desks { (1 ≤ desks) × (desks ≤ MAX_DESKS) }
+    requires valid { (valid.name ≡ VL.name) × (valid.parts ≡ VL.parts) × (VL.parts ≡ desks) × (VL.desks ≡ desks) }
+    requires refused { (refused.name ≡ RL.name) × (refused.parts ≡ RL.parts) × (RL.parts ≡ desks) × (RL.desks ≡ desks) }
+    ensures audited { IfOk result (λ audited. IsAudited poll.now lines.now audited.ballot_box audited.sheets) }
+    ensures desks { IfOk result (λ audited. length audited.sheets ≡ desks) }
+    ensures rising { IfOk result (λ audited. All Rises audited.sheets) }
+    ensures fault { IfErr result CanStopVotes }
+{
+    let (tray, passes) = match Tray::new(alloc, lines.len() as u64, desks) {
+        Ok(made) => made,
+        Err(TrayFault::TooMany) => unreachable!(),
+        Err(TrayFault::Memory) => return Err(VoteFault::Memory),
+    };
+    let limit = lines.len() as u32;
+    let (shared, opened) = match open_desks::<VL, RL>(alloc, poll, limit, desks, valid, refused) {
+        Ok(made) => made,
+        Err(_) => return Err(VoteFault::Memory),
+    };
+    let hall = Hall {
+        poll,
+        lines,
+        shared: &shared,
+        gate,
+        tray: &tray,
+    };
+    let all = work_all(rt, alloc, &hall, opened, passes)?;
+    if let Some(fault) = first_stop(&all) {
+        return Err(fault);
+    }
+    let (back, joined) = hand_in(alloc, &tray, all)?;
+    tray.finish(joined);
+    let sealed = match gather(alloc, shared, back) {
+        Ok(sealed) => sealed,
+        Err(DeskFault::MissingDesk) => unreachable!(),
+        Err(DeskFault::Memory) => return Err(VoteFault::Memory),
+    };
+    match audit(poll, lines, sealed) {
+        Ok(audited) => Ok(audited),
+        Err(fault) => Err(VoteFault::Audit(fault)),
+    }
+}
+
+/// Takes the votes of all lines at desks 1 to `desks`, each served in a thread of its own.
+///
+/// The box takes stamps 1 to the number of lines, and the workers take the lines from one tray, so each line is cast once. A
+/// worker whose gate bars an envelope, or whose cast is refused, stops; the others go on. When all have ended, the desks are gathered
+/// and each line is read once more. The first fault in the order of `VoteFault` is answered, but `Memory` may come at any growth.
+pub fn take_votes<G: Gate + Sync, R: Threads + Wait + Sync>(
+    rt: &R,
+    alloc: Global,
+    poll: &Poll,
+    lines: &Lines<'_>,
+    desks: u8,
+    gate: &G,
+) -> Result<Audited, VoteFault>
+    requires { (1 ≤ desks) × (desks ≤ MAX_DESKS) }
+    ensures audited { IfOk result (λ audited. IsAudited poll.now lines.now audited.ballot_box audited.sheets) }
+    ensures desks { IfOk result (λ audited. length audited.sheets ≡ desks) }
+    ensures rising { IfOk result (λ audited. All Rises audited.sheets) }
+    ensures fault { IfErr result CanStopVotes }
+{
+    serve::<Brand, Brand, G, R>(
+        rt,
+        alloc,
+        poll,
+        lines,
+        desks,
+        gate,
+        Blank::new(u64::from(desks)),
+        Blank::new(u64::from(desks)),
+    )
+}

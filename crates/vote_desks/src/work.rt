@@ -1,0 +1,212 @@
+//! Workers, each of which serves a desk in a thread of its own.
+ghost use Rattle.std.specs.Prelude.{◌≡◌, ◌<◌, ◌^◌, IfOk, IfErr, map, length, vec_len};
+ghost use Rattle.std.specs.List.{AllByRecursion};
+ghost use Rattle.vote_desks.specs.Work.{IsFresh, IsUnused, tray_and_parts};
+ghost use Rattle.vote_desks.specs.Faults.{IsStartFault};
+
+use crate::desk::{Desk, Tally};
+use crate::fault::VoteFault;
+use crate::shared::SharedBox;
+use crate::slip::Slip;
+use crate::worked::{Stop, Worked};
+use std::alloc::Global;
+use std::snapshot::Snapshot;
+use std::sync::Wait;
+use std::thread;
+use std::thread::{Promise, PromisedHandle, Scope, Threads};
+use vote_poll::{Lines, Poll, read_line};
+use vote_tray::{Pass, Tray};
+
+/// Lets envelopes pass to the box, or stops their desks. All workers share it, and the box is not locked while it is asked.
+pub trait Gate {
+    /// Whether this desk may cast the envelope with this stamp. Where it may not, its worker stops, and the others go on.
+    fn before(&self, desk: u8, stamp: u32) -> bool;
+
+    /// Takes note that this desk has cast an envelope, with the slip that the cast gave.
+    fn after(&self, desk: u8, slip: &Slip);
+}
+
+/// Lets every envelope pass.
+pub struct NoGate;
+
+impl Gate for NoGate {
+    fn before(&self, _desk: u8, _stamp: u32) -> bool {
+        true
+    }
+
+    fn after(&self, _desk: u8, _slip: &Slip) {}
+}
+
+/// What all workers share: the poll and its lines, the box, the gate, and the tray, which has a place for each line.
+#[derive(Drop)]
+pub(crate) struct Hall<'h, 't, VL: Tally, RL: Tally, G> {
+    pub poll: &'h Poll,
+    pub lines: &'h Lines<'t>,
+    pub shared: &'h SharedBox<VL, RL>,
+    pub gate: &'h G,
+    pub tray: &'h Tray,
+    ghost stamps: { length lines.now < 2 ^ 32 },
+    ghost places: { tray.now.size ≡ length lines.now },
+}
+
+/// The desk and the pass that a worker was given.
+#[derive(Drop)]
+pub(crate) struct Given {
+    number: u8,
+    pass: Snapshot<Pass>,
+}
+
+impl<VL: Tally, RL: Tally> Promise<Worked<VL, RL>> for Given {
+    ghost kept_by = { λ given worked. (worked.desk.number ≡ given.number) × (worked.pass.tray ≡ given.pass.value.tray) × (worked.pass.parts ≡ given.pass.value.parts) };
+}
+
+/// Serves one desk until the tray is empty, or the gate or the box stops it. It takes no memory.
+fn work<VL: Tally, RL: Tally, G: Gate, R: Wait>(
+    rt: &R,
+    hall: &Hall<'_, '_, VL, RL, G>,
+    mut desk: Desk<VL, RL>,
+    mut pass: Pass,
+) -> Worked<VL, RL>
+    requires desk { IsFresh (length hall.now.lines.now) desk }
+    requires pass { IsUnused hall.now.tray.now pass }
+    ensures desk { result.desk.number ≡ desk.number }
+    ensures pass { (result.pass.tray ≡ pass.tray) × (result.pass.parts ≡ pass.parts) }
+{
+    while let Some(place) = hall.tray.take(&mut pass) {
+        let stamp = place as u32 + 1;
+        if !hall.gate.before(desk.number(), stamp) {
+            return Worked {
+                desk,
+                pass,
+                stopped: Some(Stop::Barred),
+            };
+        }
+        let reading = read_line(hall.poll, hall.lines.line(place as usize));
+        match hall.shared.cast(rt, &mut desk, stamp, reading) {
+            Ok(slip) => hall.gate.after(desk.number(), &slip),
+            Err(fault) => {
+                return Worked {
+                    desk,
+                    pass,
+                    stopped: Some(Stop::Refused(fault)),
+                };
+            }
+        }
+    }
+    Worked {
+        desk,
+        pass,
+        stopped: None,
+    }
+}
+
+/// Starts a worker in a thread of its own.
+fn start<'s, E, VL: Tally + Send + Sync, RL: Tally + Send + Sync, G: Gate + Sync, R: Wait + Sync>(
+    scope: &Scope<'s, E>,
+    rt: &'s R,
+    hall: &'s Hall<'_, '_, VL, RL, G>,
+    desk: Desk<VL, RL>,
+    pass: Pass,
+) -> Result<PromisedHandle<Worked<VL, RL>, Given>, VoteFault>
+    requires desk { IsFresh (length hall.now.lines.now) desk }
+    requires pass { IsUnused hall.now.tray.now pass }
+    ensures ok { IfOk result (λ handle. (handle.promise.number ≡ desk.number) × (handle.promise.pass.value ≡ pass)) }
+    ensures err { IfErr result (λ fault. fault ≡ VoteFault.Thread) }
+{
+    let given = Given {
+        number: desk.number(),
+        pass: Snapshot::of(&pass),
+    };
+    let job = move || -> Worked<VL, RL>
+        requires desk { IsFresh (length hall.now.lines.now) desk }
+        requires pass { IsUnused hall.now.tray.now pass }
+        ensures desk { result.desk.number ≡ desk.number }
+        ensures pass { (result.pass.tray ≡ pass.tray) × (result.pass.parts ≡ pass.parts) }
+    { work(rt, hall, desk, pass) };
+    match scope.spawn_with(given, job) {
+        Ok(handle) => Ok(handle),
+        Err(_) => Err(VoteFault::Thread),
+    }
+}
+
+/// Starts a worker for each desk, in the order of the desks, each with the pass at the same place.
+fn start_all<
+    's,
+    E,
+    VL: Tally + Send + Sync,
+    RL: Tally + Send + Sync,
+    G: Gate + Sync,
+    R: Wait + Sync,
+>(
+    scope: &Scope<'s, E>,
+    rt: &'s R,
+    alloc: Global,
+    hall: &'s Hall<'_, '_, VL, RL, G>,
+    mut desks: Vec<Desk<VL, RL>>,
+    mut passes: Vec<Pass>,
+) -> Result<Vec<PromisedHandle<Worked<VL, RL>, Given>>, VoteFault>
+    requires desks { AllByRecursion (IsFresh (length hall.now.lines.now)) desks.items }
+    requires passes { AllByRecursion (IsUnused hall.now.tray.now) passes.items }
+    requires same { vec_len passes ≡ vec_len desks }
+    ensures desks { IfOk result (λ handles. map (λ handle. handle.promise.number) handles.items ≡ map (λ desk. desk.number) desks.items) }
+    ensures passes { IfOk result (λ handles. map (λ handle. handle.promise.pass.value) handles.items ≡ passes.items) }
+    ensures err { IfErr result IsStartFault }
+{
+    let mut handles = Vec::new(alloc);
+    while !desks.is_empty() {
+        let desk = desks.remove(0);
+        let pass = passes.remove(0);
+        handles.push(start(scope, rt, hall, desk, pass)?)?;
+    }
+    Ok(handles)
+}
+
+/// Serves each desk in a thread of its own, and gives back all desks when all workers have ended.
+pub(crate) fn work_all<
+    VL: Tally + Send + Sync,
+    RL: Tally + Send + Sync,
+    G: Gate + Sync,
+    R: Threads + Wait + Sync,
+>(
+    rt: &R,
+    alloc: Global,
+    hall: &Hall<'_, '_, VL, RL, G>,
+    desks: Vec<Desk<VL, RL>>,
+    passes: Vec<Pass>,
+) -> Result<Vec<Worked<VL, RL>>, VoteFault>
+    requires desks { AllByRecursion (IsFresh (length hall.now.lines.now)) desks.items }
+    requires passes { AllByRecursion (IsUnused hall.now.tray.now) passes.items }
+    requires same { vec_len passes ≡ vec_len desks }
+    ensures desks { IfOk result (λ all. map (λ worked. worked.desk.number) all.items ≡ map (λ desk. desk.number) desks.items) }
+    ensures passes { IfOk result (λ all. map (λ worked. tray_and_parts worked.pass) all.items ≡ map tray_and_parts passes.items) }
+    ensures err { IfErr result IsStartFault }
+{
+    let handles = thread::scope(
+        thread::scope_env(),
+        rt,
+        |scope| -> Result<Vec<PromisedHandle<Worked<VL, RL>, Given>>, VoteFault>
+            requires desks { AllByRecursion (IsFresh (length hall.now.lines.now)) desks.items }
+            requires passes { AllByRecursion (IsUnused hall.now.tray.now) passes.items }
+            requires same { vec_len passes ≡ vec_len desks }
+            ensures desks { IfOk result (λ handles. map (λ handle. handle.promise.number) handles.items ≡ map (λ desk. desk.number) desks.items) }
+            ensures passes { IfOk result (λ handles. map (λ handle. handle.promise.pass.value) handles.items ≡ passes.items) }
+            ensures err { IfErr result IsStartFault }
+        { start_all(scope, rt, alloc, hall, desks, passes) },
+    )?;
+    join_all(rt, handles)
+}
+
+/// Joins all workers.
+fn join_all<VL: Tally, RL: Tally, R: Threads>(
+    rt: &R,
+    handles: Vec<PromisedHandle<Worked<VL, RL>, Given>>,
+) -> Result<Vec<Worked<VL, RL>>, VoteFault>
+    ensures desks { IfOk result (λ all. map (λ worked. worked.desk.number) all.items ≡ map (λ handle. handle.promise.number) handles.items) }
+    ensures passes { IfOk result (λ all. map (λ worked. tray_and_parts worked.pass) all.items ≡ map (λ handle. tray_and_parts handle.promise.pass.value) handles.items) }
+    ensures err { IfErr result IsStartFault }
+{
+    match thread::join_promised(rt, handles) {
+        Ok(all) => Ok(all),
+        Err(_) => Err(VoteFault::Memory),
+    }
+}

@@ -1,0 +1,29 @@
+//! What a worker gives back.
+ghost use Rattle.std.specs.Prelude.{◌≡◌, ◌≢◌, None, Some};
+ghost use Rattle.vote_desks.specs.declared.fault.EnterFault.TheVariants.{SheetFull};
+ghost use Rattle.vote_desks.specs.declared.worked.Stop.TheVariants.{Refused};
+ghost use Rattle.vote_desks.specs.Work.{HasCastAll};
+
+use crate::desk::{Desk, Tally};
+use crate::fault::EnterFault;
+use vote_tray::Pass;
+
+/// Why a worker stopped before the tray was empty.
+#[derive(Clone, Copy, Debug, PartialEq, Eq)]
+pub(crate) enum Stop {
+    /// The gate did not let an envelope pass.
+    Barred,
+    /// A cast was refused.
+    Refused(EnterFault),
+}
+
+/// A desk, its pass, and why its worker stopped early, if it did. Where it did not, the tray is empty, and the desk has cast the
+/// envelopes of its pass. Where a cast was refused, it was not for want of room on the sheet.
+#[derive(Drop)]
+pub(crate) struct Worked<VL: Tally, RL: Tally> {
+    pub desk: Desk<VL, RL>,
+    pub pass: Pass,
+    pub stopped: Option<Stop>,
+    ghost emptied: { stopped ≡ None → HasCastAll desk pass },
+    ghost had_room: { stopped ≢ Some (Refused SheetFull) },
+}
