@@ -80,6 +80,24 @@ fn one_place_more_than_the_most_is_too_many(rt: HostRuntime) {
     assert!(rt; most.is_ok());
 }
 
+/// For the walk over refused growths, `tests/refused-memory`: an answer of the table, or no test that passes.
+#[test]
+fn memory_of_new(rt: HostRuntime) -> Result<(), Fail> {
+    match Tray::new(rt.alloc(), 3, 2) {
+        Ok((tray, passes)) => {
+            assert_eq!(rt; passes.len(), 2);
+            for mut pass in passes {
+                assert!(rt; matches!(tray.try_take(&mut pass), Take::Got(0) | Take::Lost(1)));
+            }
+            Ok(())
+        }
+        Err(fault) => {
+            assert_eq!(rt; fault, TrayFault::Memory);
+            Err("refused".into())
+        }
+    }
+}
+
 #[test]
 fn two_threads_take_each_place_once(rt: HostRuntime) -> Result<(), Fail> {
     let alloc = rt.alloc();
