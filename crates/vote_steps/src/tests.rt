@@ -6,7 +6,7 @@ use std::alloc::{AllocError, Global};
 use std::process::Abort;
 use std::test::Fail;
 use vote_count::{Matrix, recount};
-use vote_poll::{LineFault, Poll, read_line};
+use vote_poll::{LineFault, Poll, PollFault, read_line};
 
 const TWO_ELECTORS: &str =
     "title = \"Two\"\noptions = [\"A\", \"B\"]\nratios = [1, 1]\ndefault = \"None\"\nquorum = 0\nroll = [\"ann\", \"bob\"]\n";
@@ -211,5 +211,44 @@ fn a_hundred_envelopes_in_three_orders(rt: HostRuntime) -> Result<(), Fail> {
             [[0, 5, 10], [5, 0, 10], [0, 0, 0]],
         );
     }
+    Ok(())
+}
+
+// The poll of two electors, or `refused` where its memory was.
+fn poll_of_two(rt: &impl Abort, alloc: Global) -> Result<Poll, &'static str> {
+    match Poll::from_text(alloc, TWO_ELECTORS.as_bytes()) {
+        Ok(poll) => Ok(poll),
+        Err(fault) => {
+            assert_eq!(rt; fault, PollFault::Memory);
+            Err("refused")
+        }
+    }
+}
+
+// A box is made whole, with room for a step with each stamp and for the close, or is refused for want of memory.
+#[test]
+fn memory_of_new(rt: HostRuntime) -> Result<(), Fail> {
+    let poll = poll_of_two(&rt, rt.alloc())?;
+    let Ok(mut ballot_box) = BallotBox::new(rt.alloc(), 3, 2, 3) else {
+        return Err("refused".into());
+    };
+    assert_eq!(rt; ballot_box.limit(), 3);
+    assert!(rt; ballot_box.is_open());
+    assert!(rt; ballot_box.steps().is_empty());
+    assert!(rt; ballot_box.standing(0).is_none());
+    let acts = [
+        Act::Cast(1, "ann 1,2,3", Ok(Reply::Counted)),
+        Act::Cast(2, "bob 2,1,3", Ok(Reply::Counted)),
+        Act::Cast(3, "ann 3,2,1", Ok(Reply::Replaced)),
+        Act::Close(Ok(())),
+    ];
+    play(&rt, &mut ballot_box, &poll, &acts);
+    assert_eq!(rt; ballot_box.steps().len(), 4);
+    look(
+        &rt,
+        &ballot_box,
+        [3, 0, 2],
+        [[0, 0, 1], [2, 0, 1], [1, 1, 0]],
+    );
     Ok(())
 }
