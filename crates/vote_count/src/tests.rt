@@ -11,7 +11,7 @@ use crate::{
 };
 use std::alloc::{AllocError, Global};
 use std::test::Fail;
-use vote_poll::{MAX_ELECTORS, MAX_OPTIONS, Poll, Ranks, Reading, read_line};
+use vote_poll::{MAX_ELECTORS, MAX_OPTIONS, Poll, PollFault, Ranks, Reading, read_line};
 
 /// A poll of these options and the default, each with its ratio, and so many electors.
 fn poll(
@@ -29,7 +29,11 @@ fn poll(
     let text = format!(in alloc;
         "title = \"Test\"\noptions = [{names}]\nratios = [{ratios}]\ndefault = \"None\"\nquorum = {quorum}\nroll = [{roll}]\n"
     )?;
-    Ok(Poll::from_text(alloc, text.as_bytes())?)
+    match Poll::from_text(alloc, text.as_bytes()) {
+        Ok(poll) => Ok(poll),
+        Err(PollFault::Memory) => Err(Fail::from("refused")),
+        Err(fault) => Err(Fail::from(fault)),
+    }
 }
 
 /// The ballot of a line.
@@ -203,6 +207,25 @@ fn three_options(rt: HostRuntime) -> Result<(), Fail> {
         assert_eq!(rt; decide(&verdict, casting), decision);
     }
     Ok(())
+}
+
+/// Where a growth is refused, the call says so, or gives the right answer.
+#[test]
+fn memory_of_outcome(rt: HostRuntime) -> Result<(), Fail> {
+    let alloc = rt.alloc();
+    let poll = poll(alloc, "\"A\", \"B\", \"C\"", "1, 1, 1", 3, 9)?;
+    let matrix = count(alloc, &poll, CYCLE)?;
+    match outcome(alloc, &poll, &matrix) {
+        Ok(verdict) => {
+            assert_eq!(rt; verdict.rounds().len(), 2);
+            assert!(rt; have_cause(&verdict, None));
+            assert!(rt; removes(&verdict, &[(3, 1)]));
+            assert!(rt; verdict.final_set().has(1));
+            assert_eq!(rt; verdict.final_set().len(), 1);
+            Ok(())
+        }
+        Err(AllocError) => Err(Fail::from("refused")),
+    }
 }
 
 #[test]
