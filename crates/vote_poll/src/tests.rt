@@ -1,3 +1,5 @@
+mod hostile;
+
 use crate::{
     LineFault, Lines, LinesFault, MAX_LINES, Poll, PollFault, PollKey, Ranks, Reading, read_line,
 };
@@ -22,18 +24,6 @@ fn ranks_of(poll: &Poll, line: &[u8]) -> Option<Ranks> {
         Reading::Ballot { ranks, .. } => Some(ranks),
         Reading::Bad(_) => None,
     }
-}
-
-/// A voter's name and a space, and then 99 ranks.
-fn line_of_99(alloc: Global, voter: &[u8]) -> Result<Vec<u8>, AllocError> {
-    let mut line = Vec::new(alloc);
-    line.extend_from_slice(voter)?;
-    line.push(b' ')?;
-    for _ in 1..99 {
-        line.extend_from_slice(b"1,")?;
-    }
-    line.push(b'1')?;
-    Ok(line)
 }
 
 #[test]
@@ -213,39 +203,6 @@ fn words_of_faults(rt: HostRuntime) -> Result<(), Fail> {
 }
 
 #[test]
-fn hostile_lines(rt: HostRuntime) -> Result<(), Fail> {
-    let alloc = rt.alloc();
-    let poll = Poll::from_text(alloc, SMALL.as_bytes())?;
-    let full = line_of_99(alloc, b"v0")?;
-    assert_eq!(rt; full.len(), 200);
-    assert_eq!(rt; fault_of(&poll, &full), Some(LineFault::RankCount));
-    let long = line_of_99(alloc, b"v10")?;
-    assert_eq!(rt; fault_of(&poll, &long), Some(LineFault::Shape));
-    for line in [
-        b"abcdefghijklmnopqrstuvwxyzabcdefg 1,2,3".as_slice(),
-        b"\x00v0 1,2,3".as_slice(),
-        b"v0 1,\xFF,3".as_slice(),
-        b"v0 1,2,3\x00".as_slice(),
-        b"v0 1,2,3,".as_slice(),
-        b"v0 ,1,2".as_slice(),
-        b" 1,2,3".as_slice(),
-        b"V0 1,2,3".as_slice(),
-    ] {
-        assert_eq!(rt;
-            fault_of(&poll, line),
-            Some(LineFault::Shape),
-            "at {line:?}"
-        );
-    }
-    assert_eq!(rt;
-        fault_of(&poll, b"abcdefghijklmnopqrstuvwxyzabcdef 1,2,3"),
-        Some(LineFault::Roll)
-    );
-    assert_eq!(rt; fault_of(&poll, b"v0 -,-,-"), None);
-    Ok(())
-}
-
-#[test]
 fn faults_of_polls(rt: HostRuntime) -> Result<(), Fail> {
     let alloc = rt.alloc();
     for (text, fault) in [
@@ -365,5 +322,55 @@ fn sizes_of_polls(rt: HostRuntime) -> Result<(), Fail> {
         fault_of_sizes(alloc, 15, 10_001)?,
         Some(PollFault::RollSize)
     );
+    Ok(())
+}
+
+#[test]
+fn memory_of_from_text(rt: HostRuntime) -> Result<(), Fail> {
+    let alloc = rt.alloc();
+    let poll = match Poll::from_text(alloc, SMALL.as_bytes()) {
+        Ok(poll) => poll,
+        Err(fault) => {
+            assert_eq!(rt; fault, PollFault::Memory);
+            return Err(Fail::from("refused"));
+        }
+    };
+    assert_eq!(rt; poll.title(), "Small");
+    assert_eq!(rt; poll.options(), 3);
+    assert_eq!(rt; poll.option_of(b"None"), Some(3));
+    assert_eq!(rt; poll.ratio(2), 3);
+    assert_eq!(rt; poll.quorum_multiple(), 2);
+    assert_eq!(rt; poll.electors(), 11);
+    assert_eq!(rt; poll.voter_of(b"v10"), Some(10));
+    let refused =
+        "title = \"T\"\noptions = [\"A\"]\nratios = [1, 1]\ndefault = \"None\"\nquorum = 11\nroll = [\"v0\"]\n";
+    let fault = Poll::from_text(alloc, refused.as_bytes()).err();
+    if fault == Some(PollFault::Memory) {
+        return Err(Fail::from("refused"));
+    }
+    assert_eq!(rt; fault, Some(PollFault::Ratio));
+    Ok(())
+}
+
+#[test]
+fn memory_of_split(rt: HostRuntime) -> Result<(), Fail> {
+    let alloc = rt.alloc();
+    // Too many lines are found without memory, so where the text could be made no other answer comes.
+    let feeds = vec![in alloc; b'\n'; MAX_LINES + 1]?;
+    assert_eq!(rt;
+        Lines::split(alloc, &feeds).err(),
+        Some(LinesFault::TooMany)
+    );
+    let lines = match Lines::split(alloc, b"a\n\nb") {
+        Ok(lines) => lines,
+        Err(fault) => {
+            assert_eq!(rt; fault, LinesFault::Memory);
+            return Err(Fail::from("refused"));
+        }
+    };
+    assert_eq!(rt; lines.len(), 3);
+    assert_eq!(rt; lines.line(0), b"a".as_slice());
+    assert_eq!(rt; lines.line(1), b"".as_slice());
+    assert_eq!(rt; lines.line(2), b"b".as_slice());
     Ok(())
 }
