@@ -48,3 +48,5 @@ pub use work::{Gate, NoGate};
 
 #[cfg(test)]
 mod tests;
+#[cfg(test)]
+mod vote_tests;

@@ -1,24 +1,24 @@
-//! Desks served by hand and in threads, audits that find a difference, and gates that wait for one another.
+//! Desks served by hand and in threads, audits that find a difference, and what a want of memory leaves.
 ghost use Rattle.std.specs.Prelude.{◌≡◌, ◌≤◌};
 
 use crate::{
-    AuditFault, Audited, Desk, DeskFault, EnterFault, Gate, NoGate, NoVoter, Sealed, SharedBox,
-    Slip, Tally, VoteFault, audit, compare, gather, open_desks, take_votes,
+    AuditFault, Desk, DeskFault, EnterFault, NoVoter, Sealed, SharedBox, Slip, Tally, audit,
+    compare, gather, open_desks,
 };
 use std::alloc::{AllocError, Global};
 use std::marker::Brand;
 use std::process::Abort;
-use std::sync::atomic::AtomicU64;
-use std::sync::atomic::Ordering::SeqCst;
+use std::sync::Wait;
 use std::sync::ledger::Blank;
-use std::sync::{OnceLock, Wait};
 use std::test::Fail;
 use std::thread;
 use std::thread::Threads;
-use vote_poll::{LineFault, Lines, MAX_LINES, Poll, Ranks, Reading, read_line};
+use vote_poll::{
+    LineFault, Lines, LinesFault, MAX_LINES, Poll, PollFault, Ranks, Reading, read_line,
+};
 use vote_steps::{AlreadyClosed, BallotBox, MAX_DESKS, Reply, Step, Totals};
 
-const TWO_ELECTORS: &str =
+pub(crate) const TWO_ELECTORS: &str =
     "title = \"Two\"\noptions = [\"A\", \"B\"]\nratios = [1, 1]\ndefault = \"None\"\nquorum = 0\nroll = [\"ann\", \"bob\"]\n";
 
 const THREE_ELECTORS: &str =
@@ -27,7 +27,7 @@ const THREE_ELECTORS: &str =
 const FOUR_OPTIONS: &str =
     "title = \"Four\"\noptions = [\"A\", \"B\", \"C\"]\nratios = [1, 1, 1]\ndefault = \"None\"\nquorum = 0\nroll = [\"ann\", \"bob\"]\n";
 
-const TEN_ELECTORS: &str =
+pub(crate) const TEN_ELECTORS: &str =
     "title = \"Ten\"\noptions = [\"A\", \"B\"]\nratios = [1, 1]\ndefault = \"None\"\nquorum = 3\nroll = [\"v0\", \"v1\", \"v2\", \"v3\", \"v4\", \"v5\", \"v6\", \"v7\", \"v8\", \"v9\"]\n";
 
 const TEN_LINES: [&str; 10] = [
@@ -44,7 +44,7 @@ const TEN_LINES: [&str; 10] = [
 ];
 
 /// A hundred lines of the ten electors in turn, of which each twentieth is no ballot.
-fn hundred_lines(alloc: Global) -> Result<String, AllocError> {
+pub(crate) fn hundred_lines(alloc: Global) -> Result<String, AllocError> {
     let mut text = String::new(alloc);
     for stamp in 1..=100usize {
         let line = if stamp % 20 == 0 {
@@ -58,7 +58,7 @@ fn hundred_lines(alloc: Global) -> Result<String, AllocError> {
 }
 
 /// Asserts what the hundred lines give: the totals, and the votes of each option over each.
-fn assert_hundred(rt: &impl Abort, ballot_box: &BallotBox) {
+pub(crate) fn assert_hundred(rt: &impl Abort, ballot_box: &BallotBox) {
     let totals = Totals {
         valid: 95,
         refused: 5,
@@ -72,6 +72,32 @@ fn assert_hundred(rt: &impl Abort, ballot_box: &BallotBox) {
         [row(1), row(2), row(3)],
         [[0, 5, 10], [5, 0, 10], [0, 0, 0]]
     );
+}
+
+/// The poll of a text that is one, or that no memory was left for it.
+pub(crate) fn poll_in(rt: &impl Abort, alloc: Global, text: &str) -> Result<Poll, &'static str> {
+    match Poll::from_text(alloc, text.as_bytes()) {
+        Ok(poll) => Ok(poll),
+        Err(fault) => {
+            assert_eq!(rt; fault, PollFault::Memory);
+            Err("refused")
+        }
+    }
+}
+
+/// The lines of a text, or that no memory was left for them.
+pub(crate) fn lines_in<'t>(
+    rt: &impl Abort,
+    alloc: Global,
+    text: &'t str,
+) -> Result<Lines<'t>, &'static str> {
+    match Lines::split(alloc, text.as_bytes()) {
+        Ok(lines) => Ok(lines),
+        Err(fault) => {
+            assert_eq!(rt; fault, LinesFault::Memory);
+            Err("refused")
+        }
+    }
 }
 
 /// What is done at a shared box, and what it answers.
@@ -409,173 +435,64 @@ fn two_desks_in_threads(rt: HostRuntime) -> Result<(), Fail> {
     Ok(())
 }
 
-#[test]
-fn any_number_of_desks_counts_alike(rt: HostRuntime) -> Result<(), Fail> {
-    let alloc = rt.alloc();
-    let poll = Poll::from_text(alloc, TEN_ELECTORS.as_bytes())?;
-    let text = hundred_lines(alloc)?;
-    let lines = Lines::split(alloc, text.as_bytes())?;
-    for desks in [1, 2, 8] {
-        assert!(rt; 1 <= desks && desks <= 8);
-        let audited = take_votes(&rt, alloc, &poll, &lines, desks, &NoGate)?;
-        assert_hundred(&rt, audited.ballot_box());
-        assert_eq!(rt; audited.desks(), desks);
+/// Opens two desks of a box for two lines, and asserts that all are new.
+fn open_two<VL: Tally, RL: Tally, R: Wait + Abort>(
+    rt: &R,
+    alloc: Global,
+    poll: &Poll,
+    valid: Blank,
+    refused: Blank,
+) -> Result<(), DeskFault>
+    requires valid { (valid.name ≡ VL.name) × (valid.parts ≡ VL.parts) × (VL.parts ≡ 2) × (VL.desks ≡ 2) }
+    requires refused { (refused.name ≡ RL.name) × (refused.parts ≡ RL.parts) × (RL.parts ≡ 2) × (RL.desks ≡ 2) }
+{
+    let (shared, desks) = open_desks::<VL, RL>(alloc, poll, 2, 2, valid, refused)?;
+    assert_eq!(rt; desks.len(), 2);
+    for (place, desk) in desks.iter().enumerate() {
+        assert_eq!(rt; usize::from(desk.number()), place + 1);
+        assert!(rt; desk.slips().is_empty());
     }
+    assert_eq!(rt; shared.standing(rt, 1), Ok(None));
+    assert_eq!(rt; shared.standing(rt, 2), Err(NoVoter));
+    assert_eq!(rt; shared.close(rt), Ok(()));
     Ok(())
 }
 
-/// Lets no envelope pass.
-struct Shut;
-
-impl Gate for Shut {
-    fn before(&self, _desk: u8, _stamp: u32) -> bool {
-        false
-    }
-
-    fn after(&self, _desk: u8, _slip: &Slip) {}
-}
-
 #[test]
-fn the_least_desk_that_stopped_is_named(rt: HostRuntime) -> Result<(), Fail> {
+fn memory_of_open_desks(rt: HostRuntime) -> Result<(), Fail> {
     let alloc = rt.alloc();
-    let poll = Poll::from_text(alloc, TEN_ELECTORS.as_bytes())?;
-    let text = hundred_lines(alloc)?;
-    let lines = Lines::split(alloc, text.as_bytes())?;
-    let fault = take_votes(&rt, alloc, &poll, &lines, 8, &Shut).err();
-    assert_eq!(rt; fault, Some(VoteFault::Gate(1)));
-    let none = Lines::split(alloc, b"")?;
-    let audited = take_votes(&rt, alloc, &poll, &none, 8, &Shut)?;
-    assert_eq!(rt; audited.ballot_box().steps().len(), 1);
-    Ok(())
-}
-
-/// What a gate was told of one envelope.
-#[derive(Drop)]
-struct Told {
-    before: OnceLock<u8>,
-    after: OnceLock<(u8, Slip)>,
-}
-
-/// When a gate lets envelopes pass.
-#[derive(Drop)]
-enum Passes {
-    /// Each, once the gate was asked for both of two.
-    Together,
-    /// This one, once so many others were cast; and any other at once.
-    Behind(u32, u64),
-}
-
-/// A gate whose envelopes wait for one another, and which notes what it is told.
-#[derive(Drop)]
-struct Turnstile {
-    passes: Passes,
-    asked: AtomicU64,
-    cast: AtomicU64,
-    /// By stamp.
-    told: Vec<Told>,
-    /// The number of the first slip that it was given.
-    first: OnceLock<u64>,
-}
-
-/// Whether a count rose so far while it was read at most 1,000,000,000 times.
-fn reaches(count: &AtomicU64, least: u64) -> bool {
-    for turn in 0..1_000_000_000u32 {
-        if count.load(SeqCst) >= least {
-            return true;
+    let poll = poll_in(&rt, alloc, TWO_ELECTORS)?;
+    let (valid, refused) = (Blank::new(2), Blank::new(2));
+    match open_two::<Brand, Brand, _>(&rt, alloc, &poll, valid, refused) {
+        Ok(()) => Ok(()),
+        Err(fault) => {
+            assert_eq!(rt; fault, DeskFault::Memory);
+            Err("refused".into())
         }
-        if turn % 1024 == 0 {
-            thread::yield_now();
-        }
-    }
-    false
-}
-
-impl Turnstile {
-    fn new(alloc: Global, passes: Passes, lines: usize) -> Result<Turnstile, AllocError> {
-        let mut told = Vec::new(alloc);
-        for _ in 0..=lines {
-            told.push(Told {
-                before: OnceLock::new(),
-                after: OnceLock::new(),
-            })?;
-        }
-        Ok(Turnstile {
-            passes,
-            asked: AtomicU64::new(0),
-            cast: AtomicU64::new(0),
-            told,
-            first: OnceLock::new(),
-        })
-    }
-
-    /// Asserts that it was asked for each of so many lines once, and told of each once, by the desk that cast it and with its slip.
-    fn assert_told(&self, rt: &impl Abort, audited: &Audited, lines: u64) {
-        assert_eq!(rt; self.asked.load(SeqCst), lines);
-        assert_eq!(rt; self.cast.load(SeqCst), lines);
-        for desk in 1..=audited.desks() {
-            for slip in audited.sheet_of(desk) {
-                let told = self.told.get(slip.stamp as usize).expect(rt, "the stamp");
-                assert_eq!(rt; told.before.get(), Some(&desk));
-                assert_eq!(rt; told.after.get(), Some(&(desk, *slip)));
-            }
-        }
-    }
-}
-
-impl Gate for Turnstile {
-    fn before(&self, desk: u8, stamp: u32) -> bool {
-        if let Some(told) = self.told.get(stamp as usize) {
-            let _ = told.before.try_set(desk);
-        }
-        self.asked.fetch_add(1, SeqCst);
-        match self.passes {
-            Passes::Together => reaches(&self.asked, 2),
-            Passes::Behind(last, others) => stamp != last || reaches(&self.cast, others),
-        }
-    }
-
-    fn after(&self, desk: u8, slip: &Slip) {
-        if let Some(told) = self.told.get(slip.stamp as usize) {
-            let _ = told.after.try_set((desk, *slip));
-        }
-        let _ = self.first.try_set(slip.number);
-        self.cast.fetch_add(1, SeqCst);
     }
 }
 
 #[test]
-fn envelopes_wait_for_one_another(rt: HostRuntime) -> Result<(), Fail> {
+fn memory_of_gather(rt: HostRuntime) -> Result<(), Fail> {
     let alloc = rt.alloc();
-    let poll = Poll::from_text(alloc, TWO_ELECTORS.as_bytes())?;
-    let lines = Lines::split(alloc, b"ann 1,2,3\nbob 2,1,3\n")?;
-    let cases = [
-        (Passes::Together, None),
-        (Passes::Behind(1, 1), Some([2, 1])),
-        (Passes::Behind(2, 1), Some([1, 2])),
+    let poll = poll_in(&rt, alloc, TWO_ELECTORS)?;
+    let ann = read_line(&poll, b"ann 1,2,3");
+    let bob = read_line(&poll, b"bob 2,1,3");
+    let deeds = [
+        cast(0, 2, &bob, Ok(Reply::Counted)),
+        cast(1, 1, &ann, Ok(Reply::Counted)),
     ];
-    for (passes, order) in cases {
-        let gate = Turnstile::new(alloc, passes, 2)?;
-        let audited = take_votes(&rt, alloc, &poll, &lines, 2, &gate)?;
-        gate.assert_told(&rt, &audited, 2);
-        if let Some(order) = order {
-            assert_eq!(rt; gate.first.get(), Some(&1));
-            for (step, wanted) in audited.ballot_box().steps().iter().zip(order) {
-                assert!(rt; matches!(step, Step::Cast { stamp, .. } if *stamp == wanted));
-            }
+    match acted(&rt, alloc, &poll, 2, 2, &deeds, Back::Reversed) {
+        Ok(sealed) => {
+            assert_eq!(rt; sealed.desks(), 2);
+            assert_eq!(rt; sealed.ballot_box().steps().len(), 3);
+            assert_eq!(rt; sealed.sheet_of(1).first().map(|slip| slip.stamp), Some(2));
+            assert_eq!(rt; sealed.sheet_of(2).first().map(|slip| slip.stamp), Some(1));
+            Ok(())
+        }
+        Err(fault) => {
+            assert_eq!(rt; fault, DeskFault::Memory);
+            Err("refused".into())
         }
     }
-    Ok(())
-}
-
-#[test]
-fn one_desk_waits_while_the_other_serves(rt: HostRuntime) -> Result<(), Fail> {
-    let alloc = rt.alloc();
-    let poll = Poll::from_text(alloc, TEN_ELECTORS.as_bytes())?;
-    let text = hundred_lines(alloc)?;
-    let lines = Lines::split(alloc, text.as_bytes())?;
-    let gate = Turnstile::new(alloc, Passes::Behind(1, 99), 100)?;
-    let audited = take_votes(&rt, alloc, &poll, &lines, 2, &gate)?;
-    gate.assert_told(&rt, &audited, 100);
-    assert_hundred(&rt, audited.ballot_box());
-    Ok(())
 }

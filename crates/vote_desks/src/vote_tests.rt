@@ -1,0 +1,260 @@
+//! Votes taken by workers: any number of desks, gates that wait or do not let pass, and what a want of memory or of a thread leaves.
+use crate::tests::{TEN_ELECTORS, TWO_ELECTORS, assert_hundred, hundred_lines, lines_in, poll_in};
+use crate::{Audited, Gate, NoGate, Slip, VoteFault, take_votes};
+use std::alloc::{AllocError, Global};
+use std::process::Abort;
+use std::sync::OnceLock;
+use std::sync::atomic::AtomicU64;
+use std::sync::atomic::Ordering::SeqCst;
+use std::test::Fail;
+use std::thread;
+use vote_poll::{Lines, Poll};
+use vote_steps::{BallotBox, Step, Totals};
+
+const NINE_ELECTORS: &str =
+    "title = \"Nine\"\noptions = [\"A\", \"B\", \"C\"]\nratios = [1, 1, 1]\ndefault = \"None\"\nquorum = 3\nroll = [\"v0\", \"v1\", \"v2\", \"v3\", \"v4\", \"v5\", \"v6\", \"v7\", \"v8\"]\n";
+
+/// Nine ballots that prefer A to B, B to C, and C to A.
+const NINE_LINES: &str =
+    "v0 1,2,3,4\nv1 1,2,3,4\nv2 1,2,3,4\nv3 1,2,3,4\nv4 3,1,2,4\nv5 3,1,2,4\nv6 3,1,2,4\nv7 2,3,1,4\nv8 2,3,1,4\n";
+
+/// Asserts what the nine lines give: the totals, and the votes of each option over each.
+fn assert_nine(rt: &impl Abort, ballot_box: &BallotBox) {
+    let totals = Totals {
+        valid: 9,
+        refused: 0,
+        voters: 9,
+    };
+    assert_eq!(rt; ballot_box.totals(), totals);
+    let matrix = ballot_box.matrix();
+    assert_eq!(rt; matrix.options(), 4);
+    let row = |a| {
+        [
+            matrix.votes(a, 1),
+            matrix.votes(a, 2),
+            matrix.votes(a, 3),
+            matrix.votes(a, 4),
+        ]
+    };
+    assert_eq!(rt;
+        [row(1), row(2), row(3), row(4)],
+        [[0, 6, 4, 9], [3, 0, 7, 9], [5, 2, 0, 9], [0, 0, 0, 0]]
+    );
+}
+
+#[test]
+fn any_number_of_desks_counts_alike(rt: HostRuntime) -> Result<(), Fail> {
+    let alloc = rt.alloc();
+    let poll = Poll::from_text(alloc, TEN_ELECTORS.as_bytes())?;
+    let text = hundred_lines(alloc)?;
+    let lines = Lines::split(alloc, text.as_bytes())?;
+    for desks in [1, 2, 8] {
+        assert!(rt; 1 <= desks && desks <= 8);
+        let audited = take_votes(&rt, alloc, &poll, &lines, desks, &NoGate)?;
+        assert_hundred(&rt, audited.ballot_box());
+        assert_eq!(rt; audited.desks(), desks);
+    }
+    Ok(())
+}
+
+/// What a gate was told of one envelope.
+#[derive(Drop)]
+struct Told {
+    before: OnceLock<u8>,
+    after: OnceLock<(u8, Slip)>,
+}
+
+/// When a gate lets envelopes pass.
+#[derive(Drop)]
+enum Passes {
+    /// Each, once the gate was asked for both of two.
+    Together,
+    /// This one, once so many others were cast; and any other at once.
+    Behind(u32, u64),
+    /// Each but this one.
+    AllBut(u32),
+    /// None.
+    Never,
+}
+
+/// A gate whose envelopes wait for one another or do not pass, and which notes what it is told.
+#[derive(Drop)]
+struct Turnstile {
+    passes: Passes,
+    asked: AtomicU64,
+    cast: AtomicU64,
+    /// By stamp.
+    told: Vec<Told>,
+    /// The number of the first slip that it was given.
+    first: OnceLock<u64>,
+}
+
+/// Whether a count rose so far while it was read at most 1,000,000,000 times.
+fn reaches(count: &AtomicU64, least: u64) -> bool {
+    for turn in 0..1_000_000_000u32 {
+        if count.load(SeqCst) >= least {
+            return true;
+        }
+        if turn % 1024 == 0 {
+            thread::yield_now();
+        }
+    }
+    false
+}
+
+impl Turnstile {
+    fn new(alloc: Global, passes: Passes, lines: usize) -> Result<Turnstile, AllocError> {
+        let mut told = Vec::new(alloc);
+        for _ in 0..=lines {
+            told.push(Told {
+                before: OnceLock::new(),
+                after: OnceLock::new(),
+            })?;
+        }
+        Ok(Turnstile {
+            passes,
+            asked: AtomicU64::new(0),
+            cast: AtomicU64::new(0),
+            told,
+            first: OnceLock::new(),
+        })
+    }
+
+    /// Asserts that it was asked for each of so many lines once, and told of each once, by the desk that cast it and with its slip.
+    fn assert_told(&self, rt: &impl Abort, audited: &Audited, lines: u64) {
+        assert_eq!(rt; self.asked.load(SeqCst), lines);
+        assert_eq!(rt; self.cast.load(SeqCst), lines);
+        for desk in 1..=audited.desks() {
+            for slip in audited.sheet_of(desk) {
+                let told = self.told.get(slip.stamp as usize).expect(rt, "the stamp");
+                assert_eq!(rt; told.before.get(), Some(&desk));
+                assert_eq!(rt; told.after.get(), Some(&(desk, *slip)));
+            }
+        }
+    }
+}
+
+impl Gate for Turnstile {
+    fn before(&self, desk: u8, stamp: u32) -> bool {
+        if let Some(told) = self.told.get(stamp as usize) {
+            let _ = told.before.try_set(desk);
+        }
+        self.asked.fetch_add(1, SeqCst);
+        match self.passes {
+            Passes::Together => reaches(&self.asked, 2),
+            Passes::Behind(last, others) => stamp != last || reaches(&self.cast, others),
+            Passes::AllBut(barred) => stamp != barred,
+            Passes::Never => false,
+        }
+    }
+
+    fn after(&self, desk: u8, slip: &Slip) {
+        if let Some(told) = self.told.get(slip.stamp as usize) {
+            let _ = told.after.try_set((desk, *slip));
+        }
+        let _ = self.first.try_set(slip.number);
+        self.cast.fetch_add(1, SeqCst);
+    }
+}
+
+#[test]
+fn envelopes_wait_for_one_another(rt: HostRuntime) -> Result<(), Fail> {
+    let alloc = rt.alloc();
+    let poll = Poll::from_text(alloc, TWO_ELECTORS.as_bytes())?;
+    let lines = Lines::split(alloc, b"ann 1,2,3\nbob 2,1,3\n")?;
+    let cases = [
+        (Passes::Together, None),
+        (Passes::Behind(1, 1), Some([2, 1])),
+        (Passes::Behind(2, 1), Some([1, 2])),
+    ];
+    for (passes, order) in cases {
+        let gate = Turnstile::new(alloc, passes, 2)?;
+        let audited = take_votes(&rt, alloc, &poll, &lines, 2, &gate)?;
+        gate.assert_told(&rt, &audited, 2);
+        if let Some(order) = order {
+            assert_eq!(rt; gate.first.get(), Some(&1));
+            for (step, wanted) in audited.ballot_box().steps().iter().zip(order) {
+                assert!(rt; matches!(step, Step::Cast { stamp, .. } if *stamp == wanted));
+            }
+        }
+    }
+    Ok(())
+}
+
+#[test]
+fn one_desk_waits_while_the_other_serves(rt: HostRuntime) -> Result<(), Fail> {
+    let alloc = rt.alloc();
+    let poll = Poll::from_text(alloc, TEN_ELECTORS.as_bytes())?;
+    let text = hundred_lines(alloc)?;
+    let lines = Lines::split(alloc, text.as_bytes())?;
+    let gate = Turnstile::new(alloc, Passes::Behind(1, 99), 100)?;
+    let audited = take_votes(&rt, alloc, &poll, &lines, 2, &gate)?;
+    gate.assert_told(&rt, &audited, 100);
+    assert_hundred(&rt, audited.ballot_box());
+    Ok(())
+}
+
+#[test]
+fn the_least_desk_that_stopped_is_named(rt: HostRuntime) -> Result<(), Fail> {
+    let alloc = rt.alloc();
+    let nine = Poll::from_text(alloc, NINE_ELECTORS.as_bytes())?;
+    let nine_lines = Lines::split(alloc, NINE_LINES.as_bytes())?;
+    let ten = Poll::from_text(alloc, TEN_ELECTORS.as_bytes())?;
+    let text = hundred_lines(alloc)?;
+    let hundred = Lines::split(alloc, text.as_bytes())?;
+    let none = Lines::split(alloc, b"")?;
+    let stopped = Some(VoteFault::Gate(1));
+    // A gate, what is counted at how many desks, the fault, and for how many envelopes the gate was asked and of how many casts it
+    // was told.
+    let cases = [
+        (Passes::AllBut(5), &nine, &nine_lines, 1, stopped, 5, 4),
+        (Passes::Never, &nine, &nine_lines, 1, stopped, 1, 0),
+        (Passes::Never, &ten, &hundred, 8, stopped, 8, 0),
+        (Passes::Never, &ten, &none, 8, None, 0, 0),
+    ];
+    for (passes, poll, lines, desks, fault, asked, told) in cases {
+        assert!(rt; 1 <= desks && desks <= 8);
+        let gate = Turnstile::new(alloc, passes, 100)?;
+        let taken = take_votes(&rt, alloc, poll, lines, desks, &gate);
+        assert_eq!(rt; taken.err(), fault, "at {desks} desks");
+        assert_eq!(rt; gate.asked.load(SeqCst), asked, "at {desks} desks");
+        assert_eq!(rt; gate.cast.load(SeqCst), told, "at {desks} desks");
+    }
+    Ok(())
+}
+
+#[test]
+fn memory_of_take_votes(rt: HostRuntime) -> Result<(), Fail> {
+    let alloc = rt.alloc();
+    let poll = poll_in(&rt, alloc, NINE_ELECTORS)?;
+    let lines = lines_in(&rt, alloc, NINE_LINES)?;
+    match take_votes(&rt, alloc, &poll, &lines, 2, &NoGate) {
+        Ok(audited) => {
+            assert_eq!(rt; audited.desks(), 2);
+            assert_nine(&rt, audited.ballot_box());
+            Ok(())
+        }
+        Err(fault) => {
+            assert!(rt; matches!(fault, VoteFault::Memory | VoteFault::Thread));
+            Err("refused".into())
+        }
+    }
+}
+
+#[test]
+fn threads_of_take_votes(rt: HostRuntime) -> Result<(), Fail> {
+    let alloc = rt.alloc();
+    let poll = poll_in(&rt, alloc, NINE_ELECTORS)?;
+    let lines = lines_in(&rt, alloc, NINE_LINES)?;
+    match take_votes(&rt, alloc, &poll, &lines, 3, &NoGate) {
+        Ok(audited) => {
+            assert_eq!(rt; audited.desks(), 3);
+            assert_nine(&rt, audited.ballot_box());
+            Ok(())
+        }
+        Err(fault) => {
+            assert_eq!(rt; fault, VoteFault::Thread);
+            Err("refused".into())
+        }
+    }
+}
