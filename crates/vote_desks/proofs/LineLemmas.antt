@@ -16,9 +16,10 @@ use Rattle.vote_steps.specs.declared.Received.{Received}
 use Rattle.vote_steps.specs.declared.Step.{Step}
 use Rattle.vote_steps.specs.declared.Step.TheVariants.{Cast, Close}
 use Rattle.vote_steps.specs.History.{is_cast, is_ballot, is_used, is_for, before_close, standing, standing_ranks, standing_votes, valid, refused, voters}
-use Rattle.vote_steps.specs.Boxes.{BoxState, IsLegal, UsesAll}
+use Rattle.vote_steps.specs.Boxes.{BoxState, IsLegal}
 use Rattle.vote_steps.specs.Order.{HasOwnReading, last_ballot}
 use Rattle.vote_steps.proofs.HistoryLemmas.{valid-refused, is_used-cast, is_used-close}
+use Rattle.vote_steps.proofs.LegalLemmas.{each_stamp_is_used_lem}
 use Rattle.vote_desks.specs.Audit.{readings, IsAudited}
 use Rattle.vote_desks.specs.Standing.{LinesAreCounted, CountsLines, is_ballot_reading, last_ballots}
 use Rattle.vote_desks.proofs.SlipLemmas.{take-suc-get}
@@ -211,14 +212,14 @@ prefers_alike a c None = refl
 prefers_alike a c (Some ballot) = refl
 
 pub lines_are_counted_lem : LinesAreCounted
-lines_are_counted_lem poll lines b sheets a all =
+lines_are_counted_lem poll lines b sheets a =
     let rs = readings poll lines in
-    let stand : (voter : ℕ) → standing_ranks b.steps voter ≡ last_ballot rs voter = λ voter. last_lines_stand_lem poll lines b sheets voter a all in
+    let stand : (voter : ℕ) → standing_ranks b.steps voter ≡ last_ballot rs voter = λ voter. last_lines_stand_lem poll lines b sheets voter a in
     let long = as_long poll lines in
     let limit = a.sizes.2 in
     let own = recursion_from_All (HasOwnReading rs) b.steps a.own_readings in
     let once : (n : ℕ) → n < length rs → casts_of (suc n) b.steps ≡ 1 = λ n low.
-    (let used = all (a.casts ∙ sym a.sizes.2) (suc n) (omega arith) (omega (arith, low, long, limit)) in
+    (let used = each_stamp_is_used_lem b a.legal (a.casts ∙ sym a.sizes.2) (suc n) (omega arith) (omega (arith, low, long, limit)) in
     omega (arith, at_most_once b a.legal (suc n) [] b.steps refl, used_is_cast (suc n) b.steps used)) in
     let counted : count_by is_ballot b.steps ≡ count_by is_ballot_reading rs =
     sym (all_early rs b.steps own) ∙ early_ballots rs b.steps own once (length rs) (omega arith) ∙ ap (count_by is_ballot_reading) (take_all (length rs) rs (omega arith)) in

@@ -6,9 +6,10 @@ use Rattle.vote_desks.specs.declared.slip.Slip.{Slip}
 use Rattle.vote_steps.specs.declared.Step.{Step}
 use Rattle.vote_steps.specs.declared.Step.TheVariants.{Close}
 use Rattle.vote_steps.specs.History.{is_used, before_close}
-use Rattle.vote_steps.specs.Boxes.{BoxState, UsesAll}
+use Rattle.vote_steps.specs.Boxes.{BoxState}
 use Rattle.vote_steps.specs.Order.{HasOwnReading, CastsLines}
 use Rattle.vote_steps.proofs.HistoryLemmas.{is_used-close}
+use Rattle.vote_steps.proofs.LegalLemmas.{each_stamp_is_used_lem}
 use Rattle.vote_steps.proofs.OrderLemmas.{order_does_not_matter_lem}
 use Rattle.vote_desks.specs.Audit.{readings, IsAudited}
 use Rattle.vote_desks.specs.Standing.{LastLinesStand}
@@ -26,8 +27,8 @@ pub as_long : (poll : PollContent) (lines : List (List ℕ)) → length (map (re
 as_long poll [] = refl
 as_long poll (line ∷ lines) = omega (arith, as_long poll lines)
 
-pub casts_lines : (poll : PollContent) (lines : List (List ℕ)) (b : BoxState) (sheets : List (List Slip)) → IsAudited poll lines b sheets → UsesAll b → CastsLines (readings poll lines) b.steps
-casts_lines poll lines b sheets a all =
+pub casts_lines : (poll : PollContent) (lines : List (List ℕ)) (b : BoxState) (sheets : List (List Slip)) → IsAudited poll lines b sheets → CastsLines (readings poll lines) b.steps
+casts_lines poll lines b sheets a =
     let P : Step → Type 0 = λ s. HasOwnReading (readings poll lines) s in
     let last = a.closed_last in
     let len = ap length last in
@@ -37,9 +38,9 @@ casts_lines poll lines b sheets a all =
       all_cast = λ stamp low high.
           let limit = a.sizes.2 in
           let many = as_long poll lines in
-          let used = all (a.casts ∙ sym a.sizes.2) stamp low (omega arith) in
+          let used = each_stamp_is_used_lem b a.legal (a.casts ∙ sym a.sizes.2) stamp low (omega arith) in
           sym (ap (λ xs. is_used xs stamp) last ∙ is_used-close (before_close b.steps) stamp) ∙ used;
     }
 
 pub last_lines_stand_lem : LastLinesStand
-last_lines_stand_lem poll lines b sheets voter a all = order_does_not_matter_lem (readings poll lines) b.steps voter (casts_lines poll lines b sheets a all)
+last_lines_stand_lem poll lines b sheets voter a = order_does_not_matter_lem (readings poll lines) b.steps voter (casts_lines poll lines b sheets a)

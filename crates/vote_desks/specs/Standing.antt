@@ -7,14 +7,14 @@ use Rattle.vote_poll.specs.declared.Reading.TheVariants.{Ballot, Bad}
 use Rattle.vote_count.specs.Ballots.{entry_prefers}
 use Rattle.vote_desks.specs.declared.slip.Slip.{Slip}
 use Rattle.vote_steps.specs.History.{standing_ranks, standing_votes, valid, refused, voters}
-use Rattle.vote_steps.specs.Boxes.{BoxState, UsesAll}
+use Rattle.vote_steps.specs.Boxes.{BoxState}
 use Rattle.vote_steps.specs.Order.{last_ballot}
 use Rattle.vote_desks.specs.Audit.{readings, IsAudited}
 
--- of each voter the ranks of the last line stand that reads as a ballot; that a box uses all its numbers is known of each box by its steps
+-- of each voter the ranks of the last line stand that reads as a ballot
 abbrev pub LastLinesStand : Type 0
 LastLinesStand =
-    (poll : PollContent) (lines : List (List ℕ)) (b : BoxState) (sheets : List (List Slip)) (voter : ℕ) → IsAudited poll lines b sheets → UsesAll b
+    (poll : PollContent) (lines : List (List ℕ)) (b : BoxState) (sheets : List (List Slip)) (voter : ℕ) → IsAudited poll lines b sheets
     → standing_ranks b.steps voter ≡ last_ballot (readings poll lines) voter
 
 abbrev pub is_ballot_reading : Reading → Bool
@@ -34,4 +34,4 @@ pub record CountsLines (readings : List Reading) (b : BoxState) : Type 0 where
 
 abbrev pub LinesAreCounted : Type 0
 LinesAreCounted =
-    (poll : PollContent) (lines : List (List ℕ)) (b : BoxState) (sheets : List (List Slip)) → IsAudited poll lines b sheets → UsesAll b → CountsLines (readings poll lines) b
+    (poll : PollContent) (lines : List (List ℕ)) (b : BoxState) (sheets : List (List Slip)) → IsAudited poll lines b sheets → CountsLines (readings poll lines) b

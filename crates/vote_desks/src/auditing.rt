@@ -11,7 +11,7 @@ use crate::sealed::Sealed;
 use crate::sheets::first_other_sheet;
 use crate::slip::Slip;
 use std::marker::Model;
-use vote_poll::{Lines, Poll, Reading, read_line};
+use vote_poll::{Lines, Poll, read_line};
 use vote_steps::{BallotBox, MAX_DESKS, Step};
 
 /// Whether the box is of the poll's size, and has a number for each line.
@@ -33,23 +33,6 @@ fn count_casts(steps: &[Step]) -> usize
         .count()
 }
 
-/// Whether two readings say the same.
-fn read_alike(reading: &Reading, other: &Reading) -> bool
-    ensures { IsTrue result ↔ (reading.now ≡ other.now) }
-{
-    match (reading, other) {
-        (
-            Reading::Ballot { voter, ranks },
-            Reading::Ballot {
-                voter: other,
-                ranks: others,
-            },
-        ) => voter == other && ranks.as_slice() == others.as_slice(),
-        (Reading::Bad(fault), Reading::Bad(other)) => fault == other,
-        _ => false,
-    }
-}
-
 /// Whether a cast has the reading of the line with its stamp.
 fn has_own_reading(poll: &Poll, lines: &Lines<'_>, step: &Step) -> bool
     requires { HasEnvelope (length lines.now) step.now }
@@ -58,7 +41,8 @@ fn has_own_reading(poll: &Poll, lines: &Lines<'_>, step: &Step) -> bool
     match step {
         Step::Close => true,
         Step::Cast { stamp, reading, .. } => {
-            read_alike(&read_line(poll, lines.line(*stamp as usize - 1)), reading)
+            let read = read_line(poll, lines.line(*stamp as usize - 1));
+            read == *reading
         }
     }
 }

@@ -1,5 +1,5 @@
 //! Workers, each of which serves a desk in a thread of its own.
-ghost use Rattle.std.specs.Prelude.{◌≡◌, ◌<◌, ◌^◌, IfOk, IfErr, map, length, vec_len};
+ghost use Rattle.std.specs.Prelude.{◌≡◌, ◌<◌, ◌^◌, IsTrue, IfOk, IfErr, map, length, vec_len};
 ghost use Rattle.std.specs.List.{AllByRecursion};
 ghost use Rattle.vote_desks.specs.Work.{IsFresh, IsUnused, tray_and_parts};
 ghost use Rattle.vote_desks.specs.Faults.{IsStartFault};
@@ -30,7 +30,9 @@ pub trait Gate {
 pub struct NoGate;
 
 impl Gate for NoGate {
-    fn before(&self, _desk: u8, _stamp: u32) -> bool {
+    fn before(&self, _desk: u8, _stamp: u32) -> bool
+        ensures { IsTrue result }
+    {
         true
     }
 
