@@ -41,7 +41,7 @@ pub use ranks::Ranks;
 pub use reading::{LineFault, Reading, read_line, readings_are_unique};
 
 /// The most options that a poll can have, the default among them. It has two at least.
-pub const MAX_OPTIONS: usize = 16;
+pub const MAX_OPTIONS: usize = 32;
 
 /// The most electors that a roll can have. It has one at least.
 pub const MAX_ELECTORS: usize = 10_000;

@@ -181,7 +181,7 @@ fn words_of_faults(rt: HostRuntime) -> Result<(), Fail> {
         (PollFault::Key(PollKey::Roll), "poll refused: key roll"),
         (PollFault::Title, "poll refused: title"),
         (PollFault::OptionCount, "poll refused: number of options"),
-        (PollFault::OptionName(16), "poll refused: name of option 16"),
+        (PollFault::OptionName(32), "poll refused: name of option 32"),
         (PollFault::Ratio, "poll refused: ratios"),
         (PollFault::Quorum, "poll refused: quorum"),
         (PollFault::RollSize, "poll refused: size of roll"),
@@ -296,32 +296,76 @@ fn names(alloc: Global, letters: &str, count: u32) -> Result<String, AllocError>
     Ok(names)
 }
 
+/// A poll file of so many voters and so many options but the default, where there are 31 ratios.
+fn text_of_sizes(alloc: Global, options: u32, voters: u32) -> Result<String, AllocError> {
+    let names_of_options = names(alloc, "option ", options)?;
+    let roll = names(alloc, "v", voters)?;
+    let ones = "1, ".repeat(alloc, 20)?;
+    format!(in alloc;
+        "title = \"Sizes\"\noptions = {names_of_options}\nratios = [{ones}1, 2, 3, 4, 5, 6, 7, 8, 9, 10, 10]\ndefault = \"None\"\nquorum = 10\nroll = {roll}\n"
+    )
+}
+
 /// The first fault of a poll of so many voters and so many options but the default.
 fn fault_of_sizes(
     alloc: Global,
     options: u32,
     voters: u32,
 ) -> Result<Option<PollFault>, AllocError> {
-    let names_of_options = names(alloc, "option ", options)?;
-    let roll = names(alloc, "v", voters)?;
-    let text = format!(in alloc;
-        "title = \"Sizes\"\noptions = {names_of_options}\nratios = [1, 2, 3, 4, 5, 6, 7, 8, 9, 10, 1, 1, 1, 1, 10]\ndefault = \"None\"\nquorum = 10\nroll = {roll}\n"
-    )?;
+    let text = text_of_sizes(alloc, options, voters)?;
     Ok(Poll::from_text(alloc, text.as_bytes()).err())
 }
 
 #[test]
 fn sizes_of_polls(rt: HostRuntime) -> Result<(), Fail> {
     let alloc = rt.alloc();
-    assert_eq!(rt; fault_of_sizes(alloc, 15, 10_000)?, None);
+    assert_eq!(rt; fault_of_sizes(alloc, 31, 10_000)?, None);
     assert_eq!(rt;
-        fault_of_sizes(alloc, 16, 10_001)?,
+        fault_of_sizes(alloc, 32, 10_001)?,
         Some(PollFault::OptionCount)
     );
     assert_eq!(rt;
-        fault_of_sizes(alloc, 15, 10_001)?,
+        fault_of_sizes(alloc, 31, 10_001)?,
         Some(PollFault::RollSize)
     );
+    Ok(())
+}
+
+#[test]
+fn the_most_options(rt: HostRuntime) -> Result<(), Fail> {
+    let alloc = rt.alloc();
+    let text = text_of_sizes(alloc, 31, 1)?;
+    let poll = Poll::from_text(alloc, text.as_bytes())?;
+    assert_eq!(rt; poll.options(), 32);
+    assert_eq!(rt; poll.ratio(31), 10);
+    assert_eq!(rt; poll.option_name(32), "None");
+    assert_eq!(rt; poll.option_of(b"option 30"), Some(31));
+    let two_digits = "10,".repeat(alloc, 29)?;
+    for (ranks, fault) in [
+        ("11,-,99", None),
+        ("11,-,99,1", Some(LineFault::RankCount)),
+        ("11,-", Some(LineFault::RankCount)),
+    ] {
+        let line = format!(in alloc; "v0 {two_digits}{ranks}")?;
+        assert_eq!(rt; fault_of(&poll, line.as_bytes()), fault, "at {line}");
+    }
+    let line = format!(in alloc; "v0 {two_digits}11,-,99")?;
+    let Some(ranks) = ranks_of(&poll, line.as_bytes()) else {
+        return Err(Fail::from("no ballot"));
+    };
+    assert_eq!(rt; ranks.options(), 32);
+    for (option, rank) in [
+        (1, Some(10)),
+        (29, Some(10)),
+        (30, Some(11)),
+        (31, None),
+        (32, Some(99)),
+    ] {
+        assert_eq!(rt; ranks.rank(option), rank, "at {option}");
+    }
+    assert!(rt; ranks.prefers(29, 30));
+    assert!(rt; ranks.prefers(32, 31));
+    assert!(rt; !ranks.prefers(31, 32));
     Ok(())
 }
 
