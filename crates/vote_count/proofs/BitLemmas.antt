@@ -1,13 +1,13 @@
 -- What the bits of a word say of its marks.
-use Rattle.std.proofs.Common.{◌≡◌, ℕ, zero, suc, nat_eq, ◌-◌, ◌<◌, ◌≤◌, ◌^◌, ◌*◌, ◌/◌, ◌%◌, Bool, true, false, cond, not, ◌&&◌, ◌||◌, length, map-id, refl, sym, ap, ◌∙◌, inl, inr, arith}
+use Rattle.std.proofs.Common.{◌≡◌, ℕ, zero, suc, nat_eq, ◌+◌, ◌-◌, ◌<◌, ◌≤◌, ◌^◌, ◌*◌, ◌/◌, ◌%◌, Bool, true, false, cond, not, ◌&&◌, ◌||◌, length, map-id, refl, sym, ap, ◌∙◌, inl, inr, arith}
 use Rattle.std.specs.Prelude.{◌↔◌, IsTrue}
-use Rattle.std.specs.Int.{bit_at}
+use Rattle.std.specs.Int.{bit_at, leading_zeros}
 use Rattle.std.specs.Int.RustNames.{bit_or, count_ones}
 use Rattle.std.proofs.lemmas.Bool.{cases_lt, cases_eq, eq-eqb, ne_eqb}
-use Rattle.std.proofs.lemmas.Nat.Bits.{bit_at_or, bit_at_and, bit_at_not, bit_at_set_same, bit_at_set_other, bit_at-zero, shr_and_one}
-use Rattle.std.proofs.lemmas.Nat.{ones_le_self}
+use Rattle.std.proofs.lemmas.Nat.Bits.{bit_at_or, bit_at_and, bit_at_not, bit_at_set_same, bit_at_set_other, bit_at-zero, bit_at_above, shr_and_one}
+use Rattle.std.proofs.lemmas.Nat.{ones_le_self, leading_length}
 use Rattle.std.proofs.lemmas.Simd.{bit_mask_l, ones-mask_l}
-use mir.Syntax.{Width, w16}
+use mir.Syntax.{Width, w32}
 use lib.Bits.{bit_and}
 use Prim.Native.Nat.{min, max}
 use Rattle.vote_poll.specs.declared.TheConstants.{MAX_OPTIONS}
@@ -17,7 +17,7 @@ use Rattle.vote_poll.proofs.OptionLaws.{at_option-in, at_option-none, at_option-
 
 -- the width of `Word`, which has a bit for each option
 abbrev pub width : Width
-width = w16
+width = w32
 
 abbrev one : Bool → ℕ
 one mark = cond mark 1 0
@@ -141,3 +141,13 @@ pub ruleset bit_marks = (at_option-none, at_option-past, length-marks_of, has-bi
 
 pub some_bit : (n : ℕ) → count_ones n ≡ 1 → 0 < n
 some_bit n single = omega (arith, ones_le_self n)
+
+-- an option of the set has no bit above the highest one
+pub last_mark : (n o : ℕ) → n < 2 ^ MAX_OPTIONS → IsTrue (has (marks_of MAX_OPTIONS n) o) → o ≤ MAX_OPTIONS - leading_zeros width n
+last_mark n o h member =
+    let long = leading_length MAX_OPTIONS n h in
+    let zeros : leading_zeros width n + long.0 ≡ MAX_OPTIONS = long.1 in
+    elim (cases_lt long.0 o) [
+      | inl past ↦ absurd (omega (arith, ap one member, bit_of_has n o h (omega arith), bit_at_above n long.0 (o - 1) long.2 (omega arith)))
+      | inr within ↦ omega (arith, zeros)
+    ]

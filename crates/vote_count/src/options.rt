@@ -11,7 +11,7 @@ use vote_poll::MAX_OPTIONS;
 ///
 /// It has `MAX_OPTIONS` bits, and each other size here is written with `MAX_OPTIONS`. More options
 /// need a wider word at this place, and the same `width` in `proofs/BitLemmas.antt`.
-pub type Word = u16;
+pub type Word = u32;
 
 /// A set of options, which are numbered from 1 to `MAX_OPTIONS`.
 #[derive(Clone, Copy, Debug, PartialEq, Eq)]
@@ -80,6 +80,15 @@ impl OptionSet {
         ensures { IsTrue result ↔ (size self.now ≡ 0) }
     {
         self.len() == 0
+    }
+
+    // An option behind which the set has none: its last one, or 0 where it is empty. So a loop over the
+    // set needs no more turns than its poll has options.
+    pub(crate) fn last(&self) -> u8
+        ensures none_behind { (o : ℕ) → In self.now o → o ≤ result }
+        ensures at_most { result ≤ MAX_OPTIONS }
+    {
+        MAX_OPTIONS as u8 - self.bits.leading_zeros() as u8
     }
 
     // The option that is alone in the set, if one is.

@@ -106,9 +106,9 @@ impl Defeats {
         ensures { (a b : ℕ) → Pairs result a b ↔ Within (In set.now) (Pairs self.now) a b }
     {
         let mut inside = Self::empty();
-        for (i, row) in self.rows.iter().enumerate() {
+        for i in 0..set.last() as usize {
             if set.has(i as u8 + 1) {
-                inside.rows[i] = row.common(set);
+                inside.rows[i] = self.rows[i].common(set);
             }
         }
         inside
@@ -177,7 +177,8 @@ impl Chains {
 /// The transitive defeats: A transitively defeats C where A defeats C, or where A defeats some B
 /// that transitively defeats C (Appendix A, Vote Counting).
 ///
-/// For one option after another, each row that has it takes in the row of that option.
+/// For one option after another, each row that has it takes in the row of that option. Each other
+/// row takes in nothing, so that LLVM makes vector code of a turn.
 pub fn reach(defeats: &Defeats) -> Chains
     ensures { (a c : ℕ) → Pairs result a c ↔ TransitivelyDefeats (Pairs defeats.now) a c }
 {
@@ -185,9 +186,12 @@ pub fn reach(defeats: &Defeats) -> Chains
     for b in 1..=MAX_OPTIONS as u8 {
         let through = rows[b as usize - 1];
         for row in rows.iter_mut() {
-            if row.has(b) {
-                row.take_in(&through);
-            }
+            let more = if row.has(b) {
+                through
+            } else {
+                OptionSet::empty()
+            };
+            row.take_in(&more);
         }
     }
     Chains { reached: rows }

@@ -92,7 +92,7 @@ fn is_unbeaten(set: &OptionSet, chains: &Chains, a: u8) -> bool
     requires { (o : ℕ) → In set.now o → IsOption MAX_OPTIONS o }
     ensures { IsTrue result ↔ ((b : ℕ) → In set.now b → Pairs chains.now a b ⊎ ¬ Pairs chains.now b a) }
 {
-    for b in 1..=MAX_OPTIONS as u8 {
+    for b in 1..=set.last() {
         if set.has(b) && chains.has(b, a) && !chains.has(a, b) {
             return false;
         }
@@ -107,7 +107,7 @@ pub fn schwartz(set: &OptionSet, chains: &Chains) -> OptionSet
     ensures { (a : ℕ) → In result a ↔ InSchwartzSet (In set.now) (Pairs chains.now) a }
 {
     let mut schwartz = OptionSet::empty();
-    for a in 1..=MAX_OPTIONS as u8 {
+    for a in 1..=set.last() {
         if set.has(a) && is_unbeaten(set, chains, a) {
             schwartz.insert(a);
         }

@@ -70,8 +70,9 @@ impl Matrix {
         ensures votes { (a b : ℕ) → IsOption self.old.options a → IsOption self.old.options b → votes self.new a b ≡ votes self.old a b + (if prefers ranks.now a b then 1 else 0) }
     {
         let places = places(ranks.as_slice());
-        for option in 0..self.options as usize {
-            raise(&mut self.counts[option], places[option], &places);
+        let options = self.options;
+        for option in 0..options as usize {
+            raise(&mut self.counts[option], places[option], &places, options);
         }
     }
 
@@ -83,8 +84,9 @@ impl Matrix {
         ensures votes { (a b : ℕ) → IsOption self.old.options a → IsOption self.old.options b → votes self.new a b + (if prefers ranks.now a b then 1 else 0) ≡ votes self.old a b }
     {
         let places = places(ranks.as_slice());
-        for option in 0..self.options as usize {
-            lower(&mut self.counts[option], places[option], &places);
+        let options = self.options;
+        for option in 0..options as usize {
+            lower(&mut self.counts[option], places[option], &places, options);
         }
     }
 }
@@ -112,25 +114,69 @@ fn places(ranks: &[Option<u8>]) -> [u16; MAX_OPTIONS]
     places
 }
 
+// How many options of a row are counted in one pass. LLVM makes vector code of a pass, since this is
+// a constant, and a poll of few options does without the second one.
+const PASS: usize = MAX_OPTIONS / 2;
+
 // One more vote, in the row of the option at this place, over each option behind it.
-fn raise(row: &mut [u32], place: u16, places: &[u16])
-    requires options { length places.now ≤ length row.old }
-    requires room { (k : ℕ) → k < length places.now → place < slice_index_or places.now k 0 → slice_index_or row.old k 0 < 2 ^ 32 - 1 }
-    ensures { (k : ℕ) → k < length places.now → slice_index_or row.new k 0 ≡ slice_index_or row.old k 0 + (if nat_lt place (slice_index_or places.now k 0) then 1 else 0) }
+#[inline(always)]
+fn raise(row: &mut [u32], place: u16, places: &[u16], options: u8)
+    requires row { length row.old ≡ MAX_OPTIONS }
+    requires places { length places.now ≡ MAX_OPTIONS }
+    requires options { options ≤ MAX_OPTIONS }
+    requires room { (k : ℕ) → k < MAX_OPTIONS → place < slice_index_or places.now k 0 → slice_index_or row.old k 0 < 2 ^ 32 - 1 }
+    ensures { (k : ℕ) → k < options → slice_index_or row.new k 0 ≡ slice_index_or row.old k 0 + (if nat_lt place (slice_index_or places.now k 0) then 1 else 0) }
 {
-    for (option, other) in places.iter().enumerate() {
-        row[option] += u32::from(place < *other);
+    raise_from(row, place, places, 0);
+    if options as usize > PASS {
+        raise_from(row, place, places, PASS);
+    }
+}
+
+// The same, in the pass from this option on.
+#[inline(always)]
+fn raise_from(row: &mut [u32], place: u16, places: &[u16], first: usize)
+    requires row { first + PASS ≤ length row.old }
+    requires places { first + PASS ≤ length places.now }
+    requires room { (k : ℕ) → first ≤ k → k < first + PASS → place < slice_index_or places.now k 0 → slice_index_or row.old k 0 < 2 ^ 32 - 1 }
+    ensures pass { (k : ℕ) → first ≤ k → k < first + PASS → slice_index_or row.new k 0 ≡ slice_index_or row.old k 0 + (if nat_lt place (slice_index_or places.now k 0) then 1 else 0) }
+    ensures before { (k : ℕ) → k < first → slice_index_or row.new k 0 ≡ slice_index_or row.old k 0 }
+    ensures behind { (k : ℕ) → first + PASS ≤ k → slice_index_or row.new k 0 ≡ slice_index_or row.old k 0 }
+{
+    for k in 0..PASS {
+        let option = first + k;
+        row[option] += u32::from(place < places[option]);
     }
 }
 
 // One vote less, in the row of the option at this place, over each option behind it.
-fn lower(row: &mut [u32], place: u16, places: &[u16])
-    requires options { length places.now ≤ length row.old }
-    requires some { (k : ℕ) → k < length places.now → place < slice_index_or places.now k 0 → 0 < slice_index_or row.old k 0 }
-    ensures { (k : ℕ) → k < length places.now → slice_index_or row.new k 0 + (if nat_lt place (slice_index_or places.now k 0) then 1 else 0) ≡ slice_index_or row.old k 0 }
+#[inline(always)]
+fn lower(row: &mut [u32], place: u16, places: &[u16], options: u8)
+    requires row { length row.old ≡ MAX_OPTIONS }
+    requires places { length places.now ≡ MAX_OPTIONS }
+    requires options { options ≤ MAX_OPTIONS }
+    requires some { (k : ℕ) → k < MAX_OPTIONS → place < slice_index_or places.now k 0 → 0 < slice_index_or row.old k 0 }
+    ensures { (k : ℕ) → k < options → slice_index_or row.new k 0 + (if nat_lt place (slice_index_or places.now k 0) then 1 else 0) ≡ slice_index_or row.old k 0 }
 {
-    for (option, other) in places.iter().enumerate() {
-        row[option] -= u32::from(place < *other);
+    lower_from(row, place, places, 0);
+    if options as usize > PASS {
+        lower_from(row, place, places, PASS);
+    }
+}
+
+// The same, in the pass from this option on.
+#[inline(always)]
+fn lower_from(row: &mut [u32], place: u16, places: &[u16], first: usize)
+    requires row { first + PASS ≤ length row.old }
+    requires places { first + PASS ≤ length places.now }
+    requires some { (k : ℕ) → first ≤ k → k < first + PASS → place < slice_index_or places.now k 0 → 0 < slice_index_or row.old k 0 }
+    ensures pass { (k : ℕ) → first ≤ k → k < first + PASS → slice_index_or row.new k 0 + (if nat_lt place (slice_index_or places.now k 0) then 1 else 0) ≡ slice_index_or row.old k 0 }
+    ensures before { (k : ℕ) → k < first → slice_index_or row.new k 0 ≡ slice_index_or row.old k 0 }
+    ensures behind { (k : ℕ) → first + PASS ≤ k → slice_index_or row.new k 0 ≡ slice_index_or row.old k 0 }
+{
+    for k in 0..PASS {
+        let option = first + k;
+        row[option] -= u32::from(place < places[option]);
     }
 }
 

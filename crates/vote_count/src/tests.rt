@@ -6,7 +6,7 @@ ghost use Rattle.vote_count.specs.Ballots.{IsBallotOf};
 ghost use Rattle.vote_count.specs.Sets.{Pairs};
 
 use crate::{
-    Cause, Chains, Decision, Defeats, Matrix, Verdict, decide, outcome, quorum_votes, reach,
+    Cause, Chains, Decision, Defeats, Matrix, Round, Verdict, decide, outcome, quorum_votes, reach,
     reach_by_pairs, recount, standing_options,
 };
 use std::alloc::{AllocError, Global};
@@ -70,13 +70,13 @@ fn line(alloc: Global, options: u8, a: u8, b: u8, others_first: bool) -> Result<
     let mut line = String::from_str(alloc, "v0 ")?;
     for option in 1..options {
         let rank = if option == a {
-            30
+            40
         } else if option == b {
-            31
+            41
         } else if others_first {
-            29 - option
+            39 - option
         } else {
-            40 + option
+            50 + option
         };
         let text = format!(in alloc; "{rank},")?;
         line.push_str(text.as_str())?;
@@ -338,30 +338,82 @@ fn all_reach_all(chains: &Chains, last: u8) -> bool {
     true
 }
 
-#[test]
-fn a_cycle_of_fifteen_options(rt: HostRuntime) -> Result<(), Fail> {
-    let alloc = rt.alloc();
-    let names =
-        "\"A\", \"B\", \"C\", \"D\", \"E\", \"F\", \"G\", \"H\", \"I\", \"J\", \"K\", \"L\", \"M\", \"N\", \"O\"";
-    let poll = poll(
-        alloc,
-        names,
-        "1, 1, 1, 1, 1, 1, 1, 1, 1, 1, 1, 1, 1, 1, 1",
-        0,
-        30,
-    )?;
-    let ballots = cycle(alloc, &poll)?;
-    assert_eq!(rt; ballots.len(), 30);
-    let matrix = recount(poll.options(), &ballots);
-    let verdict = outcome(alloc, &poll, &matrix)?;
-    assert!(rt; all_reach_all(&reach(&verdict.defeats()), 15));
-    assert_eq!(rt; decide(&verdict, None), Decision::Tie);
-    match verdict.rounds() {
-        [first, second] => {
-            assert_eq!(rt; (first.set.len(), first.removed.len()), (15, 15));
-            assert_eq!(rt; (second.set.len(), second.removed.len()), (15, 0));
+/// By how many voters more `a` is preferred to `b` than the other way round in a cycle of the options before the default.
+fn lead_in_cycle(default: u8, a: u8, b: u8) -> i64
+    requires { (a < default) × (b < default) }
+{
+    if b == a + 1 || (a + 1 == default && b == 1) {
+        2
+    } else if a == b + 1 || (b + 1 == default && a == 1) {
+        -2
+    } else {
+        0
+    }
+}
+
+/// Whether a matrix is that of a cycle, in which all voters prefer each other option to the default.
+fn is_cycle(matrix: &Matrix) -> bool {
+    let default = matrix.options();
+    for a in 1..default {
+        for b in 1..default {
+            let lead = i64::from(matrix.votes(a, b)) - i64::from(matrix.votes(b, a));
+            if lead != lead_in_cycle(default, a, b) {
+                return false;
+            }
         }
-        _ => return Err(Fail::from("not two rounds")),
+        if matrix.votes(a, default) != 2 * (u32::from(default) - 1)
+            || matrix.votes(default, a) != 0
+        {
+            return false;
+        }
+    }
+    true
+}
+
+/// A poll of so many options, each with ratio 1, and the default.
+fn poll_of(alloc: Global, others: u8) -> Result<Poll, Fail> {
+    let mut names = String::new(alloc);
+    let mut ratios = String::new(alloc);
+    for option in 0..others {
+        let name = format!(in alloc; "\"Option {option}\", ")?;
+        names.push_str(name.as_str())?;
+        ratios.push_str("1, ")?;
+    }
+    poll(alloc, names.as_str(), ratios.as_str(), 0, 62)
+}
+
+/// What the rounds of a cycle have: in the first round all options but the default, of which each defeats the next one, and
+/// those defeats are removed; in the second the same options.
+fn are_rounds_of_cycle(rounds: &[Round], others: usize) -> bool {
+    match rounds {
+        [first, second] => {
+            first.set.len() == others
+                && first.removed.len() == others
+                && first.removed.row(1) == 0b10
+                && second.set == first.set
+                && second.removed.is_empty()
+        }
+        _ => false,
+    }
+}
+
+#[test]
+fn a_cycle_of_all_options(rt: HostRuntime) -> Result<(), Fail> {
+    let alloc = rt.alloc();
+    for (others, defeated, reached) in [(15, 0x8002, 0xFFFF), (31, 0x8000_0002, 0xFFFF_FFFF)] {
+        let poll = poll_of(alloc, others)?;
+        let ballots = cycle(alloc, &poll)?;
+        assert_eq!(rt; ballots.len(), 2 * others as usize);
+        let matrix = recount(poll.options(), &ballots);
+        assert!(rt; is_cycle(&matrix));
+        let verdict = outcome(alloc, &poll, &matrix)?;
+        assert_eq!(rt; verdict.defeats().row(1), defeated);
+        let chains = reach(&verdict.defeats());
+        assert!(rt; all_reach_all(&chains, others));
+        assert_eq!(rt; (chains.row(1), chains.row(others)), (reached, reached));
+        assert!(rt; are_rounds_of_cycle(verdict.rounds(), others as usize));
+        assert!(rt; !verdict.final_set().has(poll.options()));
+        assert_eq!(rt; decide(&verdict, None), Decision::Tie);
     }
     Ok(())
 }
