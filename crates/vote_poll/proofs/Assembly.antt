@@ -1,4 +1,4 @@
--- The poll that the keys give, where each part was found good.
+-- The poll that the required keys give, where each part was found good.
 use Rattle.std.proofs.Common.{◌≡◌, ◌+◌, ◌≤◌, ◌==◌, ◌∷◌, [], ℕ, ℤ, Bool, true, false, cond, map, length, Option, Some, None, Ok, Err, refl, ap, arith, nat_abs, length-append, pos, ◌≤ℤ◌}
 use Rattle.std.specs.Option.{option_map}
 use Rattle.std.specs.List.{list_all}
@@ -9,7 +9,7 @@ use Rattle.std.proofs.lemmas.List.Elements.{All-map, All-weaker}
 use Rattle.std.proofs.lemmas.List.Sums.{AllPass-from_list_all}
 use Rattle.vote_poll.specs.Names.{is_within, is_voter_name, is_option_name, is_title, first_bad}
 use Rattle.vote_poll.specs.PollContent.{PollContent, IsPoll}
-use Rattle.vote_poll.specs.PollFile.{Fields, all_options, first_fault, poll_of, err_or, is_integer_within}
+use Rattle.vote_poll.specs.PollFile.{Fields, all_options, first_fault, required_poll, err_or, is_integer_within}
 use Rattle.vote_poll.specs.declared.TheConstants.{MAX_OPTIONS, MAX_ELECTORS, MAX_RATIO, MAX_QUORUM_MULTIPLE}
 use Rattle.vote_poll.specs.declared.fault.PollFault.{PollFault}
 use Rattle.vote_poll.specs.declared.fault.PollFault.TheVariants as fault
@@ -17,6 +17,7 @@ use Rattle.vote_poll.specs.declared.fault.PollFault.TheVariants as fault
 pub record Checked (f : Fields) (p : PollContent) : Type 0 where
   pub title : is_title f.title ≡ true
   pub same_title : p.title ≡ f.title
+  pub none_late : p.last_envelope ≡ None
   pub count : is_within 2 MAX_OPTIONS (length (all_options f)) ≡ true
   pub options : err_or (option_map (λ place. fault.OptionName (place + 1)) (first_bad is_option_name (all_options f))) (all_options f) ≡ Ok p.options
   pub ratio_count : length f.ratios ≡ length f.options
@@ -38,13 +39,13 @@ chosen_ok : {X : Type 0} (b : Bool) (x y : X) (e : PollFault) → cond b (Ok x) 
 chosen_ok true x y e h = (refl, cc)
 chosen_ok false x y e h = cc
 
-pub checked_meaning : (f : Fields) (p : PollContent) → Checked f p → err_or (first_fault f) (poll_of f) ≡ Ok p
+pub checked_meaning : (f : Fields) (p : PollContent) → Checked f p → err_or (first_fault f) (required_poll f) ≡ Ok p
 checked_meaning f p h =
     let options = err_or-ok (option_map (λ place. fault.OptionName (place + 1)) (first_bad is_option_name (all_options f))) (all_options f) p.options h.options in
     let roll = err_or-ok (option_map fault.VoterName (first_bad is_voter_name f.roll)) f.roll p.roll h.roll in
     let ratios = chosen_ok (list_all (is_integer_within 1 MAX_RATIO) f.ratios) (map nat_abs f.ratios) p.ratios fault.Ratio h.ratios in
     let counted : (length f.ratios == length f.options) ≡ true = let same : length f.ratios ≡ length f.options = h.ratio_count in grind (arith, nat_tests) in
-    rw (h.title, h.count, options.0, counted, ratios.0, h.quorum, h.size, roll.0, ← h.same_title, options.1, ratios.1, ← h.multiple, roll.1)
+    rw (h.title, h.count, options.0, counted, ratios.0, h.quorum, h.size, roll.0, ← h.same_title, options.1, ratios.1, ← h.multiple, roll.1, ← h.none_late)
 
 integer_bounds : (low high : ℕ) (z : ℤ) → is_integer_within low high z ≡ true → (low ≤ nat_abs z) × (nat_abs z ≤ high)
 integer_bounds low high (pos n) h = (grind (arith, ints, nat_tests), grind (arith, ints, nat_tests))
@@ -72,6 +73,7 @@ checked_poll f p h =
       electors_min = omega (arith, roll_size.0, ap length roll.1);
       electors_max = omega (arith, roll_size.1, ap length roll.1);
       voter_names = rw (← roll.1) (none_mapped fault.VoterName (first_bad is_voter_name f.roll) roll.0);
+      last_range = rw (h.none_late) tt;
     }
 
 pub is_within_from : (low high n : ℕ) → low ≤ n → n ≤ high → is_within low high n ≡ true

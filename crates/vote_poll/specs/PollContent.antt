@@ -1,18 +1,21 @@
 -- What a poll file says. The quorum is of section 4.2 of the Constitution, the default option and the ratios of A.5 of its
--- Appendix A; that a poll sets the multiple of Q is this project's own.
-use Rattle.std.specs.Prelude.{◌≡◌, ℕ, ◌+◌, ◌≤◌, List, length, None, IsTrue}
+-- Appendix A; that a poll sets the multiple of Q is this project's own, and so is that envelopes can be late.
+use Rattle.std.specs.Prelude.{◌≡◌, ℕ, ◌+◌, ◌≤◌, List, length, Option, None, IfSome, unwrap_or, IsTrue}
 use Rattle.std.specs.List.{All}
 use Rattle.vote_poll.specs.Names.{first_bad, is_option_name, is_title, is_voter_name}
 use Rattle.vote_poll.specs.Options.{at_option}
 use Rattle.vote_poll.specs.declared.TheConstants.{MAX_OPTIONS, MAX_ELECTORS, MAX_RATIO, MAX_QUORUM_MULTIPLE}
+use Rattle.vote_poll.specs.declared.lines.TheConstants.{MAX_LINES}
 
--- The default option is the last one. The options but the default have a ratio each.
+-- The default option is the last one. The options but the default have a ratio each. Where there is a last envelope, those
+-- with a greater number are late.
 pub record PollContent : Type 0 where
   pub title : List ℕ
   pub options : List (List ℕ)
   pub ratios : List ℕ
   pub quorum_multiple : ℕ
   pub roll : List (List ℕ)
+  pub last_envelope : Option ℕ
 
 -- the number of options, which is the number of the default option
 abbrev pub option_count : PollContent → ℕ
@@ -24,6 +27,10 @@ elector_count poll = length poll.roll
 -- the majority ratio of an option other than the default
 abbrev pub ratio_of : PollContent → ℕ → ℕ
 ratio_of poll option = at_option poll.ratios option 0
+
+-- the greatest number of an envelope that is not late; where the poll has none, the greatest that an envelope can have
+abbrev pub last_of : PollContent → ℕ
+last_of poll = unwrap_or poll.last_envelope MAX_LINES
 
 -- the limits that each poll keeps
 pub record IsPoll (poll : PollContent) : Type 0 where
@@ -37,3 +44,4 @@ pub record IsPoll (poll : PollContent) : Type 0 where
   pub electors_min : 1 ≤ elector_count poll
   pub electors_max : elector_count poll ≤ MAX_ELECTORS
   pub voter_names : first_bad is_voter_name poll.roll ≡ None
+  pub last_range : IfSome poll.last_envelope (λ last. last ≤ MAX_LINES)

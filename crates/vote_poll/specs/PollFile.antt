@@ -10,13 +10,14 @@ use Rattle.vote_poll.specs.Names.{is_within, is_voter_name}
 use Rattle.vote_poll.specs.PollContent.{PollContent}
 use Rattle.vote_poll.specs.Lists.{all_some}
 use Rattle.vote_poll.specs.declared.TheConstants.{MAX_OPTIONS, MAX_ELECTORS, MAX_RATIO, MAX_QUORUM_MULTIPLE}
+use Rattle.vote_poll.specs.declared.lines.TheConstants.{MAX_LINES}
 use Rattle.vote_poll.specs.declared.fault.PollKey.{PollKey}
 use Rattle.vote_poll.specs.declared.fault.PollKey.TheVariants as key
 use Rattle.vote_poll.specs.declared.fault.PollFault.{PollFault}
 use Rattle.vote_poll.specs.declared.fault.PollFault.TheVariants as fault
 
 -- ---- the keys
--- the six keys, each of its kind
+-- the keys, each of its kind; the last envelope alone may be missing
 pub record Fields : Type 0 where
   pub title : List ℕ
   pub options : List (List ℕ)
@@ -24,6 +25,7 @@ pub record Fields : Type 0 where
   pub default_option : List ℕ
   pub quorum : ℤ
   pub roll : List (List ℕ)
+  pub last_envelope : Option ℤ
 
 abbrev pub items_list : Items → List Data
 items_list no_items = []
@@ -41,6 +43,15 @@ list_of kind value = option_and_then (each_of kind) (as_array value)
 abbrev pub field : {X : Type 0} → PollKey → List ℕ → (Data → Option X) → Members → Result X PollFault
 field name text kind table = ok_or (option_and_then kind (get_member text table)) (fault.Key name)
 
+-- the value, where there is one; it is of the kind
+abbrev pub of_kind_or_none : {X : Type 0} → PollKey → (Data → Option X) → Option Data → Result (Option X) PollFault
+of_kind_or_none name kind None = Ok None
+of_kind_or_none name kind (Some value) = ok_or (option_map Some (kind value)) (fault.Key name)
+
+-- the value of a key that may be missing
+abbrev pub optional_field : {X : Type 0} → PollKey → List ℕ → (Data → Option X) → Members → Result (Option X) PollFault
+optional_field name text kind table = of_kind_or_none name kind (get_member text table)
+
 infixl 10 ◌>>=◌
 abbrev pub ◌>>=◌ : {A B : Type 0} → Result A PollFault → (A → Result B PollFault) → Result B PollFault
 (Ok x) >>= f = f x
@@ -54,7 +65,8 @@ fields_of table = do
   default_option ← field key.DefaultOption (codes "default") as_str table
   quorum ← field key.Quorum (codes "quorum") as_integer table
   roll ← field key.Roll (codes "roll") (list_of as_str) table
-  Ok (record { title = title; options = options; ratios = ratios; default_option = default_option; quorum = quorum; roll = roll })
+  last_envelope ← optional_field key.LastEnvelope (codes "last_envelope") as_integer table
+  Ok (record { title = title; options = options; ratios = ratios; default_option = default_option; quorum = quorum; roll = roll; last_envelope = last_envelope })
 
 -- ---- the limits
 -- the number is one from low to high
@@ -77,6 +89,7 @@ first_some [] = None
 first_some (None ∷ values) = first_some values
 first_some (Some x ∷ values) = Some x
 
+-- of the keys that have to be there
 abbrev pub first_fault : Fields → Option PollFault
 first_fault f = first_some (
     unless (is_title f.title) fault.Title
@@ -88,19 +101,33 @@ first_fault f = first_some (
     ∷ option_map fault.VoterName (first_bad is_voter_name f.roll)
     ∷ [])
 
-abbrev pub poll_of : Fields → PollContent
-poll_of f = record {
+-- the poll that they give, in which no envelope is late
+abbrev pub required_poll : Fields → PollContent
+required_poll f = record {
   title = f.title;
   options = all_options f;
   ratios = map nat_abs f.ratios;
   quorum_multiple = nat_abs f.quorum;
   roll = f.roll;
+  last_envelope = None;
 }
 
 -- the value, where there is no fault
 abbrev pub err_or : {X : Type 0} → Option PollFault → X → Result X PollFault
 err_or None x = Ok x
 err_or (Some e) x = Err e
+
+-- the last envelope that a number gives
+abbrev pub last_envelope_in : Option ℤ → Result (Option ℕ) PollFault
+last_envelope_in None = Ok None
+last_envelope_in (Some z) = if is_integer_within 0 MAX_LINES z then Ok (Some (nat_abs z)) else Err fault.LastEnvelope
+
+-- the poll that the keys give
+unfoldable pub poll_of : Fields → Result PollContent PollFault
+poll_of f = do
+  poll ← err_or (first_fault f) (required_poll f)
+  last_envelope ← last_envelope_in f.last_envelope
+  Ok (record poll { last_envelope = last_envelope })
 
 -- ---- the file
 -- the table of a text
@@ -112,7 +139,7 @@ unfoldable pub poll_in : List ℕ → Result PollContent PollFault
 poll_in text = do
   table ← document text
   f ← fields_of table
-  err_or (first_fault f) (poll_of f)
+  poll_of f
 
 -- ---- what a call gives
 abbrev pub Fails : {Y : Type 0} → PollFault → Result Y PollFault → Type 0

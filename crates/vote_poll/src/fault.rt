@@ -6,8 +6,7 @@ use std::alloc::{AllocError, AllocFailed};
 use std::fmt;
 use thiserror::Error;
 
-/// A key that a poll file has to have, in the order in which they are looked for. It is displayed as it stands in
-/// the file.
+/// A key of a poll file, in the order in which they are looked for. It is displayed as it stands in the file.
 #[derive(Clone, Copy, Debug, PartialEq, Eq)]
 pub enum PollKey {
     /// `title`, a text.
@@ -22,6 +21,8 @@ pub enum PollKey {
     Quorum,
     /// `roll`, a list of texts: the names of the voters.
     Roll,
+    /// `last_envelope`, a whole number: the last envelope that is not late. This key may be missing.
+    LastEnvelope,
 }
 
 impl fmt::Display for PollKey {
@@ -33,6 +34,7 @@ impl fmt::Display for PollKey {
             PollKey::DefaultOption => "default",
             PollKey::Quorum => "quorum",
             PollKey::Roll => "roll",
+            PollKey::LastEnvelope => "last_envelope",
         })
     }
 }
@@ -44,7 +46,8 @@ pub enum PollFault {
     /// The text is no UTF-8, or no TOML document.
     #[error("poll refused: syntax")]
     Syntax,
-    /// The key is missing or of the wrong kind, or an entry of its list is; each key before it is there and right.
+    /// The key is missing, where it has to be there, or of the wrong kind, or an entry of its list is; each key before
+    /// it is right.
     #[error("poll refused: key {0}")]
     Key(PollKey),
     /// The title has no byte or more than [`MAX_TITLE`](crate::MAX_TITLE), or one outside 0x20 to 0x7E.
@@ -71,6 +74,9 @@ pub enum PollFault {
     /// A name has 1 to [`MAX_VOTER_NAME`](crate::MAX_VOTER_NAME) bytes of `a` to `z`, `0` to `9`, `.` and `-`.
     #[error("poll refused: voter at position {0}")]
     VoterName(usize),
+    /// The last envelope is not from 0 to [`MAX_LINES`](crate::MAX_LINES).
+    #[error("poll refused: last envelope")]
+    LastEnvelope,
     /// Memory was asked for and refused. It can come in place of any other answer.
     #[error("out of memory")]
     Memory,

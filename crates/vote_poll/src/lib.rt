@@ -3,7 +3,8 @@
 //! The words of this crate:
 //! - [`Poll`]: what a poll file says. It has a title, two to [`MAX_OPTIONS`] options of which the last is the
 //!   default option, a majority ratio for each other option, the multiple of Q that is its quorum, and the
-//!   roll of its electors. [`Poll::from_text`] reads it, or answers the first [`PollFault`].
+//!   roll of its electors. It may have a last envelope, and those after it are then late.
+//!   [`Poll::from_text`] reads it, or answers the first [`PollFault`].
 //! - [`Lines`]: the lines of a ballot file, each an envelope. [`Lines::split`] makes them.
 //! - [`Ranks`]: what one ballot says of the options, and which option it prefers to which.
 //! - [`Reading`]: what a poll reads in a line, by [`read_line`]: a ballot of an elector, or a [`LineFault`].
@@ -23,7 +24,8 @@
 //! - A ballot that was read is of a voter on the roll, and has a rank or none for each option.
 //!
 //! The Constitution's sections are named where a rule is the Constitution's: 4.2 for the quorum, and A.5 of
-//! Appendix A for ranks, ratios and the default option. The formats of the two files are this project's own.
+//! Appendix A for ranks, ratios and the default option. The formats of the two files are this project's own, and
+//! so is that envelopes can be late.
 #![tactic(auto)]
 
 mod fault;

@@ -3,10 +3,11 @@ ghost use Rattle.std.specs.Prelude.{◌≡◌, ◌+◌, ◌<◌, ◌≤◌, ◌+
 ghost use Rattle.std.specs.List.{list_all, list_any};
 ghost use Rattle.std.specs.Str.{bytes_eq};
 ghost use Rattle.vote_poll.specs.Names.{is_voter_name};
-ghost use Rattle.vote_poll.specs.PollFile.{Gives, err_or, first_bad, has_outer_space, is_bad_after, is_integer_within, is_option_name, is_printable, is_title};
+ghost use Rattle.vote_poll.specs.PollFile.{Gives, err_or, first_bad, has_outer_space, is_bad_after, is_integer_within, is_option_name, is_printable, is_title, last_envelope_in};
 ghost use Rattle.vote_poll.specs.declared.fault.PollFault.TheVariants as fault;
 
 use crate::fault::PollFault;
+use crate::lines::MAX_LINES;
 use crate::reading::is_voter_name;
 use crate::{MAX_OPTION_NAME, MAX_OPTIONS, MAX_RATIO, MAX_TITLE};
 use indexmap::IndexSet;
@@ -107,4 +108,17 @@ pub(crate) fn voters_of(alloc: Global, texts: &[&str]) -> Result<IndexSet<String
         }
     }
     Ok(roll)
+}
+
+/// The last envelope that is not late, where there is one.
+pub(crate) fn last_envelope_of(number: Option<i64>) -> Result<Option<u32>, PollFault>
+    ensures { Gives (λ last. last) result (last_envelope_in number) }
+{
+    let Some(number) = number else {
+        return Ok(None);
+    };
+    if number < 0 || number > MAX_LINES as i64 {
+        return Err(PollFault::LastEnvelope);
+    }
+    Ok(Some(number as u32))
 }

@@ -1,10 +1,11 @@
 //! The poll: its options, its quorum and its roll of voters.
-ghost use Rattle.std.specs.Prelude.{◌≡◌, ◌≤◌, ◌<◌, ◌+◌, ◌-◌, Some, length, slice_get, option_map, position, string_bytes};
+ghost use Rattle.std.specs.Prelude.{◌≡◌, ◌≤◌, ◌<◌, ◌+◌, ◌-◌, Some, IfSome, length, slice_get, option_map, position, string_bytes};
 ghost use Rattle.std.specs.Str.{bytes_eq};
 ghost use Rattle.vote_poll.specs.Names.{place_of};
 ghost use Rattle.vote_poll.specs.Options.{IsOption};
 ghost use Rattle.vote_poll.specs.PollContent.{IsPoll, option_count, elector_count, ratio_of};
 ghost use Rattle.vote_poll.specs.PollParts.{content_of};
+ghost use Rattle.vote_poll.specs.declared.lines.TheConstants.{MAX_LINES};
 
 use crate::{MAX_ELECTORS, MAX_OPTIONS};
 use indexmap::IndexSet;
@@ -20,6 +21,7 @@ pub struct Poll {
     ratios: Vec<u8>,
     quorum_multiple: u8,
     roll: IndexSet<String>,
+    last_envelope: Option<u32>,
 }
 
 /// The place of a name among the names of options.
@@ -43,7 +45,7 @@ impl Model for Poll {
 }
 
 impl Poll {
-    /// A poll of these parts, where the last option is the default.
+    /// A poll of these parts, where the last option is the default and no envelope is late.
     pub(crate) fn new(
         title: String,
         options: Vec<String>,
@@ -60,6 +62,18 @@ impl Poll {
             ratios,
             quorum_multiple,
             roll,
+            last_envelope: None,
+        }
+    }
+
+    /// The same poll with this last envelope.
+    pub(crate) fn with_last_envelope(self, last_envelope: Option<u32>) -> Poll
+        requires { IfSome last_envelope (λ last. last ≤ MAX_LINES) }
+        ensures { result ≡ record self { last_envelope = last_envelope } }
+    {
+        Poll {
+            last_envelope,
+            ..self
         }
     }
 
@@ -89,6 +103,15 @@ impl Poll {
         ensures at_most { result ≤ 10 }
     {
         self.quorum_multiple
+    }
+
+    /// The number of the last envelope that is not late, 0 to [`MAX_LINES`](crate::MAX_LINES), or none where no envelope
+    /// is late. That a poll can refuse late envelopes is this project's own.
+    pub fn last_envelope(&self) -> Option<u32>
+        ensures last { result ≡ self.now.last_envelope }
+        ensures at_most { IfSome result (λ last. last ≤ MAX_LINES) }
+    {
+        self.last_envelope
     }
 
     /// The title of the poll: 1 to [`MAX_TITLE`](crate::MAX_TITLE) printable ASCII bytes.

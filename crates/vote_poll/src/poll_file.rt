@@ -5,10 +5,10 @@ ghost use Rattle.vote_poll.specs.FieldsView.{fields_view};
 ghost use Rattle.vote_poll.specs.declared.fault.PollFault.TheVariants as fault;
 ghost use Rattle.toml.specs.Data.{get_member, as_array, as_str, as_integer};
 ghost use Rattle.toml.specs.View.{items_view, view, table_view};
-ghost use Rattle.vote_poll.specs.PollFile.{Gives, document, each_of, err_or, field, fields_of, first_fault, list_of, poll_in, poll_of};
+ghost use Rattle.vote_poll.specs.PollFile.{Gives, document, each_of, err_or, field, fields_of, first_fault, list_of, optional_field, poll_in, poll_of, required_poll};
 
 use crate::fault::{PollFault, PollKey};
-use crate::limits::{is_title, option_names, ratios_of, voters_of};
+use crate::limits::{is_title, last_envelope_of, option_names, ratios_of, voters_of};
 use crate::poll::Poll;
 use crate::{MAX_ELECTORS, MAX_OPTIONS, MAX_QUORUM_MULTIPLE};
 use std::alloc::Global;
@@ -53,6 +53,17 @@ fn integer_at(table: &Table, name: &str, key: PollKey) -> Result<i64, PollFault>
     match value_at(table, name) {
         Some(Value::Integer(number)) => Ok(*number),
         _ => Err(PollFault::Key(key)),
+    }
+}
+
+/// The whole number at a key that may be missing.
+fn optional_integer_at(table: &Table, name: &str, key: PollKey) -> Result<Option<i64>, PollFault>
+    ensures { Gives (λ number. number) result (optional_field key name.now as_integer (table_view table.now)) }
+{
+    match value_at(table, name) {
+        None => Ok(None),
+        Some(Value::Integer(number)) => Ok(Some(*number)),
+        Some(_) => Err(PollFault::Key(key)),
     }
 }
 
@@ -120,7 +131,7 @@ fn integers_at(
     integers_of(alloc, items, key)
 }
 
-/// The six keys of a poll file, each of its kind.
+/// The keys of a poll file, each of its kind.
 #[derive(Drop)]
 struct Fields<'t> {
     title: &'t str,
@@ -129,6 +140,7 @@ struct Fields<'t> {
     default_option: &'t str,
     quorum: i64,
     roll: Vec<&'t str>,
+    last_envelope: Option<i64>,
 }
 
 /// The keys of a table.
@@ -142,6 +154,7 @@ fn fields_of(alloc: Global, table: &Table) -> Result<Fields<'_>, PollFault>
     let default_option = text_at(table, "default", PollKey::DefaultOption)?;
     let quorum = integer_at(table, "quorum", PollKey::Quorum)?;
     let roll = texts_at(alloc, table, "roll", PollKey::Roll)?;
+    let last_envelope = optional_integer_at(table, "last_envelope", PollKey::LastEnvelope)?;
     Ok(Fields {
         title,
         options,
@@ -149,12 +162,13 @@ fn fields_of(alloc: Global, table: &Table) -> Result<Fields<'_>, PollFault>
         default_option,
         quorum,
         roll,
+        last_envelope,
     })
 }
 
-/// The poll that the keys give, or its first fault.
-fn poll_of(alloc: Global, fields: Fields<'_>) -> Result<Poll, PollFault>
-    ensures { Gives (λ poll. poll) result (err_or (first_fault (fields_view fields.entry)) (poll_of (fields_view fields.entry))) }
+/// The poll that the required keys give, or its first fault.
+fn required_poll(alloc: Global, fields: Fields<'_>) -> Result<Poll, PollFault>
+    ensures { Gives (λ poll. poll) result (err_or (first_fault (fields_view fields.entry)) (required_poll (fields_view fields.entry))) }
 {
     let Fields {
         title,
@@ -163,6 +177,7 @@ fn poll_of(alloc: Global, fields: Fields<'_>) -> Result<Poll, PollFault>
         default_option,
         quorum,
         roll,
+        ..
     } = fields;
     if !is_title(title.as_bytes()) {
         return Err(PollFault::Title);
@@ -188,9 +203,20 @@ fn poll_of(alloc: Global, fields: Fields<'_>) -> Result<Poll, PollFault>
     Ok(Poll::new(title, options, ratios, quorum as u8, roll))
 }
 
+/// The poll that the keys give, or its first fault.
+#[tactic(auto, unfolding(crate::specs::PollFile::poll_of))]
+fn poll_of(alloc: Global, fields: Fields<'_>) -> Result<Poll, PollFault>
+    ensures { Gives (λ poll. poll) result (poll_of (fields_view fields.entry)) }
+{
+    let last_envelope = fields.last_envelope;
+    let poll = required_poll(alloc, fields)?;
+    let last_envelope = last_envelope_of(last_envelope)?;
+    Ok(poll.with_last_envelope(last_envelope))
+}
+
 impl Poll {
-    /// The poll that the text of a poll file means, or the first of its faults. The text is TOML with the six keys of
-    /// [`PollKey`]; other keys are passed over.
+    /// The poll that the text of a poll file means, or the first of its faults. The text is TOML with the keys of
+    /// [`PollKey`], of which `last_envelope` may be missing; other keys are passed over.
     ///
     /// # Errors
     ///

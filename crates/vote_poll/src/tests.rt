@@ -102,6 +102,7 @@ fn a_small_poll(rt: HostRuntime) -> Result<(), Fail> {
     assert_eq!(rt; poll.options(), 3);
     assert_eq!(rt; poll.electors(), 11);
     assert_eq!(rt; poll.quorum_multiple(), 2);
+    assert_eq!(rt; poll.last_envelope(), None);
     assert_eq!(rt; poll.ratio(1), 1);
     assert_eq!(rt; poll.ratio(2), 3);
     assert_eq!(rt; poll.option_name(1), "A");
@@ -179,6 +180,10 @@ fn words_of_faults(rt: HostRuntime) -> Result<(), Fail> {
         ),
         (PollFault::Key(PollKey::Quorum), "poll refused: key quorum"),
         (PollFault::Key(PollKey::Roll), "poll refused: key roll"),
+        (
+            PollFault::Key(PollKey::LastEnvelope),
+            "poll refused: key last_envelope",
+        ),
         (PollFault::Title, "poll refused: title"),
         (PollFault::OptionCount, "poll refused: number of options"),
         (PollFault::OptionName(32), "poll refused: name of option 32"),
@@ -189,6 +194,7 @@ fn words_of_faults(rt: HostRuntime) -> Result<(), Fail> {
             PollFault::VoterName(9_999),
             "poll refused: voter at position 9999",
         ),
+        (PollFault::LastEnvelope, "poll refused: last envelope"),
         (PollFault::Memory, "out of memory"),
     ] {
         assert_eq!(rt; format!(in alloc; "{fault}")?.as_str(), words);
@@ -283,6 +289,73 @@ fn faults_of_polls(rt: HostRuntime) -> Result<(), Fail> {
         Poll::from_text(alloc, b"title = \"\xFF\"").err(),
         Some(PollFault::Syntax)
     );
+    Ok(())
+}
+
+#[test]
+fn last_envelopes(rt: HostRuntime) -> Result<(), Fail> {
+    let alloc = rt.alloc();
+    for (keys, fault) in [
+        (
+            "roll = [\"v0\"]\nlast_envelope = \"5\"",
+            Some(PollFault::Key(PollKey::LastEnvelope)),
+        ),
+        (
+            "roll = [\"v0\"]\nlast_envelope = 5.0",
+            Some(PollFault::Key(PollKey::LastEnvelope)),
+        ),
+        (
+            "roll = [\"v0\"]\nlast_envelope = [5]",
+            Some(PollFault::Key(PollKey::LastEnvelope)),
+        ),
+        (
+            "roll = [\"v0\"]\n[last_envelope]\nlast = 5",
+            Some(PollFault::Key(PollKey::LastEnvelope)),
+        ),
+        ("last_envelope = \"5\"", Some(PollFault::Key(PollKey::Roll))),
+        (
+            "roll = [\"v0\"]\nlast_envelope = -1",
+            Some(PollFault::LastEnvelope),
+        ),
+        (
+            "roll = [\"v0\"]\nlast_envelope = 100001",
+            Some(PollFault::LastEnvelope),
+        ),
+        (
+            "roll = [\"v0\"]\nlast_envelope = 9223372036854775807",
+            Some(PollFault::LastEnvelope),
+        ),
+        (
+            "roll = [\"v0\"]\nlast_envelope = 9223372036854775808",
+            Some(PollFault::Syntax),
+        ),
+        (
+            "roll = [\"V0\"]\nlast_envelope = -1",
+            Some(PollFault::VoterName(0)),
+        ),
+        (
+            "roll = []\nlast_envelope = \"5\"",
+            Some(PollFault::Key(PollKey::LastEnvelope)),
+        ),
+    ] {
+        let text = format!(in alloc;
+            "title = \"T\"\noptions = [\"A\"]\nratios = [1]\ndefault = \"None\"\nquorum = 0\n{keys}\n"
+        )?;
+        let poll = Poll::from_text(alloc, text.as_bytes());
+        assert_eq!(rt; poll.err(), fault, "at {keys}");
+    }
+    let late =
+        "title = \"T\"\noptions = [\"A\"]\nratios = [1]\ndefault = \"None\"\nquorum = 11\nroll = [\"v0\"]\nlast_envelope = -1\n";
+    assert_eq!(rt;
+        Poll::from_text(alloc, late.as_bytes()).err(),
+        Some(PollFault::Quorum)
+    );
+    for last in [0, 1, 99_999, 100_000] {
+        let text = format!(in alloc; "last_envelope = {last}\n{SMALL}")?;
+        let poll = Poll::from_text(alloc, text.as_bytes())?;
+        assert_eq!(rt; poll.last_envelope(), Some(last), "at {last}");
+        assert_eq!(rt; poll.electors(), 11);
+    }
     Ok(())
 }
 

@@ -1,4 +1,4 @@
-use Rattle.std.proofs.Common.{◌≡◌, ◌+◌, ◌≤◌, ◌∷◌, ◌++◌, Bor, [], ℕ, ℤ, List, cond, map, length, Ok, Err, sym, ap, subst, ◌∙◌, arith, rules, nat_abs, length-append, string_bytes}
+use Rattle.std.proofs.Common.{◌≡◌, ◌+◌, ◌≤◌, ◌∷◌, ◌++◌, Bor, [], ℕ, ℤ, List, cond, map, length, Ok, Err, refl, sym, ap, subst, ◌∙◌, arith, rules, nat_abs, length-append, string_bytes}
 use Rattle.std.specs.Option.{option_map}
 use Rattle.std.specs.List.{list_all}
 use Rattle.std.proofs.lemmas.Int.{to_z-of_z, ints}
@@ -14,7 +14,7 @@ use Rattle.vote_poll.specs.declared.fault.PollFault.TheVariants as fault
 use Rattle.vote_poll.proofs.FirstBad.{now}
 use Rattle.vote_poll.proofs.Assembly.{Checked, checked_meaning, checked_poll, is_within_from, integer_within_from, not_zero}
 use Rattle.std.specs.Vec.{vec_len}
-use Rattle.vote_poll.proofs.poll_file.poll_of.Goals as goal
+use Rattle.vote_poll.proofs.poll_file.required_poll.Goals as goal
 
 appended : (texts : List (Bor (List ℕ))) (text : Bor (List ℕ)) → map now (texts ++ text ∷ []) ≡ map now texts ++ text.now ∷ []
 appended texts text = simp map-append
@@ -33,6 +33,7 @@ new-requires c =
     let checked : Checked (fields_view c.args.fields) (content_of c.in_ok-title.title c.in_ok-options.options c.in_ok-ratios.ratios (nat_abs (to_z w64 (of_z w64 c.args.fields.quorum))) c.in_ok-roll.roll) = record {
       title = sym (ap is_title c.as_bytes.ensures.value) ∙ sym c.is_title.ensures ∙ c.if-not-is_title.false;
       same_title = c.in_ok-title.ensures.ok;
+      none_late = refl;
       count = is_within_from 2 MAX_OPTIONS (length (all_options (fields_view c.args.fields))) at_least at_most;
       options = subst (λ (xs : List (List ℕ)). err_or (option_map (λ place. fault.OptionName (place + 1)) (first_bad is_option_name xs)) xs ≡ Ok (map string_bytes c.in_ok-options.options.items)) parts c.in_ok-options.ensures;
       ratio_count = omega (arith, length-map c.args.fields.options.items now, length-map c.deref.result.now now, ap length numbers);
@@ -58,6 +59,7 @@ returns c =
     let checked : Checked (fields_view c.args.fields) (content_of c.in_ok-title.title c.in_ok-options.options c.in_ok-ratios.ratios (nat_abs (to_z w64 (of_z w64 c.args.fields.quorum))) c.in_ok-roll.roll) = record {
       title = sym (ap is_title c.as_bytes.ensures.value) ∙ sym c.is_title.ensures ∙ c.if-not-is_title.false;
       same_title = c.in_ok-title.ensures.ok;
+      none_late = refl;
       count = is_within_from 2 MAX_OPTIONS (length (all_options (fields_view c.args.fields))) at_least at_most;
       options = subst (λ (xs : List (List ℕ)). err_or (option_map (λ place. fault.OptionName (place + 1)) (first_bad is_option_name xs)) xs ≡ Ok (map string_bytes c.in_ok-options.options.items)) parts c.in_ok-options.ensures;
       ratio_count = omega (arith, length-map c.args.fields.options.items now, length-map c.deref.result.now now, ap length numbers);
