@@ -8,11 +8,13 @@ use Rattle.vote_steps.specs.declared.step.Step.TheVariants.{Cast, Close}
 use Rattle.vote_steps.specs.declared.TheConstants.{MAX_DESKS}
 use Rattle.vote_steps.specs.History.{is_cast, is_closed, is_used, reply_to}
 
--- its options with the default, its electors, its stamps, which are the numbers 1 to its limit, and its steps, oldest first
+-- its options with the default, its electors, its stamps, which are the numbers 1 to its limit, the greatest stamp that is not
+-- late, and its steps, oldest first
 pub record BoxState : Type 0 where
   pub options : ℕ
   pub electors : ℕ
   pub limit : ℕ
+  pub last : ℕ
   pub steps : List Step
 
 -- a cast that may come after the steps before it
@@ -21,7 +23,7 @@ pub record MayBeCast (b : BoxState) (before : List Step) (desk stamp : ℕ) (rea
   pub stamp_fits : (1 ≤ stamp) × (stamp ≤ b.limit)
   pub stamp_new : is_used before stamp ≡ false
   pub reading_fits : ReadingFits b.options b.electors reading
-  pub answered : reply ≡ reply_to before stamp reading
+  pub answered : reply ≡ reply_to b.last before stamp reading
 
 -- a step that may come after the steps before it
 abbrev pub MayFollow : BoxState → List Step → Step → Type 0

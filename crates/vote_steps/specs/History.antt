@@ -1,12 +1,13 @@
 -- What a history says: a list of steps, oldest first, each the cast of an envelope at a desk, with its reply, or the close.
--- Desks, stamps and voters range over all natural numbers here; a legal history keeps them within the box.
-use Rattle.std.specs.Prelude.{ℕ, ◌+◌, ◌==◌, nat_lt, Bool, true, false, if◌then◌else◌, List, [], ◌∷◌, Option, Some, None, option_and_then, is_some, map, count_by}
+-- Desks, stamps and voters range over all natural numbers here; a legal history keeps them within the box. `last` is the
+-- greatest stamp that is not late.
+use Rattle.std.specs.Prelude.{ℕ, ◌+◌, ◌==◌, nat_lt, Bool, true, false, not, if◌then◌else◌, List, [], ◌∷◌, Option, Some, None, option_and_then, is_some, map, count_by}
 use Rattle.std.specs.List.{filter_map, list_any, range_with_len}
 use Rattle.vote_poll.specs.Ranks.{prefers}
 use Rattle.vote_poll.specs.declared.Reading.{Reading}
 use Rattle.vote_poll.specs.declared.Reading.TheVariants.{Ballot, Bad}
 use Rattle.vote_steps.specs.declared.step.Reply.{Reply}
-use Rattle.vote_steps.specs.declared.step.Reply.TheVariants.{BoxClosed, BadLine, Superseded, Replaced, Counted}
+use Rattle.vote_steps.specs.declared.step.Reply.TheVariants.{BoxClosed, Late, BadLine, Superseded, Replaced, Counted}
 use Rattle.vote_steps.specs.declared.step.Received.{Received}
 use Rattle.vote_steps.specs.declared.step.Step.{Step}
 use Rattle.vote_steps.specs.declared.step.Step.TheVariants.{Cast, Close}
@@ -49,6 +50,10 @@ stamps steps = filter_map stamp_of steps
 abbrev pub is_used : List Step → ℕ → Bool
 is_used steps stamp = list_any (λ used. used == stamp) (stamps steps)
 
+-- whether an envelope is late: its own number is above the last, whenever it came
+abbrev pub is_late : ℕ → ℕ → Bool
+is_late last stamp = nat_lt last stamp
+
 -- ---- the ballot of a voter that stands
 
 -- what a line gives a voter: a ballot, where it is one of that voter
@@ -56,14 +61,14 @@ abbrev pub ballot_read : ℕ → ℕ → Reading → Option Received
 ballot_read voter stamp (Bad fault) = None
 ballot_read voter stamp (Ballot v ranks) = if v == voter then Some (record { stamp = stamp; ranks = ranks }) else None
 
--- what a step gives a voter
-abbrev pub ballot_of : ℕ → Step → Option Received
-ballot_of voter Close = None
-ballot_of voter (Cast desk stamp reading reply) = ballot_read voter stamp reading
+-- what a step gives a voter: a late cast gives nobody a ballot
+abbrev pub ballot_of : ℕ → ℕ → Step → Option Received
+ballot_of last voter Close = None
+ballot_of last voter (Cast desk stamp reading reply) = if is_late last stamp then None else ballot_read voter stamp reading
 
--- the ballots of a voter that came before the close
-abbrev pub ballots : List Step → ℕ → List Received
-ballots steps voter = filter_map (ballot_of voter) (before_close steps)
+-- the ballots of a voter that came before the close and are not late
+abbrev pub ballots : ℕ → List Step → ℕ → List Received
+ballots last steps voter = filter_map (ballot_of last voter) (before_close steps)
 
 -- of two ballots the one with the greater stamp
 abbrev pub later : Received → Option Received → Option Received
@@ -75,13 +80,13 @@ abbrev pub latest : List Received → Option Received
 latest [] = None
 latest (ballot ∷ others) = later ballot (latest others)
 
--- the ballot of a voter that stands: of those before the close the one with the greatest stamp
-abbrev pub standing : List Step → ℕ → Option Received
-standing steps voter = latest (ballots steps voter)
+-- the ballot of a voter that stands: of those before the close that are not late the one with the greatest stamp
+abbrev pub standing : ℕ → List Step → ℕ → Option Received
+standing last steps voter = latest (ballots last steps voter)
 
 -- the ranks of the ballot that stands
-abbrev pub standing_ranks : List Step → ℕ → Option (List (Option ℕ))
-standing_ranks steps voter = option_and_then (λ ballot. Some ballot.ranks) (standing steps voter)
+abbrev pub standing_ranks : ℕ → List Step → ℕ → Option (List (Option ℕ))
+standing_ranks last steps voter = option_and_then (λ ballot. Some ballot.ranks) (standing last steps voter)
 
 -- ---- the reply to a cast
 
@@ -90,14 +95,18 @@ abbrev pub reply_beside : Option Received → ℕ → Reply
 reply_beside None stamp = Counted
 reply_beside (Some ballot) stamp = if nat_lt stamp ballot.stamp then Superseded else Replaced
 
+-- the reply of an open box to an envelope that is not late
+abbrev pub reply_in_time : ℕ → List Step → ℕ → Reading → Reply
+reply_in_time last steps stamp (Bad fault) = BadLine fault
+reply_in_time last steps stamp (Ballot voter ranks) = reply_beside (standing last steps voter) stamp
+
 -- the reply of an open box
-abbrev pub reply_while_open : List Step → ℕ → Reading → Reply
-reply_while_open steps stamp (Bad fault) = BadLine fault
-reply_while_open steps stamp (Ballot voter ranks) = reply_beside (standing steps voter) stamp
+abbrev pub reply_while_open : ℕ → List Step → ℕ → Reading → Reply
+reply_while_open last steps stamp reading = if is_late last stamp then Late else reply_in_time last steps stamp reading
 
 -- the reply to an envelope that comes after these steps
-abbrev pub reply_to : List Step → ℕ → Reading → Reply
-reply_to steps stamp reading = if is_closed steps then BoxClosed else reply_while_open steps stamp reading
+abbrev pub reply_to : ℕ → List Step → ℕ → Reading → Reply
+reply_to last steps stamp reading = if is_closed steps then BoxClosed else reply_while_open last steps stamp reading
 
 -- whether a reply says that the line is a valid ballot
 abbrev pub is_valid : Reply → Bool
@@ -105,13 +114,14 @@ is_valid Counted = true
 is_valid Replaced = true
 is_valid Superseded = true
 is_valid (BadLine fault) = false
+is_valid Late = false
 is_valid BoxClosed = false
 
 -- ---- the counts
 
 -- the ballots that stand, by voter
-abbrev pub roll : List Step → ℕ → List (Option Received)
-roll steps electors = map (standing steps) (range_with_len 0 electors)
+abbrev pub roll : ℕ → List Step → ℕ → List (Option Received)
+roll last steps electors = map (standing last steps) (range_with_len 0 electors)
 
 -- whether an entry of the roll is a ballot that prefers option a to option b
 abbrev pub is_for : ℕ → ℕ → Option Received → Bool
@@ -119,32 +129,33 @@ is_for a b None = false
 is_for a b (Some ballot) = prefers ballot.ranks a b
 
 -- how many voters prefer option a to option b, by the ballots that stand
-abbrev pub standing_votes : List Step → ℕ → ℕ → ℕ → ℕ
-standing_votes steps electors a b = count_by (is_for a b) (roll steps electors)
+abbrev pub standing_votes : ℕ → List Step → ℕ → ℕ → ℕ → ℕ
+standing_votes last steps electors a b = count_by (is_for a b) (roll last steps electors)
 
--- whether a step is the cast of a ballot, or of a line that is none
-abbrev pub is_ballot : Step → Bool
-is_ballot Close = false
-is_ballot (Cast desk stamp (Bad fault) reply) = false
-is_ballot (Cast desk stamp (Ballot voter ranks) reply) = true
+-- whether a step is the cast of a ballot that is not late
+abbrev pub is_ballot : ℕ → Step → Bool
+is_ballot last Close = false
+is_ballot last (Cast desk stamp (Bad fault) reply) = false
+is_ballot last (Cast desk stamp (Ballot voter ranks) reply) = not (is_late last stamp)
 
-abbrev pub is_bad : Step → Bool
-is_bad Close = false
-is_bad (Cast desk stamp (Bad fault) reply) = true
-is_bad (Cast desk stamp (Ballot voter ranks) reply) = false
+-- whether a step is the cast of a line that is no ballot, or of a ballot that is late
+abbrev pub is_refused : ℕ → Step → Bool
+is_refused last Close = false
+is_refused last (Cast desk stamp (Bad fault) reply) = true
+is_refused last (Cast desk stamp (Ballot voter ranks) reply) = is_late last stamp
 
--- the ballots that came before the close
-abbrev pub valid : List Step → ℕ
-valid steps = count_by is_ballot (before_close steps)
+-- the ballots that came before the close and are not late
+abbrev pub valid : ℕ → List Step → ℕ
+valid last steps = count_by (is_ballot last) (before_close steps)
 
--- the lines before the close that are no ballot, and all that came after it
-abbrev pub refused : List Step → ℕ
-refused steps = count_by is_bad (before_close steps) + count_by is_cast (after_close steps)
+-- the lines before the close that are no ballot or are late, and all that came after it
+abbrev pub refused : ℕ → List Step → ℕ
+refused last steps = count_by (is_refused last) (before_close steps) + count_by is_cast (after_close steps)
 
 -- the ranks of the ballots that stand, one entry for each voter
-abbrev pub standing_ballots : List Step → ℕ → List (Option (List (Option ℕ)))
-standing_ballots steps electors = map (standing_ranks steps) (range_with_len 0 electors)
+abbrev pub standing_ballots : ℕ → List Step → ℕ → List (Option (List (Option ℕ)))
+standing_ballots last steps electors = map (standing_ranks last steps) (range_with_len 0 electors)
 
 -- the voters with a ballot that stands
-abbrev pub voters : List Step → ℕ → ℕ
-voters steps electors = count_by is_some (roll steps electors)
+abbrev pub voters : ℕ → List Step → ℕ → ℕ
+voters last steps electors = count_by is_some (roll last steps electors)

@@ -2,12 +2,12 @@
 ghost use Rattle.vote_steps.specs.Order.{OrderDoesNotMatter, TheGreatestStands, EachCastIsCounted};
 ghost use Rattle.vote_steps.specs.Laws.{StampsAreDistinct, EachStampIsUsed, ClosesOnce, HasRoomForAll, VotesAreRecounted};
 
-/// Of each voter the ballot with the greatest stamp stands, of those that came before the close.
+/// Of each voter the ballot with the greatest stamp stands, of those that came before the close and are not late.
 pub fn the_greatest_stands()
     ensures { TheGreatestStands }
 {}
 
-/// Whatever the order in which the lines are cast, the last line of each voter stands.
+/// Whatever the order in which the lines are cast, the last line of each voter stands that is not late.
 pub fn order_does_not_matter()
     ensures { OrderDoesNotMatter }
 {}

@@ -10,8 +10,10 @@
 //!
 //! - The history is legal (`IsLegal`): each cast has a desk, a stamp of the box that no step before it has, a reading that fits
 //!   the box, and the reply that the steps before it call for; and a close comes only to an open box.
-//! - Of each voter the ballot with the greatest stamp stands, of those cast before the close. So a line further down in the
-//!   ballot file replaces one further up, in whatever order the two come to the box.
+//! - Of each voter the ballot with the greatest stamp stands, of those cast before the close that are not late. So a line
+//!   further down in the ballot file replaces one further up, in whatever order the two come to the box.
+//! - A box may refuse late envelopes, those with a stamp above its last envelope. An envelope is late by its own number and
+//!   never by when it came, so that lateness, too, does not depend on the order of the desks. This is a rule of this project.
 //! - The matrix is at each time that of a recount of the ballots that stand.
 //! - The functions of [`laws`] say what follows of every history, whoever made it.
 //!

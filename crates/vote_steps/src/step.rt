@@ -1,8 +1,8 @@
 //! The steps of a ballot box, and the replies to its casts.
 use vote_poll::{LineFault, Ranks, Reading};
 
-/// What a cast is answered: the first of these that fits, in the order `BoxClosed`, `BadLine`, `Superseded`, `Replaced`,
-/// `Counted`.
+/// What a cast is answered: the first of these that fits, in the order `BoxClosed`, `Late`, `BadLine`, `Superseded`,
+/// `Replaced`, `Counted`.
 #[derive(Clone, Copy, Debug, PartialEq, Eq)]
 pub enum Reply {
     /// The line is a ballot of a voter who has none yet. It stands.
@@ -13,6 +13,9 @@ pub enum Reply {
     Superseded,
     /// The line is no ballot, for the fault that is given.
     BadLine(LineFault),
+    /// The stamp of the envelope is above the last envelope of the box. The line does not count, whatever it says and
+    /// whenever it came.
+    Late,
     /// The box was closed before. The line does not count, whatever it says.
     BoxClosed,
 }

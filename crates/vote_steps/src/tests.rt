@@ -112,7 +112,7 @@ fn cast_hundred(
     poll: &Poll,
     order: usize,
 ) -> Result<BallotBox, AllocError> {
-    let mut ballot_box = BallotBox::new(alloc, 3, 10, 100)?;
+    let mut ballot_box = BallotBox::new(alloc, 3, 10, 100, 100_000)?;
     for turn in 0..100 {
         let stamp = stamp_at(order, turn);
         let answer = cast_line(rt, &mut ballot_box, poll, stamp, line_of(stamp));
@@ -152,7 +152,7 @@ fn a_recast_in_both_orders(rt: HostRuntime) -> Result<(), Fail> {
         ],
     ];
     for acts in &orders {
-        let mut ballot_box = BallotBox::new(rt.alloc(), 3, 2, 3)?;
+        let mut ballot_box = BallotBox::new(rt.alloc(), 3, 2, 3, 100_000)?;
         play(&rt, &mut ballot_box, &poll, acts);
         look(
             &rt,
@@ -167,7 +167,7 @@ fn a_recast_in_both_orders(rt: HostRuntime) -> Result<(), Fail> {
 #[test]
 fn refusals_and_replies(rt: HostRuntime) -> Result<(), Fail> {
     let poll = Poll::from_text(rt.alloc(), TWO_ELECTORS.as_bytes())?;
-    let mut ballot_box = BallotBox::new(rt.alloc(), 3, 2, 2)?;
+    let mut ballot_box = BallotBox::new(rt.alloc(), 3, 2, 2, 100_000)?;
     let acts = [
         Act::Cast(0, "ann 1,2,3", Err(StepFault::StampRange)),
         Act::Cast(3, "ann 1,2,3", Err(StepFault::StampRange)),
@@ -186,6 +186,37 @@ fn refusals_and_replies(rt: HostRuntime) -> Result<(), Fail> {
         [1, 1, 1],
         [[0, 1, 1], [0, 0, 1], [0, 0, 0]],
     );
+    Ok(())
+}
+
+#[test]
+fn late_envelopes(rt: HostRuntime) -> Result<(), Fail> {
+    let poll = Poll::from_text(rt.alloc(), TWO_ELECTORS.as_bytes())?;
+    let mut ballot_box = BallotBox::new(rt.alloc(), 3, 2, 3, 1)?;
+    assert_eq!(rt; ballot_box.last_envelope(), 1);
+    let acts = [
+        Act::Cast(2, "ann 1,2,3", Ok(Reply::Late)),
+        Act::Cast(1, "ann 1,2,3", Ok(Reply::Counted)),
+        Act::Cast(2, "ann 1,2,3", Err(StepFault::StampUsed)),
+        Act::Close(Ok(())),
+        Act::Cast(3, "bad", Ok(Reply::BoxClosed)),
+    ];
+    play(&rt, &mut ballot_box, &poll, &acts);
+    look(
+        &rt,
+        &ballot_box,
+        [1, 2, 1],
+        [[0, 1, 1], [0, 0, 1], [0, 0, 0]],
+    );
+
+    // Whatever a late line says, and where none is in time.
+    let mut ballot_box = BallotBox::new(rt.alloc(), 3, 2, 3, 0)?;
+    let acts = [
+        Act::Cast(3, "bad", Ok(Reply::Late)),
+        Act::Cast(1, "bob 1,2,3", Ok(Reply::Late)),
+    ];
+    play(&rt, &mut ballot_box, &poll, &acts);
+    look(&rt, &ballot_box, [0, 2, 0], [[0; 3]; 3]);
     Ok(())
 }
 
@@ -229,7 +260,7 @@ fn poll_of_two(rt: &impl Abort, alloc: Global) -> Result<Poll, &'static str> {
 #[test]
 fn memory_of_new(rt: HostRuntime) -> Result<(), Fail> {
     let poll = poll_of_two(&rt, rt.alloc())?;
-    let Ok(mut ballot_box) = BallotBox::new(rt.alloc(), 3, 2, 3) else {
+    let Ok(mut ballot_box) = BallotBox::new(rt.alloc(), 3, 2, 3, 100_000) else {
         return Err("refused".into());
     };
     assert_eq!(rt; ballot_box.limit(), 3);
