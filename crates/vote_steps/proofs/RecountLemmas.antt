@@ -18,5 +18,5 @@ count_by-map_same f g p q same (x ∷ xs) =
     omega (arith, sum_by-cons (λ y. cond {A = ℕ} (p y) 1 0) (f x) (map f xs), sum_by-cons (λ z. cond {A = ℕ} (q z) 1 0) (g x) (map g xs), ap (λ t. cond {A = ℕ} t 1 0) (same x), count_by-map_same f g p q same xs)
 
 pub votes_are_recounted_lem : VotesAreRecounted
-votes_are_recounted_lem steps electors a b =
-    count_by-map_same (standing steps) (standing_ranks steps) (is_for a b) (entry_prefers a b) (λ v. same_entry a b (standing steps v)) (range_with_len 0 electors)
+votes_are_recounted_lem last steps electors a b =
+    count_by-map_same (standing last steps) (standing_ranks last steps) (is_for a b) (entry_prefers a b) (λ v. same_entry a b (standing last steps v)) (range_with_len 0 electors)
