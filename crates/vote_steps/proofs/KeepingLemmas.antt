@@ -70,9 +70,9 @@ took_in_late a d n r k h late =
       answered = rw (open', is_late) refl;
       roll_is = k.roll_is ∙ sym (roll-late a.last a.steps.items d n r Late (vec_len a.roll.ballots) open' late);
       valid_is =
-        omega (arith, k.valid_is, valid-append_open a.last a.steps.items (Cast d n r Late) open', ap (λ t. cond {A = ℕ} t 1 0) (is_ballot_late a.last d n r Late is_late));
+          omega (arith, k.valid_is, valid-append_open a.last a.steps.items (Cast d n r Late) open', ap (λ t. cond {A = ℕ} t 1 0) (is_ballot_late a.last d n r Late is_late));
       refused_is =
-        omega (arith, k.refused_is, refused-append_open a.last a.steps.items (Cast d n r Late) open', ap (λ t. cond {A = ℕ} t 1 0) (is_refused_late a.last d n r Late is_late));
+          omega (arith, k.refused_is, refused-append_open a.last a.steps.items (Cast d n r Late) open', ap (λ t. cond {A = ℕ} t 1 0) (is_refused_late a.last d n r Late is_late));
     }
 
 pub took_in_bad : (a : Inside) (d n : ℕ) (f : LineFault) → Keeps a → a.closed ≡ false → n ≤ a.last → TookIn a (record a { refused = a.refused + 1 }) d n (Bad f) (BadLine f)
@@ -111,8 +111,8 @@ took_in_ballot a d n w ranks new p k h early inside len options reply ballots =
       steps_are = refl;
       electors_are = len;
       answered = reply ∙ ap (λ o. reply_beside o n) old ∙ sym
-        (ap (λ t. cond t BoxClosed (reply_while_open a.last a.steps.items n (Ballot w ranks))) open'
-        ∙ ap (λ t. cond t Late (reply_in_time a.last a.steps.items n (Ballot w ranks))) in_time);
+          (ap (λ t. cond t BoxClosed (reply_while_open a.last a.steps.items n (Ballot w ranks))) open'
+          ∙ ap (λ t. cond t Late (reply_in_time a.last a.steps.items n (Ballot w ranks))) in_time);
       roll_is = ballots ∙ ap (λ xs. set xs w (Some (after_ballot (get_or xs w None) b))) k.roll_is ∙ sym (roll-ballot a.last a.steps.items d b w p (vec_len a.roll.ballots) open' early inside);
       valid_is = omega (arith, k.valid_is, valid-append_open a.last a.steps.items (Cast d n (Ballot w ranks) p) open', ap (λ t. cond {A = ℕ} (not t) 1 0) in_time);
       refused_is = omega (arith, k.refused_is, refused-append_open a.last a.steps.items (Cast d n (Ballot w ranks) p) open', ap (λ t. cond {A = ℕ} t 1 0) in_time);
