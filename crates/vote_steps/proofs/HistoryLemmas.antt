@@ -13,7 +13,7 @@ use Rattle.vote_poll.specs.declared.Reading.{Reading}
 use Rattle.vote_poll.specs.declared.Reading.TheVariants.{Ballot, Bad}
 use Rattle.vote_steps.specs.declared.step.Received.{Received}
 use Rattle.vote_steps.specs.declared.step.Reply.{Reply}
-use Rattle.vote_steps.specs.declared.step.Reply.TheVariants.{BoxClosed, Late, BadLine, Superseded, Replaced}
+use Rattle.vote_steps.specs.declared.step.Reply.TheVariants.{BoxClosed, Late, Superseded, Replaced}
 use Rattle.vote_steps.specs.declared.step.Step.{Step}
 use Rattle.vote_steps.specs.declared.step.Step.TheVariants.{Cast, Close}
 use Rattle.vote_steps.specs.Receiving.{after_ballot}
