@@ -131,10 +131,11 @@ impl BallotBox {
         if self.used[place] {
             return Err(StepFault::StampUsed);
         }
+        let is_late = stamp > self.last;
         let reply = if self.closed {
             self.refused += 1;
             Reply::BoxClosed
-        } else if stamp > self.last {
+        } else if is_late {
             self.refused += 1;
             Reply::Late
         } else {
