@@ -1,6 +1,6 @@
 //! The command `count`: the sheet of a poll file and a ballot file.
 
-ghost use Rattle.std.specs.Prelude.{◌≡◌, ◌<◌, ◌≤◌, ◌↔◌, Err, IfNone, IfSome, IsErrOf, option_map};
+ghost use Rattle.std.specs.Prelude.{◌≡◌, ◌<◌, ◌≤◌, ◌↔◌, true, Err, IfNone, IfSome, IsErrOf, OnOk, option_map};
 ghost use Rattle.vote_poll.specs.Lines.{lines_of};
 ghost use Rattle.vote_poll.specs.Options.{IsOption};
 ghost use Rattle.vote_poll.specs.PollContent.{option_count};
@@ -67,6 +67,7 @@ pub fn run<G: Gate + Sync, W: Sink, R: Threads + Wait + Sync>(
     ensures writes { WritesCount poll_text.now ballots.now (option_map (λ name. name.now) casting.entry) (W.contents sink.old) (W.contents sink.new) result }
     ensures votes { (fault : VoteFault) → result ≡ Err (RunFault.Vote fault) → CanStopVotes fault }
     ensures output { IsErrOf result RunFault.Output ↔ (W.faults sink.old < W.faults sink.new) }
+    ensures flushed { OnOk result (W.flushed sink.new ≡ true) }
 {
     let poll = match Poll::from_text(alloc, poll_text) {
         Ok(poll) => poll,

@@ -1,6 +1,6 @@
 //! Writing a text whole.
 
-ghost use Rattle.std.specs.Prelude.{◌≡◌, ◌+◌, ◌<◌, ◌↔◌, IfErr, IsErr, OnErr, OnOk};
+ghost use Rattle.std.specs.Prelude.{◌≡◌, ◌+◌, ◌<◌, ◌↔◌, true, IfErr, IsErr, OnErr, OnOk};
 ghost use Rattle.std.specs.Io.KnownBytes.{Appends};
 ghost use Rattle.debvote.specs.Device.{AppendsPrefix};
 ghost use Rattle.debvote.specs.Runs.{Writes};
@@ -14,6 +14,7 @@ pub fn write_text<W: Sink>(sink: &mut W, text: &[u8]) -> Result<(), DeviceFault>
     ensures ok { OnOk result (Appends (W.contents sink.old) (W.contents sink.new) text.now) }
     ensures err { OnErr result (AppendsPrefix (W.contents sink.old) (W.contents sink.new) text.now) }
     ensures fault { IsErr result ↔ (W.faults sink.old < W.faults sink.new) }
+    ensures flushed { OnOk result (W.flushed sink.new ≡ true) }
 {
     let mut rest = text;
     while !rest.is_empty() {
@@ -31,6 +32,7 @@ pub fn write_run<W: Sink>(sink: &mut W, text: &[u8]) -> Result<(), RunFault>
     ensures writes { Writes (λ meant. meant ≡ text.now) (W.contents sink.old) (W.contents sink.new) result }
     ensures only { IfErr result (λ fault. fault ≡ RunFault.Output) }
     ensures output { IsErr result ↔ (W.faults sink.old < W.faults sink.new) }
+    ensures flushed { OnOk result (W.flushed sink.new ≡ true) }
 {
     match write_text(sink, text) {
         Ok(()) => Ok(()),

@@ -1,6 +1,6 @@
 //! The commands `steps` and `check`: a line for each envelope, and the line of a poll that is in order.
 
-ghost use Rattle.std.specs.Prelude.{◌≡◌, ◌≢◌, ◌++◌, ◌<◌, ◌↔◌, Err, IfOk, IsErrOf, OnOk, string_bytes};
+ghost use Rattle.std.specs.Prelude.{◌≡◌, ◌≢◌, ◌++◌, ◌<◌, ◌↔◌, true, Err, IfOk, IsErrOf, OnOk, string_bytes};
 ghost use Rattle.vote_poll.specs.Lines.{lines_of};
 ghost use Rattle.vote_poll.specs.declared.lines.LinesFault.{LinesFault};
 ghost use Rattle.debvote.specs.Joined.{joined_parts};
@@ -73,6 +73,7 @@ pub fn print_steps<W: Sink>(
     ensures option { result ≢ Err RunFault.NoSuchOption }
     ensures writes { Writes (AreSteps poll_text.now ballots.now) (W.contents sink.old) (W.contents sink.new) result }
     ensures output { IsErrOf result RunFault.Output ↔ (W.faults sink.old < W.faults sink.new) }
+    ensures flushed { OnOk result (W.flushed sink.new ≡ true) }
 {
     let poll = match Poll::from_text(alloc, poll_text) {
         Ok(poll) => poll,
@@ -93,6 +94,7 @@ pub fn steps_joined<W: Sink>(alloc: Global, input: &[u8], sink: &mut W) -> Resul
     ensures option { result ≢ Err RunFault.NoSuchOption }
     ensures writes { Writes (AreStepsJoined input.now) (W.contents sink.old) (W.contents sink.new) result }
     ensures output { IsErrOf result RunFault.Output ↔ (W.faults sink.old < W.faults sink.new) }
+    ensures flushed { OnOk result (W.flushed sink.new ≡ true) }
 {
     let (poll_text, ballots) = split_joined(input);
     print_steps(alloc, poll_text, ballots, sink)
@@ -115,6 +117,7 @@ pub fn check_poll<W: Sink>(alloc: Global, poll_text: &[u8], sink: &mut W) -> Res
     ensures option { result ≢ Err RunFault.NoSuchOption }
     ensures writes { Writes (IsCheck poll_text.now) (W.contents sink.old) (W.contents sink.new) result }
     ensures output { IsErrOf result RunFault.Output ↔ (W.faults sink.old < W.faults sink.new) }
+    ensures flushed { OnOk result (W.flushed sink.new ≡ true) }
 {
     let poll = match Poll::from_text(alloc, poll_text) {
         Ok(poll) => poll,

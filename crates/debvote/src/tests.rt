@@ -10,6 +10,7 @@ use crate::output::write_text;
 use crate::steps::{check_poll, print_steps, steps_joined};
 use std::alloc::{AllocError, Global};
 use std::marker::Brand;
+use std::snapshot::Snapshot;
 use std::sync::ledger::{Blank, Ledger};
 use std::test::Fail;
 use vote_desks::{AuditFault, DeskFault, EnterFault, VoteFault};
@@ -22,6 +23,7 @@ pub(crate) struct Paper<L: Ledger> {
     at_once: usize,
     limit: usize,
     flushes: bool,
+    flushed: Snapshot<bool>,
     meter: Meter<L>,
 }
 
@@ -42,6 +44,7 @@ impl<L: Ledger> Paper<L> {
             at_once,
             limit,
             flushes,
+            flushed: Snapshot::of(&false),
             meter: Meter::<L>::new(blank),
         }
     }
@@ -53,6 +56,7 @@ impl<L: Ledger> Paper<L> {
             at_once: _,
             limit: _,
             flushes: _,
+            flushed: _,
             meter: _,
         } = self;
         written
@@ -68,8 +72,11 @@ impl<L: Ledger> Sink for Paper<L> {
 
     ghost contents = { λ s. Some s.written.items };
 
+    ghost flushed = { λ s. s.flushed.value };
+
     fn put(&mut self, text: &[u8]) -> Result<usize, DeviceFault> {
         self.meter.count_call();
+        self.flushed = Snapshot::of(&false);
         let count = text.len().min(self.at_once);
         if self.written.len() >= self.limit
             || self.written.extend_from_slice(&text[..count]).is_err()
@@ -89,6 +96,7 @@ impl<L: Ledger> Sink for Paper<L> {
             self.meter.count_fault();
             return Err(DeviceFault);
         }
+        self.flushed = Snapshot::of(&true);
         Ok(())
     }
 }
