@@ -5,7 +5,7 @@ ghost use Rattle.std.specs.Prelude.{◌≡◌};
 use crate::counting::run;
 use crate::fault::{Ended, RunFault};
 use crate::order::{OrderFault, Task, order, order_status};
-use crate::sheet_tests::{ballots_text, poll_text};
+use crate::sheet_tests::{CYCLE, ballots_text, poll_text};
 use crate::tests::Paper;
 use std::alloc::Global;
 use std::marker::Brand;
@@ -13,36 +13,40 @@ use std::sync::Wait;
 use std::sync::ledger::{Blank, Ledger};
 use std::test::Fail;
 use std::thread::Threads;
-use vote_desks::NoGate;
+use vote_desks::{Gate, NoGate};
 use vote_poll::{LinesFault, PollFault};
+use vote_steps::MAX_DESKS;
 
 /// How much a paper takes at once and in all, and whether it can be flushed.
 #[derive(Clone, Copy)]
-struct Kind {
-    at_once: usize,
-    limit: usize,
-    flushes: bool,
+pub(crate) struct Kind {
+    pub at_once: usize,
+    pub limit: usize,
+    pub flushes: bool,
 }
 
 /// A paper that takes everything.
-const ENDLESS: Kind = Kind {
+pub(crate) const ENDLESS: Kind = Kind {
     at_once: usize::MAX,
     limit: usize::MAX,
     flushes: true,
 };
 
-/// What is counted.
+/// What is counted, and at how many desks.
 #[derive(Clone, Copy)]
-struct Election<'a> {
-    poll: &'a str,
-    ballots: &'a str,
-    casting: Option<&'a str>,
+pub(crate) struct Election<'a> {
+    pub poll: &'a str,
+    pub ballots: &'a str,
+    pub casting: Option<&'a str>,
+    pub desks: u8,
 }
 
-fn count_metered<L: Ledger, R: Threads + Wait + Sync>(
+fn count_metered<L: Ledger, G: Gate + Sync, R: Threads + Wait + Sync>(
     rt: &R,
     alloc: Global,
+    gate: &G,
     kind: Kind,
+    written: Vec<u8>,
     election: &Election<'_>,
     blank: Blank,
 ) -> (Vec<u8>, Result<Ended, RunFault>)
@@ -50,28 +54,40 @@ fn count_metered<L: Ledger, R: Threads + Wait + Sync>(
     requires parts { blank.parts ≡ L.parts }
     requires two { blank.parts ≡ 2 }
 {
-    let mut paper = Paper::<L>::new(alloc, kind.at_once, kind.limit, kind.flushes, blank);
+    let mut paper = Paper::<L>::new(written, kind.at_once, kind.limit, kind.flushes, blank);
     let casting = election.casting.map(|name| name.as_bytes());
     let ended = run(
         rt,
         alloc,
         election.poll.as_bytes(),
         election.ballots.as_bytes(),
-        2,
+        election.desks.clamp(1, MAX_DESKS),
         casting,
-        &NoGate,
+        gate,
         &mut paper,
     );
     (paper.into_written(), ended)
 }
 
-fn count<R: Threads + Wait + Sync>(
+/// The count through a gate, on a paper with what is written on it already.
+pub(crate) fn count_through<G: Gate + Sync, R: Threads + Wait + Sync>(
+    rt: &R,
+    alloc: Global,
+    gate: &G,
+    kind: Kind,
+    written: Vec<u8>,
+    election: &Election<'_>,
+) -> (Vec<u8>, Result<Ended, RunFault>) {
+    count_metered::<Brand, G, R>(rt, alloc, gate, kind, written, election, Blank::new(2))
+}
+
+pub(crate) fn count<R: Threads + Wait + Sync>(
     rt: &R,
     alloc: Global,
     kind: Kind,
     election: &Election<'_>,
 ) -> (Vec<u8>, Result<Ended, RunFault>) {
-    count_metered::<Brand, R>(rt, alloc, kind, election, Blank::new(2))
+    count_through(rt, alloc, &NoGate, kind, Vec::new(alloc), election)
 }
 
 /// How the count of these ballots ends, by a poll of these options and so many voters.
@@ -90,6 +106,7 @@ fn end_of<R: Threads + Wait + Sync>(
         poll: poll.as_str(),
         ballots: ballots.as_str(),
         casting,
+        desks: 2,
     };
     Ok(count(rt, alloc, ENDLESS, &election).1.ok())
 }
@@ -109,8 +126,7 @@ fn a_count_ends_as_its_sheet_decides(rt: HostRuntime) -> Result<(), Fail> {
             Some(ended)
         );
     }
-    let cycle = [(4, "1,2,3,4"), (3, "3,1,2,4"), (2, "2,3,1,4")];
-    let end = end_of(&rt, alloc, &three, (1, 3, 9), &cycle, Some("None"))?;
+    let end = end_of(&rt, alloc, &three, (1, 3, 9), &CYCLE, Some("None"))?;
     assert_eq!(rt; end, Some(Ended::Decided(1)));
     let uneven = [
         (4, "1,2,3,4"),
@@ -146,6 +162,7 @@ fn ends_by<R: Threads + Wait + Sync>(
         poll,
         ballots,
         casting,
+        desks: 2,
     };
     let (written, ended) = count(rt, alloc, ENDLESS, &election);
     written.is_empty() && ended == Err(fault)
@@ -165,37 +182,6 @@ fn a_refused_count_writes_nothing(rt: HostRuntime) -> Result<(), Fail> {
     assert!(rt; ends_by(&rt, alloc, poll, many, Some("Zed"), RunFault::NoSuchOption));
     let long = RunFault::Lines(LinesFault::TooMany);
     assert!(rt; ends_by(&rt, alloc, poll, many, Some("B"), long));
-    Ok(())
-}
-
-#[test]
-fn a_sheet_is_written_up_to_the_fault(rt: HostRuntime) -> Result<(), Fail> {
-    let alloc = rt.alloc();
-    let poll = poll_text(alloc, "A poll", &["A"], 1, 0, 1)?;
-    let election = Election {
-        poll: poll.as_str(),
-        ballots: "v0 1,2\n",
-        casting: None,
-    };
-    let (whole, ended) = count(&rt, alloc, ENDLESS, &election);
-    assert_eq!(rt; ended, Ok(Ended::Decided(1)));
-    let size = whole.len();
-    for (at_once, limit, flushes, len, ends) in [
-        (1, usize::MAX, true, size, true),
-        (10, 10, true, 10, false),
-        (0, usize::MAX, true, 0, false),
-        (usize::MAX, usize::MAX, false, size, false),
-    ] {
-        let kind = Kind {
-            at_once,
-            limit,
-            flushes,
-        };
-        let (written, ended) = count(&rt, alloc, kind, &election);
-        assert!(rt; whole.starts_with(written.as_slice()));
-        assert_eq!(rt; written.len(), len);
-        assert_eq!(rt; ended.is_ok(), ends);
-    }
     Ok(())
 }
 

@@ -23,6 +23,8 @@ mod counting;
 mod counting_tests;
 mod device;
 mod fault;
+#[cfg(test)]
+mod hostile_tests;
 mod input;
 mod joined;
 mod meter;

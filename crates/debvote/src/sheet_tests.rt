@@ -90,7 +90,10 @@ fn printed<R: Threads + Wait + Sync>(
     Ok((text, decision))
 }
 
-const A_CYCLE: &str =
+/// The ballots of a cycle among three options.
+pub(crate) const CYCLE: [(usize, &str); 3] = [(4, "1,2,3,4"), (3, "3,1,2,4"), (2, "2,3,1,4")];
+
+pub(crate) const A_CYCLE: &str =
     "Poll: A cycle\nElectors: 9\nQuorum: 3Q, 5 votes\nLines: 9\nValid: 9\nRefused: 0\nVoters: 9\nOptions:\n  1 ratio 1 A\n  2 ratio 1 B\n  3 ratio 1 C\n  4 default None\nVotes:\n        1     2     3     4\n  1     -     6     4     9\n  2     3     -     7     9\n  3     5     2     -     9\n  4     0     0     0     -\nDropped:\n  none\nDefeats:\n  1 over 2 by 6 to 3\n  1 over 4 by 9 to 0\n  2 over 3 by 7 to 2\n  2 over 4 by 9 to 0\n  3 over 1 by 5 to 4\n  3 over 4 by 9 to 0\nRound 1: 1 2 3\n  drop 3 over 1\nRound 2: 1\nWinner: 1 A\n";
 
 const NO_BALLOTS: &str =
@@ -111,7 +114,7 @@ fn few_ballots(rt: HostRuntime) -> Result<(), Fail> {
     assert_eq!(rt; decision, Decision::Winner(4));
 
     let poll = poll_text(alloc, "A cycle", &["A", "B", "C"], 1, 3, 9)?;
-    let ballots = ballots_text(alloc, &[(4, "1,2,3,4"), (3, "3,1,2,4"), (2, "2,3,1,4")])?;
+    let ballots = ballots_text(alloc, &CYCLE)?;
     for casting in [None, Some("None")] {
         let (text, decision) = printed(&rt, alloc, 1, poll.as_str(), ballots.as_str(), casting)?;
         assert!(rt; text.as_str() == A_CYCLE, "{}", text);
@@ -146,10 +149,8 @@ fn endings_of_a_tie(rt: HostRuntime) -> Result<(), Fail> {
     Ok(())
 }
 
-#[test]
-fn a_hundred_envelopes(rt: HostRuntime) -> Result<(), Fail> {
-    let alloc = rt.alloc();
-    let poll = poll_text(alloc, "A hundred envelopes", &["A", "B"], 1, 3, 10)?;
+/// A hundred envelopes of voters v0 to v9, of which each twentieth is bad.
+pub(crate) fn hundred_ballots(alloc: Global) -> Result<String, AllocError> {
     let mut ballots = String::new(alloc);
     for number in 1..101u32 {
         if number % 20 == 0 {
@@ -160,6 +161,14 @@ fn a_hundred_envelopes(rt: HostRuntime) -> Result<(), Fail> {
             writeln!(ballots, "v{} 2,1,3", number % 10)?;
         }
     }
+    Ok(ballots)
+}
+
+#[test]
+fn a_hundred_envelopes(rt: HostRuntime) -> Result<(), Fail> {
+    let alloc = rt.alloc();
+    let poll = poll_text(alloc, "A hundred envelopes", &["A", "B"], 1, 3, 10)?;
+    let ballots = hundred_ballots(alloc)?;
     for desks in [1, 2, 8] {
         let (text, decision) = printed(&rt, alloc, desks, poll.as_str(), ballots.as_str(), None)?;
         assert!(rt; text.as_str() == A_HUNDRED_ENVELOPES, "{}", text);

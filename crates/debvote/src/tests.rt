@@ -28,8 +28,9 @@ pub(crate) struct Paper<L: Ledger> {
 }
 
 impl<L: Ledger> Paper<L> {
+    /// A paper with what is written on it already.
     pub(crate) fn new(
-        alloc: Global,
+        written: Vec<u8>,
         at_once: usize,
         limit: usize,
         flushes: bool,
@@ -40,7 +41,7 @@ impl<L: Ledger> Paper<L> {
         requires two { blank.parts ≡ 2 }
     {
         Paper {
-            written: Vec::new(alloc),
+            written,
             at_once,
             limit,
             flushes,
@@ -113,7 +114,7 @@ fn write_metered<L: Ledger>(
     requires parts { blank.parts ≡ L.parts }
     requires two { blank.parts ≡ 2 }
 {
-    let mut paper = Paper::<L>::new(alloc, at_once, limit, flushes, blank);
+    let mut paper = Paper::<L>::new(Vec::new(alloc), at_once, limit, flushes, blank);
     let ended = write_text(&mut paper, text).is_ok();
     (paper.into_written(), ended)
 }
@@ -146,11 +147,12 @@ fn a_text_is_written_whole_or_to_the_fault(rt: HostRuntime) {
     }
 }
 
-/// A source over bytes that fails after some reads.
+/// A source over bytes that gives so many at once, and fails after some reads.
 #[derive(Drop)]
 struct Tape<'a, L: Ledger> {
     rest: &'a [u8],
-    reads: u8,
+    at_once: usize,
+    reads: u32,
     meter: Meter<L>,
 }
 
@@ -170,7 +172,7 @@ impl<L: Ledger> Source for Tape<'_, L> {
             return Err(DeviceFault);
         }
         self.reads -= 1;
-        let count = buffer.len().min(self.rest.len()).min(3);
+        let count = buffer.len().min(self.rest.len()).min(self.at_once);
         buffer[..count].copy_from_slice(&self.rest[..count]);
         self.rest = &self.rest[count..];
         Ok(count)
@@ -180,7 +182,8 @@ impl<L: Ledger> Source for Tape<'_, L> {
 fn read_metered<L: Ledger>(
     alloc: Global,
     bytes: &[u8],
-    reads: u8,
+    at_once: usize,
+    reads: u32,
     limit: usize,
     blank: Blank,
 ) -> Result<Vec<u8>, ReadFault>
@@ -190,28 +193,44 @@ fn read_metered<L: Ledger>(
 {
     let mut tape = Tape {
         rest: bytes,
+        at_once,
         reads,
         meter: Meter::<L>::new(blank),
     };
     read_limited(alloc, &mut tape, limit)
 }
 
-fn read(alloc: Global, bytes: &[u8], reads: u8, limit: usize) -> Result<Vec<u8>, ReadFault> {
-    read_metered::<Brand>(alloc, bytes, reads, limit, Blank::new(2))
+pub(crate) fn read(
+    alloc: Global,
+    bytes: &[u8],
+    at_once: usize,
+    reads: u32,
+    limit: usize,
+) -> Result<Vec<u8>, ReadFault> {
+    read_metered::<Brand>(alloc, bytes, at_once, reads, limit, Blank::new(2))
 }
 
 #[test]
 fn an_input_is_read_to_its_end_or_refused(rt: HostRuntime) {
     let bytes = b"hello";
-    let all = read(rt.alloc(), bytes, 9, 5).ok().expect(&rt, "five bytes");
+    let all = read(rt.alloc(), bytes, 3, 9, 5)
+        .ok()
+        .expect(&rt, "five bytes");
     assert!(rt; all.as_slice() == bytes.as_slice());
-    assert!(rt; matches!(&read(rt.alloc(), bytes, 9, 4), Err(ReadFault::TooLong)));
-    assert!(rt; matches!(&read(rt.alloc(), bytes, 1, 9), Err(ReadFault::Device)));
+    assert!(rt; matches!(&read(rt.alloc(), bytes, 3, 9, 4), Err(ReadFault::TooLong)));
+    for reads in [0, 1, 2] {
+        assert!(rt;
+            matches!(
+                &read(rt.alloc(), bytes, 3, reads, 9),
+                Err(ReadFault::Device)
+            )
+        );
+    }
 }
 
 /// What is run on a paper.
 #[derive(Clone, Copy)]
-enum Job<'a> {
+pub(crate) enum Job<'a> {
     Steps { poll: &'a str, ballots: &'a str },
     Joined(&'a str),
     Check(&'a str),
@@ -219,6 +238,7 @@ enum Job<'a> {
 
 fn run_metered<L: Ledger>(
     alloc: Global,
+    written: Vec<u8>,
     job: &Job<'_>,
     blank: Blank,
 ) -> (Vec<u8>, Result<(), RunFault>)
@@ -226,7 +246,7 @@ fn run_metered<L: Ledger>(
     requires parts { blank.parts ≡ L.parts }
     requires two { blank.parts ≡ 2 }
 {
-    let mut paper = Paper::<L>::new(alloc, usize::MAX, usize::MAX, true, blank);
+    let mut paper = Paper::<L>::new(written, usize::MAX, usize::MAX, true, blank);
     let ended = match job {
         Job::Steps { poll, ballots } => {
             print_steps(alloc, poll.as_bytes(), ballots.as_bytes(), &mut paper)
@@ -237,18 +257,30 @@ fn run_metered<L: Ledger>(
     (paper.into_written(), ended)
 }
 
-fn run_job(alloc: Global, job: &Job<'_>) -> (Vec<u8>, Result<(), RunFault>) {
-    run_metered::<Brand>(alloc, job, Blank::new(2))
+/// Runs the job on a paper with what is written on it already.
+pub(crate) fn run_job(
+    alloc: Global,
+    written: Vec<u8>,
+    job: &Job<'_>,
+) -> (Vec<u8>, Result<(), RunFault>) {
+    run_metered::<Brand>(alloc, written, job, Blank::new(2))
 }
 
-const TWO_ELECTORS: &str =
+pub(crate) const TWO_ELECTORS: &str =
     "title = \"Two electors\"\noptions = [\"A\", \"B\"]\nratios = [1, 1]\ndefault = \"None\"\nquorum = 0\nroll = [\"v0\", \"v1\"]\n";
 
-const ELEVEN_LINES: &str =
+pub(crate) const ELEVEN_LINES: &str =
     "v1\nv1  1,2,3\nv1 1,2\nv1 0,1,2\nv1 01,2,3\nv1 100,1,2\n\nzz 1,2,3\nzz 1,2\nv1 1,2,3\r\nv1 1,2,3";
 
-const JOINED: &str =
+pub(crate) const JOINED: &str =
     "title = \"Two electors\"\noptions = [\"A\", \"B\"]\nratios = [1, 1]\ndefault = \"None\"\nquorum = 0\nroll = [\"ann\", \"bob\"]\n%%\nann 1,2,3\nbob 2,1,3\nann 3,2,1\n";
+
+pub(crate) const ELEVEN_REPLIES: &str =
+    "1 bad shape\n2 bad shape\n3 bad rank count\n4 bad shape\n5 bad shape\n6 bad shape\n7 bad shape\n8 bad not on roll\n9 bad rank count\n10 bad shape\n11 counted\n";
+
+pub(crate) const JOINED_REPLIES: &str = "1 counted\n2 counted\n3 replaced\n";
+
+pub(crate) const TWO_ELECTORS_OK: &str = "poll ok: 3 options, 2 electors\n";
 
 #[test]
 fn runs_write_their_texts(rt: HostRuntime) {
@@ -258,13 +290,13 @@ fn runs_write_their_texts(rt: HostRuntime) {
                 poll: TWO_ELECTORS,
                 ballots: ELEVEN_LINES,
             },
-            "1 bad shape\n2 bad shape\n3 bad rank count\n4 bad shape\n5 bad shape\n6 bad shape\n7 bad shape\n8 bad not on roll\n9 bad rank count\n10 bad shape\n11 counted\n",
+            ELEVEN_REPLIES,
         ),
-        (Job::Joined(JOINED), "1 counted\n2 counted\n3 replaced\n"),
+        (Job::Joined(JOINED), JOINED_REPLIES),
         (Job::Joined(TWO_ELECTORS), ""),
-        (Job::Check(TWO_ELECTORS), "poll ok: 3 options, 2 electors\n"),
+        (Job::Check(TWO_ELECTORS), TWO_ELECTORS_OK),
     ] {
-        let (written, ended) = run_job(rt.alloc(), &job);
+        let (written, ended) = run_job(rt.alloc(), Vec::new(rt.alloc()), &job);
         assert_eq!(rt; ended, Ok(()));
         assert!(rt; written.as_slice() == text.as_bytes());
     }
@@ -289,7 +321,7 @@ fn a_refused_run_writes_nothing(rt: HostRuntime) -> Result<(), Fail> {
             RunFault::Lines(LinesFault::TooMany),
         ),
     ] {
-        let (written, ended) = run_job(rt.alloc(), &job);
+        let (written, ended) = run_job(rt.alloc(), Vec::new(rt.alloc()), &job);
         assert_eq!(rt; ended, Err(fault));
         assert!(rt; written.is_empty());
     }

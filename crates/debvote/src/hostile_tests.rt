@@ -1,0 +1,314 @@
+//! Devices that fail, gates that stop a desk, and memory and threads that may be refused.
+//!
+//! Each test `memory_of_..` and `threads_of_..` makes its call once, with room on the paper beforehand. It ends well where the
+//! call gave its whole right answer, and says `refused` where the call answered its want of memory or of a thread, with
+//! nothing written. So whoever runs it with one growth or one start refused after another sees whether any other answer
+//! comes.
+
+use crate::counting_tests::{ENDLESS, Election, Kind, count, count_through};
+use crate::fault::{Ended, RunFault, status};
+use crate::input::ReadFault;
+use crate::order::{OrderFault, Task, order};
+use crate::sheet::sheet;
+use crate::sheet_tests::{A_CYCLE, CYCLE, ballots_text, hundred_ballots, poll_text};
+use crate::tests::{
+    ELEVEN_LINES, ELEVEN_REPLIES, JOINED, JOINED_REPLIES, Job, TWO_ELECTORS, TWO_ELECTORS_OK, read,
+    run_job,
+};
+use std::alloc::{AllocError, Global};
+use std::process::Abort;
+use std::sync::Wait;
+use std::test::Fail;
+use std::thread::Threads;
+use vote_desks::{Gate, NoGate, Slip, VoteFault, take_votes};
+use vote_poll::{Lines, LinesFault, Poll, PollFault};
+
+/// Room for every text of these tests.
+const ROOM: usize = 4096;
+
+/// The poll and the ballots of a cycle among three options.
+fn cycle(alloc: Global) -> Result<(String, String), AllocError> {
+    let poll = poll_text(alloc, "A cycle", &["A", "B", "C"], 1, 3, 9)?;
+    let ballots = ballots_text(alloc, &CYCLE)?;
+    Ok((poll, ballots))
+}
+
+#[test]
+fn a_sheet_is_written_up_to_the_fault(rt: HostRuntime) -> Result<(), Fail> {
+    let alloc = rt.alloc();
+    let (poll, ballots) = cycle(alloc)?;
+    let election = Election {
+        poll: poll.as_str(),
+        ballots: ballots.as_str(),
+        casting: None,
+        desks: 1,
+    };
+    let sheet = A_CYCLE.as_bytes();
+    for (at_once, limit, flushes, len, end) in [
+        (1, usize::MAX, true, sheet.len(), Ok(Ended::Decided(1))),
+        (10, 10, true, 10, Err(RunFault::Output)),
+        (0, usize::MAX, true, 0, Err(RunFault::Output)),
+        (1, usize::MAX, false, sheet.len(), Err(RunFault::Output)),
+    ] {
+        let kind = Kind {
+            at_once,
+            limit,
+            flushes,
+        };
+        let (written, ended) = count(&rt, alloc, kind, &election);
+        assert!(rt; sheet.starts_with(written.as_slice()));
+        assert_eq!(rt; written.len(), len);
+        assert_eq!(rt; ended, end);
+    }
+    // a byte a write, and each write the first that fails
+    for limit in 0..sheet.len() {
+        let kind = Kind {
+            at_once: 1,
+            limit,
+            flushes: true,
+        };
+        let (written, ended) = count(&rt, alloc, kind, &election);
+        assert!(rt; written.as_slice() == &sheet[..limit]);
+        assert_eq!(rt; ended, Err(RunFault::Output));
+        assert_eq!(rt; status(&ended), 7);
+    }
+    Ok(())
+}
+
+/// A gate that stops at this envelope alone, or at each where there is none.
+#[derive(Drop)]
+struct StopsAt(Option<u32>);
+
+impl Gate for StopsAt {
+    fn before(&self, _desk: u8, stamp: u32) -> bool {
+        match self.0 {
+            Some(one) => stamp != one,
+            None => false,
+        }
+    }
+
+    fn after(&self, _desk: u8, _slip: &Slip) {}
+}
+
+#[test]
+fn a_gate_stops_a_count(rt: HostRuntime) -> Result<(), Fail> {
+    let alloc = rt.alloc();
+    let (poll, ballots) = cycle(alloc)?;
+    let ten = poll_text(alloc, "A hundred envelopes", &["A", "B"], 1, 3, 10)?;
+    let hundred = hundred_ballots(alloc)?;
+    for (poll, ballots, desks, stamp) in [
+        (&poll, &ballots, 1, Some(5)),
+        (&ten, &hundred, 8, None),
+    ] {
+        let election = Election {
+            poll: poll.as_str(),
+            ballots: ballots.as_str(),
+            casting: None,
+            desks,
+        };
+        let gate = StopsAt(stamp);
+        let (written, ended) = count_through(
+            &rt,
+            alloc,
+            &gate,
+            ENDLESS,
+            Vec::new(alloc),
+            &election,
+        );
+        assert!(rt; written.is_empty());
+        assert_eq!(rt; ended, Err(RunFault::Vote(VoteFault::Gate(1))));
+        assert_eq!(rt; status(&ended), 6);
+    }
+    Ok(())
+}
+
+#[test]
+fn an_input_of_a_mebibyte_and_a_byte_is_too_long(rt: HostRuntime) -> Result<(), Fail> {
+    let alloc = rt.alloc();
+    let limit = 1_048_576;
+    let most = vec![in alloc; b'x'; 1_048_576]?;
+    let all = read(alloc, most.as_slice(), usize::MAX, u32::MAX, limit)?;
+    assert!(rt; all.as_slice() == most.as_slice());
+    let more = vec![in alloc; b'x'; 1_048_577]?;
+    let refused = read(alloc, more.as_slice(), usize::MAX, u32::MAX, limit);
+    assert!(rt; matches!(&refused, Err(ReadFault::TooLong)));
+    Ok(())
+}
+
+/// The fault of a count of the cycle at two desks, on a paper with room, with nothing written; `None` where the count is right.
+fn fault_of_run<R: Threads + Wait + Sync>(rt: &R, alloc: Global) -> Result<Option<RunFault>, Fail> {
+    let (poll, ballots) = cycle(alloc)?;
+    let election = Election {
+        poll: poll.as_str(),
+        ballots: ballots.as_str(),
+        casting: None,
+        desks: 2,
+    };
+    let paper = Vec::with_capacity(alloc, ROOM)?;
+    let (written, ended) = count_through(rt, alloc, &NoGate, ENDLESS, paper, &election);
+    match ended {
+        Ok(end) => {
+            if end != Ended::Decided(1) || written.as_slice() != A_CYCLE.as_bytes() {
+                return Err(Fail::from("another sheet"));
+            }
+            Ok(None)
+        }
+        Err(fault) => {
+            if !written.is_empty() || status(&ended) != 5 {
+                return Err(Fail::from("another refusal"));
+            }
+            Ok(Some(fault))
+        }
+    }
+}
+
+fn is_of_memory(fault: RunFault) -> bool {
+    match fault {
+        RunFault::Poll(fault) => fault == PollFault::Memory,
+        RunFault::Lines(fault) => fault == LinesFault::Memory,
+        RunFault::Vote(fault) => fault == VoteFault::Memory,
+        RunFault::Memory => true,
+        _ => false,
+    }
+}
+
+#[test]
+fn memory_of_run(rt: HostRuntime) -> Result<(), Fail> {
+    let Some(fault) = fault_of_run(&rt, rt.alloc())? else {
+        return Ok(());
+    };
+    assert!(rt;
+        is_of_memory(fault) || fault == RunFault::Vote(VoteFault::Thread),
+        "{}",
+        fault
+    );
+    Err(Fail::from("refused"))
+}
+
+#[test]
+fn threads_of_run(rt: HostRuntime) -> Result<(), Fail> {
+    let Some(fault) = fault_of_run(&rt, rt.alloc())? else {
+        return Ok(());
+    };
+    assert_eq!(rt; fault, RunFault::Vote(VoteFault::Thread));
+    Err(Fail::from("refused"))
+}
+
+#[test]
+fn memory_of_sheet(rt: HostRuntime) -> Result<(), Fail> {
+    let alloc = rt.alloc();
+    let (poll, ballots) = cycle(alloc)?;
+    let poll = Poll::from_text(alloc, poll.as_bytes())?;
+    let lines = Lines::split(alloc, ballots.as_bytes())?;
+    let audited = take_votes(&rt, alloc, &poll, &lines, 2, &NoGate)?;
+    match sheet(alloc, &poll, &lines, &audited, None) {
+        Ok(text) => {
+            assert!(rt; text.as_str() == A_CYCLE, "{}", text);
+            Ok(())
+        }
+        Err(AllocError) => Err(Fail::from("refused")),
+    }
+}
+
+/// Whether the job is done right on a paper with room, or else refused for want of memory, with nothing written.
+fn is_done<R: Abort>(rt: &R, alloc: Global, job: &Job<'_>, text: &str) -> Result<(), Fail> {
+    let paper = Vec::with_capacity(alloc, ROOM)?;
+    let (written, ended) = run_job(alloc, paper, job);
+    match ended {
+        Ok(()) => {
+            assert!(rt; written.as_slice() == text.as_bytes());
+            Ok(())
+        }
+        Err(fault) => {
+            assert!(rt; written.is_empty());
+            assert!(rt; is_of_memory(fault), "{}", fault);
+            Err(Fail::from("refused"))
+        }
+    }
+}
+
+#[test]
+fn memory_of_print_steps(rt: HostRuntime) -> Result<(), Fail> {
+    let job = Job::Steps {
+        poll: TWO_ELECTORS,
+        ballots: ELEVEN_LINES,
+    };
+    is_done(&rt, rt.alloc(), &job, ELEVEN_REPLIES)
+}
+
+#[test]
+fn memory_of_check_poll(rt: HostRuntime) -> Result<(), Fail> {
+    is_done(&rt, rt.alloc(), &Job::Check(TWO_ELECTORS), TWO_ELECTORS_OK)
+}
+
+#[test]
+fn memory_of_steps_joined(rt: HostRuntime) -> Result<(), Fail> {
+    is_done(&rt, rt.alloc(), &Job::Joined(JOINED), JOINED_REPLIES)
+}
+
+#[test]
+fn memory_of_read_limited(rt: HostRuntime) -> Result<(), Fail> {
+    let alloc = rt.alloc();
+    let bytes = vec![in alloc; b'x'; 10_000]?;
+    match read(alloc, bytes.as_slice(), usize::MAX, 9, 10_000) {
+        Ok(all) => {
+            assert!(rt; all.as_slice() == bytes.as_slice());
+            Ok(())
+        }
+        Err(fault) => {
+            assert_eq!(rt; fault, ReadFault::Memory);
+            Err(Fail::from("refused"))
+        }
+    }
+}
+
+#[test]
+fn memory_of_order(rt: HostRuntime) -> Result<(), Fail> {
+    let words = [
+        "count",
+        "--poll",
+        "p",
+        "--ballots",
+        "b",
+        "--desks",
+        "2",
+        "--casting",
+        "B",
+    ];
+    match order(rt.alloc(), words.as_slice()) {
+        Ok(task) => {
+            assert!(rt;
+                task == Task::Count {
+                    poll: "p",
+                    ballots: "b",
+                    desks: 2,
+                    casting: Some("B"),
+                }
+            );
+            Ok(())
+        }
+        Err(fault) => {
+            assert!(rt; matches!(&fault, OrderFault::Memory), "{:?}", fault);
+            Err(Fail::from("refused"))
+        }
+    }
+}
+
+#[test]
+fn memory_of_order_for_help(rt: HostRuntime) -> Result<(), Fail> {
+    match order(rt.alloc(), ["--help"].as_slice()) {
+        Err(OrderFault::Help(text)) => {
+            assert!(rt;
+                text.starts_with("Counts votes by the Debian Constitution\n"),
+                "{}",
+                text
+            );
+            for name in ["count", "steps", "check", "--help"] {
+                assert!(rt; text.contains(name), "{}", text);
+            }
+            Ok(())
+        }
+        Err(OrderFault::Memory) => Err(Fail::from("refused")),
+        _ => Err(Fail::from("another answer")),
+    }
+}
