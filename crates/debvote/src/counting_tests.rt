@@ -41,6 +41,16 @@ pub(crate) struct Election<'a> {
     pub desks: u8,
 }
 
+/// An election without a casting vote.
+pub(crate) fn plain_election<'a>(poll: &'a str, ballots: &'a str, desks: u8) -> Election<'a> {
+    Election {
+        poll,
+        ballots,
+        casting: None,
+        desks,
+    }
+}
+
 fn count_metered<L: Ledger, G: Gate + Sync, R: Threads + Wait + Sync>(
     rt: &R,
     alloc: Global,

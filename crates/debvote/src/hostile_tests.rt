@@ -5,7 +5,7 @@
 //! nothing written. So whoever runs it with one growth or one start refused after another sees whether any other answer
 //! comes.
 
-use crate::counting_tests::{ENDLESS, Election, Kind, count, count_through};
+use crate::counting_tests::{ENDLESS, Kind, count, count_through, plain_election};
 use crate::fault::{Ended, RunFault, status};
 use crate::input::ReadFault;
 use crate::order::{OrderFault, Task, order};
@@ -37,12 +37,7 @@ fn cycle(alloc: Global) -> Result<(String, String), AllocError> {
 fn a_sheet_is_written_up_to_the_fault(rt: HostRuntime) -> Result<(), Fail> {
     let alloc = rt.alloc();
     let (poll, ballots) = cycle(alloc)?;
-    let election = Election {
-        poll: poll.as_str(),
-        ballots: ballots.as_str(),
-        casting: None,
-        desks: 1,
-    };
+    let election = plain_election(poll.as_str(), ballots.as_str(), 1);
     let sheet = A_CYCLE.as_bytes();
     for (at_once, limit, flushes, len, end) in [
         (1, usize::MAX, true, sheet.len(), Ok(Ended::Decided(1))),
@@ -100,12 +95,7 @@ fn a_gate_stops_a_count(rt: HostRuntime) -> Result<(), Fail> {
         (&poll, &ballots, 1, Some(5)),
         (&ten, &hundred, 8, None),
     ] {
-        let election = Election {
-            poll: poll.as_str(),
-            ballots: ballots.as_str(),
-            casting: None,
-            desks,
-        };
+        let election = plain_election(poll.as_str(), ballots.as_str(), desks);
         let gate = StopsAt(stamp);
         let (written, ended) = count_through(
             &rt,
@@ -138,12 +128,7 @@ fn an_input_of_a_mebibyte_and_a_byte_is_too_long(rt: HostRuntime) -> Result<(), 
 /// The fault of a count of the cycle at two desks, on a paper with room, with nothing written; `None` where the count is right.
 fn fault_of_run<R: Threads + Wait + Sync>(rt: &R, alloc: Global) -> Result<Option<RunFault>, Fail> {
     let (poll, ballots) = cycle(alloc)?;
-    let election = Election {
-        poll: poll.as_str(),
-        ballots: ballots.as_str(),
-        casting: None,
-        desks: 2,
-    };
+    let election = plain_election(poll.as_str(), ballots.as_str(), 2);
     let paper = Vec::with_capacity(alloc, ROOM)?;
     let (written, ended) = count_through(rt, alloc, &NoGate, ENDLESS, paper, &election);
     match ended {

@@ -147,7 +147,7 @@ fn a_text_is_written_whole_or_to_the_fault(rt: HostRuntime) {
     }
 }
 
-/// A source over bytes that gives so many at once, and fails after some reads.
+/// A source over bytes that gives so many at once, but one at least, and fails after some reads.
 #[derive(Drop)]
 struct Tape<'a, L: Ledger> {
     rest: &'a [u8],
@@ -172,7 +172,8 @@ impl<L: Ledger> Source for Tape<'_, L> {
             return Err(DeviceFault);
         }
         self.reads -= 1;
-        let count = buffer.len().min(self.rest.len()).min(self.at_once);
+        let most = self.rest.len().min(self.at_once.max(1));
+        let count = buffer.len().min(most);
         buffer[..count].copy_from_slice(&self.rest[..count]);
         self.rest = &self.rest[count..];
         Ok(count)
