@@ -83,6 +83,17 @@ impl Defeats {
         self.rows[a as usize - 1].word()
     }
 
+    // The options that are defeated.
+    fn defeated(&self) -> OptionSet
+        ensures { (a b : ℕ) → Pairs self.now a b → In result b }
+    {
+        let mut defeated = OptionSet::empty();
+        for row in &self.rows {
+            defeated.take_in(row);
+        }
+        defeated
+    }
+
     /// How many defeats there are.
     pub fn len(&self) -> usize
         ensures { result ≡ pair_count self.now }
@@ -183,8 +194,10 @@ pub fn reach(defeats: &Defeats) -> Chains
     ensures { (a c : ℕ) → Pairs result a c ↔ TransitivelyDefeats (Pairs defeats.now) a c }
 {
     let mut rows = defeats.rows;
-    for b in 1..=MAX_OPTIONS as u8 {
-        let through = rows[b as usize - 1];
+    let last = defeats.defeated().last();
+    for before in 0..last {
+        let b = before + 1;
+        let through = rows[before as usize];
         for row in rows.iter_mut() {
             let more = if row.has(b) {
                 through
