@@ -11,6 +11,7 @@ use Rattle.vote_poll.specs.Names.{is_within, is_voter_name, is_option_name, is_t
 use Rattle.vote_poll.specs.PollContent.{PollContent, IsPoll}
 use Rattle.vote_poll.specs.PollFile.{Fields, all_options, first_fault, required_poll, err_or, is_integer_within}
 use Rattle.vote_poll.specs.declared.TheConstants.{MAX_OPTIONS, MAX_ELECTORS, MAX_RATIO, MAX_QUORUM_MULTIPLE}
+use Rattle.vote_poll.specs.declared.wording.Wording.TheVariants.{AtLeast}
 use Rattle.vote_poll.specs.declared.fault.PollFault.{PollFault}
 use Rattle.vote_poll.specs.declared.fault.PollFault.TheVariants as fault
 
@@ -18,6 +19,7 @@ pub record Checked (f : Fields) (p : PollContent) : Type 0 where
   pub title : is_title f.title ≡ true
   pub same_title : p.title ≡ f.title
   pub none_late : p.last_envelope ≡ None
+  pub same_wording : p.wording ≡ AtLeast
   pub count : is_within 2 MAX_OPTIONS (length (all_options f)) ≡ true
   pub options : err_or (option_map (λ place. fault.OptionName (place + 1)) (first_bad is_option_name (all_options f))) (all_options f) ≡ Ok p.options
   pub ratio_count : length f.ratios ≡ length f.options
@@ -45,7 +47,7 @@ checked_meaning f p h =
     let roll = err_or-ok (option_map fault.VoterName (first_bad is_voter_name f.roll)) f.roll p.roll h.roll in
     let ratios = chosen_ok (list_all (is_integer_within 1 MAX_RATIO) f.ratios) (map nat_abs f.ratios) p.ratios fault.Ratio h.ratios in
     let counted : (length f.ratios == length f.options) ≡ true = let same : length f.ratios ≡ length f.options = h.ratio_count in grind (arith, nat_tests) in
-    rw (h.title, h.count, options.0, counted, ratios.0, h.quorum, h.size, roll.0, ← h.same_title, options.1, ratios.1, ← h.multiple, roll.1, ← h.none_late)
+    rw (h.title, h.count, options.0, counted, ratios.0, h.quorum, h.size, roll.0, ← h.same_title, options.1, ratios.1, ← h.multiple, roll.1, ← h.none_late, ← h.same_wording)
 
 integer_bounds : (low high : ℕ) (z : ℤ) → is_integer_within low high z ≡ true → (low ≤ nat_abs z) × (nat_abs z ≤ high)
 integer_bounds low high (pos n) h = (grind (arith, ints, nat_tests), grind (arith, ints, nat_tests))

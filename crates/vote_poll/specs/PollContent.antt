@@ -1,11 +1,13 @@
 -- What a poll file says. The quorum is of section 4.2 of the Constitution, the default option and the ratios of A.5 of its
--- Appendix A; that a poll sets the multiple of Q is this project's own, and so is that envelopes can be late.
+-- Appendix A; this project's own are that a poll sets the multiple of Q, that envelopes can be late, and that a majority can be
+-- worded in two ways.
 use Rattle.std.specs.Prelude.{◌≡◌, ℕ, ◌+◌, ◌≤◌, List, length, Option, None, IfSome, unwrap_or, IsTrue}
 use Rattle.std.specs.List.{All}
 use Rattle.vote_poll.specs.Names.{first_bad, is_option_name, is_title, is_voter_name}
 use Rattle.vote_poll.specs.Options.{at_option}
 use Rattle.vote_poll.specs.declared.TheConstants.{MAX_OPTIONS, MAX_ELECTORS, MAX_RATIO, MAX_QUORUM_MULTIPLE}
 use Rattle.vote_poll.specs.declared.lines.TheConstants.{MAX_LINES}
+use Rattle.vote_poll.specs.declared.wording.Wording.{Wording}
 
 -- The default option is the last one. The options but the default have a ratio each. Where there is a last envelope, those
 -- with a greater number are late.
@@ -16,6 +18,7 @@ pub record PollContent : Type 0 where
   pub quorum_multiple : ℕ
   pub roll : List (List ℕ)
   pub last_envelope : Option ℕ
+  pub wording : Wording
 
 -- the number of options, which is the number of the default option
 abbrev pub option_count : PollContent → ℕ

@@ -2,7 +2,7 @@
 use Rattle.std.specs.Prelude.{◌≡◌, ℕ, ◌+◌, List, [], ◌∷◌, ◌++◌, map, length, Bool, true, false, ◌&&◌, ◌==◌, if◌then◌else◌, ℤ, nat_abs, pos, int_le, Option, Some, None, option_map, option_and_then, Result, Ok, Err, codes}
 use Rattle.std.specs.Option.{ok_or}
 use Rattle.std.specs.List.{list_all}
-use Rattle.std.specs.Str.{is_utf8}
+use Rattle.std.specs.Str.{is_utf8, bytes_eq}
 use Rattle.toml.specs.Data.{Data, Items, no_items, item, Members, get_member, as_str, as_integer, as_array}
 use Rattle.toml.specs.Parse.{parse_document}
 pub use Rattle.vote_poll.specs.Names.{is_printable, is_title, has_outer_space, is_option_name, is_bad_after, is_bad_at, first_bad}
@@ -11,13 +11,15 @@ use Rattle.vote_poll.specs.PollContent.{PollContent}
 use Rattle.vote_poll.specs.Lists.{all_some}
 use Rattle.vote_poll.specs.declared.TheConstants.{MAX_OPTIONS, MAX_ELECTORS, MAX_RATIO, MAX_QUORUM_MULTIPLE}
 use Rattle.vote_poll.specs.declared.lines.TheConstants.{MAX_LINES}
+use Rattle.vote_poll.specs.declared.wording.Wording.{Wording}
+use Rattle.vote_poll.specs.declared.wording.Wording.TheVariants.{AtLeast, MoreThan}
 use Rattle.vote_poll.specs.declared.fault.PollKey.{PollKey}
 use Rattle.vote_poll.specs.declared.fault.PollKey.TheVariants as key
 use Rattle.vote_poll.specs.declared.fault.PollFault.{PollFault}
 use Rattle.vote_poll.specs.declared.fault.PollFault.TheVariants as fault
 
 -- ---- the keys
--- the keys, each of its kind; the last envelope alone may be missing
+-- the keys, each of its kind; the last two may be missing
 pub record Fields : Type 0 where
   pub title : List ℕ
   pub options : List (List ℕ)
@@ -26,6 +28,7 @@ pub record Fields : Type 0 where
   pub quorum : ℤ
   pub roll : List (List ℕ)
   pub last_envelope : Option ℤ
+  pub wording : Option (List ℕ)
 
 abbrev pub items_list : Items → List Data
 items_list no_items = []
@@ -66,7 +69,8 @@ fields_of table = do
   quorum ← field key.Quorum (codes "quorum") as_integer table
   roll ← field key.Roll (codes "roll") (list_of as_str) table
   last_envelope ← optional_field key.LastEnvelope (codes "last_envelope") as_integer table
-  Ok (record { title = title; options = options; ratios = ratios; default_option = default_option; quorum = quorum; roll = roll; last_envelope = last_envelope })
+  wording ← optional_field key.Wording (codes "wording") as_str table
+  Ok (record { title = title; options = options; ratios = ratios; default_option = default_option; quorum = quorum; roll = roll; last_envelope = last_envelope; wording = wording })
 
 -- ---- the limits
 -- the number is one from low to high
@@ -101,7 +105,7 @@ first_fault f = first_some (
     ∷ option_map fault.VoterName (first_bad is_voter_name f.roll)
     ∷ [])
 
--- the poll that they give, in which no envelope is late
+-- the poll that they give, in which no envelope is late and the wording is the Constitution's
 abbrev pub required_poll : Fields → PollContent
 required_poll f = record {
   title = f.title;
@@ -110,6 +114,7 @@ required_poll f = record {
   quorum_multiple = nat_abs f.quorum;
   roll = f.roll;
   last_envelope = None;
+  wording = AtLeast;
 }
 
 -- the value, where there is no fault
@@ -122,12 +127,18 @@ abbrev pub last_envelope_in : Option ℤ → Result (Option ℕ) PollFault
 last_envelope_in None = Ok None
 last_envelope_in (Some z) = if is_integer_within 0 MAX_LINES z then Ok (Some (nat_abs z)) else Err fault.LastEnvelope
 
+-- the wording that a text names; without a text it is the Constitution's
+abbrev pub wording_in : Option (List ℕ) → Result Wording PollFault
+wording_in None = Ok AtLeast
+wording_in (Some text) = if bytes_eq text (codes "at_least") then Ok AtLeast else (if bytes_eq text (codes "more_than") then Ok MoreThan else Err fault.Wording)
+
 -- the poll that the keys give
 unfoldable pub poll_of : Fields → Result PollContent PollFault
 poll_of f = do
   poll ← err_or (first_fault f) (required_poll f)
   last_envelope ← last_envelope_in f.last_envelope
-  Ok (record poll { last_envelope = last_envelope })
+  wording ← wording_in f.wording
+  Ok (record poll { last_envelope = last_envelope; wording = wording })
 
 -- ---- the file
 -- the table of a text

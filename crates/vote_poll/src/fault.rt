@@ -23,6 +23,8 @@ pub enum PollKey {
     Roll,
     /// `last_envelope`, a whole number: the last envelope that is not late. This key may be missing.
     LastEnvelope,
+    /// `wording`, a text: how the poll words a majority, as [`Wording`](crate::Wording) has it. This key may be missing.
+    Wording,
 }
 
 impl fmt::Display for PollKey {
@@ -35,6 +37,7 @@ impl fmt::Display for PollKey {
             PollKey::Quorum => "quorum",
             PollKey::Roll => "roll",
             PollKey::LastEnvelope => "last_envelope",
+            PollKey::Wording => "wording",
         })
     }
 }
@@ -77,6 +80,9 @@ pub enum PollFault {
     /// The last envelope is not from 0 to [`MAX_LINES`](crate::MAX_LINES).
     #[error("poll refused: last envelope")]
     LastEnvelope,
+    /// The wording is neither `at_least` nor `more_than`.
+    #[error("poll refused: wording")]
+    Wording,
     /// Memory was asked for and refused. It can come in place of any other answer.
     #[error("out of memory")]
     Memory,

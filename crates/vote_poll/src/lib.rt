@@ -3,7 +3,8 @@
 //! The words of this crate:
 //! - [`Poll`]: what a poll file says. It has a title, two to [`MAX_OPTIONS`] options of which the last is the
 //!   default option, a majority ratio for each other option, the multiple of Q that is its quorum, and the
-//!   roll of its electors. It may have a last envelope, and those after it are then late.
+//!   roll of its electors. It may have a last envelope, and those after it are then late, and a [`Wording`] of
+//!   its majorities.
 //!   [`Poll::from_text`] reads it, or answers the first [`PollFault`].
 //! - [`Lines`]: the lines of a ballot file, each an envelope. [`Lines::split`] makes them.
 //! - [`Ranks`]: what one ballot says of the options, and which option it prefers to which.
@@ -25,7 +26,7 @@
 //!
 //! The Constitution's sections are named where a rule is the Constitution's: 4.2 for the quorum, and A.5 of
 //! Appendix A for ranks, ratios and the default option. The formats of the two files are this project's own, and
-//! so is that envelopes can be late.
+//! so are that envelopes can be late and that a majority can be worded as more than its ratio.
 #![tactic(auto)]
 
 mod fault;
@@ -35,12 +36,14 @@ mod poll;
 mod poll_file;
 mod ranks;
 mod reading;
+mod wording;
 
 pub use fault::{PollFault, PollKey};
 pub use lines::{Lines, LinesFault, MAX_LINES, lines_are_unique};
 pub use poll::Poll;
 pub use ranks::Ranks;
 pub use reading::{LineFault, Reading, read_line, readings_are_unique};
+pub use wording::Wording;
 
 /// The most options that a poll can have, the default among them. It has two at least.
 pub const MAX_OPTIONS: usize = 32;

@@ -1,14 +1,16 @@
 //! The limits that the parts of a poll file keep.
+ghost use Rattle.std.specs.Option.{option_copied};
 ghost use Rattle.std.specs.Prelude.{◌≡◌, ◌+◌, ◌<◌, ◌≤◌, ◌++◌, ◌∷◌, [], length, map, nat_abs, option_map, string_bytes, Ok, Err, true, false, OnOk, IfErr, ◌≢◌, if◌then◌else◌};
 ghost use Rattle.std.specs.List.{list_all, list_any};
 ghost use Rattle.std.specs.Str.{bytes_eq};
 ghost use Rattle.vote_poll.specs.Names.{is_voter_name};
-ghost use Rattle.vote_poll.specs.PollFile.{Gives, err_or, first_bad, has_outer_space, is_bad_after, is_integer_within, is_option_name, is_printable, is_title, last_envelope_in};
+ghost use Rattle.vote_poll.specs.PollFile.{Gives, err_or, first_bad, has_outer_space, is_bad_after, is_integer_within, is_option_name, is_printable, is_title, last_envelope_in, wording_in};
 ghost use Rattle.vote_poll.specs.declared.fault.PollFault.TheVariants as fault;
 
 use crate::fault::PollFault;
 use crate::lines::MAX_LINES;
 use crate::reading::is_voter_name;
+use crate::wording::Wording;
 use crate::{MAX_OPTION_NAME, MAX_OPTIONS, MAX_RATIO, MAX_TITLE};
 use indexmap::IndexSet;
 use std::alloc::Global;
@@ -121,4 +123,15 @@ pub(crate) fn last_envelope_of(number: Option<i64>) -> Result<Option<u32>, PollF
         return Err(PollFault::LastEnvelope);
     }
     Ok(Some(number as u32))
+}
+
+/// The wording that a text names, and the Constitution's where there is no text.
+pub(crate) fn wording_of(text: Option<&str>) -> Result<Wording, PollFault>
+    ensures { Gives (λ wording. wording) result (wording_in (option_copied text.entry)) }
+{
+    match text {
+        None | Some("at_least") => Ok(Wording::AtLeast),
+        Some("more_than") => Ok(Wording::MoreThan),
+        Some(_) => Err(PollFault::Wording),
+    }
 }

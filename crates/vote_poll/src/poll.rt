@@ -7,6 +7,7 @@ ghost use Rattle.vote_poll.specs.PollContent.{IsPoll, option_count, elector_coun
 ghost use Rattle.vote_poll.specs.PollParts.{content_of};
 ghost use Rattle.vote_poll.specs.declared.lines.TheConstants.{MAX_LINES};
 
+use crate::wording::Wording;
 use crate::{MAX_ELECTORS, MAX_OPTIONS};
 use indexmap::IndexSet;
 use std::marker::Model;
@@ -22,6 +23,7 @@ pub struct Poll {
     quorum_multiple: u8,
     roll: IndexSet<String>,
     last_envelope: Option<u32>,
+    wording: Wording,
 }
 
 /// The place of a name among the names of options.
@@ -45,7 +47,8 @@ impl Model for Poll {
 }
 
 impl Poll {
-    /// A poll of these parts, where the last option is the default and no envelope is late.
+    /// A poll of these parts, where the last option is the default, no envelope is late and the wording
+    /// is the Constitution's.
     pub(crate) fn new(
         title: String,
         options: Vec<String>,
@@ -63,6 +66,7 @@ impl Poll {
             quorum_multiple,
             roll,
             last_envelope: None,
+            wording: Wording::AtLeast,
         }
     }
 
@@ -75,6 +79,13 @@ impl Poll {
             last_envelope,
             ..self
         }
+    }
+
+    /// The same poll in this wording.
+    pub(crate) fn with_wording(self, wording: Wording) -> Poll
+        ensures { result ≡ record self { wording = wording } }
+    {
+        Poll { wording, ..self }
     }
 
     /// How many options there are, the default among them; so this is the number of the default option, too.
@@ -112,6 +123,14 @@ impl Poll {
         ensures at_most { IfSome result (λ last. last ≤ MAX_LINES) }
     {
         self.last_envelope
+    }
+
+    /// How the poll words a majority: `at_least` is the wording of A.5 of the Constitution's Appendix A, and `more_than`
+    /// this project's own.
+    pub fn wording(&self) -> Wording
+        ensures { result ≡ self.now.wording }
+    {
+        self.wording
     }
 
     /// The title of the poll: 1 to [`MAX_TITLE`](crate::MAX_TITLE) printable ASCII bytes.

@@ -1,6 +1,6 @@
 //! Reading a poll file.
 ghost use Rattle.std.specs.Prelude.{◌≡◌, map, option_map};
-ghost use Rattle.std.specs.Option.{ok_or};
+ghost use Rattle.std.specs.Option.{ok_or, option_copied};
 ghost use Rattle.vote_poll.specs.FieldsView.{fields_view};
 ghost use Rattle.vote_poll.specs.declared.fault.PollFault.TheVariants as fault;
 ghost use Rattle.toml.specs.Data.{get_member, as_array, as_str, as_integer};
@@ -8,7 +8,7 @@ ghost use Rattle.toml.specs.View.{items_view, view, table_view};
 ghost use Rattle.vote_poll.specs.PollFile.{Gives, document, each_of, err_or, field, fields_of, first_fault, list_of, optional_field, poll_in, poll_of, required_poll};
 
 use crate::fault::{PollFault, PollKey};
-use crate::limits::{is_title, last_envelope_of, option_names, ratios_of, voters_of};
+use crate::limits::{is_title, last_envelope_of, option_names, ratios_of, voters_of, wording_of};
 use crate::poll::Poll;
 use crate::{MAX_ELECTORS, MAX_OPTIONS, MAX_QUORUM_MULTIPLE};
 use std::alloc::Global;
@@ -43,6 +43,21 @@ fn text_at<'t>(table: &'t Table, name: &str, key: PollKey) -> Result<&'t str, Po
     match value_at(table, name) {
         Some(Value::String(text)) => Ok(text.as_str()),
         _ => Err(PollFault::Key(key)),
+    }
+}
+
+/// The text at a key that may be missing.
+fn optional_text_at<'t>(
+    table: &'t Table,
+    name: &str,
+    key: PollKey,
+) -> Result<Option<&'t str>, PollFault>
+    ensures { Gives option_copied result (optional_field key name.now as_str (table_view table.now)) }
+{
+    match value_at(table, name) {
+        None => Ok(None),
+        Some(Value::String(text)) => Ok(Some(text.as_str())),
+        Some(_) => Err(PollFault::Key(key)),
     }
 }
 
@@ -141,6 +156,7 @@ struct Fields<'t> {
     quorum: i64,
     roll: Vec<&'t str>,
     last_envelope: Option<i64>,
+    wording: Option<&'t str>,
 }
 
 /// The keys of a table.
@@ -155,6 +171,7 @@ fn fields_of(alloc: Global, table: &Table) -> Result<Fields<'_>, PollFault>
     let quorum = integer_at(table, "quorum", PollKey::Quorum)?;
     let roll = texts_at(alloc, table, "roll", PollKey::Roll)?;
     let last_envelope = optional_integer_at(table, "last_envelope", PollKey::LastEnvelope)?;
+    let wording = optional_text_at(table, "wording", PollKey::Wording)?;
     Ok(Fields {
         title,
         options,
@@ -163,6 +180,7 @@ fn fields_of(alloc: Global, table: &Table) -> Result<Fields<'_>, PollFault>
         quorum,
         roll,
         last_envelope,
+        wording,
     })
 }
 
@@ -209,14 +227,16 @@ fn poll_of(alloc: Global, fields: Fields<'_>) -> Result<Poll, PollFault>
     ensures { Gives (λ poll. poll) result (poll_of (fields_view fields.entry)) }
 {
     let last_envelope = fields.last_envelope;
+    let wording = fields.wording;
     let poll = required_poll(alloc, fields)?;
     let last_envelope = last_envelope_of(last_envelope)?;
-    Ok(poll.with_last_envelope(last_envelope))
+    let wording = wording_of(wording)?;
+    Ok(poll.with_last_envelope(last_envelope).with_wording(wording))
 }
 
 impl Poll {
     /// The poll that the text of a poll file means, or the first of its faults. The text is TOML with the keys of
-    /// [`PollKey`], of which `last_envelope` may be missing; other keys are passed over.
+    /// [`PollKey`], of which the last two may be missing; other keys are passed over.
     ///
     /// # Errors
     ///

@@ -1,7 +1,8 @@
 mod hostile;
 
 use crate::{
-    LineFault, Lines, LinesFault, MAX_LINES, Poll, PollFault, PollKey, Ranks, Reading, read_line,
+    LineFault, Lines, LinesFault, MAX_LINES, Poll, PollFault, PollKey, Ranks, Reading, Wording,
+    read_line,
 };
 use std::alloc::{AllocError, Global};
 use std::test::Fail;
@@ -103,6 +104,7 @@ fn a_small_poll(rt: HostRuntime) -> Result<(), Fail> {
     assert_eq!(rt; poll.electors(), 11);
     assert_eq!(rt; poll.quorum_multiple(), 2);
     assert_eq!(rt; poll.last_envelope(), None);
+    assert_eq!(rt; poll.wording(), Wording::AtLeast);
     assert_eq!(rt; poll.ratio(1), 1);
     assert_eq!(rt; poll.ratio(2), 3);
     assert_eq!(rt; poll.option_name(1), "A");
@@ -194,7 +196,12 @@ fn words_of_faults(rt: HostRuntime) -> Result<(), Fail> {
             PollFault::VoterName(9_999),
             "poll refused: voter at position 9999",
         ),
+        (
+            PollFault::Key(PollKey::Wording),
+            "poll refused: key wording",
+        ),
         (PollFault::LastEnvelope, "poll refused: last envelope"),
+        (PollFault::Wording, "poll refused: wording"),
         (PollFault::Memory, "out of memory"),
     ] {
         assert_eq!(rt; format!(in alloc; "{fault}")?.as_str(), words);
@@ -355,6 +362,59 @@ fn last_envelopes(rt: HostRuntime) -> Result<(), Fail> {
         let poll = Poll::from_text(alloc, text.as_bytes())?;
         assert_eq!(rt; poll.last_envelope(), Some(last), "at {last}");
         assert_eq!(rt; poll.electors(), 11);
+    }
+    Ok(())
+}
+
+#[test]
+fn wordings(rt: HostRuntime) -> Result<(), Fail> {
+    let alloc = rt.alloc();
+    for (keys, fault) in [
+        ("wording = 1", Some(PollFault::Key(PollKey::Wording))),
+        (
+            "wording = [\"at_least\"]",
+            Some(PollFault::Key(PollKey::Wording)),
+        ),
+        (
+            "wording = 1\nlast_envelope = \"5\"",
+            Some(PollFault::Key(PollKey::LastEnvelope)),
+        ),
+        (
+            "wording = 1\nlast_envelope = -1",
+            Some(PollFault::Key(PollKey::Wording)),
+        ),
+        ("wording = \"most\"", Some(PollFault::Wording)),
+        ("wording = \"\"", Some(PollFault::Wording)),
+        ("wording = \"At_least\"", Some(PollFault::Wording)),
+        ("wording = \"more_than \"", Some(PollFault::Wording)),
+        (
+            "wording = \"most\"\nlast_envelope = -1",
+            Some(PollFault::LastEnvelope),
+        ),
+        (
+            "wording = \"most\"\nlast_envelope = 5",
+            Some(PollFault::Wording),
+        ),
+    ] {
+        let text = format!(in alloc; "{keys}\n{SMALL}")?;
+        let poll = Poll::from_text(alloc, text.as_bytes());
+        assert_eq!(rt; poll.err(), fault, "at {keys}");
+    }
+    for (keys, wording, last) in [
+        ("wording = \"at_least\"", Wording::AtLeast, None),
+        ("wording = \"more_than\"", Wording::MoreThan, None),
+        (
+            "wording = 'more_than'\nlast_envelope = 5",
+            Wording::MoreThan,
+            Some(5),
+        ),
+        ("last_envelope = 5", Wording::AtLeast, Some(5)),
+    ] {
+        let text = format!(in alloc; "{keys}\n{SMALL}")?;
+        let poll = Poll::from_text(alloc, text.as_bytes())?;
+        assert_eq!(rt; poll.wording(), wording, "at {keys}");
+        assert_eq!(rt; poll.last_envelope(), last, "at {keys}");
+        assert_eq!(rt; poll.quorum_multiple(), 2, "at {keys}");
     }
     Ok(())
 }
