@@ -1,8 +1,8 @@
 -- What an audited box counts is what the lines say.
-use Rattle.std.proofs.Common.{◌≡◌, ℕ, ◌+◌, ◌-◌, ◌<◌, ◌≤◌, zero, suc, cond, eqb, leb, Bool, true, false, ◌&&◌, ◌||◌, List, [], ◌∷◌, ◌++◌, Option, Some, None, length, take, map, refl, sym, ap, ◌∙◌, subst, ⊎_elim, arith, append_assoc}
+use Rattle.std.proofs.Common.{◌≡◌, ℕ, ◌+◌, ◌-◌, ◌<◌, ◌≤◌, zero, suc, cond, eqb, Bool, true, false, not, ◌&&◌, ◌||◌, List, [], ◌∷◌, ◌++◌, Option, Some, None, length, take, map, refl, sym, ap, ◌∙◌, subst, ⊎_elim, arith, append_assoc}
 use Rattle.std.specs.Prelude.{slice_get, is_some, option_and_then}
 use Rattle.std.specs.List.{All, AllByRecursion, count_by, range_with_len}
-use Rattle.std.proofs.lemmas.Bool.{cases_eq, cases_lt, eq-eqb, ne_eqb, le-leb, lt-leb}
+use Rattle.std.proofs.lemmas.Bool.{cases_eq, cases_lt, eq-eqb, ne_eqb, lt-ltb, le-ltb}
 use Rattle.std.proofs.lemmas.List.{take_all}
 use Rattle.std.proofs.lemmas.List.Elements.{recursion_from_All}
 use Rattle.std.proofs.lemmas.List.Sums.{sum_by-cons, sum_by_push}
@@ -15,7 +15,7 @@ use Rattle.vote_desks.specs.declared.slip.Slip.{Slip}
 use Rattle.vote_steps.specs.declared.Received.{Received}
 use Rattle.vote_steps.specs.declared.Step.{Step}
 use Rattle.vote_steps.specs.declared.Step.TheVariants.{Cast, Close}
-use Rattle.vote_steps.specs.History.{is_cast, is_ballot, is_used, is_for, before_close, standing, standing_ranks, standing_votes, valid, refused, voters}
+use Rattle.vote_steps.specs.History.{is_cast, is_ballot, is_late, is_used, is_for, before_close, standing, standing_ranks, standing_votes, valid, refused, voters}
 use Rattle.vote_steps.specs.Boxes.{BoxState, IsLegal}
 use Rattle.vote_steps.specs.Order.{HasOwnReading, last_ballot}
 use Rattle.vote_steps.proofs.HistoryLemmas.{valid-refused, is_used-cast, is_used-close}
@@ -79,36 +79,37 @@ used_is_cast n (Cast d s r p ∷ steps) used =
 
 -- the ballots among the casts of the first envelopes
 
-abbrev is_early : ℕ → Step → Bool
-is_early n Close = false
-is_early n (Cast d s (Bad fault) p) = false
-is_early n (Cast d s (Ballot voter ranks) p) = leb s n
-
 abbrev is_ballot_of : ℕ → Step → Bool
 is_ballot_of n Close = false
 is_ballot_of n (Cast d s (Bad fault) p) = false
 is_ballot_of n (Cast d s (Ballot voter ranks) p) = eqb s n
 
-leb-suc : (s n : ℕ) → one (leb s (suc n)) ≡ one (leb s n) + one (eqb s (suc n))
-leb-suc s n =
+in_time : (n s : ℕ) → s ≤ n → one (not (is_late n s)) ≡ 1
+in_time n s h = ap (λ t. one (not t)) (le-ltb n s h)
+
+too_late : (n s : ℕ) → n < s → one (not (is_late n s)) ≡ 0
+too_late n s h = ap (λ t. one (not t)) (lt-ltb n s h)
+
+late-suc : (s n : ℕ) → one (not (is_late (suc n) s)) ≡ one (not (is_late n s)) + one (eqb s (suc n))
+late-suc s n =
     ⊎_elim
-    (λ (is : s ≡ suc n). omega (arith, ap one (le-leb s (suc n) (omega arith)), ap one (lt-leb s n (omega arith)), ap one (eq-eqb s (suc n) is)))
+    (λ (is : s ≡ suc n). omega (arith, in_time (suc n) s (omega arith), too_late n s (omega arith), ap one (eq-eqb s (suc n) is)))
     (λ (other : s ≡ suc n → ⊥).
     ⊎_elim
-    (λ (above : n < s). let more : suc n < s = omega arith in omega (arith, ap one (lt-leb s (suc n) more), ap one (lt-leb s n above), ap one (ne_eqb s (suc n) other)))
-    (λ (within : s ≤ n). omega (arith, ap one (le-leb s (suc n) (omega arith)), ap one (le-leb s n within), ap one (ne_eqb s (suc n) other)))
+    (λ (above : n < s). let more : suc n < s = omega arith in omega (arith, too_late (suc n) s more, too_late n s above, ap one (ne_eqb s (suc n) other)))
+    (λ (within : s ≤ n). omega (arith, in_time (suc n) s (omega arith), in_time n s within, ap one (ne_eqb s (suc n) other)))
     (cases_lt n s))
     (cases_eq s (suc n))
 
-one_envelope_more : (n : ℕ) (steps : List Step) → count_by (is_early (suc n)) steps ≡ count_by (is_early n) steps + count_by (is_ballot_of (suc n)) steps
+one_envelope_more : (n : ℕ) (steps : List Step) → count_by (is_ballot (suc n)) steps ≡ count_by (is_ballot n) steps + count_by (is_ballot_of (suc n)) steps
 one_envelope_more n [] = refl
 one_envelope_more n (step ∷ steps) =
-    omega (arith, count-cons (is_early (suc n)) step steps, count-cons (is_early n) step steps, count-cons (is_ballot_of (suc n)) step steps, of_step step, one_envelope_more n steps)
+    omega (arith, count-cons (is_ballot (suc n)) step steps, count-cons (is_ballot n) step steps, count-cons (is_ballot_of (suc n)) step steps, of_step step, one_envelope_more n steps)
   where
-    of_step : (s : Step) → one (is_early (suc n) s) ≡ one (is_early n s) + one (is_ballot_of (suc n) s)
+    of_step : (s : Step) → one (is_ballot (suc n) s) ≡ one (is_ballot n s) + one (is_ballot_of (suc n) s)
     of_step Close = refl
     of_step (Cast d s (Bad fault) p) = refl
-    of_step (Cast d s (Ballot voter ranks) p) = leb-suc s n
+    of_step (Cast d s (Ballot voter ranks) p) = late-suc s n
 
 -- the line of an envelope
 
@@ -155,35 +156,44 @@ ballots_at readings n r (step ∷ steps) line own =
       ap (λ k. cond {A = ℕ} t k 0) more,
     )
 
-none_early : (readings : List Reading) (steps : List Step) → AllByRecursion (HasOwnReading readings) steps → count_by (is_early 0) steps ≡ 0
-none_early readings [] own = refl
-none_early readings (Close ∷ steps) own = omega (arith, count-cons (is_early 0) Close steps, none_early readings steps own.1)
-none_early readings (Cast d s (Bad fault) p ∷ steps) own = omega (arith, count-cons (is_early 0) (Cast d s (Bad fault) p) steps, none_early readings steps own.1)
-none_early readings (Cast d s (Ballot voter ranks) p ∷ steps) own =
+none_in_time : (readings : List Reading) (steps : List Step) → AllByRecursion (HasOwnReading readings) steps → count_by (is_ballot 0) steps ≡ 0
+none_in_time readings [] own = refl
+none_in_time readings (Close ∷ steps) own = omega (arith, count-cons (is_ballot 0) Close steps, none_in_time readings steps own.1)
+none_in_time readings (Cast d s (Bad fault) p ∷ steps) own = omega (arith, count-cons (is_ballot 0) (Cast d s (Bad fault) p) steps, none_in_time readings steps own.1)
+none_in_time readings (Cast d s (Ballot voter ranks) p ∷ steps) own =
     let first = own.0.0 in
-    omega (arith, count-cons (is_early 0) (Cast d s (Ballot voter ranks) p) steps, none_early readings steps own.1, ap one (lt-leb s 0 (omega arith)))
+    omega (arith, count-cons (is_ballot 0) (Cast d s (Ballot voter ranks) p) steps, none_in_time readings steps own.1, too_late 0 s (omega arith))
 
-all_early : (readings : List Reading) (steps : List Step) → AllByRecursion (HasOwnReading readings) steps → count_by (is_early (length readings)) steps ≡ count_by is_ballot steps
-all_early readings [] own = refl
-all_early readings (Close ∷ steps) own =
-    omega (arith, count-cons (is_early (length readings)) Close steps, count-cons is_ballot Close steps, all_early readings steps own.1)
-all_early readings (Cast d s (Bad fault) p ∷ steps) own =
+-- where the last envelope comes after all lines, none is late
+all_in_time : (last : ℕ) (readings : List Reading) (steps : List Step) → length readings ≤ last → AllByRecursion (HasOwnReading readings) steps
+    → count_by (is_ballot last) steps ≡ count_by (is_ballot (length readings)) steps
+all_in_time last readings [] above own = refl
+all_in_time last readings (Close ∷ steps) above own =
+    omega (arith, count-cons (is_ballot (length readings)) Close steps, count-cons (is_ballot last) Close steps, all_in_time last readings steps above own.1)
+all_in_time last readings (Cast d s (Bad fault) p ∷ steps) above own =
     let step : Step = Cast d s (Bad fault) p in
-    omega (arith, count-cons (is_early (length readings)) step steps, count-cons is_ballot step steps, all_early readings steps own.1)
-all_early readings (Cast d s (Ballot voter ranks) p ∷ steps) own =
+    omega (arith, count-cons (is_ballot (length readings)) step steps, count-cons (is_ballot last) step steps, all_in_time last readings steps above own.1)
+all_in_time last readings (Cast d s (Ballot voter ranks) p ∷ steps) above own =
     let step : Step = Cast d s (Ballot voter ranks) p in
     let inside = slice_get_within readings (s - 1) (Ballot voter ranks) own.0.1 in
-    omega (arith, count-cons (is_early (length readings)) step steps, count-cons is_ballot step steps, all_early readings steps own.1, ap one (le-leb s (length readings) (omega arith)))
+    omega (
+      arith,
+      count-cons (is_ballot (length readings)) step steps,
+      count-cons (is_ballot last) step steps,
+      all_in_time last readings steps above own.1,
+      in_time (length readings) s (omega arith),
+      in_time last s (omega arith),
+    )
 
 some_within : (readings : List Reading) (n : ℕ) → n < length readings → (r : Reading) × (slice_get readings n ≡ Some r)
 some_within [] n h = absurd (omega arith)
 some_within (r ∷ rs) zero h = (r, refl)
 some_within (r ∷ rs) (suc n) h = some_within rs n (omega arith)
 
-early_ballots : (readings : List Reading) (steps : List Step) → AllByRecursion (HasOwnReading readings) steps → ((n : ℕ) → n < length readings → casts_of (suc n) steps ≡ 1)
-    → (n : ℕ) → n ≤ length readings → count_by (is_early n) steps ≡ count_by is_ballot_reading (take n readings)
-early_ballots readings steps own once zero h = none_early readings steps own
-early_ballots readings steps own once (suc n) h =
+ballots_in_time : (readings : List Reading) (steps : List Step) → AllByRecursion (HasOwnReading readings) steps → ((n : ℕ) → n < length readings → casts_of (suc n) steps ≡ 1)
+    → (n : ℕ) → n ≤ length readings → count_by (is_ballot n) steps ≡ count_by is_ballot_reading (take n readings)
+ballots_in_time readings steps own once zero h = none_in_time readings steps own
+ballots_in_time readings steps own once (suc n) h =
     let line = some_within readings n (omega arith) in
     let t = is_ballot_reading line.0 in
     let here : count_by is_ballot_reading (take (suc n) readings) ≡ count_by is_ballot_reading (take n readings) + one t =
@@ -191,11 +201,22 @@ early_ballots readings steps own once (suc n) h =
     omega (
       arith,
       one_envelope_more n steps,
-      early_ballots readings steps own once n (omega arith),
+      ballots_in_time readings steps own once n (omega arith),
       ballots_at readings n line.0 steps line.1 own,
       ap (λ k. cond {A = ℕ} t k 0) (once n (omega arith)),
       here,
     )
+
+-- the ballots that are not late, whether the last envelope is one of the lines or comes after them
+valid_lines : (last : ℕ) (readings : List Reading) (steps : List Step) → AllByRecursion (HasOwnReading readings) steps → ((n : ℕ) → n < length readings → casts_of (suc n) steps ≡ 1)
+    → count_by (is_ballot last) steps ≡ count_by is_ballot_reading (take last readings)
+valid_lines last readings steps own once =
+    ⊎_elim
+    (λ (above : length readings < last).
+    all_in_time last readings steps (omega arith) own ∙ ballots_in_time readings steps own once (length readings) (omega arith)
+    ∙ ap (count_by is_ballot_reading) (take_all (length readings) readings (omega arith) ∙ sym (take_all last readings (omega arith))))
+    (λ (within : last ≤ length readings). ballots_in_time readings steps own once last within)
+    (cases_lt (length readings) last)
 
 -- the voters
 
@@ -214,19 +235,20 @@ prefers_alike a c (Some ballot) = refl
 pub lines_are_counted_lem : LinesAreCounted
 lines_are_counted_lem poll lines b sheets a =
     let rs = readings poll lines in
-    let stand : (voter : ℕ) → standing_ranks b.steps voter ≡ last_ballot rs voter = λ voter. last_lines_stand_lem poll lines b sheets voter a in
+    let early = take b.last rs in
+    let stand : (voter : ℕ) → standing_ranks b.last b.steps voter ≡ last_ballot early voter = λ voter. last_lines_stand_lem poll lines b sheets voter a in
     let long = as_long poll lines in
     let limit = a.sizes.2 in
     let own = recursion_from_All (HasOwnReading rs) b.steps a.own_readings in
     let once : (n : ℕ) → n < length rs → casts_of (suc n) b.steps ≡ 1 = λ n low.
     (let used = each_stamp_is_used_lem b a.legal (a.casts ∙ sym a.sizes.2) (suc n) (omega arith) (omega (arith, low, long, limit)) in
     omega (arith, at_most_once b a.legal (suc n) [] b.steps refl, used_is_cast (suc n) b.steps used)) in
-    let counted : count_by is_ballot b.steps ≡ count_by is_ballot_reading rs =
-    sym (all_early rs b.steps own) ∙ early_ballots rs b.steps own once (length rs) (omega arith) ∙ ap (count_by is_ballot_reading) (take_all (length rs) rs (omega arith)) in
-    let before : count_by is_ballot b.steps ≡ valid b.steps = ap (count_by is_ballot) a.closed_last ∙ sum_by_push (λ s. one (is_ballot s)) (before_close b.steps) Close ∙ omega arith in
+    let before : count_by (is_ballot b.last) b.steps ≡ valid b.last b.steps =
+    ap (count_by (is_ballot b.last)) a.closed_last ∙ sum_by_push (λ s. one (is_ballot b.last s)) (before_close b.steps) Close ∙ omega arith in
+    let standing_there = standing b.last b.steps in
     record {
-      valid_is = sym before ∙ counted;
-      refused_is = valid-refused b.steps ∙ a.casts ∙ sym long;
-      voters_are = count-maps is_some is_some (standing b.steps) (last_ballot rs) (range_with_len 0 b.electors) (λ voter. has_ranks (standing b.steps voter) ∙ ap is_some (stand voter));
-      votes_are = λ x y. count-maps (is_for x y) (entry_prefers x y) (standing b.steps) (last_ballot rs) (range_with_len 0 b.electors) (λ voter. prefers_alike x y (standing b.steps voter) ∙ ap (entry_prefers x y) (stand voter));
+      valid_is = sym before ∙ valid_lines b.last rs b.steps own once;
+      refused_is = valid-refused b.last b.steps ∙ a.casts ∙ sym long;
+      voters_are = count-maps is_some is_some standing_there (last_ballot early) (range_with_len 0 b.electors) (λ voter. has_ranks (standing_there voter) ∙ ap is_some (stand voter));
+      votes_are = λ x y. count-maps (is_for x y) (entry_prefers x y) standing_there (last_ballot early) (range_with_len 0 b.electors) (λ voter. prefers_alike x y (standing_there voter) ∙ ap (entry_prefers x y) (stand voter));
     }

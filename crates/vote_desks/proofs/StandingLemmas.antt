@@ -43,4 +43,4 @@ casts_lines poll lines b sheets a =
     }
 
 pub last_lines_stand_lem : LastLinesStand
-last_lines_stand_lem poll lines b sheets voter a = order_does_not_matter_lem (readings poll lines) b.steps voter (casts_lines poll lines b sheets a)
+last_lines_stand_lem poll lines b sheets voter a = order_does_not_matter_lem b.last (readings poll lines) b.steps voter (casts_lines poll lines b sheets a)

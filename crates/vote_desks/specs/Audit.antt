@@ -1,6 +1,6 @@
 -- What an audit finds.
 use Rattle.std.specs.Prelude.{◌≡◌, ◌≢◌, ℕ, ◌+◌, ◌<◌, ◌≤◌, List, [], ◌∷◌, ◌++◌, length, map, take, slice_get, count_by, All}
-use Rattle.vote_poll.specs.PollContent.{PollContent, option_count, elector_count}
+use Rattle.vote_poll.specs.PollContent.{PollContent, option_count, elector_count, last_of}
 use Rattle.vote_poll.specs.Readings.{reading}
 use Rattle.vote_poll.specs.declared.Reading.{Reading}
 use Rattle.vote_desks.specs.declared.slip.Slip.{Slip}
@@ -19,9 +19,9 @@ use Rattle.vote_desks.specs.Desks.{sheet_at}
 abbrev pub readings : PollContent → List (List ℕ) → List Reading
 readings poll lines = map (reading poll) lines
 
--- the box is of the poll's size, and has a number for each line
+-- the box is of the poll's size and has its last envelope, and has a number for each line
 abbrev pub HasSizes : PollContent → List (List ℕ) → BoxState → Type 0
-HasSizes poll lines b = (b.options ≡ option_count poll) × (b.electors ≡ elector_count poll) × (b.limit ≡ length lines)
+HasSizes poll lines b = (b.options ≡ option_count poll) × (b.electors ≡ elector_count poll) × (b.limit ≡ length lines) × (b.last ≡ last_of poll)
 
 -- each cast has the reading of the line with its stamp
 abbrev pub HasOwnReadings : PollContent → List (List ℕ) → List Step → Type 0

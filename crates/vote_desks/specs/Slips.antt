@@ -1,15 +1,13 @@
 -- What the desks note of their casts.
-use Rattle.std.specs.Prelude.{◌≡◌, ℕ, ◌+◌, ◌==◌, not, if◌then◌else◌, List, [], ◌∷◌, Option, Some, None, IsTrue, ◌⊎◌, count_by, map}
+use Rattle.std.specs.Prelude.{◌≡◌, ℕ, ◌+◌, ◌==◌, not, if◌then◌else◌, List, [], ◌∷◌, Option, Some, None, count_by, map}
 use Rattle.std.specs.List.{cons_option}
 use Rattle.std.specs.List.Sorted.{IsStrictlyIncreasing}
 use Rattle.vote_poll.specs.declared.Reading.{Reading}
-use Rattle.vote_poll.specs.declared.Reading.TheVariants.{Ballot, Bad}
 use Rattle.vote_desks.specs.declared.slip.Slip.{Slip}
 use Rattle.vote_steps.specs.declared.Reply.{Reply}
-use Rattle.vote_steps.specs.declared.Reply.TheVariants.{BadLine, BoxClosed}
 use Rattle.vote_steps.specs.declared.Step.{Step}
 use Rattle.vote_steps.specs.declared.Step.TheVariants.{Cast, Close}
-use Rattle.vote_steps.specs.History.{is_valid}
+use Rattle.vote_steps.specs.History.{is_valid, reply_to}
 
 -- the slip that a step of this number gives a desk
 abbrev pub slip_of : ℕ → ℕ → Step → Option Slip
@@ -29,7 +27,7 @@ slips steps desk = slips_from 1 steps desk
 abbrev pub valid_slips : List Slip → ℕ
 valid_slips sheet = count_by (λ slip. is_valid slip.reply) sheet
 
--- how many slips say that it is not, or came too late
+-- how many slips say that it is not, or that it was late or came after the close
 abbrev pub refused_slips : List Slip → ℕ
 refused_slips sheet = count_by (λ slip. not (is_valid slip.reply)) sheet
 
@@ -40,7 +38,8 @@ stamps_of sheet = map (λ slip. slip.stamp) sheet
 abbrev pub Rises : List Slip → Type 0
 Rises sheet = IsStrictlyIncreasing (stamps_of sheet)
 
--- a reply that a cast of such a line can have
-abbrev pub CanReply : Reading → Reply → Type 0
-CanReply (Bad fault) reply = (reply ≡ BadLine fault) ⊎ (reply ≡ BoxClosed)
-CanReply (Ballot voter ranks) reply = IsTrue (is_valid reply) ⊎ (reply ≡ BoxClosed)
+-- a reply that an envelope with this stamp and this line can have: after some steps, with some last envelope
+pub record CanReply (stamp : ℕ) (reading : Reading) (reply : Reply) : Type 0 where
+  pub last : ℕ
+  pub steps : List Step
+  pub answered : reply ≡ reply_to last steps stamp reading

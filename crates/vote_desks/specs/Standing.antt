@@ -1,5 +1,5 @@
 -- What an audited box says of the voters: it is what the lines say, whatever the order in which they were cast.
-use Rattle.std.specs.Prelude.{◌≡◌, ℕ, ◌+◌, Bool, true, false, List, Option, is_some, length, map, count_by}
+use Rattle.std.specs.Prelude.{◌≡◌, ℕ, ◌+◌, Bool, true, false, List, Option, is_some, length, map, take, count_by}
 use Rattle.std.specs.List.{range_with_len}
 use Rattle.vote_poll.specs.PollContent.{PollContent}
 use Rattle.vote_poll.specs.declared.Reading.{Reading}
@@ -11,11 +11,11 @@ use Rattle.vote_steps.specs.Boxes.{BoxState}
 use Rattle.vote_steps.specs.Order.{last_ballot}
 use Rattle.vote_desks.specs.Audit.{readings, IsAudited}
 
--- of each voter the ranks of the last line stand that reads as a ballot
+-- of each voter the ranks of the last line stand that reads as a ballot and is not late
 abbrev pub LastLinesStand : Type 0
 LastLinesStand =
     (poll : PollContent) (lines : List (List ℕ)) (b : BoxState) (sheets : List (List Slip)) (voter : ℕ) → IsAudited poll lines b sheets
-    → standing_ranks b.steps voter ≡ last_ballot (readings poll lines) voter
+    → standing_ranks b.last b.steps voter ≡ last_ballot (take b.last (readings poll lines)) voter
 
 abbrev pub is_ballot_reading : Reading → Bool
 is_ballot_reading (Bad fault) = false
@@ -25,12 +25,13 @@ is_ballot_reading (Ballot voter ranks) = true
 abbrev pub last_ballots : List Reading → ℕ → List (Option (List (Option ℕ)))
 last_ballots readings electors = map (last_ballot readings) (range_with_len 0 electors)
 
--- the totals and the votes of a box are those of the lines: a line is valid where it reads as a ballot, and a voter's last ballot counts
+-- the totals and the votes of a box are those of the lines: a line is valid where it reads as a ballot and is not late, and the
+-- last valid one of each voter counts
 pub record CountsLines (readings : List Reading) (b : BoxState) : Type 0 where
-  pub valid_is : valid b.steps ≡ count_by is_ballot_reading readings
-  pub refused_is : valid b.steps + refused b.steps ≡ length readings
-  pub voters_are : voters b.steps b.electors ≡ count_by is_some (last_ballots readings b.electors)
-  pub votes_are : (a c : ℕ) → standing_votes b.steps b.electors a c ≡ count_by (entry_prefers a c) (last_ballots readings b.electors)
+  pub valid_is : valid b.last b.steps ≡ count_by is_ballot_reading (take b.last readings)
+  pub refused_is : valid b.last b.steps + refused b.last b.steps ≡ length readings
+  pub voters_are : voters b.last b.steps b.electors ≡ count_by is_some (last_ballots (take b.last readings) b.electors)
+  pub votes_are : (a c : ℕ) → standing_votes b.last b.steps b.electors a c ≡ count_by (entry_prefers a c) (last_ballots (take b.last readings) b.electors)
 
 abbrev pub LinesAreCounted : Type 0
 LinesAreCounted =

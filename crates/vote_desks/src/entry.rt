@@ -17,7 +17,7 @@ pub fn enter<VL: Tally, RL: Tally>(
     reading: Reading,
 ) -> Result<Slip, EnterFault>
     ensures step { IfOk result (λ slip. held.new ≡ with_cast held.old desk.old.number stamp reading slip.reply) }
-    ensures slip { IfOk result (λ slip. slip ≡ record { number = length held.old.ballot_box.steps + 1; stamp = stamp; reply = reply_to held.old.ballot_box.steps stamp reading }) }
+    ensures slip { IfOk result (λ slip. slip ≡ record { number = length held.old.ballot_box.steps + 1; stamp = stamp; reply = reply_to held.old.ballot_box.last held.old.ballot_box.steps stamp reading }) }
     ensures noted { IfOk result (λ slip. desk.new ≡ with_slip desk.old slip) }
 
     ensures sizes { (result ≡ Err EnterFault.Sizes) ↔ ¬ FitsBox held.old.ballot_box reading }
@@ -42,7 +42,7 @@ pub fn enter<VL: Tally, RL: Tally>(
         Reply::Counted | Reply::Replaced | Reply::Superseded => {
             held.valid_book.add(&mut desk.valid_share, 1);
         }
-        Reply::BadLine(_) | Reply::BoxClosed => {
+        Reply::BadLine(_) | Reply::Late | Reply::BoxClosed => {
             held.refused_book.add(&mut desk.refused_share, 1);
         }
     }

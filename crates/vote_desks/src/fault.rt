@@ -52,7 +52,7 @@ impl<T: Drop> From<AllocFailed<T>> for DeskFault {
 /// Where a box and its sheets are not what the lines give. Steps and places on a sheet are numbered from 1.
 #[derive(Clone, Copy, Debug, PartialEq, Eq)]
 pub enum AuditFault {
-    /// The box has not the poll's numbers of options and electors, or its limit is not the number of lines.
+    /// The box has not the poll's numbers of options and electors or its last envelope, or its limit is not the number of lines.
     SizeDiffers,
     /// The box has not as many casts as there are lines.
     CountDiffers,

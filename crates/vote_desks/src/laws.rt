@@ -1,13 +1,13 @@
 //! What an audit means for the voters. Each law is the contract of a function that does nothing.
 ghost use Rattle.vote_desks.specs.Standing.{LastLinesStand, LinesAreCounted};
 
-/// In an audited box the last line of each voter stands, whatever the order in which the lines were cast.
+/// In an audited box the last line of each voter stands that is not late, whatever the order in which the lines were cast.
 pub fn last_lines_stand()
     ensures { LastLinesStand }
 {}
 
-/// What an audited box counts is what the lines say: how many are ballots, how many voters have one, and how many voters' last
-/// ballots prefer one option to another.
+/// What an audited box counts is what the lines say: how many are ballots and not late, how many voters have one, and how many
+/// voters' last such ballots prefer one option to another.
 pub fn lines_are_counted()
     ensures { LinesAreCounted }
 {}

@@ -16,7 +16,8 @@
 //! box sees less, since another desk may cast between any two calls; so the shares stand for what the desks did, and `gather`
 //! shows that all shares together are the books. `compare` answers that all is right just where it is, and else the first
 //! fault that is so. Where `take_votes` answers a box, it is audited for the poll and the lines, and each sheet rises by
-//! stamp; so by `laws::last_lines_stand` the last line of each voter stands, whatever the order in which the desks came.
+//! stamp; so by `laws::last_lines_stand` the last line of each voter that is not late stands, whatever the order in which
+//! the desks came. A line is late where its number is above the poll's last envelope, whenever it was cast.
 //!
 //! **What is not promised.** That two threads run at the same time, that a waiting call gets on, any fairness among desks,
 //! which desk casts which line, or in what order. That a call succeeds where memory or a thread may be refused. What a gate

@@ -1,16 +1,18 @@
 //! The box behind its lock, and the opening of its desks.
 ghost use Rattle.std.specs.Prelude.{◌≡◌, ◌≤◌, ◌<◌, ◌↔◌, ◌∷◌, ◌++◌, [], Err, length, map, IsTrue, IfOk, OnOk, IfErr, OnErr, vec_len};
 ghost use Rattle.std.specs.List.{range_with_len};
+ghost use Rattle.vote_poll.specs.PollContent.{option_count, elector_count, last_of};
 ghost use Rattle.vote_steps.specs.History.{is_closed, standing_ranks};
 ghost use Rattle.vote_steps.specs.declared.Step.TheVariants.{Close};
 ghost use Rattle.vote_desks.specs.Slips.{CanReply};
 ghost use Rattle.vote_desks.specs.Desks.{HasRoom, fresh_desk, with_close, with_slip};
 
+use crate::auditing::last_envelope;
 use crate::desk::{Desk, Held, Tally};
 use crate::entry::enter;
 use crate::fault::{DeskFault, EnterFault, NoVoter};
 use crate::slip::Slip;
-use std::alloc::Global;
+use std::alloc::{AllocError, Global};
 use std::marker::Model;
 use std::sync::ledger::Blank;
 use std::sync::{Mutex, Wait};
@@ -35,6 +37,15 @@ impl<VL: Tally, RL: Tally> Model for SharedBox<VL, RL> {
     ghost invariant = { λ s. (1 ≤ s.desks) × (s.desks ≤ MAX_DESKS) × (s.desks ≡ VL.desks) × (s.desks ≡ RL.desks) };
 }
 
+/// An empty box for a poll, with its last envelope, that takes the stamps 1 to `limit`.
+fn empty_box(alloc: Global, poll: &Poll, limit: u32) -> Result<BallotBox, AllocError>
+    requires { limit ≤ MAX_LINES }
+    ensures { IfOk result (λ b. b ≡ record { options = option_count poll.now; electors = elector_count poll.now; limit = limit; last = last_of poll.now; steps = [] }) }
+{
+    let last = last_envelope(poll);
+    BallotBox::new(alloc, poll.options(), poll.electors(), limit, last)
+}
+
 /// Opens an empty box for a poll, with desks 1 to `desks` that share it.
 ///
 /// A desk's sheet has room for `limit` slips, which is also the greatest stamp that the box takes. The box and all sheets take
@@ -56,7 +67,7 @@ pub fn open_desks<VL: Tally, RL: Tally>(
     ensures desks { IfOk result (λ r. r.1.items ≡ map (fresh_desk limit) (range_with_len 1 desks)) }
     ensures err { IfErr result (λ fault. fault ≡ DeskFault.Memory) }
 {
-    let ballot_box = BallotBox::new(alloc, poll.options(), poll.electors(), limit)?;
+    let ballot_box = empty_box(alloc, poll, limit)?;
     let (valid_book, mut valid_rest) = valid.open::<VL>();
     let (refused_book, mut refused_rest) = refused.open::<RL>();
     let mut opened = Vec::new(alloc);
@@ -93,7 +104,7 @@ impl<VL: Tally, RL: Tally> SharedBox<VL, RL> {
     ) -> Result<Slip, EnterFault>
         ensures noted { IfOk result (λ slip. desk.new ≡ with_slip desk.old slip) }
         ensures stamp { IfOk result (λ slip. slip.stamp ≡ stamp) }
-        ensures reply { IfOk result (λ slip. CanReply reading slip.reply) }
+        ensures reply { IfOk result (λ slip. CanReply stamp reading slip.reply) }
         ensures full { result ≡ Err EnterFault.SheetFull → ¬ HasRoom desk.old }
         ensures err { OnErr result (desk.new ≡ desk.old) }
     {
@@ -112,6 +123,7 @@ impl<VL: Tally, RL: Tally> SharedBox<VL, RL> {
 }
 
 /// Closes a box.
+#[tactic(auto, using(crate::proofs::ClosingLemmas::valid_kept, crate::proofs::ClosingLemmas::refused_kept))]
 fn close<VL: Tally, RL: Tally>(held: &mut Held<VL, RL>) -> Result<(), AlreadyClosed>
     ensures ok { OnOk result (held.new ≡ with_close held.old) }
     ensures already { (result ≡ Err record {}) ↔ IsTrue (is_closed held.old.ballot_box.steps) }
@@ -125,7 +137,7 @@ fn standing<VL: Tally, RL: Tally>(
     held: &Held<VL, RL>,
     voter: usize,
 ) -> Result<Option<Ranks>, NoVoter>
-    ensures ok { IfOk result (λ ranks. ranks ≡ standing_ranks held.now.ballot_box.steps voter) }
+    ensures ok { IfOk result (λ ranks. ranks ≡ standing_ranks held.now.ballot_box.last held.now.ballot_box.steps voter) }
     ensures none { (result ≡ Err record {}) ↔ (held.now.ballot_box.electors ≤ voter) }
 {
     if voter >= held.ballot_box.electors() {

@@ -24,6 +24,9 @@ pub(crate) const TWO_ELECTORS: &str =
 const THREE_ELECTORS: &str =
     "title = \"Three\"\noptions = [\"A\", \"B\"]\nratios = [1, 1]\ndefault = \"None\"\nquorum = 0\nroll = [\"ann\", \"bob\", \"cid\"]\n";
 
+const FIRST_IS_LAST: &str =
+    "title = \"First\"\noptions = [\"A\", \"B\"]\nratios = [1, 1]\ndefault = \"None\"\nquorum = 0\nroll = [\"ann\", \"bob\"]\nlast_envelope = 1\n";
+
 const FOUR_OPTIONS: &str =
     "title = \"Four\"\noptions = [\"A\", \"B\", \"C\"]\nratios = [1, 1, 1]\ndefault = \"None\"\nquorum = 0\nroll = [\"ann\", \"bob\"]\n";
 
@@ -57,21 +60,27 @@ pub(crate) fn hundred_lines(alloc: Global) -> Result<String, AllocError> {
     Ok(text)
 }
 
-/// Asserts what the hundred lines give: the totals, and the votes of each option over each.
-pub(crate) fn assert_hundred(rt: &impl Abort, ballot_box: &BallotBox) {
+/// What the hundred lines give, valid, refused and voters, where none is late.
+pub(crate) const HUNDRED: (u64, u64, u64) = (95, 5, 10);
+
+/// Asserts what the hundred lines give: the totals, and the votes of each option over each, which are those of all voters or none.
+pub(crate) fn assert_hundred(rt: &impl Abort, ballot_box: &BallotBox, counts: (u64, u64, u64)) {
+    let (valid, refused, voters) = counts;
     let totals = Totals {
-        valid: 95,
-        refused: 5,
-        voters: 10,
+        valid,
+        refused,
+        voters,
     };
     assert_eq!(rt; ballot_box.totals(), totals);
     let matrix = ballot_box.matrix();
     assert_eq!(rt; matrix.options(), 3);
     let row = |a| [matrix.votes(a, 1), matrix.votes(a, 2), matrix.votes(a, 3)];
-    assert_eq!(rt;
-        [row(1), row(2), row(3)],
+    let votes = if voters == 0 {
+        [[0; 3]; 3]
+    } else {
         [[0, 5, 10], [5, 0, 10], [0, 0, 0]]
-    );
+    };
+    assert_eq!(rt; [row(1), row(2), row(3)], votes);
 }
 
 /// The poll of a text that is one, or that no memory was left for it.
@@ -355,6 +364,31 @@ fn audits_find_what_differs(rt: HostRuntime) -> Result<(), Fail> {
     Ok(())
 }
 
+#[test]
+fn a_box_has_the_last_envelope_of_its_poll(rt: HostRuntime) -> Result<(), Fail> {
+    let alloc = rt.alloc();
+    let any = Poll::from_text(alloc, TWO_ELECTORS.as_bytes())?;
+    let first = Poll::from_text(alloc, FIRST_IS_LAST.as_bytes())?;
+    let two = Lines::split(alloc, b"ann 1,2,3\nbob 2,1,3\n")?;
+    let ann = read_line(&any, b"ann 1,2,3");
+    let bob = read_line(&any, b"bob 2,1,3");
+    let in_time = [counted(2, &bob), counted(1, &ann)];
+    let late = [cast(0, 2, &bob, Ok(Reply::Late)), counted(1, &ann)];
+    let differs = Some(AuditFault::SizeDiffers);
+    // The poll for which a box is opened, what is cast there, and the poll of the audit, with what it finds.
+    let cases = [
+        (&any, in_time, &any, None),
+        (&any, in_time, &first, differs),
+        (&first, late, &any, differs),
+        (&first, late, &first, None),
+    ];
+    for (opened, deeds, poll, fault) in cases {
+        let sealed = acted(&rt, alloc, opened, 2, 1, &deeds, Back::InOrder)?;
+        assert_eq!(rt; audit(poll, &two, sealed).err(), fault);
+    }
+    Ok(())
+}
+
 /// Compares a sealed box with at most one sheet.
 fn compared(
     rt: &impl Abort,
@@ -428,7 +462,7 @@ fn two_desks_in_threads(rt: HostRuntime) -> Result<(), Fail> {
         Blank::new(2),
     )?;
     let audited = audit(&poll, &lines, sealed)?;
-    assert_hundred(&rt, audited.ballot_box());
+    assert_hundred(&rt, audited.ballot_box(), HUNDRED);
     assert_eq!(rt; audited.desks(), 2);
     assert_eq!(rt; audited.sheet_of(1).len(), 50);
     assert_eq!(rt; audited.sheet_of(2).len(), 50);

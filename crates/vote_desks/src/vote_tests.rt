@@ -1,5 +1,7 @@
 //! Votes taken by workers: any number of desks, gates that wait or do not let pass, and what a want of memory or of a thread leaves.
-use crate::tests::{TEN_ELECTORS, TWO_ELECTORS, assert_hundred, hundred_lines, lines_in, poll_in};
+use crate::tests::{
+    HUNDRED, TEN_ELECTORS, TWO_ELECTORS, assert_hundred, hundred_lines, lines_in, poll_in,
+};
 use crate::{Audited, Gate, NoGate, Slip, VoteFault, take_votes};
 use std::alloc::{AllocError, Global};
 use std::process::Abort;
@@ -45,14 +47,23 @@ fn assert_nine(rt: &impl Abort, ballot_box: &BallotBox) {
 #[test]
 fn any_number_of_desks_counts_alike(rt: HostRuntime) -> Result<(), Fail> {
     let alloc = rt.alloc();
-    let poll = Poll::from_text(alloc, TEN_ELECTORS.as_bytes())?;
     let text = hundred_lines(alloc)?;
     let lines = Lines::split(alloc, text.as_bytes())?;
-    for desks in [1, 2, 8] {
-        assert!(rt; 1 <= desks && desks <= 8);
-        let audited = take_votes(&rt, alloc, &poll, &lines, desks, &NoGate)?;
-        assert_hundred(&rt, audited.ballot_box());
-        assert_eq!(rt; audited.desks(), desks);
+    // A key of the poll, and what is counted with it.
+    let cases = [
+        ("", HUNDRED),
+        ("last_envelope = 50\n", (48, 52, 10)),
+        ("last_envelope = 0\n", (0, 100, 0)),
+    ];
+    for (key, counts) in cases {
+        let content = format!(in alloc; "{TEN_ELECTORS}{key}")?;
+        let poll = Poll::from_text(alloc, content.as_bytes())?;
+        for desks in [1, 2, 8] {
+            assert!(rt; 1 <= desks && desks <= 8);
+            let audited = take_votes(&rt, alloc, &poll, &lines, desks, &NoGate)?;
+            assert_hundred(&rt, audited.ballot_box(), counts);
+            assert_eq!(rt; audited.desks(), desks);
+        }
     }
     Ok(())
 }
@@ -190,7 +201,7 @@ fn one_desk_waits_while_the_other_serves(rt: HostRuntime) -> Result<(), Fail> {
     let gate = Turnstile::new(alloc, Passes::Behind(1, 99), 100)?;
     let audited = take_votes(&rt, alloc, &poll, &lines, 2, &gate)?;
     gate.assert_told(&rt, &audited, 100);
-    assert_hundred(&rt, audited.ballot_box());
+    assert_hundred(&rt, audited.ballot_box(), HUNDRED);
     Ok(())
 }
 
