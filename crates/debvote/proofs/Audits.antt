@@ -11,6 +11,7 @@ holds_lines poll lines b sheets audited = record {
   options = audited.sizes.0;
   electors = audited.sizes.1;
   limit = audited.sizes.2;
+  last = audited.sizes.3;
   casts = audited.casts;
   legal = audited.legal;
   closed_last = audited.closed_last;

@@ -4,7 +4,7 @@ use Rattle.std.specs.Prelude.{All, count_by, slice_get}
 use Rattle.std.proofs.lemmas.Bool.{cases_lt, ne_eqb}
 use Rattle.std.proofs.lemmas.List.Elements.{All-nil, All-push}
 use mathlib.Core.List.{append-nil}
-use Rattle.vote_poll.specs.PollContent.{PollContent, elector_count, option_count}
+use Rattle.vote_poll.specs.PollContent.{PollContent, elector_count, last_of, option_count}
 use Rattle.vote_poll.specs.Readings.{reading}
 use Rattle.vote_poll.specs.declared.Reading.{Reading}
 use Rattle.vote_poll.specs.declared.Reading.TheVariants.{Bad}
@@ -24,16 +24,16 @@ abbrev reading_at : List Reading → ℕ → Reading
 reading_at readings k = get_or readings k (Bad Shape)
 
 -- the casts of so many of the lines
-pub casts_of : List Reading → ℕ → List Step
-casts_of readings zero = []
-casts_of readings (suc k) =
-    casts_of readings k ++ Cast 1 (suc k) (reading_at readings k) (reply_to (casts_of readings k) (suc k) (reading_at readings k)) ∷ []
+pub casts_of : ℕ → List Reading → ℕ → List Step
+casts_of last readings zero = []
+casts_of last readings (suc k) =
+    casts_of last readings k ++ Cast 1 (suc k) (reading_at readings k) (reply_to last (casts_of last readings k) (suc k) (reading_at readings k)) ∷ []
 
 -- in an open box without steps no line is cast yet
-pub begins : (b : BoxState) (readings : List Reading) (o options e electors l limit : ℕ) → b ≡ record { options = o; electors = e; limit = l; steps = [] }
-    → o ≡ options → e ≡ electors → l ≡ limit → b ≡ record { options = options; electors = electors; limit = limit; steps = casts_of readings 0 }
+pub begins : (b : BoxState) (readings : List Reading) (o options e electors l limit u last : ℕ) → b ≡ record { options = o; electors = e; limit = l; last = u; steps = [] }
+    → o ≡ options → e ≡ electors → l ≡ limit → u ≡ last → b ≡ record { options = options; electors = electors; limit = limit; last = last; steps = casts_of last readings 0 }
 unfolding casts_of
-begins b readings o options e electors l limit is same_options same_electors same_limit = cc
+begins b readings o options e electors l limit u last is same_options same_electors same_limit same_last = cc
 
 get_at : (readings : List Reading) (k : ℕ) (r : Reading) → slice_get readings k ≡ Some r → reading_at readings k ≡ r
 get_at [] k r h = cc
@@ -51,54 +51,54 @@ read_at poll (x ∷ xs) zero line h = let same : x ≡ line = cc in ap (λ y. So
 read_at poll (x ∷ xs) (suc k) line h = read_at poll xs k line h
 
 -- after the next line
-pub casts_of_next : (readings : List Reading) (k n : ℕ) (r : Reading) → slice_get readings k ≡ Some r → n ≡ k + 1
-    → casts_of readings k ++ Cast 1 n r (reply_to (casts_of readings k) n r) ∷ [] ≡ casts_of readings n
+pub casts_of_next : (last : ℕ) (readings : List Reading) (k n : ℕ) (r : Reading) → slice_get readings k ≡ Some r → n ≡ k + 1
+    → casts_of last readings k ++ Cast 1 n r (reply_to last (casts_of last readings k) n r) ∷ [] ≡ casts_of last readings n
 unfolding casts_of
-casts_of_next readings k zero r h e = absurd (omega arith)
-casts_of_next readings k (suc m) r h e =
+casts_of_next last readings k zero r h e = absurd (omega arith)
+casts_of_next last readings k (suc m) r h e =
     let same : k ≡ m = omega arith in
     let is = get_at readings k r h in
-    ap (λ x. casts_of readings k ++ Cast 1 (suc m) x (reply_to (casts_of readings k) (suc m) x) ∷ []) (sym is)
-    ∙ ap (λ j. casts_of readings j ++ Cast 1 (suc m) (reading_at readings j) (reply_to (casts_of readings j) (suc m) (reading_at readings j)) ∷ []) same
+    ap (λ x. casts_of last readings k ++ Cast 1 (suc m) x (reply_to last (casts_of last readings k) (suc m) x) ∷ []) (sym is)
+    ∙ ap (λ j. casts_of last readings j ++ Cast 1 (suc m) (reading_at readings j) (reply_to last (casts_of last readings j) (suc m) (reading_at readings j)) ∷ []) same
 
-casts_of_count : (readings : List Reading) (k : ℕ) → count_by is_cast (casts_of readings k) ≡ k
+casts_of_count : (last : ℕ) (readings : List Reading) (k : ℕ) → count_by is_cast (casts_of last readings k) ≡ k
 unfolding casts_of
-casts_of_count readings zero = refl
-casts_of_count readings (suc k) =
-    let step = Cast 1 (suc k) (reading_at readings k) (reply_to (casts_of readings k) (suc k) (reading_at readings k)) in
-    omega (arith, count_by-cast (casts_of readings k) step, casts_of_count readings k)
+casts_of_count last readings zero = refl
+casts_of_count last readings (suc k) =
+    let step = Cast 1 (suc k) (reading_at readings k) (reply_to last (casts_of last readings k) (suc k) (reading_at readings k)) in
+    omega (arith, count_by-cast (casts_of last readings k) step, casts_of_count last readings k)
 
-pub casts_of_length : (readings : List Reading) (k : ℕ) → length (casts_of readings k) ≡ k
+pub casts_of_length : (last : ℕ) (readings : List Reading) (k : ℕ) → length (casts_of last readings k) ≡ k
 unfolding casts_of
-casts_of_length readings zero = refl
-casts_of_length readings (suc k) =
-    let step = Cast 1 (suc k) (reading_at readings k) (reply_to (casts_of readings k) (suc k) (reading_at readings k)) in
-    omega (arith, length-append (casts_of readings k) (step ∷ []), casts_of_length readings k)
+casts_of_length last readings zero = refl
+casts_of_length last readings (suc k) =
+    let step = Cast 1 (suc k) (reading_at readings k) (reply_to last (casts_of last readings k) (suc k) (reading_at readings k)) in
+    omega (arith, length-append (casts_of last readings k) (step ∷ []), casts_of_length last readings k)
 
-pub casts_of_open : (readings : List Reading) (k : ℕ) → is_closed (casts_of readings k) ≡ false
+pub casts_of_open : (last : ℕ) (readings : List Reading) (k : ℕ) → is_closed (casts_of last readings k) ≡ false
 unfolding casts_of
-casts_of_open readings zero = refl
-casts_of_open readings (suc k) =
-    let step = Cast 1 (suc k) (reading_at readings k) (reply_to (casts_of readings k) (suc k) (reading_at readings k)) in
-    is_closed-append (casts_of readings k) step ∙ ap (λ b. b || false) (casts_of_open readings k)
+casts_of_open last readings zero = refl
+casts_of_open last readings (suc k) =
+    let step = Cast 1 (suc k) (reading_at readings k) (reply_to last (casts_of last readings k) (suc k) (reading_at readings k)) in
+    is_closed-append (casts_of last readings k) step ∙ ap (λ b. b || false) (casts_of_open last readings k)
 
 -- the number of a line that is still to come is not used
-pub casts_of_unused : (readings : List Reading) (k n : ℕ) → k < n → is_used (casts_of readings k) n ≡ false
+pub casts_of_unused : (last : ℕ) (readings : List Reading) (k n : ℕ) → k < n → is_used (casts_of last readings k) n ≡ false
 unfolding casts_of
-casts_of_unused readings zero n h = refl
-casts_of_unused readings (suc k) n h =
+casts_of_unused last readings zero n h = refl
+casts_of_unused last readings (suc k) n h =
     let r = reading_at readings k in
-    is_used-cast (casts_of readings k) 1 (suc k) r (reply_to (casts_of readings k) (suc k) r) n
-    ∙ (ap (λ b. b || eqb (suc k) n) (casts_of_unused readings k n (omega arith)) ∙ ne_eqb (suc k) n (λ e. absurd (omega arith)))
+    is_used-cast (casts_of last readings k) 1 (suc k) r (reply_to last (casts_of last readings k) (suc k) r) n
+    ∙ (ap (λ b. b || eqb (suc k) n) (casts_of_unused last readings k n (omega arith)) ∙ ne_eqb (suc k) n (λ e. absurd (omega arith)))
 
-casts_of_own : (readings : List Reading) (k : ℕ) → k ≤ length readings → All (HasOwnReading readings) (casts_of readings k)
+casts_of_own : (last : ℕ) (readings : List Reading) (k : ℕ) → k ≤ length readings → All (HasOwnReading readings) (casts_of last readings k)
 unfolding casts_of
-casts_of_own readings zero h = All-nil (HasOwnReading readings)
-casts_of_own readings (suc k) h =
+casts_of_own last readings zero h = All-nil (HasOwnReading readings)
+casts_of_own last readings (suc k) h =
     let r = reading_at readings k in
     let back : suc k - 1 ≡ k = omega arith in
-    All-push (HasOwnReading readings) (casts_of readings k) (Cast 1 (suc k) r (reply_to (casts_of readings k) (suc k) r))
-    (casts_of_own readings k (omega arith))
+    All-push (HasOwnReading readings) (casts_of last readings k) (Cast 1 (suc k) r (reply_to last (casts_of last readings k) (suc k) r))
+    (casts_of_own last readings k (omega arith))
     (omega arith, ap (slice_get readings) back ∙ at_get readings k (omega arith))
 
 get_before : (steps : List Step) (step : Step) (k : ℕ) → k < length steps → slice_get (steps ++ step ∷ []) k ≡ slice_get steps k
@@ -112,23 +112,23 @@ get_last [] step (suc k) h = absurd (omega arith)
 get_last (x ∷ xs) step zero h = absurd (omega arith)
 get_last (x ∷ xs) step (suc k) h = get_last xs step k (omega arith)
 
-casts_of_at : (readings : List Reading) (k place : ℕ) → place < k → (reply : Reply) × (slice_get (casts_of readings k) place ≡ Some (Cast 1 (place + 1) (reading_at readings place) reply))
+casts_of_at : (last : ℕ) (readings : List Reading) (k place : ℕ) → place < k → (reply : Reply) × (slice_get (casts_of last readings k) place ≡ Some (Cast 1 (place + 1) (reading_at readings place) reply))
 unfolding casts_of
-casts_of_at readings zero place h = absurd (omega arith)
-casts_of_at readings (suc k) place h =
+casts_of_at last readings zero place h = absurd (omega arith)
+casts_of_at last readings (suc k) place h =
     let r = reading_at readings k in
-    let reply = reply_to (casts_of readings k) (suc k) r in
+    let reply = reply_to last (casts_of last readings k) (suc k) r in
     let step = Cast 1 (suc k) r reply in
-    let long = casts_of_length readings k in
+    let long = casts_of_length last readings k in
     elim (cases_lt place k) [
       | inl below ↦
-          let before = casts_of_at readings k place below in
-          (before.0, get_before (casts_of readings k) step place (omega arith) ∙ before.1)
-      | inr last ↦
+          let before = casts_of_at last readings k place below in
+          (before.0, get_before (casts_of last readings k) step place (omega arith) ∙ before.1)
+      | inr newest ↦
           let same : place ≡ k = omega arith in
           let number : place + 1 ≡ suc k = omega arith in (
             reply,
-            get_last (casts_of readings k) step place (omega arith)
+            get_last (casts_of last readings k) step place (omega arith)
                 ∙ (ap (λ j. Some (Cast 1 (suc k) (reading_at readings j) reply)) (sym same) ∙ ap (λ n. Some (Cast 1 n (reading_at readings place) reply)) (sym number)),
           )
     ]
@@ -138,15 +138,15 @@ length-readings poll [] = refl
 length-readings poll (line ∷ lines) = omega (arith, length-readings poll lines)
 
 -- such a history, closed
-module _ (readings : List Reading) (steps : List Step) (is : steps ≡ casts_of readings (length readings) ++ Close ∷ []) where
+module _ (last : ℕ) (readings : List Reading) (steps : List Step) (is : steps ≡ casts_of last readings (length readings) ++ Close ∷ []) where
   pub in_order : AreCastInOrder readings steps
   in_order place r h =
       let within : place < length readings = get_within readings place r h in
-      let at = casts_of_at readings (length readings) place within in
-      let long = casts_of_length readings (length readings) in (
+      let at = casts_of_at last readings (length readings) place within in
+      let long = casts_of_length last readings (length readings) in (
         at.0,
         ap (λ xs. slice_get xs place) is
-            ∙ (get_before (casts_of readings (length readings)) Close place (omega arith)
+            ∙ (get_before (casts_of last readings (length readings)) Close place (omega arith)
             ∙ (at.1 ∙ ap (λ x. Some (Cast 1 (place + 1) x at.0)) (get_at readings place r h))),
       )
     where
@@ -155,21 +155,22 @@ module _ (readings : List Reading) (steps : List Step) (is : steps ≡ casts_of 
       get_within (y ∷ ys) zero x e = omega arith
       get_within (y ∷ ys) (suc k) x e = omega (arith, get_within ys k x e)
 
-pub holds_lines : (poll : PollContent) (lines : List (List ℕ)) (b : BoxState) → b.options ≡ option_count poll → b.electors ≡ elector_count poll → b.limit ≡ length lines
-    → b.steps ≡ casts_of (readings poll lines) (length lines) ++ Close ∷ [] → IsLegal b → HoldsLines poll lines b
-holds_lines poll lines b options electors limit steps legal =
-    let xs = casts_of (readings poll lines) (length lines) in
-    let open_is = casts_of_open (readings poll lines) (length lines) in
+pub holds_lines : (poll : PollContent) (lines : List (List ℕ)) (b : BoxState) → b.options ≡ option_count poll → b.electors ≡ elector_count poll → b.limit ≡ length lines → b.last ≡ last_of poll
+    → b.steps ≡ casts_of (last_of poll) (readings poll lines) (length lines) ++ Close ∷ [] → IsLegal b → HoldsLines poll lines b
+holds_lines poll lines b options electors limit last steps legal =
+    let xs = casts_of (last_of poll) (readings poll lines) (length lines) in
+    let open_is = casts_of_open (last_of poll) (readings poll lines) (length lines) in
     record {
       options = options;
       electors = electors;
       limit = limit;
-      casts = omega (arith, ap (count_by is_cast) steps, count_by-cast xs Close, casts_of_count (readings poll lines) (length lines));
+      last = last;
+      casts = omega (arith, ap (count_by is_cast) steps, count_by-cast xs Close, casts_of_count (last_of poll) (readings poll lines) (length lines));
       legal = legal;
       closed_last = steps ∙ ap (λ front. front ++ Close ∷ []) (sym (ap before_close steps ∙ (before_close-append_open xs (Close ∷ []) open_is ∙ append-nil xs)));
       own_readings =
           let P : List Step → Type 0 = All (HasOwnReading (readings poll lines)) in
-          subst P (sym steps) (All-push (HasOwnReading (readings poll lines)) xs Close (casts_of_own (readings poll lines) (length lines) (omega (arith, length-readings poll lines))) tt);
+          subst P (sym steps) (All-push (HasOwnReading (readings poll lines)) xs Close (casts_of_own (last_of poll) (readings poll lines) (length lines) (omega (arith, length-readings poll lines))) tt);
     }
 
 -- ---- there is one such history
@@ -196,7 +197,7 @@ only_casts (Cast desk stamp reading reply ∷ steps) =
     omega (arith, count-cons is_cast (Cast desk stamp reading reply) (before_close steps), only_casts steps)
 
 module _ (poll : PollContent) (lines : List (List ℕ)) (b : BoxState) (held : HoldsLines poll lines b) (in_turn : AreCastInOrder (readings poll lines) b.steps) where
-  so_far : (k : ℕ) → k ≤ length lines → take k b.steps ≡ casts_of (readings poll lines) k
+  so_far : (k : ℕ) → k ≤ length lines → take k b.steps ≡ casts_of (last_of poll) (readings poll lines) k
   unfolding casts_of
   so_far zero h = refl
   so_far (suc k) h =
@@ -207,11 +208,11 @@ module _ (poll : PollContent) (lines : List (List ℕ)) (b : BoxState) (held : H
       let may = held.legal (take k b.steps) (drop (suc k) b.steps) step (split_at b.steps k step at.1) in
       let number : k + 1 ≡ suc k = omega arith in
       take_next b.steps k step at.1
-      ∙ (ap (λ reply. take k b.steps ++ Cast 1 (k + 1) r reply ∷ []) may.answered
-      ∙ (ap (λ xs. xs ++ Cast 1 (k + 1) r (reply_to xs (k + 1) r) ∷ []) (so_far k (omega arith))
-      ∙ ap (λ n. casts_of all k ++ Cast 1 n r (reply_to (casts_of all k) n r) ∷ []) number))
+      ∙ (ap (λ reply. take k b.steps ++ Cast 1 (k + 1) r reply ∷ []) (may.answered ∙ ap (λ last. reply_to last (take k b.steps) (k + 1) r) held.last)
+      ∙ (ap (λ xs. xs ++ Cast 1 (k + 1) r (reply_to (last_of poll) xs (k + 1) r) ∷ []) (so_far k (omega arith))
+      ∙ ap (λ n. casts_of (last_of poll) all k ++ Cast 1 n r (reply_to (last_of poll) (casts_of (last_of poll) all k) n r) ∷ []) number))
 
-  history_is : b.steps ≡ casts_of (readings poll lines) (length lines) ++ Close ∷ []
+  history_is : b.steps ≡ casts_of (last_of poll) (readings poll lines) (length lines) ++ Close ∷ []
   history_is =
       let xs = before_close b.steps in
       let long : length lines ≡ length xs = omega (arith, held.casts, ap (count_by is_cast) held.closed_last, count_by-cast xs Close, only_casts b.steps) in
@@ -219,14 +220,15 @@ module _ (poll : PollContent) (lines : List (List ℕ)) (b : BoxState) (held : H
       ∙ ap (λ front. front ++ Close ∷ [])
       (sym (take_front xs (Close ∷ []) (length lines) long) ∙ (sym (ap (take (length lines)) held.closed_last) ∙ so_far (length lines) (omega arith)))
 
-same_box : (b c : BoxState) → b.options ≡ c.options → b.electors ≡ c.electors → b.limit ≡ c.limit → b.steps ≡ c.steps → b ≡ c
-same_box b c options electors limit steps =
+same_box : (b c : BoxState) → b.options ≡ c.options → b.electors ≡ c.electors → b.limit ≡ c.limit → b.last ≡ c.last → b.steps ≡ c.steps → b ≡ c
+same_box b c options electors limit last steps =
     ap (λ o. record b { options = o }) options
     ∙ (ap (λ e. record b { options = c.options; electors = e }) electors
-    ∙ (ap (λ l. record c { limit = l; steps = b.steps }) limit
-    ∙ ap (λ s. record c { steps = s }) steps))
+    ∙ (ap (λ l. record c { limit = l; last = b.last; steps = b.steps }) limit
+    ∙ (ap (λ u. record c { last = u; steps = b.steps }) last
+    ∙ ap (λ s. record c { steps = s }) steps)))
 
 pub one_history : OrderLeavesNoChoice
 one_history poll lines b c held held' in_turn in_turn' =
-    same_box b c (held.options ∙ sym held'.options) (held.electors ∙ sym held'.electors) (held.limit ∙ sym held'.limit)
+    same_box b c (held.options ∙ sym held'.options) (held.electors ∙ sym held'.electors) (held.limit ∙ sym held'.limit) (held.last ∙ sym held'.last)
     (history_is poll lines b held in_turn ∙ sym (history_is poll lines c held' in_turn'))

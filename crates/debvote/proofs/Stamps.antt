@@ -1,6 +1,6 @@
 -- In a legal history with a cast for each number, each number is used once.
 use Rattle.std.proofs.Common.{◌≡◌, ℕ, zero, suc, ◌+◌, ◌-◌, ◌≤◌, Bool, true, false, not, ◌&&◌, ◌||◌, eqb, List, [], ◌∷◌, ◌++◌, length, get_or, refl, inl, inr, sym, ap, ◌∙◌, append_assoc, arith}
-use Rattle.std.specs.Prelude.{count_by, slice_get, Some}
+use Rattle.std.specs.Prelude.{count_by, slice_get, Some, take}
 use Rattle.std.specs.List.{range_with_len, AllByRecursion}
 use Rattle.std.proofs.lemmas.Bool.{cases_Bool, eq-eqb, true≢false}
 use Rattle.std.proofs.lemmas.List.FromFn.{length-range_with_len}
@@ -8,12 +8,12 @@ use Rattle.vote_poll.specs.declared.Reading.{Reading}
 use Rattle.vote_poll.specs.declared.Reading.TheVariants.{Ballot, Bad}
 use Rattle.vote_steps.specs.declared.Step.{Step}
 use Rattle.vote_steps.specs.declared.Step.TheVariants.{Cast, Close}
-use Rattle.vote_steps.specs.History.{is_ballot as is_ballot_step, is_cast, is_used}
+use Rattle.vote_steps.specs.History.{is_ballot as is_ballot_step, is_cast, is_late, is_used}
 use Rattle.vote_steps.specs.Boxes.{BoxState, IsLegal}
 use Rattle.vote_steps.specs.Order.{HasOwnReading}
 use Rattle.vote_steps.proofs.HistoryLemmas.{is_used-cast, is_used-close}
 use Rattle.debvote.specs.LastBallots.{is_ballot}
-use Rattle.debvote.proofs.Counts.{one, count-cons, count_same, count-not, count_by_number, count_without}
+use Rattle.debvote.proofs.Counts.{one, count-cons, count_same, count-not, count_to_number, count_without}
 
 -- whether a step is a cast with a number that passes the test
 abbrev pub passes : (ℕ → Bool) → Step → Bool
@@ -98,28 +98,32 @@ reading_at [] k r d h = cc
 reading_at (x ∷ xs) zero r d h = cc
 reading_at (x ∷ xs) (suc k) r d h = reading_at xs k r d h
 
--- a cast is a ballot where its line reads as one
-ballots_alike : (readings : List Reading) (d : Reading) (steps : List Step) → AllByRecursion (HasOwnReading readings) steps
-    → count_by is_ballot_step steps ≡ count_by (passes (λ n. is_ballot (get_or readings (n - 1) d))) steps
-ballots_alike readings d [] own = refl
-ballots_alike readings d (Close ∷ steps) own =
-    let p : ℕ → Bool = λ n. is_ballot (get_or readings (n - 1) d) in
-    omega (arith, count-cons is_ballot_step Close steps, count-cons (passes p) Close steps, ballots_alike readings d steps own.1)
-ballots_alike readings d (Cast desk stamp (Bad fault) reply ∷ steps) own =
-    let p : ℕ → Bool = λ n. is_ballot (get_or readings (n - 1) d) in
-    let step = Cast desk stamp (Bad fault) reply in
-    let here = ap (λ r. one (is_ballot r)) (reading_at readings (stamp - 1) (Bad fault) d own.0.1) in
-    omega (arith, count-cons is_ballot_step step steps, count-cons (passes p) step steps, here, ballots_alike readings d steps own.1)
-ballots_alike readings d (Cast desk stamp (Ballot voter ranks) reply ∷ steps) own =
-    let p : ℕ → Bool = λ n. is_ballot (get_or readings (n - 1) d) in
-    let step = Cast desk stamp (Ballot voter ranks) reply in
-    let here = ap (λ r. one (is_ballot r)) (reading_at readings (stamp - 1) (Ballot voter ranks) d own.0.1) in
-    omega (arith, count-cons is_ballot_step step steps, count-cons (passes p) step steps, here, ballots_alike readings d steps own.1)
+-- whether the line with this number reads as a ballot and is not late
+abbrev in_time : ℕ → List Reading → Reading → ℕ → Bool
+in_time last readings d n = is_ballot (get_or readings (n - 1) d) && not (is_late last n)
 
--- as many casts are ballots as lines read as ballots
+-- a cast is a ballot in time where its line is one
+ballots_alike : (last : ℕ) (readings : List Reading) (d : Reading) (steps : List Step) → AllByRecursion (HasOwnReading readings) steps
+    → count_by (is_ballot_step last) steps ≡ count_by (passes (in_time last readings d)) steps
+ballots_alike last readings d [] own = refl
+ballots_alike last readings d (Close ∷ steps) own =
+    let p = in_time last readings d in
+    omega (arith, count-cons (is_ballot_step last) Close steps, count-cons (passes p) Close steps, ballots_alike last readings d steps own.1)
+ballots_alike last readings d (Cast desk stamp (Bad fault) reply ∷ steps) own =
+    let p = in_time last readings d in
+    let step = Cast desk stamp (Bad fault) reply in
+    let here = ap (λ r. one (is_ballot r && not (is_late last stamp))) (reading_at readings (stamp - 1) (Bad fault) d own.0.1) in
+    omega (arith, count-cons (is_ballot_step last) step steps, count-cons (passes p) step steps, here, ballots_alike last readings d steps own.1)
+ballots_alike last readings d (Cast desk stamp (Ballot voter ranks) reply ∷ steps) own =
+    let p = in_time last readings d in
+    let step = Cast desk stamp (Ballot voter ranks) reply in
+    let here = ap (λ r. one (is_ballot r && not (is_late last stamp))) (reading_at readings (stamp - 1) (Ballot voter ranks) d own.0.1) in
+    omega (arith, count-cons (is_ballot_step last) step steps, count-cons (passes p) step steps, here, ballots_alike last readings d steps own.1)
+
+-- as many casts are ballots in time as lines are
 pub ballot_casts : (readings : List Reading) (d : Reading) (b : BoxState) → IsLegal b → count_by is_cast b.steps ≡ b.limit → b.limit ≡ length readings
-    → AllByRecursion (HasOwnReading readings) b.steps → count_by is_ballot_step b.steps ≡ count_by is_ballot readings
+    → AllByRecursion (HasOwnReading readings) b.steps → count_by (is_ballot_step b.last) b.steps ≡ count_by is_ballot (take b.last readings)
 ballot_casts readings d b legal casts limit own =
-    let p : ℕ → Bool = λ n. is_ballot (get_or readings (n - 1) d) in
-    ballots_alike readings d b.steps own
-    ∙ (count-passes b legal casts p ∙ (ap (λ n. count_by p (range_with_len 1 n)) limit ∙ count_by_number is_ballot readings d))
+    let p = in_time b.last readings d in
+    ballots_alike b.last readings d b.steps own
+    ∙ (count-passes b legal casts p ∙ (ap (λ n. count_by p (range_with_len 1 n)) limit ∙ count_to_number is_ballot readings d b.last))

@@ -303,8 +303,8 @@ parts_same a a' b b' c c' d d' e e' f f' g g' h h' is_a is_b is_c is_d is_e is_f
 head_text_same : (t t' : Text) (e e' m m' v v' : ℕ) → t ≡ t' → e ≡ e' → m ≡ m' → v ≡ v' → head_text t e m v ≡ head_text t' e' m' v'
 head_text_same t t' e e' m m' v v' is_t is_e is_m is_v = cc
 
-totals_text_same : (l l' v v' r r' u u' : ℕ) → l ≡ l' → v ≡ v' → r ≡ r' → u ≡ u' → totals_text l v r u ≡ totals_text l' v' r' u'
-totals_text_same l l' v v' r r' u u' is_l is_v is_r is_u = cc
+totals_text_same : (l l' : ℕ) (e e' : Option ℕ) (v v' r r' u u' : ℕ) → l ≡ l' → e ≡ e' → v ≡ v' → r ≡ r' → u ≡ u' → totals_text l e v r u ≡ totals_text l' e' v' r' u'
+totals_text_same l l' e e' v v' r r' u u' is_l is_e is_v is_r is_u = cc
 
 options_text_same : (names names' : List Text) (ratios ratios' : List ℕ) → names ≡ names' → ratios ≡ ratios' → options_text names ratios ≡ options_text names' ratios'
 options_text_same names names' ratios ratios' is_names is_ratios = cc
@@ -328,7 +328,7 @@ same_sheet poll lines casting s t is_s is_t =
     (cause_same poll s.matrix t.matrix same o is (cause_of s.outcome o) (is_s.outcome.causes o is)) (is_t.outcome.causes o is) in
     let decisions = decision_same (final_set s.outcome.rounds) (final_set t.outcome.rounds) final casting s.decision t.decision is_s.decision is_t.decision in
     parts_same (head_text s.title s.electors s.quorum_multiple s.quorum_votes) (head_text t.title t.electors t.quorum_multiple t.quorum_votes)
-    (totals_text s.line_count s.valid s.refused s.voters) (totals_text t.line_count t.valid t.refused t.voters)
+    (totals_text s.line_count s.last_envelope s.valid s.refused s.voters) (totals_text t.line_count t.last_envelope t.valid t.refused t.voters)
     (options_text s.names s.ratios) (options_text t.names t.ratios)
     (table_text s.matrix) (table_text t.matrix)
     (dropped_text (length s.names) s.outcome) (dropped_text (length t.names) t.outcome)
@@ -338,8 +338,8 @@ same_sheet poll lines casting s t is_s is_t =
     (head_text_same s.title t.title s.electors t.electors s.quorum_multiple t.quorum_multiple s.quorum_votes t.quorum_votes
     (is_s.title ∙ sym is_t.title) (is_s.electors ∙ sym is_t.electors) (is_s.quorum_multiple ∙ sym is_t.quorum_multiple)
     (omega (arith, is_s.quorum_least t.quorum_votes is_t.quorum_met, is_t.quorum_least s.quorum_votes is_s.quorum_met)))
-    (totals_text_same s.line_count t.line_count s.valid t.valid s.refused t.refused s.voters t.voters
-    (is_s.line_count ∙ sym is_t.line_count) (is_s.valid ∙ sym is_t.valid) (is_s.refused ∙ sym is_t.refused) (is_s.voters ∙ sym is_t.voters))
+    (totals_text_same s.line_count t.line_count s.last_envelope t.last_envelope s.valid t.valid s.refused t.refused s.voters t.voters
+    (is_s.line_count ∙ sym is_t.line_count) (is_s.last_envelope ∙ sym is_t.last_envelope) (is_s.valid ∙ sym is_t.valid) (is_s.refused ∙ sym is_t.refused) (is_s.voters ∙ sym is_t.voters))
     (options_text_same s.names t.names s.ratios t.ratios names (is_s.ratios ∙ sym is_t.ratios))
     (table_text_same n s.matrix t.matrix is_s.size is_t.size same)
     (ap (λ k. dropped_text k s.outcome) long ∙ (dropped_text_same n s.outcome t.outcome causes ∙ ap (λ k. dropped_text k t.outcome) (sym long')))

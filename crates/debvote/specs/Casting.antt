@@ -1,6 +1,6 @@
 -- What it means that a ballot box holds the lines of a poll.
 use Rattle.std.specs.Prelude.{◌≡◌, ℕ, ◌+◌, List, [], ◌∷◌, ◌++◌, length, count_by, All, Some, slice_get}
-use Rattle.vote_poll.specs.PollContent.{PollContent, elector_count, option_count}
+use Rattle.vote_poll.specs.PollContent.{PollContent, elector_count, last_of, option_count}
 use Rattle.vote_poll.specs.declared.Reading.{Reading}
 use Rattle.vote_steps.specs.declared.Reply.{Reply}
 use Rattle.vote_steps.specs.declared.Step.{Step}
@@ -10,12 +10,13 @@ use Rattle.vote_steps.specs.Boxes.{BoxState, IsLegal}
 use Rattle.vote_steps.specs.Order.{HasOwnReading}
 use Rattle.debvote.specs.LastBallots.{readings}
 
--- The box is of the poll's size and has a number for each line. Its history is legal, has as many casts as there are lines,
--- each with what the poll reads in the line with its stamp, and ends with its only close.
+-- The box is of the poll's size, and has a number for each line and the poll's last envelope. Its history is legal, has as many
+-- casts as there are lines, each with what the poll reads in the line with its stamp, and ends with its only close.
 pub record HoldsLines (poll : PollContent) (lines : List (List ℕ)) (b : BoxState) : Type 0 where
   pub options : b.options ≡ option_count poll
   pub electors : b.electors ≡ elector_count poll
   pub limit : b.limit ≡ length lines
+  pub last : b.last ≡ last_of poll
   pub casts : count_by is_cast b.steps ≡ length lines
   pub legal : IsLegal b
   pub closed_last : b.steps ≡ before_close b.steps ++ Close ∷ []

@@ -14,6 +14,7 @@ sheet_of r = record {
   quorum_multiple = r.poll.now.quorum_multiple;
   quorum_votes = r.quorum_votes;
   line_count = r.lines;
+  last_envelope = r.poll.now.last_envelope;
   valid = r.totals.valid;
   refused = r.totals.refused;
   voters = r.totals.voters;

@@ -19,6 +19,7 @@ pub record Sheet : Type 0 where
   pub quorum_multiple : ℕ
   pub quorum_votes : ℕ
   pub line_count : ℕ
+  pub last_envelope : Option ℕ
   pub valid : ℕ
   pub refused : ℕ
   pub voters : ℕ
@@ -65,9 +66,15 @@ head_text title electors multiple votes = concat (
     ∷ line (codes "Quorum: " ∷ decimal multiple ∷ codes "Q, " ∷ decimal votes ∷ codes " votes" ∷ [])
     ∷ [])
 
-unfoldable pub totals_text : ℕ → ℕ → ℕ → ℕ → Text
-totals_text lines valid refused voters = concat (
+-- the number above which a line is late, where the poll has one
+unfoldable pub last_text : Option ℕ → Text
+last_text None = []
+last_text (Some last) = line (codes "Last envelope: " ∷ decimal last ∷ [])
+
+unfoldable pub totals_text : ℕ → Option ℕ → ℕ → ℕ → ℕ → Text
+totals_text lines last valid refused voters = concat (
     line (codes "Lines: " ∷ decimal lines ∷ [])
+    ∷ last_text last
     ∷ line (codes "Valid: " ∷ decimal valid ∷ [])
     ∷ line (codes "Refused: " ∷ decimal refused ∷ [])
     ∷ line (codes "Voters: " ∷ decimal voters ∷ [])
@@ -172,7 +179,7 @@ sheet_text s =
     let n = length s.names in
     concat (
     head_text s.title s.electors s.quorum_multiple s.quorum_votes
-    ∷ totals_text s.line_count s.valid s.refused s.voters
+    ∷ totals_text s.line_count s.last_envelope s.valid s.refused s.voters
     ∷ options_text s.names s.ratios
     ∷ table_text s.matrix
     ∷ dropped_text n s.outcome

@@ -8,7 +8,7 @@ use Rattle.vote_count.specs.Rules.{IsKept, MeetsQuorum, PairwiseDefeats}
 use Rattle.vote_count.specs.Rounds.{AreRounds, HasCause, IsByCasting, Outcome, cause_of, final_set}
 use Rattle.vote_count.specs.declared.Decision.{Decision}
 use Rattle.vote_count.specs.declared.Decision.TheVariants.{Winner}
-use Rattle.debvote.specs.LastBallots.{bad_count, ballot_count, voter_count, votes_for}
+use Rattle.debvote.specs.LastBallots.{refused_count, valid_count, voter_count, votes_for}
 use Rattle.debvote.specs.Sheet.{Sheet, Text, sheet_text}
 
 -- what a count of the matrix comes to: who is dropped and why, the defeats between the options that are kept, and the rounds
@@ -31,15 +31,16 @@ pub record IsSheetOf (poll : PollContent) (lines : List Text) (casting : Option 
   pub names : s.names ≡ poll.options
   pub ratios : s.ratios ≡ poll.ratios
   pub quorum_multiple : s.quorum_multiple ≡ poll.quorum_multiple
+  pub last_envelope : s.last_envelope ≡ poll.last_envelope
   -- the least number of votes that meets the quorum
   pub quorum_met : MeetsQuorum poll s.quorum_votes
   pub quorum_least : (n : ℕ) → MeetsQuorum poll n → s.quorum_votes ≤ n
   -- what the lines are
   pub line_count : s.line_count ≡ length lines
-  pub valid : s.valid ≡ ballot_count poll lines
-  pub refused : s.refused ≡ bad_count poll lines
+  pub valid : s.valid ≡ valid_count poll lines
+  pub refused : s.refused ≡ refused_count poll lines
   pub voters : s.voters ≡ voter_count poll lines
-  -- the votes over each voter's last ballot, and what they come to
+  -- the votes over each voter's last valid ballot, and what they come to
   pub size : s.matrix.options ≡ option_count poll
   pub counted : (a b : ℕ) → IsOption (option_count poll) a → IsOption (option_count poll) b → votes s.matrix a b ≡ votes_for poll lines a b
   pub outcome : IsOutcome poll s.matrix s.outcome

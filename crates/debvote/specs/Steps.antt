@@ -5,7 +5,7 @@ use Rattle.vote_poll.specs.PollContent.{PollContent, elector_count, option_count
 use Rattle.vote_poll.specs.declared.LineFault.{LineFault}
 use Rattle.vote_poll.specs.declared.LineFault.TheVariants.{Shape, RankCount, Roll}
 use Rattle.vote_steps.specs.declared.Reply.{Reply}
-use Rattle.vote_steps.specs.declared.Reply.TheVariants.{BoxClosed, BadLine, Superseded, Replaced, Counted}
+use Rattle.vote_steps.specs.declared.Reply.TheVariants.{BoxClosed, Late, BadLine, Superseded, Replaced, Counted}
 use Rattle.vote_steps.specs.declared.Step.{Step}
 use Rattle.vote_steps.specs.declared.Step.TheVariants.{Cast, Close}
 use Rattle.vote_steps.specs.Boxes.{BoxState}
@@ -23,6 +23,7 @@ reply_words Counted = codes "counted"
 reply_words Replaced = codes "replaced"
 reply_words Superseded = codes "superseded"
 reply_words (BadLine fault) = line_fault_words fault
+reply_words Late = codes "late"
 reply_words BoxClosed = codes "closed"
 
 -- the line of a cast: the number of its envelope and the words of its reply; the close has none

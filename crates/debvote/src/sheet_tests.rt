@@ -102,8 +102,15 @@ const NO_BALLOTS: &str =
 const A_TIE: &str =
     "Poll: A tie\nElectors: 3\nQuorum: 1Q, 1 votes\nLines: 3\nValid: 3\nRefused: 0\nVoters: 3\nOptions:\n  1 ratio 1 A\n  2 ratio 1 B\n  3 ratio 1 C\n  4 default None\nVotes:\n        1     2     3     4\n  1     -     2     1     3\n  2     1     -     2     3\n  3     2     1     -     3\n  4     0     0     0     -\nDropped:\n  none\nDefeats:\n  1 over 2 by 2 to 1\n  1 over 4 by 3 to 0\n  2 over 3 by 2 to 1\n  2 over 4 by 3 to 0\n  3 over 1 by 2 to 1\n  3 over 4 by 3 to 0\nRound 1: 1 2 3\n  drop 1 over 2\n  drop 2 over 3\n  drop 3 over 1\nRound 2: 1 2 3\n";
 
-const A_HUNDRED_ENVELOPES: &str =
-    "Poll: A hundred envelopes\nElectors: 10\nQuorum: 3Q, 5 votes\nLines: 100\nValid: 95\nRefused: 5\nVoters: 10\nOptions:\n  1 ratio 1 A\n  2 ratio 1 B\n  3 default None\nVotes:\n        1     2     3\n  1     -     5    10\n  2     5     -    10\n  3     0     0     -\nDropped:\n  none\nDefeats:\n  1 over 3 by 10 to 0\n  2 over 3 by 10 to 0\nRound 1: 1 2\nTie: 1 2\n";
+/// The sheet of a hundred envelopes up to the number of lines, and from the number of voters.
+const A_HUNDRED_LINES: &str =
+    "Poll: A hundred envelopes\nElectors: 10\nQuorum: 3Q, 5 votes\nLines: 100\n";
+
+const OF_TEN_VOTERS: &str =
+    "Voters: 10\nOptions:\n  1 ratio 1 A\n  2 ratio 1 B\n  3 default None\nVotes:\n        1     2     3\n  1     -     5    10\n  2     5     -    10\n  3     0     0     -\nDropped:\n  none\nDefeats:\n  1 over 3 by 10 to 0\n  2 over 3 by 10 to 0\nRound 1: 1 2\nTie: 1 2\n";
+
+const OF_NO_VOTER: &str =
+    "Voters: 0\nOptions:\n  1 ratio 1 A\n  2 ratio 1 B\n  3 default None\nVotes:\n        1     2     3\n  1     -     0     0\n  2     0     -     0\n  3     0     0     -\nDropped:\n  1 quorum\n  2 quorum\nDefeats:\n  none\nRound 1: 3\nWinner: 3 None\n";
 
 #[test]
 fn few_ballots(rt: HostRuntime) -> Result<(), Fail> {
@@ -169,10 +176,35 @@ fn a_hundred_envelopes(rt: HostRuntime) -> Result<(), Fail> {
     let alloc = rt.alloc();
     let poll = poll_text(alloc, "A hundred envelopes", &["A", "B"], 1, 3, 10)?;
     let ballots = hundred_ballots(alloc)?;
-    for desks in [1, 2, 8] {
-        let (text, decision) = printed(&rt, alloc, desks, poll.as_str(), ballots.as_str(), None)?;
-        assert!(rt; text.as_str() == A_HUNDRED_ENVELOPES, "{}", text);
-        assert_eq!(rt; decision, Decision::Tie);
+    for (last, lines, rest, decided) in [
+        ("", "Valid: 95\nRefused: 5\n", OF_TEN_VOTERS, Decision::Tie),
+        (
+            "last_envelope = 50\n",
+            "Last envelope: 50\nValid: 48\nRefused: 52\n",
+            OF_TEN_VOTERS,
+            Decision::Tie,
+        ),
+        (
+            "last_envelope = 0\n",
+            "Last envelope: 0\nValid: 0\nRefused: 100\n",
+            OF_NO_VOTER,
+            Decision::Winner(3),
+        ),
+    ] {
+        let poll = format!(in alloc; "{last}{poll}")?;
+        let whole = format!(in alloc; "{A_HUNDRED_LINES}{lines}{rest}")?;
+        for desks in [1, 2, 8] {
+            let (text, decision) = printed(
+                &rt,
+                alloc,
+                desks,
+                poll.as_str(),
+                ballots.as_str(),
+                None,
+            )?;
+            assert!(rt; text.as_str() == whole.as_str(), "{}", text);
+            assert_eq!(rt; decision, decided);
+        }
     }
     Ok(())
 }

@@ -7,7 +7,7 @@ ghost use Rattle.vote_poll.specs.PollContent.{elector_count, option_count};
 ghost use Rattle.vote_count.specs.Sets.{has_pair};
 ghost use Rattle.vote_count.specs.Rounds.{cause_of};
 ghost use Rattle.debvote.specs.Results.{IsDecided, sheet_of};
-ghost use Rattle.debvote.specs.Sheet.{casting_note, cause_name, causes_text, column_text, decision_text, default_text, defeat_line, defeat_lines, defeats_text, defeats_by, drop_line, drops_of, each, ending, tie_text, winner_text, dropped_line, dropped_text, head_text, name_of, numbers, option_text, options_text, right, round_text, rounds_from, row_text, sheet_text, table_head_text, table_text, totals_text, votes_text, when};
+ghost use Rattle.debvote.specs.Sheet.{casting_note, cause_name, causes_text, column_text, decision_text, default_text, defeat_line, defeat_lines, defeats_text, defeats_by, drop_line, drops_of, each, ending, tie_text, winner_text, dropped_line, dropped_text, head_text, last_text, name_of, numbers, option_text, options_text, right, round_text, rounds_from, row_text, sheet_text, table_head_text, table_text, totals_text, votes_text, when};
 
 use crate::results::Results;
 use std::alloc::{AllocError, Global};
@@ -26,12 +26,29 @@ fn push_head(text: &mut String, poll: &Poll, votes: u64) -> Result<(), AllocErro
     writeln!(text, "Quorum: {multiple}Q, {votes} votes")
 }
 
+/// The last envelope, where the poll has one.
+#[tactic(auto, unfolding(crate::specs::Sheet::last_text))]
+fn push_last(text: &mut String, last: Option<u32>) -> Result<(), AllocError>
+    ensures { OnOk result (string_bytes text.new ≡ string_bytes text.old ++ last_text last) }
+{
+    match last {
+        Some(last) => writeln!(text, "Last envelope: {last}"),
+        None => Ok(()),
+    }
+}
+
 /// The numbers of lines and of voters.
 #[tactic(auto, unfolding(crate::specs::Sheet::totals_text))]
-fn push_totals(text: &mut String, lines: usize, totals: &Totals) -> Result<(), AllocError>
-    ensures { OnOk result (string_bytes text.new ≡ string_bytes text.old ++ totals_text lines totals.now.valid totals.now.refused totals.now.voters) }
+fn push_totals(
+    text: &mut String,
+    lines: usize,
+    last: Option<u32>,
+    totals: &Totals,
+) -> Result<(), AllocError>
+    ensures { OnOk result (string_bytes text.new ≡ string_bytes text.old ++ totals_text lines last totals.now.valid totals.now.refused totals.now.voters) }
 {
     writeln!(text, "Lines: {lines}")?;
+    push_last(text, last)?;
     writeln!(text, "Valid: {}", totals.valid)?;
     writeln!(text, "Refused: {}", totals.refused)?;
     writeln!(text, "Voters: {}", totals.voters)
@@ -414,7 +431,7 @@ fn push_decision(
 fn room(options: u8, rounds: usize) -> usize {
     let options = usize::from(options);
     let pairs = options * options;
-    let head_and_ending = 384;
+    let head_and_ending = 448;
     // a name has at most 40 bytes
     let option_lines = 80 * options;
     // each pair has a cell of the table, and at most half of them a defeat, which is dropped once
@@ -436,7 +453,12 @@ pub(crate) fn sheet_text(alloc: Global, results: &Results<'_>) -> Result<String,
     let rounds = results.verdict.rounds();
     let mut text = String::with_capacity(alloc, room(options, rounds.len()))?;
     push_head(&mut text, poll, results.quorum_votes)?;
-    push_totals(&mut text, results.lines, &results.totals)?;
+    push_totals(
+        &mut text,
+        results.lines,
+        poll.last_envelope(),
+        &results.totals,
+    )?;
     push_options(&mut text, poll)?;
     push_table(&mut text, results.matrix)?;
     push_dropped(&mut text, options, results.verdict)?;

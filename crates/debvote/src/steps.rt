@@ -27,6 +27,7 @@ fn reply_words(reply: Reply) -> &'static str
         Reply::BadLine(LineFault::Shape) => "bad shape",
         Reply::BadLine(LineFault::RankCount) => "bad rank count",
         Reply::BadLine(LineFault::Roll) => "bad not on roll",
+        Reply::Late => "late",
         Reply::BoxClosed => "closed",
     }
 }

@@ -276,6 +276,12 @@ pub(crate) const ELEVEN_LINES: &str =
 pub(crate) const JOINED: &str =
     "title = \"Two electors\"\noptions = [\"A\", \"B\"]\nratios = [1, 1]\ndefault = \"None\"\nquorum = 0\nroll = [\"ann\", \"bob\"]\n%%\nann 1,2,3\nbob 2,1,3\nann 3,2,1\n";
 
+const THREE_IN_TIME: &str =
+    "title = \"Two electors\"\noptions = [\"A\", \"B\"]\nratios = [1, 1]\ndefault = \"None\"\nquorum = 0\nroll = [\"v0\", \"v1\"]\nlast_envelope = 3\n";
+
+const JOINED_TWO_IN_TIME: &str =
+    "title = \"Two electors\"\noptions = [\"A\", \"B\"]\nratios = [1, 1]\ndefault = \"None\"\nquorum = 0\nroll = [\"ann\", \"bob\"]\nlast_envelope = 2\n%%\nann 1,2,3\nbob 2,1,3\nann 3,2,1\n";
+
 pub(crate) const ELEVEN_REPLIES: &str =
     "1 bad shape\n2 bad shape\n3 bad rank count\n4 bad shape\n5 bad shape\n6 bad shape\n7 bad shape\n8 bad not on roll\n9 bad rank count\n10 bad shape\n11 counted\n";
 
@@ -293,7 +299,18 @@ fn runs_write_their_texts(rt: HostRuntime) {
             },
             ELEVEN_REPLIES,
         ),
+        (
+            Job::Steps {
+                poll: THREE_IN_TIME,
+                ballots: ELEVEN_LINES,
+            },
+            "1 bad shape\n2 bad shape\n3 bad rank count\n4 late\n5 late\n6 late\n7 late\n8 late\n9 late\n10 late\n11 late\n",
+        ),
         (Job::Joined(JOINED), JOINED_REPLIES),
+        (
+            Job::Joined(JOINED_TWO_IN_TIME),
+            "1 counted\n2 counted\n3 late\n",
+        ),
         (Job::Joined(TWO_ELECTORS), ""),
         (Job::Check(TWO_ELECTORS), TWO_ELECTORS_OK),
     ] {
@@ -369,6 +386,14 @@ fn fault_lines(rt: HostRuntime) -> Result<(), Fail> {
         (
             RunFault::Poll(PollFault::OptionName(3)),
             "poll refused: name of option 3",
+        ),
+        (
+            RunFault::Poll(PollFault::Key(PollKey::LastEnvelope)),
+            "poll refused: key last_envelope",
+        ),
+        (
+            RunFault::Poll(PollFault::LastEnvelope),
+            "poll refused: last envelope",
         ),
         (RunFault::Poll(PollFault::Memory), "out of memory"),
         (

@@ -1,5 +1,5 @@
 use Rattle.std.proofs.Common.{◌≡◌, length}
-use Rattle.vote_poll.specs.PollContent.{elector_count, option_count}
+use Rattle.vote_poll.specs.PollContent.{elector_count, last_of, option_count}
 use Rattle.debvote.specs.LastBallots.{readings}
 use Rattle.debvote.proofs.CastLemmas.{casts_of}
 use Rattle.debvote.proofs.casting.cast_all.Given as goal
@@ -11,5 +11,6 @@ invariant-loop-place l =
       options = option_count l.poll;
       electors = elector_count l.poll;
       limit = length l.lines;
-      steps = casts_of (readings l.poll l.lines) l.place;
+      last = last_of l.poll;
+      steps = casts_of (last_of l.poll) (readings l.poll l.lines) l.place;
     }
