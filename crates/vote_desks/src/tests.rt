@@ -291,7 +291,22 @@ fn counted(stamp: u32, reading: &Reading) -> Deed {
     cast(0, stamp, reading, Ok(Reply::Counted))
 }
 
-/// Does the deeds at one desk with room for two slips, and asserts what an audit against the lines finds.
+/// Does the deeds at one desk of a poll with room for two slips, and asserts what an audit for another poll and its lines finds.
+fn assert_audit_for(
+    rt: &(impl Wait + Abort),
+    alloc: Global,
+    opened: &Poll,
+    deeds: &[Deed],
+    poll: &Poll,
+    lines: &Lines<'_>,
+    fault: Option<AuditFault>,
+) -> Result<(), DeskFault> {
+    let sealed = acted(rt, alloc, opened, 2, 1, deeds, Back::InOrder)?;
+    assert_eq!(rt; audit(poll, lines, sealed).err(), fault);
+    Ok(())
+}
+
+/// The same, where the audit is for the poll itself.
 fn assert_audit(
     rt: &(impl Wait + Abort),
     alloc: Global,
@@ -300,9 +315,7 @@ fn assert_audit(
     deeds: &[Deed],
     fault: Option<AuditFault>,
 ) -> Result<(), DeskFault> {
-    let sealed = acted(rt, alloc, poll, 2, 1, deeds, Back::InOrder)?;
-    assert_eq!(rt; audit(poll, lines, sealed).err(), fault);
-    Ok(())
+    assert_audit_for(rt, alloc, poll, deeds, poll, lines, fault)
 }
 
 #[test]
@@ -375,17 +388,10 @@ fn a_box_has_the_last_envelope_of_its_poll(rt: HostRuntime) -> Result<(), Fail> 
     let in_time = [counted(2, &bob), counted(1, &ann)];
     let late = [cast(0, 2, &bob, Ok(Reply::Late)), counted(1, &ann)];
     let differs = Some(AuditFault::SizeDiffers);
-    // The poll for which a box is opened, what is cast there, and the poll of the audit, with what it finds.
-    let cases = [
-        (&any, in_time, &any, None),
-        (&any, in_time, &first, differs),
-        (&first, late, &any, differs),
-        (&first, late, &first, None),
-    ];
-    for (opened, deeds, poll, fault) in cases {
-        let sealed = acted(&rt, alloc, opened, 2, 1, &deeds, Back::InOrder)?;
-        assert_eq!(rt; audit(poll, &two, sealed).err(), fault);
-    }
+    assert_audit_for(&rt, alloc, &any, &in_time, &any, &two, None)?;
+    assert_audit_for(&rt, alloc, &any, &in_time, &first, &two, differs)?;
+    assert_audit_for(&rt, alloc, &first, &late, &any, &two, differs)?;
+    assert_audit_for(&rt, alloc, &first, &late, &first, &two, None)?;
     Ok(())
 }
 

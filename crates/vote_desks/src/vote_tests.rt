@@ -5,11 +5,12 @@ use crate::tests::{
 use crate::{Audited, Gate, NoGate, Slip, VoteFault, take_votes};
 use std::alloc::{AllocError, Global};
 use std::process::Abort;
-use std::sync::OnceLock;
 use std::sync::atomic::AtomicU64;
 use std::sync::atomic::Ordering::SeqCst;
+use std::sync::{OnceLock, Wait};
 use std::test::Fail;
 use std::thread;
+use std::thread::Threads;
 use vote_poll::{Lines, Poll};
 use vote_steps::{BallotBox, Step, Totals};
 
@@ -205,6 +206,27 @@ fn one_desk_waits_while_the_other_serves(rt: HostRuntime) -> Result<(), Fail> {
     Ok(())
 }
 
+/// Takes votes by a gate, and asserts the fault, for how many envelopes the gate was asked, and of how many casts it was told.
+fn assert_stops<R: Threads + Wait + Abort + Sync>(
+    rt: &R,
+    alloc: Global,
+    poll: &Poll,
+    lines: &Lines<'_>,
+    desks: u8,
+    passes: Passes,
+    fault: Option<VoteFault>,
+    asked: u64,
+    told: u64,
+) -> Result<(), AllocError> {
+    assert!(rt; 1 <= desks && desks <= 8);
+    let gate = Turnstile::new(alloc, passes, 100)?;
+    let taken = take_votes(rt, alloc, poll, lines, desks, &gate);
+    assert_eq!(rt; taken.err(), fault, "at {desks} desks");
+    assert_eq!(rt; gate.asked.load(SeqCst), asked, "at {desks} desks");
+    assert_eq!(rt; gate.cast.load(SeqCst), told, "at {desks} desks");
+    Ok(())
+}
+
 #[test]
 fn the_least_desk_that_stopped_is_named(rt: HostRuntime) -> Result<(), Fail> {
     let alloc = rt.alloc();
@@ -214,23 +236,11 @@ fn the_least_desk_that_stopped_is_named(rt: HostRuntime) -> Result<(), Fail> {
     let text = hundred_lines(alloc)?;
     let hundred = Lines::split(alloc, text.as_bytes())?;
     let none = Lines::split(alloc, b"")?;
-    let stopped = Some(VoteFault::Gate(1));
-    // A gate, what is counted at how many desks, the fault, and for how many envelopes the gate was asked and of how many casts it
-    // was told.
-    let cases = [
-        (Passes::AllBut(5), &nine, &nine_lines, 1, stopped, 5, 4),
-        (Passes::Never, &nine, &nine_lines, 1, stopped, 1, 0),
-        (Passes::Never, &ten, &hundred, 8, stopped, 8, 0),
-        (Passes::Never, &ten, &none, 8, None, 0, 0),
-    ];
-    for (passes, poll, lines, desks, fault, asked, told) in cases {
-        assert!(rt; 1 <= desks && desks <= 8);
-        let gate = Turnstile::new(alloc, passes, 100)?;
-        let taken = take_votes(&rt, alloc, poll, lines, desks, &gate);
-        assert_eq!(rt; taken.err(), fault, "at {desks} desks");
-        assert_eq!(rt; gate.asked.load(SeqCst), asked, "at {desks} desks");
-        assert_eq!(rt; gate.cast.load(SeqCst), told, "at {desks} desks");
-    }
+    let first = Some(VoteFault::Gate(1));
+    let but_5 = Passes::AllBut(5);
+    assert_stops(&rt, alloc, &nine, &nine_lines, 1, but_5, first, 5, 4)?;
+    assert_stops(&rt, alloc, &ten, &hundred, 8, Passes::Never, first, 8, 0)?;
+    assert_stops(&rt, alloc, &ten, &none, 8, Passes::Never, None, 0, 0)?;
     Ok(())
 }
 
