@@ -1,12 +1,12 @@
 //! How a poll words the majority that an option needs.
 
-/// What an option needs over the default option, where its majority ratio is r: of those who prefer one of the two to
-/// the other, r times as many have to prefer the option.
+/// How many voters have to prefer an option to the default option, where its majority ratio is r. They are measured by
+/// those who prefer the default option to it.
 #[derive(Clone, Copy, Debug, PartialEq, Eq)]
 pub enum Wording {
-    /// `at_least` r times as many, and more than prefer the default option: as A.5 of the Constitution's Appendix A
-    /// words it. A poll that does not say its wording has this one.
+    /// At least r times as many, and more than as many: so A.5 of the Constitution's Appendix A words it. A poll file says
+    /// `at_least`, or nothing.
     AtLeast,
-    /// `more_than` r times as many. This wording is this project's own.
+    /// More than r times as many. This wording is this project's own. A poll file says `more_than`.
     MoreThan,
 }
