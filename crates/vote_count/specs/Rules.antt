@@ -1,6 +1,8 @@
--- The rules of the count, from Appendix A of the Constitution, Vote Counting, and for the quorum from section 4.2. A set of options is a fact on an option, and a list of defeats a fact on two.
+-- The rules of the count, from Appendix A of the Constitution, Vote Counting, and for the quorum from section 4.2; that a majority can be worded as more than its ratio is this project's own. A set of options is a fact on an option, and a list of defeats a fact on two.
 use Rattle.std.specs.Prelude.{◌≡◌, ℕ, ◌*◌, ◌^◌, ◌<◌, ◌≤◌, ◌⊎◌, List, [], ◌∷◌, ◌++◌, ⊤}
 use Rattle.vote_poll.specs.PollContent.{PollContent, elector_count, option_count, ratio_of}
+use Rattle.vote_poll.specs.declared.wording.Wording.{Wording}
+use Rattle.vote_poll.specs.declared.wording.Wording.TheVariants.{AtLeast, MoreThan}
 use Rattle.vote_count.specs.Votes.{Votes, votes}
 
 -- `n` votes are as many as the quorum (section 4.2): the poll's multiple of Q, which is half of the square root of the number of electors
@@ -11,11 +13,16 @@ MeetsQuorum poll n = poll.quorum_multiple ^ 2 * elector_count poll ≤ (2 * n) ^
 abbrev pub IsQuorum : PollContent → ℕ → Type 0
 IsQuorum poll n = MeetsQuorum poll n × ((m : ℕ) → MeetsQuorum poll m → n ≤ m)
 
--- A defeats the default option by A's majority ratio
+-- So many votes for an option and so many for the default are a majority of this ratio. In the Constitution's wording they are at least the ratio times as many, and more; in the other one they are more than the ratio times as many.
+abbrev pub IsMajority : Wording → ℕ → ℕ → ℕ → Type 0
+IsMajority AtLeast ratio won lost = (ratio * lost ≤ won) × (lost < won)
+IsMajority MoreThan ratio won lost = ratio * lost < won
+
+-- A defeats the default option by A's majority ratio, in the poll's wording
 abbrev pub MeetsMajority : PollContent → Votes → ℕ → Type 0
 MeetsMajority poll matrix a =
     let default = option_count poll in
-    (ratio_of poll a * votes matrix default a ≤ votes matrix a default) × (votes matrix default a < votes matrix a default)
+    IsMajority poll.wording (ratio_of poll a) (votes matrix a default) (votes matrix default a)
 
 -- A is not dropped: it is the default option, or it meets the quorum and its majority
 abbrev pub IsKept : PollContent → Votes → ℕ → Type 0

@@ -1,5 +1,5 @@
 //! The rules of the count.
-ghost use Rattle.std.specs.Prelude.{◌≡◌, ℕ, ◌^◌, ◌≤◌, ◌<◌, ◌↔◌, ◌⊎◌, IsTrue, IfSome};
+ghost use Rattle.std.specs.Prelude.{◌≡◌, ◌≢◌, ℕ, ◌^◌, ◌≤◌, ◌<◌, ◌↔◌, ◌⊎◌, IsTrue, IfSome};
 ghost use Rattle.vote_poll.specs.Options.{IsOption};
 ghost use Rattle.vote_poll.specs.PollContent.{option_count};
 ghost use Rattle.vote_count.specs.Rules.{MeetsQuorum, IsQuorum, MeetsMajority, IsKept, InSchwartzSet, IsWeaker, IsWeakest};
@@ -8,7 +8,7 @@ ghost use Rattle.vote_count.specs.Sets.{In, Pairs};
 ghost use Rattle.vote_count.specs.Votes.{votes};
 
 use crate::{Chains, Defeats, Matrix, OptionSet};
-use vote_poll::{MAX_OPTIONS, Poll};
+use vote_poll::{MAX_OPTIONS, Poll, Wording};
 
 /// The fewest votes that meet the quorum (section 4.2): the poll's multiple of Q, which is half of
 /// the square root of the number of electors, and is not rounded. With a multiple of 0 it is 0.
@@ -47,18 +47,24 @@ pub(crate) fn has_quorum(poll: &Poll, matrix: &Matrix, option: u8, quorum: u64) 
     u64::from(matrix.votes(option, poll.options())) >= quorum
 }
 
-/// Whether an option defeats the default option by its majority ratio, for which it must also have
-/// more votes than the default option (Appendix A, Vote Counting). It is another than the default.
+/// Whether an option defeats the default option by its majority ratio, in the wording of the poll
+/// (Appendix A, Vote Counting, for [`Wording::AtLeast`]). A ratio is at least 1, so the option has more
+/// votes than the default option in either wording. It is another than the default.
 pub fn meets_majority(poll: &Poll, matrix: &Matrix, option: u8) -> bool
     requires options { matrix.now.options ≡ option_count poll.now }
     requires first { 1 ≤ option }
     requires below_default { option < option_count poll.now }
-    ensures { IsTrue result ↔ MeetsMajority poll.now matrix.now option }
+    ensures majority { IsTrue result ↔ MeetsMajority poll.now matrix.now option }
+    ensures more { IsTrue result → votes matrix.now (option_count poll.now) option < votes matrix.now option (option_count poll.now) }
 {
     let default = poll.options();
     let won = u64::from(matrix.votes(option, default));
     let lost = u64::from(matrix.votes(default, option));
-    won >= u64::from(poll.ratio(option)) * lost && won > lost
+    let needed = u64::from(poll.ratio(option)) * lost;
+    match poll.wording() {
+        Wording::AtLeast => won >= needed && won > lost,
+        Wording::MoreThan => won > needed,
+    }
 }
 
 /// The options that are not dropped (Appendix A, Vote Counting): each that meets the quorum and
@@ -74,7 +80,8 @@ pub fn standing_options(poll: &Poll, matrix: &Matrix) -> OptionSet
 pub(crate) fn standing_with(poll: &Poll, matrix: &Matrix, quorum: u64) -> OptionSet
     requires options { matrix.now.options ≡ option_count poll.now }
     requires quorum { IsQuorum poll.now quorum }
-    ensures { (o : ℕ) → In result o ↔ IsKept poll.now matrix.now o }
+    ensures kept { (o : ℕ) → In result o ↔ IsKept poll.now matrix.now o }
+    ensures more { (o : ℕ) → In result o → o ≢ option_count poll.now → votes matrix.now (option_count poll.now) o < votes matrix.now o (option_count poll.now) }
 {
     let default = poll.options();
     let mut standing = OptionSet::empty();

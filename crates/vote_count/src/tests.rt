@@ -21,13 +21,25 @@ fn poll(
     quorum: u8,
     electors: usize,
 ) -> Result<Poll, Fail> {
+    poll_worded(alloc, names, ratios, quorum, electors, "at_least")
+}
+
+/// The same, in this wording of its majorities.
+fn poll_worded(
+    alloc: Global,
+    names: &str,
+    ratios: &str,
+    quorum: u8,
+    electors: usize,
+    wording: &str,
+) -> Result<Poll, Fail> {
     let mut roll = String::new(alloc);
     for voter in 0..electors {
         let name = format!(in alloc; "\"v{voter}\", ")?;
         roll.push_str(name.as_str())?;
     }
     let text = format!(in alloc;
-        "title = \"Test\"\noptions = [{names}]\nratios = [{ratios}]\ndefault = \"None\"\nquorum = {quorum}\nroll = [{roll}]\n"
+        "title = \"Test\"\noptions = [{names}]\nratios = [{ratios}]\ndefault = \"None\"\nquorum = {quorum}\nroll = [{roll}]\nwording = \"{wording}\"\n"
     )?;
     match Poll::from_text(alloc, text.as_bytes()) {
         Ok(poll) => Ok(poll),
@@ -231,12 +243,17 @@ fn memory_of_outcome(rt: HostRuntime) -> Result<(), Fail> {
 #[test]
 fn one_option(rt: HostRuntime) -> Result<(), Fail> {
     let alloc = rt.alloc();
-    for (ratio, won, lost, cause, winner) in [
-        ("3", 9, 3, None, 1),
-        ("3", 8, 3, Some(Cause::Majority), 2),
-        ("1", 2, 2, Some(Cause::Majority), 2),
+    let (at_least, more_than) = ("at_least", "more_than");
+    for (wording, ratio, won, lost, cause, winner) in [
+        (at_least, "3", 9, 3, None, 1),
+        (at_least, "3", 8, 3, Some(Cause::Majority), 2),
+        (at_least, "1", 2, 2, Some(Cause::Majority), 2),
+        (more_than, "3", 9, 3, Some(Cause::Majority), 2),
+        (more_than, "3", 10, 3, None, 1),
+        (more_than, "1", 2, 2, Some(Cause::Majority), 2),
+        (more_than, "10", 1, 0, None, 1),
     ] {
-        let poll = poll(alloc, "\"A\"", ratio, 0, 12)?;
+        let poll = poll_worded(alloc, "\"A\"", ratio, 0, 13, wording)?;
         let matrix = count(alloc, &poll, &[(won, "v0 1,2"), (lost, "v1 2,1")])?;
         let verdict = outcome(alloc, &poll, &matrix)?;
         assert_eq!(rt; verdict.dropped(1), cause);

@@ -1,4 +1,4 @@
-use Rattle.std.proofs.Common.{ℕ, ◌-◌, length, ◌≤◌, inl, inr, refl, sym, ◌∙◌, subst, arith}
+use Rattle.std.proofs.Common.{◌≢◌, ℕ, ◌-◌, length, ◌<◌, ◌≤◌, inl, inr, refl, sym, ◌∙◌, subst, arith}
 use Rattle.std.proofs.lemmas.Bool.{cases_Bool, cases_eq, both_ways}
 use Rattle.std.specs.Prelude.{Option, None}
 use Rattle.std.proofs.lemmas.List.{length-replicate, length-set}
@@ -8,6 +8,7 @@ use Rattle.vote_poll.specs.PollContent.{option_count}
 use Rattle.vote_count.specs.Sets.{In, Pairs, has, has_pair}
 use Rattle.vote_count.specs.Rules.{IsKept, PairwiseDefeats}
 use Rattle.vote_count.specs.Rounds.{HasCause}
+use Rattle.vote_count.specs.Votes.{votes}
 use Rattle.vote_poll.proofs.OptionLaws.{at_option-replicate, at_option-set, at_option-set_other}
 use Rattle.vote_count.proofs.RoundLemmas.{rounds_same, rounds_kept}
 use Rattle.vote_count.proofs.LawLemmas.{some_final, default_law, default_alone_law}
@@ -40,7 +41,7 @@ pub returns-clause-rounds : goal.returns-clause-rounds
 returns-clause-rounds c =
     let kept = IsKept c.args.poll.now c.args.matrix.now in
     let standing = In c.standing_with-standing.result in
-    let is = c.standing_with-standing.ensures in
+    let is = c.standing_with-standing.ensures.kept in
     let of = c.of-defeats.ensures in
     rounds_same kept c.args.matrix.now (Pairs c.of-defeats.result) (PairwiseDefeats kept c.args.matrix.now)
     (λ a b p. let d = (of a b).0 p in ((is a).0 d.0, (is b).0 d.1, d.2))
@@ -51,7 +52,7 @@ returns-clause-rounds c =
 -- an option that stands is one of the poll's
 is_option : (c : goal.In_ok-rounds) (o : ℕ) → In c.standing_with-standing.result o → (1 ≤ o) × (o ≤ option_count c.args.poll.now)
 is_option c o h =
-    elim ((c.standing_with-standing.ensures o).0 h) [
+    elim ((c.standing_with-standing.ensures.kept o).0 h) [
       | inl default ↦ (omega (arith, default, c.options-option-end.ensures.at_least), omega (arith, default))
       | inr other ↦ (other.0, omega (arith, other.1))
     ]
@@ -62,15 +63,20 @@ returns-clause-some c =
     some_final standing c.args.matrix.now
     (λ o. elim (cases_Bool (has c.standing_with-standing.result o)) [ inl kept ↦ inl kept | inr dropped ↦ inr (λ kept. both_ways _ dropped kept) ])
     (option_count c.args.poll.now) (is_option c)
-    (option_count c.args.poll.now, (c.standing_with-standing.ensures (option_count c.args.poll.now)).1 (inl refl))
+    (option_count c.args.poll.now, (c.standing_with-standing.ensures.kept (option_count c.args.poll.now)).1 (inl refl))
     c.in_ok-rounds.rounds.items (has_pair c.of-defeats.result)
     (λ a b p. is_option c a ((c.of-defeats.ensures a b).0 p).0)
     c.in_ok-rounds.ensures
 
+-- a kept option has more votes than the default
+more : (c : goal.In_ok-rounds) (o : ℕ) → IsKept c.args.poll.now c.args.matrix.now o → o ≢ option_count c.args.poll.now →
+    votes c.args.matrix.now (option_count c.args.poll.now) o < votes c.args.matrix.now o (option_count c.args.poll.now)
+more c o kept = c.standing_with-standing.ensures.more o ((c.standing_with-standing.ensures.kept o).1 kept)
+
 pub returns-clause-default : goal.returns-clause-default
 returns-clause-default c =
-    default_law c.args.poll.now c.args.matrix.now c.in_ok-rounds.rounds.items (returns-clause-rounds c)
+    default_law c.args.poll.now c.args.matrix.now (more c) c.in_ok-rounds.rounds.items (returns-clause-rounds c)
 
 pub returns-clause-default_alone : goal.returns-clause-default_alone
 returns-clause-default_alone c h =
-    default_alone_law c.args.poll.now c.args.matrix.now c.in_ok-rounds.rounds.items (returns-clause-rounds c) h
+    default_alone_law c.args.poll.now c.args.matrix.now (more c) c.in_ok-rounds.rounds.items (returns-clause-rounds c) h
