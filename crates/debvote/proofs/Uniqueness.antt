@@ -3,6 +3,7 @@ use Rattle.std.proofs.Common.{◌≡◌, ℕ, zero, suc, ◌+◌, ◌*◌, ◌<�
 use Rattle.std.specs.Prelude.{nat_lt}
 use Rattle.std.specs.List.{concat}
 use Rattle.vote_poll.specs.Options.{IsOption}
+use Rattle.vote_poll.specs.declared.wording.Wording.{Wording}
 use Rattle.vote_poll.specs.PollContent.{PollContent, option_count, ratio_of}
 use Rattle.vote_count.specs.declared.Cause.{Cause}
 use Rattle.vote_count.specs.declared.Cause.TheVariants.{Majority, Quorum}
@@ -300,8 +301,8 @@ parts_same : (a a' b b' c c' d d' e e' f f' g g' h h' : Text) → a ≡ a' → b
     → concat (a ∷ b ∷ c ∷ d ∷ e ∷ f ∷ g ∷ h ∷ []) ≡ concat (a' ∷ b' ∷ c' ∷ d' ∷ e' ∷ f' ∷ g' ∷ h' ∷ [])
 parts_same a a' b b' c c' d d' e e' f f' g g' h h' is_a is_b is_c is_d is_e is_f is_g is_h = cc
 
-head_text_same : (t t' : Text) (e e' m m' v v' : ℕ) → t ≡ t' → e ≡ e' → m ≡ m' → v ≡ v' → head_text t e m v ≡ head_text t' e' m' v'
-head_text_same t t' e e' m m' v v' is_t is_e is_m is_v = cc
+head_text_same : (t t' : Text) (e e' m m' v v' : ℕ) (w w' : Wording) → t ≡ t' → e ≡ e' → m ≡ m' → v ≡ v' → w ≡ w' → head_text t e m v w ≡ head_text t' e' m' v' w'
+head_text_same t t' e e' m m' v v' w w' is_t is_e is_m is_v is_w = cc
 
 totals_text_same : (l l' : ℕ) (e e' : Option ℕ) (v v' r r' u u' : ℕ) → l ≡ l' → e ≡ e' → v ≡ v' → r ≡ r' → u ≡ u' → totals_text l e v r u ≡ totals_text l' e' v' r' u'
 totals_text_same l l' e e' v v' r r' u u' is_l is_e is_v is_r is_u = cc
@@ -327,7 +328,7 @@ same_sheet poll lines casting s t is_s is_t =
     one_cause poll t.matrix o (cause_of s.outcome o) (cause_of t.outcome o)
     (cause_same poll s.matrix t.matrix same o is (cause_of s.outcome o) (is_s.outcome.causes o is)) (is_t.outcome.causes o is) in
     let decisions = decision_same (final_set s.outcome.rounds) (final_set t.outcome.rounds) final casting s.decision t.decision is_s.decision is_t.decision in
-    parts_same (head_text s.title s.electors s.quorum_multiple s.quorum_votes) (head_text t.title t.electors t.quorum_multiple t.quorum_votes)
+    parts_same (head_text s.title s.electors s.quorum_multiple s.quorum_votes s.wording) (head_text t.title t.electors t.quorum_multiple t.quorum_votes t.wording)
     (totals_text s.line_count s.last_envelope s.valid s.refused s.voters) (totals_text t.line_count t.last_envelope t.valid t.refused t.voters)
     (options_text s.names s.ratios) (options_text t.names t.ratios)
     (table_text s.matrix) (table_text t.matrix)
@@ -335,9 +336,10 @@ same_sheet poll lines casting s t is_s is_t =
     (defeats_text s.matrix s.outcome.defeats) (defeats_text t.matrix t.outcome.defeats)
     (rounds_from (length s.names) 1 s.outcome.rounds) (rounds_from (length t.names) 1 t.outcome.rounds)
     (decision_text s.names (final_set s.outcome.rounds) s.decision) (decision_text t.names (final_set t.outcome.rounds) t.decision)
-    (head_text_same s.title t.title s.electors t.electors s.quorum_multiple t.quorum_multiple s.quorum_votes t.quorum_votes
+    (head_text_same s.title t.title s.electors t.electors s.quorum_multiple t.quorum_multiple s.quorum_votes t.quorum_votes s.wording t.wording
     (is_s.title ∙ sym is_t.title) (is_s.electors ∙ sym is_t.electors) (is_s.quorum_multiple ∙ sym is_t.quorum_multiple)
-    (omega (arith, is_s.quorum_least t.quorum_votes is_t.quorum_met, is_t.quorum_least s.quorum_votes is_s.quorum_met)))
+    (omega (arith, is_s.quorum_least t.quorum_votes is_t.quorum_met, is_t.quorum_least s.quorum_votes is_s.quorum_met))
+    (is_s.wording ∙ sym is_t.wording))
     (totals_text_same s.line_count t.line_count s.last_envelope t.last_envelope s.valid t.valid s.refused t.refused s.voters t.voters
     (is_s.line_count ∙ sym is_t.line_count) (is_s.last_envelope ∙ sym is_t.last_envelope) (is_s.valid ∙ sym is_t.valid) (is_s.refused ∙ sym is_t.refused) (is_s.voters ∙ sym is_t.voters))
     (options_text_same s.names t.names s.ratios t.ratios names (is_s.ratios ∙ sym is_t.ratios))

@@ -13,6 +13,7 @@ sheet_of r = record {
   electors = elector_count r.poll.now;
   quorum_multiple = r.poll.now.quorum_multiple;
   quorum_votes = r.quorum_votes;
+  wording = r.poll.now.wording;
   line_count = r.lines;
   last_envelope = r.poll.now.last_envelope;
   valid = r.totals.valid;

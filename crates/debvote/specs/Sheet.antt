@@ -2,6 +2,8 @@
 use Rattle.std.specs.Prelude.{ℕ, zero, suc, ◌+◌, ◌-◌, ◌==◌, Bool, true, false, if◌then◌else◌, nat_lt, List, [], ◌∷◌, ◌++◌, length, replicate, Option, Some, None, codes, decimal}
 use Rattle.std.specs.List.{concat}
 use Rattle.vote_poll.specs.Options.{at_option}
+use Rattle.vote_poll.specs.declared.wording.Wording.{Wording}
+use Rattle.vote_poll.specs.declared.wording.Wording.TheVariants.{AtLeast, MoreThan}
 use Rattle.vote_count.specs.Votes.{Votes, votes}
 use Rattle.vote_count.specs.Sets.{has, has_pair, size}
 use Rattle.vote_count.specs.Rounds.{Outcome, cause_of, final_set}
@@ -18,6 +20,7 @@ pub record Sheet : Type 0 where
   pub electors : ℕ
   pub quorum_multiple : ℕ
   pub quorum_votes : ℕ
+  pub wording : Wording
   pub line_count : ℕ
   pub last_envelope : Option ℕ
   pub valid : ℕ
@@ -59,11 +62,17 @@ numbers n set = each n (λ o. when (has set o) (codes " " ++ decimal o))
 
 -- ---- the parts of a sheet, in order
 
-unfoldable pub head_text : Text → ℕ → ℕ → ℕ → Text
-head_text title electors multiple votes = concat (
+-- how the majority is worded, where it is not as the Constitution words it
+unfoldable pub wording_text : Wording → Text
+wording_text AtLeast = []
+wording_text MoreThan = line (codes "Majority: more than" ∷ [])
+
+unfoldable pub head_text : Text → ℕ → ℕ → ℕ → Wording → Text
+head_text title electors multiple votes wording = concat (
     line (codes "Poll: " ∷ title ∷ [])
     ∷ line (codes "Electors: " ∷ decimal electors ∷ [])
     ∷ line (codes "Quorum: " ∷ decimal multiple ∷ codes "Q, " ∷ decimal votes ∷ codes " votes" ∷ [])
+    ∷ wording_text wording
     ∷ [])
 
 -- the number above which a line is late, where the poll has one
@@ -178,7 +187,7 @@ abbrev pub sheet_text : Sheet → Text
 sheet_text s =
     let n = length s.names in
     concat (
-    head_text s.title s.electors s.quorum_multiple s.quorum_votes
+    head_text s.title s.electors s.quorum_multiple s.quorum_votes s.wording
     ∷ totals_text s.line_count s.last_envelope s.valid s.refused s.voters
     ∷ options_text s.names s.ratios
     ∷ table_text s.matrix

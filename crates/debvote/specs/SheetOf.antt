@@ -31,6 +31,7 @@ pub record IsSheetOf (poll : PollContent) (lines : List Text) (casting : Option 
   pub names : s.names ≡ poll.options
   pub ratios : s.ratios ≡ poll.ratios
   pub quorum_multiple : s.quorum_multiple ≡ poll.quorum_multiple
+  pub wording : s.wording ≡ poll.wording
   pub last_envelope : s.last_envelope ≡ poll.last_envelope
   -- the least number of votes that meets the quorum
   pub quorum_met : MeetsQuorum poll s.quorum_votes

@@ -100,6 +100,22 @@ pub(crate) fn count<R: Threads + Wait + Sync>(
     count_through(rt, alloc, &NoGate, kind, Vec::new(alloc), election)
 }
 
+/// The sheet of these ballots and how it ends, without a casting vote.
+fn counted<R: Threads + Wait + Sync>(
+    rt: &R,
+    alloc: Global,
+    poll: &str,
+    ballots: &str,
+) -> (Vec<u8>, Result<Ended, RunFault>) {
+    let election = Election {
+        poll,
+        ballots,
+        casting: None,
+        desks: 2,
+    };
+    count(rt, alloc, ENDLESS, &election)
+}
+
 /// How the count of these ballots ends, by a poll of these options and so many voters.
 fn end_of<R: Threads + Wait + Sync>(
     rt: &R,
@@ -151,10 +167,26 @@ fn a_count_ends_as_its_sheet_decides(rt: HostRuntime) -> Result<(), Fail> {
 
 #[test]
 fn an_option_needs_its_majority(rt: HostRuntime) -> Result<(), Fail> {
-    for (ratio, yes, no, winner) in [(3, 9, 3, 1), (3, 8, 3, 2), (1, 2, 2, 2)] {
-        let ballots = [(yes, "1,2"), (no, "2,1")];
-        let end = end_of(&rt, rt.alloc(), &["A"], (ratio, 0, 12), &ballots, None)?;
-        assert_eq!(rt; end, Some(Ended::Decided(winner)));
+    let alloc = rt.alloc();
+    let more = "Majority: more than\n";
+    for (wording, line, ratio, yes, no, winner) in [
+        ("at_least", "", 3, 9, 3, 1),
+        ("at_least", "", 3, 8, 3, 2),
+        ("at_least", "", 1, 2, 2, 2),
+        ("more_than", more, 3, 9, 3, 2),
+        ("more_than", more, 3, 10, 3, 1),
+        ("more_than", more, 1, 2, 2, 2),
+        ("more_than", more, 10, 13, 0, 1),
+    ] {
+        let poll = poll_text(alloc, "A poll", &["A"], ratio, 0, 13)?;
+        let poll = format!(in alloc; "wording = \"{wording}\"\n{poll}")?;
+        let ballots = ballots_text(alloc, &[(yes, "1,2"), (no, "2,1")])?;
+        let (sheet, ended) = counted(&rt, alloc, poll.as_str(), ballots.as_str());
+        let start = format!(in alloc;
+            "Poll: A poll\nElectors: 13\nQuorum: 0Q, 0 votes\n{line}Lines: "
+        )?;
+        assert!(rt; sheet.starts_with(start.as_bytes()));
+        assert_eq!(rt; ended, Ok(Ended::Decided(winner)), "{yes} to {no}");
     }
     Ok(())
 }

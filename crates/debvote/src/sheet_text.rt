@@ -7,23 +7,35 @@ ghost use Rattle.vote_poll.specs.PollContent.{elector_count, option_count};
 ghost use Rattle.vote_count.specs.Sets.{has_pair};
 ghost use Rattle.vote_count.specs.Rounds.{cause_of};
 ghost use Rattle.debvote.specs.Results.{IsDecided, sheet_of};
-ghost use Rattle.debvote.specs.Sheet.{casting_note, cause_name, causes_text, column_text, decision_text, default_text, defeat_line, defeat_lines, defeats_text, defeats_by, drop_line, drops_of, each, ending, tie_text, winner_text, dropped_line, dropped_text, head_text, last_text, name_of, numbers, option_text, options_text, right, round_text, rounds_from, row_text, sheet_text, table_head_text, table_text, totals_text, votes_text, when};
+ghost use Rattle.debvote.specs.Sheet.{casting_note, cause_name, causes_text, column_text, decision_text, default_text, defeat_line, defeat_lines, defeats_text, defeats_by, drop_line, drops_of, each, ending, tie_text, winner_text, dropped_line, dropped_text, head_text, last_text, name_of, numbers, option_text, options_text, right, round_text, rounds_from, row_text, sheet_text, table_head_text, table_text, totals_text, votes_text, when, wording_text};
 
 use crate::results::Results;
 use std::alloc::{AllocError, Global};
 use vote_count::{Cause, Decision, Defeats, Matrix, OptionSet, Round, Verdict};
-use vote_poll::Poll;
+use vote_poll::{Poll, Wording};
 use vote_steps::Totals;
 
-/// The title, the electors and the quorum.
+/// How the majority is worded, where it is not as the Constitution words it.
+#[tactic(auto, unfolding(crate::specs::Sheet::wording_text))]
+fn push_wording(text: &mut String, wording: Wording) -> Result<(), AllocError>
+    ensures { OnOk result (string_bytes text.new ≡ string_bytes text.old ++ wording_text wording) }
+{
+    match wording {
+        Wording::AtLeast => Ok(()),
+        Wording::MoreThan => writeln!(text, "Majority: more than"),
+    }
+}
+
+/// The title, the electors, the quorum and the majority.
 #[tactic(auto, unfolding(crate::specs::Sheet::head_text))]
 fn push_head(text: &mut String, poll: &Poll, votes: u64) -> Result<(), AllocError>
-    ensures { OnOk result (string_bytes text.new ≡ string_bytes text.old ++ head_text poll.now.title (elector_count poll.now) poll.now.quorum_multiple votes) }
+    ensures { OnOk result (string_bytes text.new ≡ string_bytes text.old ++ head_text poll.now.title (elector_count poll.now) poll.now.quorum_multiple votes poll.now.wording) }
 {
     writeln!(text, "Poll: {}", poll.title())?;
     writeln!(text, "Electors: {}", poll.electors())?;
     let multiple = poll.quorum_multiple();
-    writeln!(text, "Quorum: {multiple}Q, {votes} votes")
+    writeln!(text, "Quorum: {multiple}Q, {votes} votes")?;
+    push_wording(text, poll.wording())
 }
 
 /// The last envelope, where the poll has one.

@@ -395,6 +395,11 @@ fn fault_lines(rt: HostRuntime) -> Result<(), Fail> {
             RunFault::Poll(PollFault::LastEnvelope),
             "poll refused: last envelope",
         ),
+        (
+            RunFault::Poll(PollFault::Key(PollKey::Wording)),
+            "poll refused: key wording",
+        ),
+        (RunFault::Poll(PollFault::Wording), "poll refused: wording"),
         (RunFault::Poll(PollFault::Memory), "out of memory"),
         (
             RunFault::Lines(LinesFault::TooMany),
