@@ -1,7 +1,7 @@
 //! The ballots that stand, and their matrix.
 //!
 //! The matrix is kept by differences: a ballot that comes to stand is added, and one that it replaces is taken out. Each costs
-//! n² additions at n options, of which there are at most 16, and nothing in voters or lines. A recount at each question
+//! n² additions at n options, of which there are at most 32, and nothing in voters or lines. A recount at each question
 //! would cost as much for each voter on the roll, and a desk may ask after each cast.
 ghost use Rattle.std.specs.Prelude.{◌≡◌, ℕ, ◌<◌, ◌≤◌, None, Some, length, is_some, option_and_then, vec_len, slice_set, slice_index_or, count_by};
 ghost use Rattle.std.specs.Option.{ForSome};
