@@ -1,5 +1,5 @@
 -- A poll, its lines and the casting vote have one sheet.
-use Rattle.std.proofs.Common.{◌≡◌, ℕ, zero, suc, ◌+◌, ◌*◌, ◌<◌, ◌≤◌, ◌↔◌, Bool, true, false, eqb, cond, List, [], ◌∷◌, ◌++◌, Option, Some, None, length, refl, inl, inr, sym, ap, ◌∙◌, subst, arith, codes, decimal}
+use Rattle.std.proofs.Common.{◌≡◌, ℕ, zero, suc, ◌+◌, ◌<◌, ◌≤◌, ◌↔◌, Bool, true, false, eqb, cond, List, [], ◌∷◌, ◌++◌, Option, Some, None, length, refl, inl, inr, sym, ap, ◌∙◌, subst, arith, codes, decimal}
 use Rattle.std.specs.Prelude.{nat_lt}
 use Rattle.std.specs.List.{concat}
 use Rattle.vote_poll.specs.Options.{IsOption}
@@ -12,7 +12,7 @@ use Rattle.vote_count.specs.declared.Decision.TheVariants.{CastingOutside, Tie, 
 use Rattle.vote_count.specs.declared.Round.{Round}
 use Rattle.vote_count.specs.Votes.{Votes, votes}
 use Rattle.vote_count.specs.Sets.{In, IsAlone, Pairs, has, has_pair, size}
-use Rattle.vote_count.specs.Rules.{IsKept, IsWeaker, IsWeakest, MeetsMajority, MeetsQuorum, PairwiseDefeats, Without}
+use Rattle.vote_count.specs.Rules.{IsKept, IsMajority, IsWeaker, IsWeakest, MeetsMajority, MeetsQuorum, PairwiseDefeats, Without}
 use Rattle.vote_count.specs.Rounds.{AreRounds, AreSameRounds, HasCause, IsByCasting, IsRound, IsSameRound, Outcome, cause_of, final_set}
 use Rattle.vote_count.proofs.RoundLemmas.{rounds_kept, rounds_same, rounds_unique}
 use Rattle.vote_count.proofs.Sizes.{size_le}
@@ -45,7 +45,7 @@ turned n m w same a b is_a is_b = sym (same a b is_a is_b)
 module _ (poll : PollContent) (m w : Votes) (same : SameVotes (option_count poll) m w) where
   majority_same : (o : ℕ) → IsOption (option_count poll) o → IsOption (option_count poll) (option_count poll) → MeetsMajority poll m o → MeetsMajority poll w o
   majority_same o is is_default h =
-      let M : ℕ → ℕ → Type 0 = λ x y. (ratio_of poll o * y ≤ x) × (y < x) in
+      let M : ℕ → ℕ → Type 0 = IsMajority poll.wording (ratio_of poll o) in
       subst (λ (x : ℕ). M x (votes w (option_count poll) o)) (same o (option_count poll) is is_default)
       (subst (λ (y : ℕ). M (votes m o (option_count poll)) y) (same (option_count poll) o is_default is) h)
 
