@@ -100,22 +100,6 @@ pub(crate) fn count<R: Threads + Wait + Sync>(
     count_through(rt, alloc, &NoGate, kind, Vec::new(alloc), election)
 }
 
-/// The sheet of these ballots and how it ends, without a casting vote.
-fn counted<R: Threads + Wait + Sync>(
-    rt: &R,
-    alloc: Global,
-    poll: &str,
-    ballots: &str,
-) -> (Vec<u8>, Result<Ended, RunFault>) {
-    let election = Election {
-        poll,
-        ballots,
-        casting: None,
-        desks: 2,
-    };
-    count(rt, alloc, ENDLESS, &election)
-}
-
 /// How the count of these ballots ends, by a poll of these options and so many voters.
 fn end_of<R: Threads + Wait + Sync>(
     rt: &R,
@@ -181,7 +165,8 @@ fn an_option_needs_its_majority(rt: HostRuntime) -> Result<(), Fail> {
         let poll = poll_text(alloc, "A poll", &["A"], ratio, 0, 13)?;
         let poll = format!(in alloc; "wording = \"{wording}\"\n{poll}")?;
         let ballots = ballots_text(alloc, &[(yes, "1,2"), (no, "2,1")])?;
-        let (sheet, ended) = counted(&rt, alloc, poll.as_str(), ballots.as_str());
+        let election = plain_election(poll.as_str(), ballots.as_str(), 2);
+        let (sheet, ended) = count(&rt, alloc, ENDLESS, &election);
         let start = format!(in alloc;
             "Poll: A poll\nElectors: 13\nQuorum: 0Q, 0 votes\n{line}Lines: "
         )?;
