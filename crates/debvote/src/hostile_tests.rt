@@ -1,6 +1,6 @@
 //! Devices that fail, gates that stop a desk, and memory and threads that may be refused.
 //!
-//! Each test `memory_of_..` and `threads_of_..` makes its call once, with room on the paper beforehand. It ends well where the
+//! Each test `memory_of_..` and `threads_of_..` makes its call once, with room in its sink beforehand. It ends well where the
 //! call gave its whole right answer, and says `refused` where the call answered its want of memory or of a thread, with
 //! nothing written. So whoever runs it with one growth or one start refused after another sees whether any other answer
 //! comes.
@@ -125,7 +125,7 @@ fn an_input_of_a_mebibyte_and_a_byte_is_too_long(rt: HostRuntime) -> Result<(), 
     Ok(())
 }
 
-/// The fault of a count of the cycle at two desks, on a paper with room, with nothing written; `None` where the count is right.
+/// The fault of a count of the cycle at two desks, into a sink with room, with nothing written; `None` where the count is right.
 fn fault_of_run<R: Threads + Wait + Sync>(rt: &R, alloc: Global) -> Result<Option<RunFault>, Fail> {
     let (poll, ballots) = cycle(alloc)?;
     let election = plain_election(poll.as_str(), ballots.as_str(), 2);
@@ -195,7 +195,7 @@ fn memory_of_sheet(rt: HostRuntime) -> Result<(), Fail> {
     }
 }
 
-/// Whether the job is done right on a paper with room, or else refused for want of memory, with nothing written.
+/// Whether the job is done right into a sink with room, or else refused for want of memory, with nothing written.
 fn is_done<R: Abort>(rt: &R, alloc: Global, job: &Job<'_>, text: &str) -> Result<(), Fail> {
     let paper = Vec::with_capacity(alloc, ROOM)?;
     let (written, ended) = run_job(alloc, paper, job);
