@@ -1,11 +1,11 @@
 -- The history in which desk 1 casts lines in their order.
-use Rattle.std.proofs.Common.{◌≡◌, ℕ, zero, suc, ◌+◌, ◌-◌, ◌<◌, ◌≤◌, false, ◌||◌, eqb, List, [], ◌∷◌, ◌++◌, Some, length, map, get_or, refl, inl, inr, sym, ap, ◌∙◌, subst, length-append, take, drop, arith}
+use Rattle.std.proofs.Common.{◌≡◌, ℕ, zero, suc, ◌+◌, ◌-◌, ◌<◌, ◌≤◌, false, ◌||◌, eqb, List, [], ◌∷◌, ◌++◌, Some, length, get_or, refl, inl, inr, sym, ap, ◌∙◌, subst, length-append, take, drop, arith}
 use Rattle.std.specs.Prelude.{All, count_by, slice_get}
 use Rattle.std.proofs.lemmas.Bool.{cases_lt, ne_eqb}
 use Rattle.std.proofs.lemmas.List.Elements.{All-nil, All-push}
 use mathlib.Core.List.{append-nil}
 use Rattle.vote_poll.specs.PollContent.{PollContent, elector_count, last_of, option_count}
-use Rattle.vote_poll.specs.Readings.{reading}
+use Rattle.vote_poll.specs.Readings.{reading, readings}
 use Rattle.vote_poll.specs.declared.Reading.{Reading}
 use Rattle.vote_poll.specs.declared.Reading.TheVariants.{Bad}
 use Rattle.vote_poll.specs.declared.LineFault.TheVariants.{Shape}
@@ -16,7 +16,7 @@ use Rattle.vote_steps.specs.History.{before_close, is_cast, is_closed, is_used, 
 use Rattle.vote_steps.specs.Boxes.{BoxState, IsLegal}
 use Rattle.vote_steps.specs.Order.{HasOwnReading}
 use Rattle.vote_steps.proofs.HistoryLemmas.{before_close-append_open, count_by-cast, is_closed-append, is_used-cast}
-use Rattle.debvote.specs.LastBallots.{readings}
+use Rattle.vote_desks.proofs.StandingLemmas.{as_long}
 use Rattle.debvote.specs.Casting.{AreCastInOrder, HoldsLines, OrderLeavesNoChoice}
 use Rattle.debvote.proofs.Counts.{count-cons}
 
@@ -133,10 +133,6 @@ casts_of_at last readings (suc k) place h =
           )
     ]
 
-pub length-readings : (poll : PollContent) (lines : List (List ℕ)) → length (map (reading poll) lines) ≡ length lines
-length-readings poll [] = refl
-length-readings poll (line ∷ lines) = omega (arith, length-readings poll lines)
-
 -- such a history, closed
 module _ (last : ℕ) (readings : List Reading) (steps : List Step) (is : steps ≡ casts_of last readings (length readings) ++ Close ∷ []) where
   pub in_order : AreCastInOrder readings steps
@@ -170,7 +166,7 @@ holds_lines poll lines b options electors limit last steps legal =
       closed_last = steps ∙ ap (λ front. front ++ Close ∷ []) (sym (ap before_close steps ∙ (before_close-append_open xs (Close ∷ []) open_is ∙ append-nil xs)));
       own_readings =
           let P : List Step → Type 0 = All (HasOwnReading (readings poll lines)) in
-          subst P (sym steps) (All-push (HasOwnReading (readings poll lines)) xs Close (casts_of_own (last_of poll) (readings poll lines) (length lines) (omega (arith, length-readings poll lines))) tt);
+          subst P (sym steps) (All-push (HasOwnReading (readings poll lines)) xs Close (casts_of_own (last_of poll) (readings poll lines) (length lines) (omega (arith, as_long poll lines))) tt);
     }
 
 -- ---- there is one such history
@@ -203,7 +199,7 @@ module _ (poll : PollContent) (lines : List (List ℕ)) (b : BoxState) (held : H
   so_far (suc k) h =
       let all = readings poll lines in
       let r = reading_at all k in
-      let at : (reply : Reply) × (slice_get b.steps k ≡ Some (Cast 1 (k + 1) r reply)) = in_turn k r (at_get all k (omega (arith, length-readings poll lines))) in
+      let at : (reply : Reply) × (slice_get b.steps k ≡ Some (Cast 1 (k + 1) r reply)) = in_turn k r (at_get all k (omega (arith, as_long poll lines))) in
       let step = Cast 1 (k + 1) r at.0 in
       let may = held.legal (take k b.steps) (drop (suc k) b.steps) step (split_at b.steps k step at.1) in
       let number : k + 1 ≡ suc k = omega arith in

@@ -8,7 +8,6 @@ pub mod Orders
 pub mod Padding
 pub mod PrintedSheets
 pub mod Separators
-pub mod Stamps
 pub mod Texts
 pub mod Uniqueness
 pub mod Writing

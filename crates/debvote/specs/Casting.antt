@@ -2,13 +2,13 @@
 use Rattle.std.specs.Prelude.{◌≡◌, ℕ, ◌+◌, List, [], ◌∷◌, ◌++◌, length, count_by, All, Some, slice_get}
 use Rattle.vote_poll.specs.PollContent.{PollContent, elector_count, last_of, option_count}
 use Rattle.vote_poll.specs.declared.Reading.{Reading}
+use Rattle.vote_poll.specs.Readings.{readings}
 use Rattle.vote_steps.specs.declared.Reply.{Reply}
 use Rattle.vote_steps.specs.declared.Step.{Step}
 use Rattle.vote_steps.specs.declared.Step.TheVariants.{Cast, Close}
 use Rattle.vote_steps.specs.History.{before_close, is_cast}
 use Rattle.vote_steps.specs.Boxes.{BoxState, IsLegal}
 use Rattle.vote_steps.specs.Order.{HasOwnReading}
-use Rattle.debvote.specs.LastBallots.{readings}
 
 -- The box is of the poll's size, and has a number for each line and the poll's last envelope. Its history is legal, has as many
 -- casts as there are lines, each with what the poll reads in the line with its stamp, and ends with its only close.

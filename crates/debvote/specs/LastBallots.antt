@@ -1,25 +1,15 @@
 -- The votes over each voter's last valid ballot. They depend on the poll and its lines alone. A line is late where its number
 -- is above the poll's last envelope, and a late line is no valid ballot.
-use Rattle.std.specs.Prelude.{ℕ, ◌+◌, Bool, true, false, not, List, Option, map, is_some, count_by, length, take, drop}
-use Rattle.std.specs.List.{range_with_len}
+use Rattle.std.specs.Prelude.{ℕ, ◌+◌, not, List, Option, is_some, count_by, length, take, drop}
 use Rattle.vote_poll.specs.PollContent.{PollContent, elector_count, last_of}
-use Rattle.vote_poll.specs.Readings.{reading}
+use Rattle.vote_poll.specs.Readings.{is_ballot, readings}
 use Rattle.vote_poll.specs.declared.Reading.{Reading}
-use Rattle.vote_poll.specs.declared.Reading.TheVariants.{Ballot, Bad}
 use Rattle.vote_count.specs.Ballots.{entry_prefers}
-use Rattle.vote_steps.specs.Order.{last_ballot}
-
--- what the poll reads in the lines
-abbrev pub readings : PollContent → List (List ℕ) → List Reading
-readings poll lines = map (reading poll) lines
+use Rattle.vote_steps.specs.Order.{last_ballots}
 
 -- what it reads in the lines that are not late
 abbrev pub readings_in_time : PollContent → List (List ℕ) → List Reading
 readings_in_time poll lines = take (last_of poll) (readings poll lines)
-
-abbrev pub is_ballot : Reading → Bool
-is_ballot (Bad fault) = false
-is_ballot (Ballot voter ranks) = true
 
 -- how many lines are valid: they read as a ballot and are not late
 abbrev pub valid_count : PollContent → List (List ℕ) → ℕ
@@ -31,13 +21,13 @@ refused_count poll lines =
     count_by (λ reading. not (is_ballot reading)) (readings_in_time poll lines) + length (drop (last_of poll) lines)
 
 -- of each elector, in the order of the roll, the ranks of the last line that is a valid ballot of that elector, if there is one
-abbrev pub last_ballots : PollContent → List (List ℕ) → List (Option (List (Option ℕ)))
-last_ballots poll lines = map (last_ballot (readings_in_time poll lines)) (range_with_len 0 (elector_count poll))
+abbrev pub last_valid_ballots : PollContent → List (List ℕ) → List (Option (List (Option ℕ)))
+last_valid_ballots poll lines = last_ballots (readings_in_time poll lines) (elector_count poll)
 
 -- how many electors have a valid ballot
 abbrev pub voter_count : PollContent → List (List ℕ) → ℕ
-voter_count poll lines = count_by is_some (last_ballots poll lines)
+voter_count poll lines = count_by is_some (last_valid_ballots poll lines)
 
 -- how many electors prefer option a to option b in their last valid ballot
 abbrev pub votes_for : PollContent → List (List ℕ) → ℕ → ℕ → ℕ
-votes_for poll lines a b = count_by (entry_prefers a b) (last_ballots poll lines)
+votes_for poll lines a b = count_by (entry_prefers a b) (last_valid_ballots poll lines)

@@ -4,13 +4,13 @@ use Rattle.std.specs.List.{flat_map}
 use Rattle.vote_poll.specs.PollContent.{PollContent, elector_count, option_count}
 use Rattle.vote_poll.specs.declared.LineFault.{LineFault}
 use Rattle.vote_poll.specs.declared.LineFault.TheVariants.{Shape, RankCount, Roll}
+use Rattle.vote_poll.specs.Readings.{readings}
 use Rattle.vote_steps.specs.declared.Reply.{Reply}
 use Rattle.vote_steps.specs.declared.Reply.TheVariants.{BoxClosed, Late, BadLine, Superseded, Replaced, Counted}
 use Rattle.vote_steps.specs.declared.Step.{Step}
 use Rattle.vote_steps.specs.declared.Step.TheVariants.{Cast, Close}
 use Rattle.vote_steps.specs.Boxes.{BoxState}
 use Rattle.debvote.specs.Casting.{AreCastInOrder, HoldsLines}
-use Rattle.debvote.specs.LastBallots.{readings}
 use Rattle.debvote.specs.Texts.{Text, line}
 
 abbrev pub line_fault_words : LineFault → Text

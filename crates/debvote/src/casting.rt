@@ -1,28 +1,14 @@
 //! One desk that casts the lines of a ballot file.
 
 ghost use Rattle.std.specs.Prelude.{◌≡◌, ◌≤◌, ◌∷◌, ◌++◌, [], false, IfOk};
-ghost use Rattle.vote_poll.specs.PollContent.{last_of};
-ghost use Rattle.vote_poll.specs.Readings.{ReadingFits};
-ghost use Rattle.vote_poll.specs.declared.lines.TheConstants.{MAX_LINES};
+ghost use Rattle.vote_poll.specs.Readings.{ReadingFits, readings};
 ghost use Rattle.vote_steps.specs.History.{is_used, reply_to};
 ghost use Rattle.vote_steps.specs.declared.Step.TheVariants.{Cast};
-ghost use Rattle.debvote.specs.LastBallots.{readings};
 ghost use Rattle.debvote.specs.Casting.{AreCastInOrder, HoldsLines, OrderLeavesNoChoice};
 
 use std::alloc::{AllocError, Global};
-use vote_poll::{Lines, MAX_LINES, Poll, Reading, read_line};
+use vote_poll::{Lines, Poll, Reading, read_line};
 use vote_steps::BallotBox;
-
-/// The number above which an envelope is late; where the poll has none, that of the last line that a ballot file can have.
-fn last_of(poll: &Poll) -> u32
-    ensures same { result ≡ last_of poll.now }
-    ensures at_most { result ≤ MAX_LINES }
-{
-    match poll.last_envelope() {
-        Some(last) => last,
-        None => MAX_LINES as u32,
-    }
-}
 
 // Casts at desk 1 what was read in the line with this stamp, which is a new one.
 fn cast_at_desk_1(ballot_box: &mut BallotBox, stamp: u32, reading: Reading)
@@ -47,7 +33,7 @@ pub fn cast_all(alloc: Global, poll: &Poll, lines: &Lines<'_>) -> Result<BallotB
         poll.options(),
         poll.electors(),
         lines.len() as u32,
-        last_of(poll),
+        poll.last_in_time(),
     )?;
     for place in 0..lines.len() {
         let reading = read_line(poll, lines.line(place));

@@ -58,6 +58,17 @@ fn ballot(poll: &Poll, line: &str) -> Result<Option<Ranks>, Fail>
     }
 }
 
+/// The matrix of ballots, of which there can be as many as electors.
+fn recounted(poll: &Poll, ballots: &[Option<Ranks>]) -> Result<Matrix, Fail>
+    requires { All (IsBallotOf (option_count poll.now)) ballots.now }
+    ensures { IfOk result (λ matrix. matrix.options ≡ option_count poll.now) }
+{
+    if ballots.len() > MAX_ELECTORS {
+        return Err(Fail::from("too many ballots"));
+    }
+    Ok(recount(poll.options(), ballots))
+}
+
 /// The matrix of the ballots of these lines, each as often as the number beside it says.
 fn count(alloc: Global, poll: &Poll, lines: &[(usize, &str)]) -> Result<Matrix, Fail>
     ensures { IfOk result (λ matrix. matrix.options ≡ option_count poll.now) }
@@ -68,10 +79,7 @@ fn count(alloc: Global, poll: &Poll, lines: &[(usize, &str)]) -> Result<Matrix, 
             ballots.push(ballot(poll, line)?)?;
         }
     }
-    if ballots.len() > MAX_ELECTORS {
-        return Err(Fail::from("too many ballots"));
-    }
-    Ok(recount(poll.options(), &ballots))
+    recounted(poll, &ballots)
 }
 
 /// The line of a ballot that ranks `a` and next `b`, all others before or behind them, and the
@@ -121,7 +129,8 @@ const CYCLE: &[(usize, &str)] = &[(4, "v0 1,2,3,4"), (3, "v0 3,1,2,4"), (2, "v0 
 
 const EVEN_CYCLE: &[(usize, &str)] = &[(1, "v0 1,2,3,4"), (1, "v0 3,1,2,4"), (1, "v0 2,3,1,4")];
 
-const CYCLE_WITH_EQUAL_RANKS: &[(usize, &str)] = &[
+// A cycle in which a voter ranks two options alike.
+const EQUAL_RANKS: &[(usize, &str)] = &[
     (4, "v0 1,2,3,4"),
     (3, "v0 3,1,2,4"),
     (1, "v0 2,3,1,4"),
@@ -133,27 +142,12 @@ fn kept_defeats(poll: &Poll, ballots: &[Option<Ranks>]) -> Result<Defeats, Fail>
     requires { All (IsBallotOf (option_count poll.now)) ballots.now }
     ensures { IfOk result (λ defeats. (a b : ℕ) → Pairs defeats a b → IsOption MAX_OPTIONS a × IsOption MAX_OPTIONS b) }
 {
-    if ballots.len() > MAX_ELECTORS {
-        return Err(Fail::from("too many ballots"));
-    }
-    let matrix = recount(poll.options(), ballots);
+    let matrix = recounted(poll, ballots)?;
     let standing = standing_options(poll, &matrix);
     if standing.len() < poll.options() as usize {
         return Err(Fail::from("an option is dropped"));
     }
     Ok(Defeats::of(&standing, &matrix))
-}
-
-/// What a count of these lines comes to, under a poll of three options and the default.
-fn verdict(
-    alloc: Global,
-    lines: &[(usize, &str)],
-    quorum: u8,
-    electors: usize,
-) -> Result<Verdict, Fail> {
-    let poll = poll(alloc, "\"A\", \"B\", \"C\"", "1, 1, 1", quorum, electors)?;
-    let matrix = count(alloc, &poll, lines)?;
-    Ok(outcome(alloc, &poll, &matrix)?)
 }
 
 /// Whether the three options have this cause, and the default has none.
@@ -175,50 +169,58 @@ fn removes(verdict: &Verdict, pairs: &[(u8, u8)]) -> bool {
     }
 }
 
+/// What a count of these lines comes to with a casting vote: whether the three options have this cause, whether the first round
+/// removes these defeats, and the decision.
+fn of_three_options(
+    alloc: Global,
+    lines: &[(usize, &str)],
+    quorum: u8,
+    electors: usize,
+    cause: Option<Cause>,
+    removed: &[(u8, u8)],
+    casting: Option<u8>,
+) -> Result<(bool, bool, Decision), Fail> {
+    let poll = poll(alloc, "\"A\", \"B\", \"C\"", "1, 1, 1", quorum, electors)?;
+    let matrix = count(alloc, &poll, lines)?;
+    let verdict = outcome(alloc, &poll, &matrix)?;
+    let decision = decide(&verdict, casting);
+    Ok((
+        have_cause(&verdict, cause),
+        removes(&verdict, removed),
+        decision,
+    ))
+}
+
 #[test]
 fn three_options(rt: HostRuntime) -> Result<(), Fail> {
     let dropped = Some(Cause::Quorum);
     let all = &[(1, 2), (2, 3), (3, 1)][..];
     let last = &[(3, 1)][..];
+    let none = &[][..];
+    let outside = Decision::CastingOutside(4);
     for (lines, quorum, electors, cause, removed, casting, decision) in [
-        (
-            NO_BALLOTS,
-            3,
-            9,
-            dropped,
-            &[][..],
-            None,
-            Decision::Winner(4),
-        ),
+        (NO_BALLOTS, 3, 9, dropped, none, None, Decision::Winner(4)),
         (CYCLE, 3, 9, None, last, None, Decision::Winner(1)),
         (CYCLE, 3, 9, None, last, Some(4), Decision::Winner(1)),
         (EVEN_CYCLE, 1, 3, None, all, None, Decision::Tie),
         (EVEN_CYCLE, 1, 3, None, all, Some(2), Decision::Winner(2)),
-        (
-            EVEN_CYCLE,
-            1,
-            3,
-            None,
-            all,
-            Some(4),
-            Decision::CastingOutside(4),
-        ),
-        (
-            CYCLE_WITH_EQUAL_RANKS,
-            3,
-            9,
-            None,
-            last,
-            None,
-            Decision::Winner(1),
-        ),
+        (EVEN_CYCLE, 1, 3, None, all, Some(4), outside),
+        (EQUAL_RANKS, 3, 9, None, last, None, Decision::Winner(1)),
     ] {
-        let verdict = verdict(rt.alloc(), lines, quorum, electors)?;
-        assert!(rt; have_cause(&verdict, cause));
-        assert!(rt; removes(&verdict, removed));
-        assert_eq!(rt; decide(&verdict, casting), decision);
+        let found = of_three_options(rt.alloc(), lines, quorum, electors, cause, removed, casting)?;
+        assert_eq!(rt; found, (true, true, decision));
     }
     Ok(())
+}
+
+/// Whether the first option wins after a round that removes the weakest defeat of the cycle.
+fn is_verdict_of_three(verdict: &Verdict) -> bool {
+    let set = verdict.final_set();
+    verdict.rounds().len() == 2
+        && have_cause(verdict, None)
+        && removes(verdict, &[(3, 1)])
+        && set.has(1)
+        && set.len() == 1
 }
 
 /// Where a growth is refused, the call says so, or gives the right answer.
@@ -229,20 +231,29 @@ fn memory_of_outcome(rt: HostRuntime) -> Result<(), Fail> {
     let matrix = count(alloc, &poll, CYCLE)?;
     match outcome(alloc, &poll, &matrix) {
         Ok(verdict) => {
-            assert_eq!(rt; verdict.rounds().len(), 2);
-            assert!(rt; have_cause(&verdict, None));
-            assert!(rt; removes(&verdict, &[(3, 1)]));
-            assert!(rt; verdict.final_set().has(1));
-            assert_eq!(rt; verdict.final_set().len(), 1);
+            assert!(rt; is_verdict_of_three(&verdict));
             Ok(())
         }
         Err(AllocError) => Err(Fail::from("refused")),
     }
 }
 
+/// What a poll of one option and the default comes to where so many prefer the one and so many the other.
+fn of_one_option(
+    alloc: Global,
+    wording: &str,
+    ratio: &str,
+    won: usize,
+    lost: usize,
+) -> Result<(Option<Cause>, Decision), Fail> {
+    let poll = poll_worded(alloc, "\"A\"", ratio, 0, 13, wording)?;
+    let matrix = count(alloc, &poll, &[(won, "v0 1,2"), (lost, "v1 2,1")])?;
+    let verdict = outcome(alloc, &poll, &matrix)?;
+    Ok((verdict.dropped(1), decide(&verdict, None)))
+}
+
 #[test]
 fn one_option(rt: HostRuntime) -> Result<(), Fail> {
-    let alloc = rt.alloc();
     let (at_least, more_than) = ("at_least", "more_than");
     for (wording, ratio, won, lost, cause, winner) in [
         (at_least, "3", 9, 3, None, 1),
@@ -253,11 +264,8 @@ fn one_option(rt: HostRuntime) -> Result<(), Fail> {
         (more_than, "1", 2, 2, Some(Cause::Majority), 2),
         (more_than, "10", 1, 0, None, 1),
     ] {
-        let poll = poll_worded(alloc, "\"A\"", ratio, 0, 13, wording)?;
-        let matrix = count(alloc, &poll, &[(won, "v0 1,2"), (lost, "v1 2,1")])?;
-        let verdict = outcome(alloc, &poll, &matrix)?;
-        assert_eq!(rt; verdict.dropped(1), cause);
-        assert_eq!(rt; decide(&verdict, None), Decision::Winner(winner));
+        let found = of_one_option(rt.alloc(), wording, ratio, won, lost)?;
+        assert_eq!(rt; found, (cause, Decision::Winner(winner)));
     }
     Ok(())
 }
@@ -414,23 +422,38 @@ fn are_rounds_of_cycle(rounds: &[Round], others: usize) -> bool {
     }
 }
 
+/// Whether a count finds the cycle of the options before the default, in which each reaches each, and a tie of all of them:
+/// `defeated` and `reached` are the first option's row of defeats and each option's row of chains.
+fn is_verdict_of_cycle(verdict: &Verdict, default: u8, defeated: u32, reached: u32) -> bool
+    requires { (2 ≤ default) × (default ≤ MAX_OPTIONS) }
+{
+    let others = default - 1;
+    let defeats = verdict.defeats();
+    let chains = reach(&defeats);
+    defeats.row(1) == defeated
+        && all_reach_all(&chains, others)
+        && chains.row(1) == reached
+        && chains.row(others) == reached
+        && are_rounds_of_cycle(verdict.rounds(), others as usize)
+        && !verdict.final_set().has(default)
+        && decide(verdict, None) == Decision::Tie
+}
+
+/// Whether the ballots are as many as the cycle needs, and their matrix is the cycle's.
+fn are_ballots_of_cycle(ballots: &[Option<Ranks>], matrix: &Matrix, others: u8) -> bool {
+    ballots.len() == 2 * others as usize && is_cycle(matrix)
+}
+
 #[test]
 fn a_cycle_of_all_options(rt: HostRuntime) -> Result<(), Fail> {
     let alloc = rt.alloc();
     for (others, defeated, reached) in [(15, 0x8002, 0xFFFF), (31, 0x8000_0002, 0xFFFF_FFFF)] {
         let poll = poll_of(alloc, others)?;
         let ballots = cycle(alloc, &poll)?;
-        assert_eq!(rt; ballots.len(), 2 * others as usize);
-        let matrix = recount(poll.options(), &ballots);
-        assert!(rt; is_cycle(&matrix));
+        let matrix = recounted(&poll, &ballots)?;
+        assert!(rt; are_ballots_of_cycle(&ballots, &matrix, others));
         let verdict = outcome(alloc, &poll, &matrix)?;
-        assert_eq!(rt; verdict.defeats().row(1), defeated);
-        let chains = reach(&verdict.defeats());
-        assert!(rt; all_reach_all(&chains, others));
-        assert_eq!(rt; (chains.row(1), chains.row(others)), (reached, reached));
-        assert!(rt; are_rounds_of_cycle(verdict.rounds(), others as usize));
-        assert!(rt; !verdict.final_set().has(poll.options()));
-        assert_eq!(rt; decide(&verdict, None), Decision::Tie);
+        assert!(rt; is_verdict_of_cycle(&verdict, poll.options(), defeated, reached));
     }
     Ok(())
 }

@@ -6,6 +6,7 @@ use Rattle.std.proofs.lemmas.Bool.{cases_lt, cases_Bool, ltb-false}
 use Rattle.std.proofs.lemmas.List.{get_or-take, length-take-le}
 use Rattle.std.proofs.lemmas.List.Quantifiers.{position-Some}
 use Rattle.vote_poll.specs.PollContent.{PollContent}
+use Rattle.vote_poll.specs.Readings.{readings}
 use Rattle.vote_desks.specs.declared.slip.Slip.{Slip}
 use Rattle.vote_desks.specs.declared.fault.AuditFault.{AuditFault}
 use Rattle.vote_desks.specs.declared.fault.AuditFault.TheVariants.{SizeDiffers, CountDiffers, StepDiffers, SlipDiffers, ClosedEarly}
@@ -17,7 +18,7 @@ use Rattle.vote_steps.specs.Order.{HasOwnReading}
 use Rattle.vote_desks.specs.Slips.{slips}
 use Rattle.vote_desks.specs.Desks.{sheet_at}
 use Rattle.vote_desks.specs.Comparing.{HasDesk, HasEnvelope}
-use Rattle.vote_desks.specs.Audit.{readings, HasOwnReadings, HasSlips, IsAudited, DiffersFirst, PartAt, SheetDiffers, IsEarlyClose, IsFaultOf}
+use Rattle.vote_desks.specs.Audit.{HasOwnReadings, HasSlips, IsAudited, DiffersFirst, PartAt, SheetDiffers, IsEarlyClose, IsFaultOf}
 
 -- lists
 

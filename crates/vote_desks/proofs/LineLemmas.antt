@@ -10,6 +10,7 @@ use Rattle.std.proofs.lemmas.Option.{slice_get_within}
 use Rattle.vote_poll.specs.PollContent.{PollContent}
 use Rattle.vote_poll.specs.declared.Reading.{Reading}
 use Rattle.vote_poll.specs.declared.Reading.TheVariants.{Ballot, Bad}
+use Rattle.vote_poll.specs.Readings.{is_ballot as is_ballot_reading, readings}
 use Rattle.vote_count.specs.Ballots.{entry_prefers}
 use Rattle.vote_desks.specs.declared.slip.Slip.{Slip}
 use Rattle.vote_steps.specs.declared.Received.{Received}
@@ -20,8 +21,8 @@ use Rattle.vote_steps.specs.Boxes.{BoxState, IsLegal}
 use Rattle.vote_steps.specs.Order.{HasOwnReading, last_ballot}
 use Rattle.vote_steps.proofs.HistoryLemmas.{valid-refused, is_used-cast, is_used-close}
 use Rattle.vote_steps.proofs.LegalLemmas.{each_stamp_is_used_lem}
-use Rattle.vote_desks.specs.Audit.{readings, IsAudited}
-use Rattle.vote_desks.specs.Standing.{LinesAreCounted, CountsLines, is_ballot_reading, last_ballots}
+use Rattle.vote_desks.specs.Audit.{IsAudited}
+use Rattle.vote_desks.specs.Standing.{LinesAreCounted, CountsLines}
 use Rattle.vote_desks.proofs.SlipLemmas.{take-suc-get}
 use Rattle.vote_desks.proofs.StandingLemmas.{as_long, last_lines_stand_lem}
 

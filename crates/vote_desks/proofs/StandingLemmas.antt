@@ -1,7 +1,7 @@
 -- Each line of an audited box is cast before the close, with its own reading.
 use Rattle.std.proofs.Common.{◌≡◌, ℕ, ◌+◌, ◌<◌, ◌≤◌, zero, suc, List, [], ◌∷◌, ◌++◌, length, get_or, map, IsTrue, refl, sym, ap, ◌∙◌, subst, arith}
 use Rattle.vote_poll.specs.PollContent.{PollContent}
-use Rattle.vote_poll.specs.Readings.{reading}
+use Rattle.vote_poll.specs.Readings.{reading, readings}
 use Rattle.vote_desks.specs.declared.slip.Slip.{Slip}
 use Rattle.vote_steps.specs.declared.Step.{Step}
 use Rattle.vote_steps.specs.declared.Step.TheVariants.{Close}
@@ -11,7 +11,7 @@ use Rattle.vote_steps.specs.Order.{HasOwnReading, CastsLines}
 use Rattle.vote_steps.proofs.HistoryLemmas.{is_used-close}
 use Rattle.vote_steps.proofs.LegalLemmas.{each_stamp_is_used_lem}
 use Rattle.vote_steps.proofs.OrderLemmas.{order_does_not_matter_lem}
-use Rattle.vote_desks.specs.Audit.{readings, IsAudited}
+use Rattle.vote_desks.specs.Audit.{IsAudited}
 use Rattle.vote_desks.specs.Standing.{LastLinesStand}
 
 before_last : (xs : List Step) (k : ℕ) (d : Step) → k < length xs → get_or (xs ++ Close ∷ []) k d ≡ get_or xs k d

@@ -1,8 +1,7 @@
 -- What an audit finds.
 use Rattle.std.specs.Prelude.{◌≡◌, ◌≢◌, ℕ, ◌+◌, ◌<◌, ◌≤◌, List, [], ◌∷◌, ◌++◌, length, map, take, slice_get, count_by, All}
 use Rattle.vote_poll.specs.PollContent.{PollContent, option_count, elector_count, last_of}
-use Rattle.vote_poll.specs.Readings.{reading}
-use Rattle.vote_poll.specs.declared.Reading.{Reading}
+use Rattle.vote_poll.specs.Readings.{readings}
 use Rattle.vote_desks.specs.declared.slip.Slip.{Slip}
 use Rattle.vote_desks.specs.declared.fault.AuditFault.{AuditFault}
 use Rattle.vote_desks.specs.declared.fault.AuditFault.TheVariants.{SizeDiffers, CountDiffers, StepDiffers, SlipDiffers, ClosedEarly}
@@ -14,10 +13,6 @@ use Rattle.vote_steps.specs.Boxes.{BoxState, IsLegal}
 use Rattle.vote_steps.specs.Order.{HasOwnReading}
 use Rattle.vote_desks.specs.Slips.{slips}
 use Rattle.vote_desks.specs.Desks.{sheet_at}
-
--- what the poll reads in the lines
-abbrev pub readings : PollContent → List (List ℕ) → List Reading
-readings poll lines = map (reading poll) lines
 
 -- the box is of the poll's size and has its last envelope, and has a number for each line
 abbrev pub HasSizes : PollContent → List (List ℕ) → BoxState → Type 0

@@ -1,30 +1,19 @@
 //! Reading the lines once more, and comparing them with what the desks did.
 ghost use Rattle.std.specs.Prelude.{◌≡◌, ◌≤◌, ◌↔◌, Err, length, map, count_by, position, vec_items, IsTrue, IsOk, IfOk, MatchOption, All};
-ghost use Rattle.vote_poll.specs.PollContent.{last_of};
+ghost use Rattle.vote_poll.specs.Readings.{readings};
 ghost use Rattle.vote_steps.specs.History.{is_cast, is_close, is_closed};
 ghost use Rattle.vote_steps.specs.Order.{HasOwnReading};
 ghost use Rattle.vote_desks.specs.Desks.{sheet_at};
 ghost use Rattle.vote_desks.specs.Comparing.{HasEnvelope};
-ghost use Rattle.vote_desks.specs.Audit.{readings, HasSizes, HasOwnReadings, IsAudited, DiffersFirst, IsFaultOf};
+ghost use Rattle.vote_desks.specs.Audit.{HasSizes, HasOwnReadings, IsAudited, DiffersFirst, IsFaultOf};
 
 use crate::fault::AuditFault;
 use crate::sealed::Sealed;
 use crate::sheets::first_other_sheet;
 use crate::slip::Slip;
 use std::marker::Model;
-use vote_poll::{Lines, MAX_LINES, Poll, read_line};
+use vote_poll::{Lines, Poll, read_line};
 use vote_steps::{BallotBox, MAX_DESKS, Step};
-
-/// The number of the last envelope that is not late; where the poll has none, the greatest that an envelope can have.
-pub(crate) fn last_envelope(poll: &Poll) -> u32
-    ensures same { result ≡ last_of poll.now }
-    ensures at_most { result ≤ MAX_LINES }
-{
-    match poll.last_envelope() {
-        Some(last) => last,
-        None => MAX_LINES as u32,
-    }
-}
 
 /// Whether the box is of the poll's size and has its last envelope, and has a number for each line.
 fn has_sizes(poll: &Poll, lines: &Lines<'_>, ballot_box: &BallotBox) -> bool
@@ -33,7 +22,7 @@ fn has_sizes(poll: &Poll, lines: &Lines<'_>, ballot_box: &BallotBox) -> bool
     ballot_box.options() == poll.options()
         && ballot_box.electors() == poll.electors()
         && ballot_box.limit() as usize == lines.len()
-        && ballot_box.last_envelope() == last_envelope(poll)
+        && ballot_box.last_envelope() == poll.last_in_time()
 }
 
 /// The number of casts.

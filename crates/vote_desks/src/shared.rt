@@ -7,7 +7,6 @@ ghost use Rattle.vote_steps.specs.declared.Step.TheVariants.{Close};
 ghost use Rattle.vote_desks.specs.Slips.{CanReply};
 ghost use Rattle.vote_desks.specs.Desks.{HasRoom, fresh_desk, with_close, with_slip};
 
-use crate::auditing::last_envelope;
 use crate::desk::{Desk, Held, Tally};
 use crate::entry::enter;
 use crate::fault::{DeskFault, EnterFault, NoVoter};
@@ -42,7 +41,7 @@ fn empty_box(alloc: Global, poll: &Poll, limit: u32) -> Result<BallotBox, AllocE
     requires { limit ≤ MAX_LINES }
     ensures { IfOk result (λ b. b ≡ record { options = option_count poll.now; electors = elector_count poll.now; limit = limit; last = last_of poll.now; steps = [] }) }
 {
-    let last = last_envelope(poll);
+    let last = poll.last_in_time();
     BallotBox::new(alloc, poll.options(), poll.electors(), limit, last)
 }
 

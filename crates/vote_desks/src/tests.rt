@@ -2,8 +2,8 @@
 ghost use Rattle.std.specs.Prelude.{◌≡◌, ◌≤◌};
 
 use crate::{
-    AuditFault, Desk, DeskFault, EnterFault, NoVoter, Sealed, SharedBox, Slip, Tally, audit,
-    compare, gather, open_desks,
+    AuditFault, Audited, Desk, DeskFault, EnterFault, NoVoter, Sealed, SharedBox, Slip, Tally,
+    audit, compare, gather, open_desks,
 };
 use std::alloc::{AllocError, Global};
 use std::marker::Brand;
@@ -131,6 +131,19 @@ fn ranks_in(reading: &Reading) -> Option<Ranks> {
     }
 }
 
+/// What the poll of a text reads in a line.
+fn read_by(alloc: Global, poll: &str, line: &str) -> Result<Reading, PollFault> {
+    let poll = Poll::from_text(alloc, poll.as_bytes())?;
+    Ok(read_line(&poll, line.as_bytes()))
+}
+
+/// The ballots that rank ann's options in their order, and bob's second option first.
+fn ann_and_bob(alloc: Global) -> Result<(Reading, Reading), PollFault> {
+    let ann = read_by(alloc, TWO_ELECTORS, "ann 1,2,3")?;
+    let bob = read_by(alloc, TWO_ELECTORS, "bob 2,1,3")?;
+    Ok((ann, bob))
+}
+
 /// Which desks are gathered, and in which order.
 #[derive(Clone, Copy)]
 enum Back {
@@ -205,13 +218,42 @@ fn acted<R: Wait + Abort>(
     )
 }
 
+/// Does the deeds at some desks of a box for the poll of a text.
+fn acted_by<R: Wait + Abort>(
+    rt: &R,
+    alloc: Global,
+    poll: &str,
+    limit: u32,
+    desks: u8,
+    deeds: &[Deed],
+    back: Back,
+) -> Result<Sealed, Fail> {
+    let poll = Poll::from_text(alloc, poll.as_bytes())?;
+    Ok(acted(rt, alloc, &poll, limit, desks, deeds, back)?)
+}
+
+/// The number of the step and the stamp of the first slip on a desk's sheet.
+fn first_slip(sealed: &Sealed, desk: u8) -> Option<(u64, u32)> {
+    if desk < 1 || sealed.desks() < desk {
+        return None;
+    }
+    match sealed.sheet_of(desk).first() {
+        Some(slip) => Some((slip.number, slip.stamp)),
+        None => None,
+    }
+}
+
+/// How many steps there are, whether the last is the close, and how many desks there were.
+fn sizes_of(sealed: &Sealed) -> (usize, bool, u8) {
+    let steps = sealed.ballot_box().steps();
+    let closed = matches!(steps.last(), Some(Step::Close));
+    (steps.len(), closed, sealed.desks())
+}
+
 #[test]
 fn two_desks_by_hand(rt: HostRuntime) -> Result<(), Fail> {
     let alloc = rt.alloc();
-    let poll = Poll::from_text(alloc, TWO_ELECTORS.as_bytes())?;
-    let ann = read_line(&poll, b"ann 1,2,3");
-    let bob = read_line(&poll, b"bob 2,1,3");
-    assert!(rt; ranks_in(&ann).is_some());
+    let (ann, bob) = ann_and_bob(alloc)?;
     let deeds = [
         Deed::Standing(0, Ok(None)),
         cast(0, 2, &bob, Ok(Reply::Counted)),
@@ -219,16 +261,21 @@ fn two_desks_by_hand(rt: HostRuntime) -> Result<(), Fail> {
         Deed::Standing(0, Ok(ranks_in(&ann))),
         Deed::Standing(2, Err(NoVoter)),
     ];
+    assert!(rt; ranks_in(&ann).is_some());
     for back in [Back::InOrder, Back::Reversed] {
-        let sealed = acted(&rt, alloc, &poll, 2, 2, &deeds, back)?;
-        let steps = sealed.ballot_box().steps();
-        assert_eq!(rt; steps.len(), 3);
-        assert_eq!(rt; steps[2], Step::Close);
-        assert_eq!(rt; sealed.desks(), 2);
-        assert_eq!(rt; sealed.sheet_of(1).first().map(|slip| slip.stamp), Some(2));
-        assert_eq!(rt; sealed.sheet_of(2).first().map(|slip| slip.number), Some(2));
+        let sealed = acted_by(&rt, alloc, TWO_ELECTORS, 2, 2, &deeds, back)?;
+        let slips = (first_slip(&sealed, 1), first_slip(&sealed, 2));
+        assert_eq!(rt; sizes_of(&sealed), (3, true, 2));
+        assert_eq!(rt; slips, (Some((1, 2)), Some((2, 1))));
     }
-    let missing = acted(&rt, alloc, &poll, 2, 2, &deeds, Back::OneMissing).err();
+    Ok(())
+}
+
+#[test]
+fn a_missing_desk_is_told(rt: HostRuntime) -> Result<(), Fail> {
+    let alloc = rt.alloc();
+    let poll = Poll::from_text(alloc, TWO_ELECTORS.as_bytes())?;
+    let missing = acted(&rt, alloc, &poll, 2, 2, &[], Back::OneMissing).err();
     assert_eq!(rt; missing, Some(DeskFault::MissingDesk));
     Ok(())
 }
@@ -236,12 +283,9 @@ fn two_desks_by_hand(rt: HostRuntime) -> Result<(), Fail> {
 #[test]
 fn refused_casts_change_nothing(rt: HostRuntime) -> Result<(), Fail> {
     let alloc = rt.alloc();
-    let poll = Poll::from_text(alloc, TWO_ELECTORS.as_bytes())?;
-    let three = Poll::from_text(alloc, THREE_ELECTORS.as_bytes())?;
-    let four = Poll::from_text(alloc, FOUR_OPTIONS.as_bytes())?;
-    let ann = read_line(&poll, b"ann 1,2,3");
-    let cid = read_line(&three, b"cid 1,2,3");
-    let wide = read_line(&four, b"ann 1,2,3,4");
+    let ann = read_by(alloc, TWO_ELECTORS, "ann 1,2,3")?;
+    let cid = read_by(alloc, THREE_ELECTORS, "cid 1,2,3")?;
+    let wide = read_by(alloc, FOUR_OPTIONS, "ann 1,2,3,4")?;
     let narrow = [
         cast(0, 1, &ann, Ok(Reply::Counted)),
         cast(0, 1, &wide, Err(EnterFault::Sizes)),
@@ -255,17 +299,15 @@ fn refused_casts_change_nothing(rt: HostRuntime) -> Result<(), Fail> {
         cast(0, 3, &ann, Err(EnterFault::StampRange)),
         cast(0, 0, &ann, Err(EnterFault::StampRange)),
     ];
-    let totals = Totals {
-        valid: 1,
-        refused: 0,
-        voters: 1,
-    };
     for (limit, deeds) in [(1, narrow.as_slice()), (2, roomy.as_slice())] {
-        let sealed = acted(&rt, alloc, &poll, limit, 1, deeds, Back::InOrder)?;
-        assert_eq!(rt; sealed.ballot_box().steps().len(), 2, "with limit {limit}");
-        assert_eq!(rt; sealed.ballot_box().totals(), totals, "with limit {limit}");
-        assert_eq!(rt; sealed.desks(), 1);
-        assert_eq!(rt; sealed.sheet_of(1).len(), 1, "with limit {limit}");
+        let sealed = acted_by(&rt, alloc, TWO_ELECTORS, limit, 1, deeds, Back::InOrder)?;
+        let Totals {
+            valid,
+            refused,
+            voters,
+        } = sealed.ballot_box().totals();
+        let totals = (valid, refused, voters);
+        assert_eq!(rt; (sizes_of(&sealed), totals), ((2, true, 1), (1, 0, 1)));
     }
     Ok(())
 }
@@ -273,15 +315,14 @@ fn refused_casts_change_nothing(rt: HostRuntime) -> Result<(), Fail> {
 #[test]
 fn a_closed_box_refuses(rt: HostRuntime) -> Result<(), Fail> {
     let alloc = rt.alloc();
-    let poll = Poll::from_text(alloc, TWO_ELECTORS.as_bytes())?;
-    let ann = read_line(&poll, b"ann 1,2,3");
+    let ann = read_by(alloc, TWO_ELECTORS, "ann 1,2,3")?;
     let deeds = [
         Deed::Close(Ok(())),
         Deed::Close(Err(AlreadyClosed)),
         cast(0, 1, &ann, Ok(Reply::BoxClosed)),
         Deed::Standing(0, Ok(None)),
     ];
-    let sealed = acted(&rt, alloc, &poll, 1, 1, &deeds, Back::InOrder)?;
+    let sealed = acted_by(&rt, alloc, TWO_ELECTORS, 1, 1, &deeds, Back::InOrder)?;
     assert_eq!(rt; sealed.ballot_box().totals().refused, 1);
     Ok(())
 }
@@ -291,107 +332,46 @@ fn counted(stamp: u32, reading: &Reading) -> Deed {
     cast(0, stamp, reading, Ok(Reply::Counted))
 }
 
-/// Does the deeds at one desk of a poll with room for two slips, and asserts what an audit for another poll and its lines finds.
-fn assert_audit_for(
-    rt: &(impl Wait + Abort),
-    alloc: Global,
-    opened: &Poll,
-    deeds: &[Deed],
-    poll: &Poll,
-    lines: &Lines<'_>,
-    fault: Option<AuditFault>,
-) -> Result<(), DeskFault> {
-    let sealed = acted(rt, alloc, opened, 2, 1, deeds, Back::InOrder)?;
-    assert_eq!(rt; audit(poll, lines, sealed).err(), fault);
-    Ok(())
-}
+const TWO_LINES: &str = "ann 1,2,3\nbob 2,1,3\n";
 
-/// The same, where the audit is for the poll itself.
-fn assert_audit(
+/// Does the deeds at one desk of a box for a poll, with room for two slips, and audits it for another poll and its lines.
+fn audit_of(
     rt: &(impl Wait + Abort),
     alloc: Global,
-    poll: &Poll,
-    lines: &Lines<'_>,
+    opened: &str,
     deeds: &[Deed],
-    fault: Option<AuditFault>,
-) -> Result<(), DeskFault> {
-    assert_audit_for(rt, alloc, poll, deeds, poll, lines, fault)
+    poll: &str,
+    lines: &str,
+) -> Result<Option<AuditFault>, Fail> {
+    let sealed = acted_by(rt, alloc, opened, 2, 1, deeds, Back::InOrder)?;
+    let poll = Poll::from_text(alloc, poll.as_bytes())?;
+    let lines = Lines::split(alloc, lines.as_bytes())?;
+    Ok(audit(&poll, &lines, sealed).err())
 }
 
 #[test]
 fn audits_find_what_differs(rt: HostRuntime) -> Result<(), Fail> {
     let alloc = rt.alloc();
-    let poll = Poll::from_text(alloc, TWO_ELECTORS.as_bytes())?;
-    let two = Lines::split(alloc, b"ann 1,2,3\nbob 2,1,3\n")?;
-    let three = Lines::split(alloc, b"ann 1,2,3\nbob 2,1,3\nbad\n")?;
-    let ann = read_line(&poll, b"ann 1,2,3");
-    let bob = read_line(&poll, b"bob 2,1,3");
+    let (ann, bob) = ann_and_bob(alloc)?;
     let both = [counted(1, &ann), counted(2, &bob)];
-    assert_audit(&rt, alloc, &poll, &two, &both, None)?;
     let one = [counted(1, &ann)];
-    assert_audit(
-        &rt,
-        alloc,
-        &poll,
-        &two,
-        &one,
-        Some(AuditFault::CountDiffers),
-    )?;
-    assert_audit(
-        &rt,
-        alloc,
-        &poll,
-        &three,
-        &one,
-        Some(AuditFault::SizeDiffers),
-    )?;
     let mistaken = [counted(1, &bob), cast(0, 2, &bob, Ok(Reply::Replaced))];
-    assert_audit(
-        &rt,
-        alloc,
-        &poll,
-        &two,
-        &mistaken,
-        Some(AuditFault::StepDiffers(1)),
-    )?;
-    let late = cast(0, 2, &bob, Ok(Reply::BoxClosed));
-    let closed_between = [counted(1, &ann), Deed::Close(Ok(())), late];
-    assert_audit(
-        &rt,
-        alloc,
-        &poll,
-        &two,
-        &closed_between,
-        Some(AuditFault::ClosedEarly(2)),
-    )?;
-    let sealed = acted(&rt, alloc, &poll, 2, 1, &both, Back::InOrder)?;
-    assert_eq!(rt; sealed.desks(), 1);
-    let mut sheet = sealed.sheet_of(1).to_vec(alloc)?;
-    assert_eq!(rt; sheet.len(), 2);
-    sheet[0].reply = Reply::BadLine(LineFault::Shape);
-    let mut sheets = Vec::new(alloc);
-    let other = Err(AuditFault::SlipDiffers(1, 1));
-    assert_eq!(rt; compared(&rt, &poll, &two, &sealed, &sheets), other);
-    sheets.push(sheet)?;
-    assert_eq!(rt; compared(&rt, &poll, &two, &sealed, &sheets), other);
-    Ok(())
-}
-
-#[test]
-fn a_box_has_the_last_envelope_of_its_poll(rt: HostRuntime) -> Result<(), Fail> {
-    let alloc = rt.alloc();
-    let any = Poll::from_text(alloc, TWO_ELECTORS.as_bytes())?;
-    let first = Poll::from_text(alloc, FIRST_IS_LAST.as_bytes())?;
-    let two = Lines::split(alloc, b"ann 1,2,3\nbob 2,1,3\n")?;
-    let ann = read_line(&any, b"ann 1,2,3");
-    let bob = read_line(&any, b"bob 2,1,3");
-    let in_time = [counted(2, &bob), counted(1, &ann)];
-    let late = [cast(0, 2, &bob, Ok(Reply::Late)), counted(1, &ann)];
-    let differs = Some(AuditFault::SizeDiffers);
-    assert_audit_for(&rt, alloc, &any, &in_time, &any, &two, None)?;
-    assert_audit_for(&rt, alloc, &any, &in_time, &first, &two, differs)?;
-    assert_audit_for(&rt, alloc, &first, &late, &any, &two, differs)?;
-    assert_audit_for(&rt, alloc, &first, &late, &first, &two, None)?;
+    let closed_between = [
+        counted(1, &ann),
+        Deed::Close(Ok(())),
+        cast(0, 2, &bob, Ok(Reply::BoxClosed)),
+    ];
+    let three_lines = "ann 1,2,3\nbob 2,1,3\nbad\n";
+    for (lines, deeds, fault) in [
+        (TWO_LINES, both.as_slice(), None),
+        (TWO_LINES, &one, Some(AuditFault::CountDiffers)),
+        (three_lines, &one, Some(AuditFault::SizeDiffers)),
+        (TWO_LINES, &mistaken, Some(AuditFault::StepDiffers(1))),
+        (TWO_LINES, &closed_between, Some(AuditFault::ClosedEarly(2))),
+    ] {
+        let found = audit_of(&rt, alloc, TWO_ELECTORS, deeds, TWO_ELECTORS, lines)?;
+        assert_eq!(rt; found, fault);
+    }
     Ok(())
 }
 
@@ -405,6 +385,57 @@ fn compared(
 ) -> Result<(), AuditFault> {
     assert!(rt; !sealed.ballot_box().is_open() && sheets.len() <= 1);
     compare(poll, lines, sealed.ballot_box(), sheets)
+}
+
+/// The sheet of the first desk with another reply on its first slip, or none where it has no slip.
+fn with_another_reply(alloc: Global, sealed: &Sealed) -> Result<Option<Vec<Slip>>, AllocError> {
+    if sealed.desks() < 1 {
+        return Ok(None);
+    }
+    let mut sheet = sealed.sheet_of(1).to_vec(alloc)?;
+    match sheet.first_mut() {
+        Some(slip) => slip.reply = Reply::BadLine(LineFault::Shape),
+        None => return Ok(None),
+    }
+    Ok(Some(sheet))
+}
+
+#[test]
+fn a_changed_sheet_differs(rt: HostRuntime) -> Result<(), Fail> {
+    let alloc = rt.alloc();
+    let (ann, bob) = ann_and_bob(alloc)?;
+    let both = [counted(1, &ann), counted(2, &bob)];
+    let sealed = acted_by(&rt, alloc, TWO_ELECTORS, 2, 1, &both, Back::InOrder)?;
+    let poll = Poll::from_text(alloc, TWO_ELECTORS.as_bytes())?;
+    let lines = Lines::split(alloc, TWO_LINES.as_bytes())?;
+    let mut sheets = Vec::new(alloc);
+    let without = compared(&rt, &poll, &lines, &sealed, &sheets);
+    if let Some(sheet) = with_another_reply(alloc, &sealed)? {
+        sheets.push(sheet)?;
+    }
+    let changed = compared(&rt, &poll, &lines, &sealed, &sheets);
+    let other = Err(AuditFault::SlipDiffers(1, 1));
+    assert_eq!(rt; (without, sheets.len(), changed), (other, 1, other));
+    Ok(())
+}
+
+#[test]
+fn a_box_has_the_last_envelope_of_its_poll(rt: HostRuntime) -> Result<(), Fail> {
+    let alloc = rt.alloc();
+    let (ann, bob) = ann_and_bob(alloc)?;
+    let in_time = [counted(2, &bob), counted(1, &ann)];
+    let late = [cast(0, 2, &bob, Ok(Reply::Late)), counted(1, &ann)];
+    let differs = Some(AuditFault::SizeDiffers);
+    for (opened, deeds, poll, fault) in [
+        (TWO_ELECTORS, &in_time, TWO_ELECTORS, None),
+        (TWO_ELECTORS, &in_time, FIRST_IS_LAST, differs),
+        (FIRST_IS_LAST, &late, TWO_ELECTORS, differs),
+        (FIRST_IS_LAST, &late, FIRST_IS_LAST, None),
+    ] {
+        let found = audit_of(&rt, alloc, opened, deeds, poll, TWO_LINES)?;
+        assert_eq!(rt; found, fault);
+    }
+    Ok(())
 }
 
 /// Casts the lines of a range of stamps at a desk, in order.
@@ -453,6 +484,14 @@ fn halves<VL: Tally + Send + Sync, RL: Tally + Send + Sync, R: Threads + Wait + 
     gather(alloc, shared, opened)
 }
 
+/// How many slips each of two desks has, where there are two.
+fn slips_of_two(audited: &Audited) -> Option<(usize, usize)> {
+    if audited.desks() != 2 {
+        return None;
+    }
+    Some((audited.sheet_of(1).len(), audited.sheet_of(2).len()))
+}
+
 #[test]
 fn two_desks_in_threads(rt: HostRuntime) -> Result<(), Fail> {
     let alloc = rt.alloc();
@@ -469,9 +508,7 @@ fn two_desks_in_threads(rt: HostRuntime) -> Result<(), Fail> {
     )?;
     let audited = audit(&poll, &lines, sealed)?;
     assert_hundred(&rt, audited.ballot_box(), HUNDRED);
-    assert_eq!(rt; audited.desks(), 2);
-    assert_eq!(rt; audited.sheet_of(1).len(), 50);
-    assert_eq!(rt; audited.sheet_of(2).len(), 50);
+    assert_eq!(rt; slips_of_two(&audited), Some((50, 50)));
     Ok(())
 }
 
@@ -524,10 +561,9 @@ fn memory_of_gather(rt: HostRuntime) -> Result<(), Fail> {
     ];
     match acted(&rt, alloc, &poll, 2, 2, &deeds, Back::Reversed) {
         Ok(sealed) => {
-            assert_eq!(rt; sealed.desks(), 2);
-            assert_eq!(rt; sealed.ballot_box().steps().len(), 3);
-            assert_eq!(rt; sealed.sheet_of(1).first().map(|slip| slip.stamp), Some(2));
-            assert_eq!(rt; sealed.sheet_of(2).first().map(|slip| slip.stamp), Some(1));
+            let slips = (first_slip(&sealed, 1), first_slip(&sealed, 2));
+            assert_eq!(rt; sizes_of(&sealed), (3, true, 2));
+            assert_eq!(rt; slips, (Some((1, 2)), Some((2, 1))));
             Ok(())
         }
         Err(fault) => {

@@ -1,5 +1,5 @@
 -- What a poll reads in a line.
-use Rattle.std.specs.Prelude.{◌≡◌, ◌≢◌, ℕ, ◌<◌, List, [], ◌∷◌, length, map, Bool, ◌==◌, ◌&&◌, nat_le, if◌then◌else◌, Option, Some, None, option_map, ◌*◌, ◌+◌, ◌-◌}
+use Rattle.std.specs.Prelude.{◌≡◌, ◌≢◌, ℕ, ◌<◌, List, [], ◌∷◌, length, map, Bool, true, false, ◌==◌, ◌&&◌, nat_le, if◌then◌else◌, Option, Some, None, option_map, ◌*◌, ◌+◌, ◌-◌}
 use Rattle.std.specs.List.{slice_split, before_first, after_first}
 use Rattle.std.specs.Str.{byte}
 use Rattle.vote_poll.specs.Names.{is_voter_name, is_within, place_of}
@@ -63,3 +63,11 @@ reading_of poll (Some ballot) = if length ballot.1 == option_count poll then rea
 
 abbrev pub reading : PollContent → List ℕ → Reading
 reading poll line = reading_of poll (ballot_in line)
+
+-- what the poll reads in the lines, in their order
+abbrev pub readings : PollContent → List (List ℕ) → List Reading
+readings poll lines = map (reading poll) lines
+
+abbrev pub is_ballot : Reading → Bool
+is_ballot (Bad line_fault) = false
+is_ballot (Ballot voter ranks) = true

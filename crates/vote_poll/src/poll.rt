@@ -3,12 +3,12 @@ ghost use Rattle.std.specs.Prelude.{◌≡◌, ◌≤◌, ◌<◌, ◌+◌, ◌-
 ghost use Rattle.std.specs.Str.{bytes_eq};
 ghost use Rattle.vote_poll.specs.Names.{place_of};
 ghost use Rattle.vote_poll.specs.Options.{IsOption};
-ghost use Rattle.vote_poll.specs.PollContent.{IsPoll, option_count, elector_count, ratio_of};
+ghost use Rattle.vote_poll.specs.PollContent.{IsPoll, option_count, elector_count, last_of, ratio_of};
 ghost use Rattle.vote_poll.specs.PollParts.{content_of};
 ghost use Rattle.vote_poll.specs.declared.lines.TheConstants.{MAX_LINES};
 
 use crate::wording::Wording;
-use crate::{MAX_ELECTORS, MAX_OPTIONS};
+use crate::{MAX_ELECTORS, MAX_LINES, MAX_OPTIONS};
 use indexmap::IndexSet;
 use std::marker::Model;
 
@@ -123,6 +123,18 @@ impl Poll {
         ensures at_most { IfSome result (λ last. last ≤ MAX_LINES) }
     {
         self.last_envelope
+    }
+
+    /// The number above which an envelope is late: that of the last envelope, and where the poll has none
+    /// [`MAX_LINES`](crate::MAX_LINES), the greatest that an envelope can have.
+    pub fn last_in_time(&self) -> u32
+        ensures number { result ≡ last_of self.now }
+        ensures at_most { result ≤ MAX_LINES }
+    {
+        match self.last_envelope {
+            Some(last) => last,
+            None => MAX_LINES as u32,
+        }
     }
 
     /// How the poll words a majority: `at_least` is the wording of A.5 of the Constitution's Appendix A, and `more_than`

@@ -1,12 +1,12 @@
 //! Worked examples, whose readings are the poll's own.
-ghost use Rattle.std.specs.Prelude.{◌<◌};
+ghost use Rattle.std.specs.Prelude.{◌<◌, ◌≤◌};
 
 use crate::{AlreadyClosed, BallotBox, Reply, Step, StepFault, Totals};
 use std::alloc::{AllocError, Global};
 use std::process::Abort;
 use std::test::Fail;
 use vote_count::{Matrix, recount};
-use vote_poll::{LineFault, Poll, PollFault, read_line};
+use vote_poll::{LineFault, MAX_LINES, Poll, PollFault, read_line};
 
 const TWO_ELECTORS: &str =
     "title = \"Two\"\noptions = [\"A\", \"B\"]\nratios = [1, 1]\ndefault = \"None\"\nquorum = 0\nroll = [\"ann\", \"bob\"]\n";
@@ -136,9 +136,28 @@ fn count_of(ballot_box: &BallotBox, wanted: Reply) -> usize {
     ballot_box.steps().iter().filter(is_wanted).count()
 }
 
+// Does what is listed at a box of two electors with the stamps 1 to `limit`, of which those above `last` are late. Looks at
+// the totals and the votes, and answers how many steps there are.
+fn played(
+    rt: &impl Abort,
+    alloc: Global,
+    limit: u32,
+    last: u32,
+    acts: &[Act<'_>],
+    totals: [u64; 3],
+    votes: [[u32; 3]; 3],
+) -> Result<usize, Fail>
+    requires { (limit ≤ MAX_LINES) × (last ≤ MAX_LINES) }
+{
+    let poll = Poll::from_text(alloc, TWO_ELECTORS.as_bytes())?;
+    let mut ballot_box = BallotBox::new(alloc, 3, 2, limit, last)?;
+    play(rt, &mut ballot_box, &poll, acts);
+    look(rt, &ballot_box, totals, votes);
+    Ok(ballot_box.steps().len())
+}
+
 #[test]
 fn a_recast_in_both_orders(rt: HostRuntime) -> Result<(), Fail> {
-    let poll = Poll::from_text(rt.alloc(), TWO_ELECTORS.as_bytes())?;
     let orders = [
         [
             Act::Cast(1, "ann 1,2,3", Ok(Reply::Counted)),
@@ -151,23 +170,15 @@ fn a_recast_in_both_orders(rt: HostRuntime) -> Result<(), Fail> {
             Act::Cast(1, "ann 1,2,3", Ok(Reply::Superseded)),
         ],
     ];
+    let votes = [[0, 0, 1], [2, 0, 1], [1, 1, 0]];
     for acts in &orders {
-        let mut ballot_box = BallotBox::new(rt.alloc(), 3, 2, 3, 100_000)?;
-        play(&rt, &mut ballot_box, &poll, acts);
-        look(
-            &rt,
-            &ballot_box,
-            [3, 0, 2],
-            [[0, 0, 1], [2, 0, 1], [1, 1, 0]],
-        );
+        played(&rt, rt.alloc(), 3, 100_000, acts, [3, 0, 2], votes)?;
     }
     Ok(())
 }
 
 #[test]
 fn refusals_and_replies(rt: HostRuntime) -> Result<(), Fail> {
-    let poll = Poll::from_text(rt.alloc(), TWO_ELECTORS.as_bytes())?;
-    let mut ballot_box = BallotBox::new(rt.alloc(), 3, 2, 2, 100_000)?;
     let acts = [
         Act::Cast(0, "ann 1,2,3", Err(StepFault::StampRange)),
         Act::Cast(3, "ann 1,2,3", Err(StepFault::StampRange)),
@@ -178,22 +189,14 @@ fn refusals_and_replies(rt: HostRuntime) -> Result<(), Fail> {
         Act::Cast(1, "bob 1,2,3", Err(StepFault::StampUsed)),
         Act::Close(Err(AlreadyClosed)),
     ];
-    play(&rt, &mut ballot_box, &poll, &acts);
-    assert_eq!(rt; ballot_box.steps().len(), 3);
-    look(
-        &rt,
-        &ballot_box,
-        [1, 1, 1],
-        [[0, 1, 1], [0, 0, 1], [0, 0, 0]],
-    );
+    let votes = [[0, 1, 1], [0, 0, 1], [0, 0, 0]];
+    let steps = played(&rt, rt.alloc(), 2, 100_000, &acts, [1, 1, 1], votes)?;
+    assert_eq!(rt; steps, 3);
     Ok(())
 }
 
 #[test]
 fn late_envelopes(rt: HostRuntime) -> Result<(), Fail> {
-    let poll = Poll::from_text(rt.alloc(), TWO_ELECTORS.as_bytes())?;
-    let mut ballot_box = BallotBox::new(rt.alloc(), 3, 2, 3, 1)?;
-    assert_eq!(rt; ballot_box.last_envelope(), 1);
     let acts = [
         Act::Cast(2, "ann 1,2,3", Ok(Reply::Late)),
         Act::Cast(1, "ann 1,2,3", Ok(Reply::Counted)),
@@ -201,22 +204,19 @@ fn late_envelopes(rt: HostRuntime) -> Result<(), Fail> {
         Act::Close(Ok(())),
         Act::Cast(3, "bad", Ok(Reply::BoxClosed)),
     ];
-    play(&rt, &mut ballot_box, &poll, &acts);
-    look(
-        &rt,
-        &ballot_box,
-        [1, 2, 1],
-        [[0, 1, 1], [0, 0, 1], [0, 0, 0]],
-    );
+    let votes = [[0, 1, 1], [0, 0, 1], [0, 0, 0]];
+    played(&rt, rt.alloc(), 3, 1, &acts, [1, 2, 1], votes)?;
+    Ok(())
+}
 
-    // Whatever a late line says, and where none is in time.
-    let mut ballot_box = BallotBox::new(rt.alloc(), 3, 2, 3, 0)?;
+// Whatever a late line says.
+#[test]
+fn no_envelope_in_time(rt: HostRuntime) -> Result<(), Fail> {
     let acts = [
         Act::Cast(3, "bad", Ok(Reply::Late)),
         Act::Cast(1, "bob 1,2,3", Ok(Reply::Late)),
     ];
-    play(&rt, &mut ballot_box, &poll, &acts);
-    look(&rt, &ballot_box, [0, 2, 0], [[0; 3]; 3]);
+    played(&rt, rt.alloc(), 3, 0, &acts, [0, 2, 0], [[0; 3]; 3])?;
     Ok(())
 }
 
@@ -256,17 +256,23 @@ fn poll_of_two(rt: &impl Abort, alloc: Global) -> Result<Poll, &'static str> {
     }
 }
 
+// Whether a box of these numbers says that nothing was done yet.
+fn is_new(ballot_box: &BallotBox, limit: u32, last: u32) -> bool {
+    ballot_box.limit() == limit
+        && ballot_box.last_envelope() == last
+        && ballot_box.is_open()
+        && ballot_box.steps().is_empty()
+        && ballot_box.standing(0).is_none()
+}
+
 // A box is made whole, with room for a step with each stamp and for the close, or is refused for want of memory.
 #[test]
 fn memory_of_new(rt: HostRuntime) -> Result<(), Fail> {
     let poll = poll_of_two(&rt, rt.alloc())?;
-    let Ok(mut ballot_box) = BallotBox::new(rt.alloc(), 3, 2, 3, 100_000) else {
+    let Ok(mut ballot_box) = BallotBox::new(rt.alloc(), 3, 2, 3, 99_999) else {
         return Err("refused".into());
     };
-    assert_eq!(rt; ballot_box.limit(), 3);
-    assert!(rt; ballot_box.is_open());
-    assert!(rt; ballot_box.steps().is_empty());
-    assert!(rt; ballot_box.standing(0).is_none());
+    assert!(rt; is_new(&ballot_box, 3, 99_999));
     let acts = [
         Act::Cast(1, "ann 1,2,3", Ok(Reply::Counted)),
         Act::Cast(2, "bob 2,1,3", Ok(Reply::Counted)),
@@ -274,12 +280,8 @@ fn memory_of_new(rt: HostRuntime) -> Result<(), Fail> {
         Act::Close(Ok(())),
     ];
     play(&rt, &mut ballot_box, &poll, &acts);
+    let votes = [[0, 0, 1], [2, 0, 1], [1, 1, 0]];
+    look(&rt, &ballot_box, [3, 0, 2], votes);
     assert_eq!(rt; ballot_box.steps().len(), 4);
-    look(
-        &rt,
-        &ballot_box,
-        [3, 0, 2],
-        [[0, 0, 1], [2, 0, 1], [1, 1, 0]],
-    );
     Ok(())
 }

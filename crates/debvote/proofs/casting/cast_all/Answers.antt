@@ -1,18 +1,19 @@
 use Rattle.std.proofs.Common.{◌≡◌, ℕ, ◌+◌, ◌∷◌, ◌++◌, [], List, Some, length, refl, sym, ap, ◌∙◌, arith}
 use Rattle.std.proofs.lemmas.Bool.{true≢false}
 use Rattle.vote_poll.specs.PollContent.{elector_count, last_of, option_count}
+use Rattle.vote_poll.specs.Readings.{readings}
 use Rattle.vote_steps.specs.declared.Step.{Step}
 use Rattle.vote_steps.specs.declared.Step.TheVariants.{Cast, Close}
 use Rattle.vote_steps.specs.History.{is_closed, is_used, reply_to}
 use Rattle.vote_steps.specs.Boxes.{BoxState}
-use Rattle.debvote.specs.LastBallots.{readings}
-use Rattle.debvote.proofs.CastLemmas.{begins, casts_of, casts_of_next, casts_of_open, casts_of_unused, holds_lines, in_order, length-readings, read_at}
+use Rattle.vote_desks.proofs.StandingLemmas.{as_long}
+use Rattle.debvote.proofs.CastLemmas.{begins, casts_of, casts_of_next, casts_of_open, casts_of_unused, holds_lines, in_order, read_at}
 use Rattle.debvote.proofs.casting.cast_all.Goals as goal
 
 pub loop-place-init : goal.loop-place-init
 loop-place-init c =
-    begins c.in_ok-ballot_box.ballot_box (readings c.args.poll.now c.args.lines.now) c.options.result (option_count c.args.poll.now) c.electors.result (elector_count c.args.poll.now) c.len.result (length c.args.lines.now) c.last_of.result (last_of c.args.poll.now)
-    c.in_ok-ballot_box.ensures c.options.ensures.number c.electors.ensures.number c.len.ensures.number c.last_of.ensures.same
+    begins c.in_ok-ballot_box.ballot_box (readings c.args.poll.now c.args.lines.now) c.options.result (option_count c.args.poll.now) c.electors.result (elector_count c.args.poll.now) c.len.result (length c.args.lines.now) c.last_in_time.result (last_of c.args.poll.now)
+    c.in_ok-ballot_box.ensures c.options.ensures.number c.electors.ensures.number c.len.ensures.number c.last_in_time.ensures.number
 
 pub cast_at_desk_1-requires-clause-unused : goal.cast_at_desk_1-requires-clause-unused
 cast_at_desk_1-requires-clause-unused c =
@@ -74,4 +75,4 @@ pub returns-clause-in_order : goal.returns-clause-in_order
 returns-clause-in_order c =
     let all = readings c.args.poll.now c.args.lines.now in
     in_order (last_of c.args.poll.now) all c.close.new.self.steps
-    (ap (λ (b : BoxState). b.steps) (closed_steps c) ∙ ap (λ n. casts_of (last_of c.args.poll.now) all n ++ Close ∷ []) (sym (length-readings c.args.poll.now c.args.lines.now)))
+    (ap (λ (b : BoxState). b.steps) (closed_steps c) ∙ ap (λ n. casts_of (last_of c.args.poll.now) all n ++ Close ∷ []) (sym (as_long c.args.poll.now c.args.lines.now)))

@@ -1,6 +1,6 @@
 use Rattle.std.proofs.Common.{◌≡◌, length}
 use Rattle.vote_poll.specs.PollContent.{elector_count, last_of, option_count}
-use Rattle.debvote.specs.LastBallots.{readings}
+use Rattle.vote_poll.specs.Readings.{readings}
 use Rattle.debvote.proofs.CastLemmas.{casts_of}
 use Rattle.debvote.proofs.casting.cast_all.Given as goal
 

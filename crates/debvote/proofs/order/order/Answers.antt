@@ -1,12 +1,12 @@
-use Rattle.std.proofs.Common.{◌≡◌, ◌∙◌, ap, map, refl, subst, sym, true, ◌⊎◌, inl, inr}
+use Rattle.std.proofs.Common.{◌≡◌, ◌∙◌, ap, map, refl, subst, sym, true, inl, inr}
 use Rattle.clap.proofs.OnLiterals.{clap_on_literals}
 use Rattle.clap.specs.Faults.{fault_of, is_simple_and_free}
-use Rattle.clap.specs.Kinds.{HasKind, IsAmong, Kinds}
+use Rattle.clap.specs.Kinds.{HasKind, Kinds}
 use Rattle.clap.specs.Values.{kind_of}
 use Rattle.clap.specs.Words.{App}
 use Rattle.clap.specs.declared.error.Error.{Error}
 use Rattle.debvote.specs.CommandLine.{debvote_command}
-use Rattle.debvote.specs.Order.{AsksForHelp, HelpsByKind, HelpsIfAsked}
+use Rattle.debvote.specs.Order.{HelpsByKind, HelpsIfAsked}
 use Rattle.debvote.specs.declared.order.OrderFault.{OrderFault}
 use Rattle.debvote.specs.declared.order.OrderFault.TheVariants.{Help, Refused, Memory}
 use Rattle.debvote.proofs.order.order.Goals as goal
