@@ -123,35 +123,52 @@ fn end_of<R: Threads + Wait + Sync>(
 
 #[test]
 fn a_count_ends_as_its_sheet_decides(rt: HostRuntime) -> Result<(), Fail> {
-    let alloc = rt.alloc();
     let three = ["A", "B", "C"];
     let tie = [(1, "1,2,3,4"), (1, "3,1,2,4"), (1, "2,3,1,4")];
-    for (casting, ended) in [
-        (None, Ended::Tie),
-        (Some("B"), Ended::Decided(2)),
-        (Some("None"), Ended::CastingOutside(4)),
-    ] {
-        assert_eq!(rt;
-            end_of(&rt, alloc, &three, (1, 1, 3), &tie, casting)?,
-            Some(ended)
-        );
-    }
-    let end = end_of(&rt, alloc, &three, (1, 3, 9), &CYCLE, Some("None"))?;
-    assert_eq!(rt; end, Some(Ended::Decided(1)));
     let uneven = [
         (4, "1,2,3,4"),
         (3, "3,1,2,4"),
         (1, "2,3,1,4"),
         (1, "2,2,1,3"),
     ];
-    let end = end_of(&rt, alloc, &three, (1, 3, 9), &uneven, None)?;
-    assert_eq!(rt; end, Some(Ended::Decided(1)));
+    let (all_three, all_nine) = ((1, 1, 3), (1, 3, 9));
+    for (numbers, ballots, casting, ended) in [
+        (all_three, tie.as_slice(), None, Ended::Tie),
+        (all_three, &tie, Some("B"), Ended::Decided(2)),
+        (all_three, &tie, Some("None"), Ended::CastingOutside(4)),
+        (all_nine, &CYCLE, Some("None"), Ended::Decided(1)),
+        (all_nine, &uneven, None, Ended::Decided(1)),
+    ] {
+        let end = end_of(&rt, rt.alloc(), &three, numbers, ballots, casting)?;
+        assert_eq!(rt; end, Some(ended));
+    }
     Ok(())
+}
+
+/// How the count ends where so many prefer the one option and so many the default, and whether its sheet has this line for the
+/// wording.
+fn of_one_option<R: Threads + Wait + Sync>(
+    rt: &R,
+    alloc: Global,
+    wording: &str,
+    line: &str,
+    ratio: u8,
+    yes: usize,
+    no: usize,
+) -> Result<(bool, Result<Ended, RunFault>), Fail> {
+    let poll = poll_text(alloc, "A poll", &["A"], ratio, 0, 13)?;
+    let poll = format!(in alloc; "wording = \"{wording}\"\n{poll}")?;
+    let ballots = ballots_text(alloc, &[(yes, "1,2"), (no, "2,1")])?;
+    let election = plain_election(poll.as_str(), ballots.as_str(), 2);
+    let start = format!(in alloc;
+        "Poll: A poll\nElectors: 13\nQuorum: 0Q, 0 votes\n{line}Lines: "
+    )?;
+    let (sheet, ended) = count(rt, alloc, ENDLESS, &election);
+    Ok((sheet.starts_with(start.as_bytes()), ended))
 }
 
 #[test]
 fn an_option_needs_its_majority(rt: HostRuntime) -> Result<(), Fail> {
-    let alloc = rt.alloc();
     let more = "Majority: more than\n";
     for (wording, line, ratio, yes, no, winner) in [
         ("at_least", "", 3, 9, 3, 1),
@@ -162,16 +179,9 @@ fn an_option_needs_its_majority(rt: HostRuntime) -> Result<(), Fail> {
         ("more_than", more, 1, 2, 2, 2),
         ("more_than", more, 10, 13, 0, 1),
     ] {
-        let poll = poll_text(alloc, "A poll", &["A"], ratio, 0, 13)?;
-        let poll = format!(in alloc; "wording = \"{wording}\"\n{poll}")?;
-        let ballots = ballots_text(alloc, &[(yes, "1,2"), (no, "2,1")])?;
-        let election = plain_election(poll.as_str(), ballots.as_str(), 2);
-        let (sheet, ended) = count(&rt, alloc, ENDLESS, &election);
-        let start = format!(in alloc;
-            "Poll: A poll\nElectors: 13\nQuorum: 0Q, 0 votes\n{line}Lines: "
-        )?;
-        assert!(rt; sheet.starts_with(start.as_bytes()));
-        assert_eq!(rt; ended, Ok(Ended::Decided(winner)), "{yes} to {no}");
+        let found = of_one_option(&rt, rt.alloc(), wording, line, ratio, yes, no)?;
+        let decided = Ok(Ended::Decided(winner));
+        assert_eq!(rt; found, (true, decided), "{yes} to {no}");
     }
     Ok(())
 }
@@ -199,16 +209,16 @@ fn ends_by<R: Threads + Wait + Sync>(
 fn a_refused_count_writes_nothing(rt: HostRuntime) -> Result<(), Fail> {
     let alloc = rt.alloc();
     let poll = poll_text(alloc, "A poll", &["A", "B"], 1, 0, 2)?;
-    let poll = poll.as_str();
-    let many = String::from_utf8(vec![in alloc; b'\n'; 100_001]?)
-        .ok()
-        .ok_or("text")?;
-    let many = many.as_str();
-    let syntax = RunFault::Poll(PollFault::Syntax);
-    assert!(rt; ends_by(&rt, alloc, "title =", many, Some("Zed"), syntax));
-    assert!(rt; ends_by(&rt, alloc, poll, many, Some("Zed"), RunFault::NoSuchOption));
-    let long = RunFault::Lines(LinesFault::TooMany);
-    assert!(rt; ends_by(&rt, alloc, poll, many, Some("B"), long));
+    let many = "\n".repeat(alloc, 100_001)?;
+    let (poll, many) = (poll.as_str(), many.as_str());
+    for (poll, casting, fault) in [
+        ("title =", "Zed", RunFault::Poll(PollFault::Syntax)),
+        (poll, "Zed", RunFault::NoSuchOption),
+        (poll, "B", RunFault::Lines(LinesFault::TooMany)),
+    ] {
+        let refused = ends_by(&rt, alloc, poll, many, Some(casting), fault);
+        assert!(rt; refused, "{fault}");
+    }
     Ok(())
 }
 
@@ -226,42 +236,48 @@ fn is_help(alloc: Global, words: &[&str]) -> bool {
     }
 }
 
+/// Words that are no task.
+const NO_TASKS: &[&[&str]] = &[
+    &["count", "--poll", "p"],
+    &["count", "--poll", "p", "--ballots", "b", "--desks", "0"],
+    &["count", "--poll", "p", "--ballots", "b", "--desks", "9"],
+    &["count", "--poll", "p", "--ballots", "b", "--desks", "x"],
+    &["steps", "--ballots", "b"],
+    &["vote"],
+];
+
 #[test]
 fn words_that_are_no_task(rt: HostRuntime) {
-    let alloc = rt.alloc();
-    assert!(rt; is_refused(alloc, &["count", "--poll", "p"]));
-    for desks in ["0", "9", "x"] {
-        let words = ["count", "--poll", "p", "--ballots", "b", "--desks", desks];
-        assert!(rt; is_refused(alloc, &words));
+    for words in NO_TASKS {
+        assert!(rt; is_refused(rt.alloc(), words), "{words:?}");
     }
-    assert!(rt; is_refused(alloc, &["steps", "--ballots", "b"]));
-    assert!(rt; is_refused(alloc, &["vote"]));
-    assert!(rt; is_help(alloc, &["--help"]));
-    assert!(rt; is_help(alloc, &["count", "--help"]));
+    for words in [["--help"].as_slice(), &["count", "--help"]] {
+        assert!(rt; is_help(rt.alloc(), words), "{words:?}");
+    }
+}
+
+/// The task of words that are one.
+fn task_of<'w>(alloc: Global, words: &'w [&'w str]) -> Option<Task<'w>> {
+    order(alloc, words).ok()
 }
 
 #[test]
 fn words_of_each_task(rt: HostRuntime) {
     let alloc = rt.alloc();
     let count = ["count", "--poll", "p", "--ballots", "b", "--casting", "B"];
-    let task = order(alloc, count.as_slice()).ok();
-    assert!(rt;
-        task == Some(Task::Count {
-            poll: "p",
-            ballots: "b",
-            desks: 1,
-            casting: Some("B"),
-        })
-    );
+    let task = Task::Count {
+        poll: "p",
+        ballots: "b",
+        desks: 1,
+        casting: Some("B"),
+    };
+    assert!(rt; task_of(alloc, &count) == Some(task));
     let steps = ["steps", "--ballots", "b", "--poll", "p"];
-    let task = order(alloc, steps.as_slice()).ok();
-    assert!(rt;
-        task == Some(Task::Steps {
-            poll: "p",
-            ballots: "b"
-        })
-    );
-    let check = ["check", "--poll=p"];
-    let task = order(alloc, check.as_slice()).ok();
-    assert!(rt; task == Some(Task::Check { poll: "p" }));
+    let task = Task::Steps {
+        poll: "p",
+        ballots: "b",
+    };
+    assert!(rt; task_of(alloc, &steps) == Some(task));
+    let task = Task::Check { poll: "p" };
+    assert!(rt; task_of(alloc, &["check", "--poll=p"]) == Some(task));
 }

@@ -33,40 +33,51 @@ fn cycle(alloc: Global) -> Result<(String, String), AllocError> {
     Ok((poll, ballots))
 }
 
-#[test]
-fn a_sheet_is_written_up_to_the_fault(rt: HostRuntime) -> Result<(), Fail> {
-    let alloc = rt.alloc();
+/// A count of the cycle on such a paper: whether what is written is the front of the sheet, how long it is, and how it ends.
+fn written_of_cycle<R: Threads + Wait + Sync>(
+    rt: &R,
+    alloc: Global,
+    at_once: usize,
+    limit: usize,
+    flushes: bool,
+) -> Result<(bool, usize, Result<Ended, RunFault>), AllocError> {
     let (poll, ballots) = cycle(alloc)?;
     let election = plain_election(poll.as_str(), ballots.as_str(), 1);
-    let sheet = A_CYCLE.as_bytes();
+    let kind = Kind {
+        at_once,
+        limit,
+        flushes,
+    };
+    let (written, ended) = count(rt, alloc, kind, &election);
+    let is_front = A_CYCLE.as_bytes().starts_with(written.as_slice());
+    Ok((is_front, written.len(), ended))
+}
+
+#[test]
+fn a_sheet_is_written_up_to_the_fault(rt: HostRuntime) -> Result<(), Fail> {
+    let whole = A_CYCLE.len();
+    let output = Err(RunFault::Output);
     for (at_once, limit, flushes, len, end) in [
-        (1, usize::MAX, true, sheet.len(), Ok(Ended::Decided(1))),
-        (10, 10, true, 10, Err(RunFault::Output)),
-        (0, usize::MAX, true, 0, Err(RunFault::Output)),
-        (1, usize::MAX, false, sheet.len(), Err(RunFault::Output)),
+        (1, usize::MAX, true, whole, Ok(Ended::Decided(1))),
+        (10, 10, true, 10, output),
+        (0, usize::MAX, true, 0, output),
+        (1, usize::MAX, false, whole, output),
     ] {
-        let kind = Kind {
-            at_once,
-            limit,
-            flushes,
-        };
-        let (written, ended) = count(&rt, alloc, kind, &election);
-        assert!(rt; sheet.starts_with(written.as_slice()));
-        assert_eq!(rt; written.len(), len);
-        assert_eq!(rt; ended, end);
+        let found = written_of_cycle(&rt, rt.alloc(), at_once, limit, flushes)?;
+        assert_eq!(rt; found, (true, len, end));
     }
-    // a byte a write, and each write the first that fails
-    for limit in 0..sheet.len() {
-        let kind = Kind {
-            at_once: 1,
-            limit,
-            flushes: true,
-        };
-        let (written, ended) = count(&rt, alloc, kind, &election);
-        assert!(rt; written.as_slice() == &sheet[..limit]);
-        assert_eq!(rt; ended, Err(RunFault::Output));
-        assert_eq!(rt; status(&ended), 7);
+    Ok(())
+}
+
+/// A byte a write, and each write the first that fails.
+#[test]
+fn any_write_of_a_sheet_may_fail(rt: HostRuntime) -> Result<(), Fail> {
+    let output = Err(RunFault::Output);
+    for limit in 0..A_CYCLE.len() {
+        let found = written_of_cycle(&rt, rt.alloc(), 1, limit, true)?;
+        assert_eq!(rt; found, (true, limit, output));
     }
+    assert_eq!(rt; status(&output), 7);
     Ok(())
 }
 
@@ -97,17 +108,10 @@ fn a_gate_stops_a_count(rt: HostRuntime) -> Result<(), Fail> {
     ] {
         let election = plain_election(poll.as_str(), ballots.as_str(), desks);
         let gate = StopsAt(stamp);
-        let (written, ended) = count_through(
-            &rt,
-            alloc,
-            &gate,
-            ENDLESS,
-            Vec::new(alloc),
-            &election,
-        );
-        assert!(rt; written.is_empty());
-        assert_eq!(rt; ended, Err(RunFault::Vote(VoteFault::Gate(1))));
-        assert_eq!(rt; status(&ended), 6);
+        let paper = Vec::new(alloc);
+        let (written, ended) = count_through(&rt, alloc, &gate, ENDLESS, paper, &election);
+        let stopped = Err(RunFault::Vote(VoteFault::Gate(1)));
+        assert_eq!(rt; (written.len(), ended, status(&ended)), (0, stopped, 6));
     }
     Ok(())
 }

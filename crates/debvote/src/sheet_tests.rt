@@ -6,6 +6,7 @@ ghost use Rattle.vote_poll.specs.PollContent.{option_count};
 
 use crate::sheet::{sheet, sheet_and_decision};
 use std::alloc::{AllocError, Global};
+use std::process::Abort;
 use std::sync::Wait;
 use std::test::Fail;
 use std::thread::Threads;
@@ -112,46 +113,71 @@ const OF_TEN_VOTERS: &str =
 const OF_NO_VOTER: &str =
     "Voters: 0\nOptions:\n  1 ratio 1 A\n  2 ratio 1 B\n  3 default None\nVotes:\n        1     2     3\n  1     -     0     0\n  2     0     -     0\n  3     0     0     -\nDropped:\n  1 quorum\n  2 quorum\nDefeats:\n  none\nRound 1: 3\nWinner: 3 None\n";
 
-#[test]
-fn few_ballots(rt: HostRuntime) -> Result<(), Fail> {
-    let alloc = rt.alloc();
-    let poll = poll_text(alloc, "No ballots", &["A", "B", "C"], 1, 3, 9)?;
-    let (text, decision) = printed(&rt, alloc, 8, poll.as_str(), "", None)?;
-    assert!(rt; text.as_str() == NO_BALLOTS, "{}", text);
-    assert_eq!(rt; decision, Decision::Winner(4));
-
-    let poll = poll_text(alloc, "A cycle", &["A", "B", "C"], 1, 3, 9)?;
-    let ballots = ballots_text(alloc, &CYCLE)?;
-    for casting in [None, Some("None")] {
-        let (text, decision) = printed(&rt, alloc, 1, poll.as_str(), ballots.as_str(), casting)?;
-        assert!(rt; text.as_str() == A_CYCLE, "{}", text);
-        assert_eq!(rt; decision, Decision::Winner(1));
-    }
+/// Asserts that this sheet is printed, with this decision.
+fn assert_printed<R: Threads + Wait + Abort + Sync>(
+    rt: &R,
+    alloc: Global,
+    desks: u8,
+    texts: (&str, &str),
+    casting: Option<&str>,
+    whole: &str,
+    decision: Decision,
+) -> Result<(), Fail>
+    requires { (1 ≤ desks) × (desks ≤ MAX_DESKS) }
+{
+    let (poll, ballots) = texts;
+    let (text, decided) = printed(rt, alloc, desks, poll, ballots, casting)?;
+    assert!(rt; text.as_str() == whole, "{}", text);
+    assert_eq!(rt; decided, decision);
     Ok(())
 }
 
 #[test]
-fn endings_of_a_tie(rt: HostRuntime) -> Result<(), Fail> {
+fn no_ballots(rt: HostRuntime) -> Result<(), Fail> {
     let alloc = rt.alloc();
+    let poll = poll_text(alloc, "No ballots", &["A", "B", "C"], 1, 3, 9)?;
+    let texts = (poll.as_str(), "");
+    assert_printed(&rt, alloc, 8, texts, None, NO_BALLOTS, Decision::Winner(4))
+}
+
+#[test]
+fn a_cycle(rt: HostRuntime) -> Result<(), Fail> {
+    let alloc = rt.alloc();
+    let poll = poll_text(alloc, "A cycle", &["A", "B", "C"], 1, 3, 9)?;
+    let ballots = ballots_text(alloc, &CYCLE)?;
+    let texts = (poll.as_str(), ballots.as_str());
+    for casting in [None, Some("None")] {
+        let winner = Decision::Winner(1);
+        assert_printed(&rt, alloc, 1, texts, casting, A_CYCLE, winner)?;
+    }
+    Ok(())
+}
+
+/// Asserts how the sheet of a tie among three options ends.
+fn assert_tie<R: Threads + Wait + Abort + Sync>(
+    rt: &R,
+    alloc: Global,
+    casting: Option<&str>,
+    decision: Decision,
+    ending: &str,
+) -> Result<(), Fail> {
     let poll = poll_text(alloc, "A tie", &["A", "B", "C"], 1, 1, 3)?;
     let ballots = ballots_text(alloc, &[(1, "1,2,3,4"), (1, "3,1,2,4"), (1, "2,3,1,4")])?;
-    for (casting, decided, ending) in [
+    let whole = format!(in alloc; "{A_TIE}{ending}")?;
+    let texts = (poll.as_str(), ballots.as_str());
+    assert_printed(rt, alloc, 1, texts, casting, whole.as_str(), decision)
+}
+
+#[test]
+fn endings_of_a_tie(rt: HostRuntime) -> Result<(), Fail> {
+    let by_casting = "Winner: 2 B by casting vote\n";
+    let outside = "Tie: 1 2 3, casting option 4 is not among them\n";
+    for (casting, decision, ending) in [
         (None, Decision::Tie, "Tie: 1 2 3\n"),
-        (
-            Some("B"),
-            Decision::Winner(2),
-            "Winner: 2 B by casting vote\n",
-        ),
-        (
-            Some("None"),
-            Decision::CastingOutside(4),
-            "Tie: 1 2 3, casting option 4 is not among them\n",
-        ),
+        (Some("B"), Decision::Winner(2), by_casting),
+        (Some("None"), Decision::CastingOutside(4), outside),
     ] {
-        let (text, decision) = printed(&rt, alloc, 1, poll.as_str(), ballots.as_str(), casting)?;
-        let whole = format!(in alloc; "{A_TIE}{ending}")?;
-        assert!(rt; text.as_str() == whole.as_str(), "{}", text);
-        assert_eq!(rt; decision, decided);
+        assert_tie(&rt, rt.alloc(), casting, decision, ending)?;
     }
     Ok(())
 }
@@ -171,39 +197,43 @@ pub(crate) fn hundred_ballots(alloc: Global) -> Result<String, AllocError> {
     Ok(ballots)
 }
 
+/// Asserts what a hundred envelopes give at some desks, by a poll with this key: these lines of the sheet and those after them.
+fn assert_hundred<R: Threads + Wait + Abort + Sync>(
+    rt: &R,
+    alloc: Global,
+    desks: u8,
+    key: &str,
+    lines: &str,
+    rest: &str,
+    decision: Decision,
+) -> Result<(), Fail>
+    requires { (1 ≤ desks) × (desks ≤ MAX_DESKS) }
+{
+    let poll = poll_text(alloc, "A hundred envelopes", &["A", "B"], 1, 3, 10)?;
+    let poll = format!(in alloc; "{key}{poll}")?;
+    let ballots = hundred_ballots(alloc)?;
+    let whole = format!(in alloc; "{A_HUNDRED_LINES}{lines}{rest}")?;
+    let texts = (poll.as_str(), ballots.as_str());
+    assert_printed(rt, alloc, desks, texts, None, whole.as_str(), decision)
+}
+
 #[test]
 fn a_hundred_envelopes(rt: HostRuntime) -> Result<(), Fail> {
-    let alloc = rt.alloc();
-    let poll = poll_text(alloc, "A hundred envelopes", &["A", "B"], 1, 3, 10)?;
-    let ballots = hundred_ballots(alloc)?;
-    for (last, lines, rest, decided) in [
-        ("", "Valid: 95\nRefused: 5\n", OF_TEN_VOTERS, Decision::Tie),
-        (
-            "last_envelope = 50\n",
-            "Last envelope: 50\nValid: 48\nRefused: 52\n",
-            OF_TEN_VOTERS,
-            Decision::Tie,
-        ),
+    let all = "Valid: 95\nRefused: 5\n";
+    let half = "Last envelope: 50\nValid: 48\nRefused: 52\n";
+    let none = "Last envelope: 0\nValid: 0\nRefused: 100\n";
+    for (key, lines, rest, decision) in [
+        ("", all, OF_TEN_VOTERS, Decision::Tie),
+        ("last_envelope = 50\n", half, OF_TEN_VOTERS, Decision::Tie),
         (
             "last_envelope = 0\n",
-            "Last envelope: 0\nValid: 0\nRefused: 100\n",
+            none,
             OF_NO_VOTER,
             Decision::Winner(3),
         ),
     ] {
-        let poll = format!(in alloc; "{last}{poll}")?;
-        let whole = format!(in alloc; "{A_HUNDRED_LINES}{lines}{rest}")?;
         for desks in [1, 2, 8] {
-            let (text, decision) = printed(
-                &rt,
-                alloc,
-                desks,
-                poll.as_str(),
-                ballots.as_str(),
-                None,
-            )?;
-            assert!(rt; text.as_str() == whole.as_str(), "{}", text);
-            assert_eq!(rt; decision, decided);
+            assert_hundred(&rt, rt.alloc(), desks, key, lines, rest, decision)?;
         }
     }
     Ok(())
@@ -215,8 +245,8 @@ fn the_greatest_roll(rt: HostRuntime) -> Result<(), Fail> {
     let poll = poll_text(alloc, "All agree", &["A"], 10, 10, 10_000)?;
     let ballots = ballots_text(alloc, &[(10_000, "1,2")])?;
     let (text, decision) = printed(&rt, alloc, 1, poll.as_str(), ballots.as_str(), None)?;
-    assert!(rt; text.contains("Quorum: 10Q, 500 votes\n"), "{}", text);
-    assert!(rt; text.contains("\n  1     - 10000\n"), "{}", text);
+    let said = text.contains("Quorum: 10Q, 500 votes\n") && text.contains("\n  1     - 10000\n");
+    assert!(rt; said, "{}", text);
     assert_eq!(rt; decision, Decision::Winner(1));
     Ok(())
 }

@@ -141,9 +141,8 @@ fn a_text_is_written_whole_or_to_the_fault(rt: HostRuntime) {
         (1, 3, true, 3, false),
     ] {
         let (written, ended) = write(rt.alloc(), at_once, limit, flushes, text);
-        assert!(rt; text.starts_with(written.as_slice()));
-        assert_eq!(rt; written.len(), len);
-        assert_eq!(rt; ended, ends);
+        let starts = text.starts_with(written.as_slice());
+        assert_eq!(rt; (starts, written.len(), ended), (true, len, ends));
     }
 }
 
@@ -211,21 +210,29 @@ pub(crate) fn read(
     read_metered::<Brand>(alloc, bytes, at_once, reads, limit, Blank::new(2))
 }
 
+/// Whether five bytes are read whole, and the fault where they are not, by so many at once, reads and bytes.
+fn five_bytes(
+    alloc: Global,
+    at_once: usize,
+    reads: u32,
+    limit: usize,
+) -> (bool, Option<ReadFault>) {
+    match read(alloc, b"hello", at_once, reads, limit) {
+        Ok(all) => (all.as_slice() == b"hello".as_slice(), None),
+        Err(fault) => (false, Some(fault)),
+    }
+}
+
 #[test]
 fn an_input_is_read_to_its_end_or_refused(rt: HostRuntime) {
-    let bytes = b"hello";
-    let all = read(rt.alloc(), bytes, 3, 9, 5)
-        .ok()
-        .expect(&rt, "five bytes");
-    assert!(rt; all.as_slice() == bytes.as_slice());
-    assert!(rt; matches!(&read(rt.alloc(), bytes, 3, 9, 4), Err(ReadFault::TooLong)));
-    for reads in [0, 1, 2] {
-        assert!(rt;
-            matches!(
-                &read(rt.alloc(), bytes, 3, reads, 9),
-                Err(ReadFault::Device)
-            )
-        );
+    for (reads, limit, answer) in [
+        (9, 5, (true, None)),
+        (9, 4, (false, Some(ReadFault::TooLong))),
+        (0, 9, (false, Some(ReadFault::Device))),
+        (1, 9, (false, Some(ReadFault::Device))),
+        (2, 9, (false, Some(ReadFault::Device))),
+    ] {
+        assert_eq!(rt; five_bytes(rt.alloc(), 3, reads, limit), answer);
     }
 }
 
@@ -289,85 +296,96 @@ pub(crate) const JOINED_REPLIES: &str = "1 counted\n2 counted\n3 replaced\n";
 
 pub(crate) const TWO_ELECTORS_OK: &str = "poll ok: 3 options, 2 electors\n";
 
+/// Whether a job writes this text, and how it ends.
+fn writes(alloc: Global, job: &Job<'_>, text: &str) -> (bool, Result<(), RunFault>) {
+    let (written, ended) = run_job(alloc, Vec::new(alloc), job);
+    (written.as_slice() == text.as_bytes(), ended)
+}
+
+/// Jobs and what they write.
+const TEXTS: &[(Job<'static>, &str)] = &[
+    (
+        Job::Steps {
+            poll: TWO_ELECTORS,
+            ballots: ELEVEN_LINES,
+        },
+        ELEVEN_REPLIES,
+    ),
+    (
+        Job::Steps {
+            poll: THREE_IN_TIME,
+            ballots: ELEVEN_LINES,
+        },
+        "1 bad shape\n2 bad shape\n3 bad rank count\n4 late\n5 late\n6 late\n7 late\n8 late\n9 late\n10 late\n11 late\n",
+    ),
+    (Job::Joined(JOINED), JOINED_REPLIES),
+    (
+        Job::Joined(JOINED_TWO_IN_TIME),
+        "1 counted\n2 counted\n3 late\n",
+    ),
+    (Job::Joined(TWO_ELECTORS), ""),
+    (Job::Check(TWO_ELECTORS), TWO_ELECTORS_OK),
+];
+
 #[test]
 fn runs_write_their_texts(rt: HostRuntime) {
-    for (job, text) in [
-        (
-            Job::Steps {
-                poll: TWO_ELECTORS,
-                ballots: ELEVEN_LINES,
-            },
-            ELEVEN_REPLIES,
-        ),
-        (
-            Job::Steps {
-                poll: THREE_IN_TIME,
-                ballots: ELEVEN_LINES,
-            },
-            "1 bad shape\n2 bad shape\n3 bad rank count\n4 late\n5 late\n6 late\n7 late\n8 late\n9 late\n10 late\n11 late\n",
-        ),
-        (Job::Joined(JOINED), JOINED_REPLIES),
-        (
-            Job::Joined(JOINED_TWO_IN_TIME),
-            "1 counted\n2 counted\n3 late\n",
-        ),
-        (Job::Joined(TWO_ELECTORS), ""),
-        (Job::Check(TWO_ELECTORS), TWO_ELECTORS_OK),
-    ] {
-        let (written, ended) = run_job(rt.alloc(), Vec::new(rt.alloc()), &job);
-        assert_eq!(rt; ended, Ok(()));
-        assert!(rt; written.as_slice() == text.as_bytes());
+    for (job, text) in TEXTS {
+        assert_eq!(rt; writes(rt.alloc(), job, text), (true, Ok(())));
     }
 }
 
 #[test]
-fn a_refused_run_writes_nothing(rt: HostRuntime) -> Result<(), Fail> {
-    let many = String::from_utf8(vec![in rt.alloc(); b'\n'; 100_001]?)
-        .ok()
-        .ok_or("text")?;
+fn a_refused_run_writes_nothing(rt: HostRuntime) {
     for (job, fault) in [
-        (Job::Check("title ="), RunFault::Poll(PollFault::Syntax)),
+        (Job::Check("title ="), PollFault::Syntax),
         (
             Job::Joined("%%\nann 1,2,3\n"),
-            RunFault::Poll(PollFault::Key(PollKey::Title)),
-        ),
-        (
-            Job::Steps {
-                poll: TWO_ELECTORS,
-                ballots: many.as_str(),
-            },
-            RunFault::Lines(LinesFault::TooMany),
+            PollFault::Key(PollKey::Title),
         ),
     ] {
-        let (written, ended) = run_job(rt.alloc(), Vec::new(rt.alloc()), &job);
-        assert_eq!(rt; ended, Err(fault));
-        assert!(rt; written.is_empty());
+        let found = writes(rt.alloc(), &job, "");
+        assert_eq!(rt; found, (true, Err(RunFault::Poll(fault))));
     }
+}
+
+#[test]
+fn too_many_lines_are_refused(rt: HostRuntime) -> Result<(), Fail> {
+    let many = "\n".repeat(rt.alloc(), 100_001)?;
+    let job = Job::Steps {
+        poll: TWO_ELECTORS,
+        ballots: many.as_str(),
+    };
+    let found = writes(rt.alloc(), &job, "");
+    let fault = RunFault::Lines(LinesFault::TooMany);
+    assert_eq!(rt; found, (true, Err(fault)));
     Ok(())
 }
 
+/// How runs end, and their exit statuses.
+const STATUSES: &[(Result<Ended, RunFault>, u8)] = &[
+    (Ok(Ended::Decided(1)), 0),
+    (Ok(Ended::Tie), 1),
+    (Ok(Ended::CastingOutside(4)), 8),
+    (Err(RunFault::Poll(PollFault::Title)), 3),
+    (Err(RunFault::Poll(PollFault::Memory)), 5),
+    (Err(RunFault::NoSuchOption), 8),
+    (Err(RunFault::Lines(LinesFault::TooMany)), 4),
+    (Err(RunFault::Lines(LinesFault::Memory)), 5),
+    (Err(RunFault::Vote(VoteFault::Thread)), 5),
+    (Err(RunFault::Vote(VoteFault::Desk(DeskFault::Memory))), 5),
+    (Err(RunFault::Vote(VoteFault::Gate(1))), 6),
+    (
+        Err(RunFault::Vote(VoteFault::Audit(AuditFault::CountDiffers))),
+        6,
+    ),
+    (Err(RunFault::Memory), 5),
+    (Err(RunFault::Output), 7),
+];
+
 #[test]
 fn statuses_of_runs(rt: HostRuntime) {
-    for (outcome, number) in [
-        (Ok(Ended::Decided(1)), 0),
-        (Ok(Ended::Tie), 1),
-        (Ok(Ended::CastingOutside(4)), 8),
-        (Err(RunFault::Poll(PollFault::Title)), 3),
-        (Err(RunFault::Poll(PollFault::Memory)), 5),
-        (Err(RunFault::NoSuchOption), 8),
-        (Err(RunFault::Lines(LinesFault::TooMany)), 4),
-        (Err(RunFault::Lines(LinesFault::Memory)), 5),
-        (Err(RunFault::Vote(VoteFault::Thread)), 5),
-        (Err(RunFault::Vote(VoteFault::Desk(DeskFault::Memory))), 5),
-        (Err(RunFault::Vote(VoteFault::Gate(1))), 6),
-        (
-            Err(RunFault::Vote(VoteFault::Audit(AuditFault::CountDiffers))),
-            6,
-        ),
-        (Err(RunFault::Memory), 5),
-        (Err(RunFault::Output), 7),
-    ] {
-        assert_eq!(rt; status(&outcome), number);
+    for (outcome, number) in STATUSES {
+        assert_eq!(rt; status(outcome), *number);
     }
 }
 
@@ -376,62 +394,65 @@ fn reads_as(alloc: Global, fault: RunFault, words: &str) -> Result<bool, AllocEr
     Ok(text.as_str() == words)
 }
 
+/// Faults, and the words of their lines.
+const FAULT_LINES: &[(RunFault, &str)] = &[
+    (
+        RunFault::Poll(PollFault::Key(PollKey::DefaultOption)),
+        "poll refused: key default",
+    ),
+    (
+        RunFault::Poll(PollFault::OptionName(3)),
+        "poll refused: name of option 3",
+    ),
+    (
+        RunFault::Poll(PollFault::Key(PollKey::LastEnvelope)),
+        "poll refused: key last_envelope",
+    ),
+    (
+        RunFault::Poll(PollFault::LastEnvelope),
+        "poll refused: last envelope",
+    ),
+    (
+        RunFault::Poll(PollFault::Key(PollKey::Wording)),
+        "poll refused: key wording",
+    ),
+    (RunFault::Poll(PollFault::Wording), "poll refused: wording"),
+    (RunFault::Poll(PollFault::Memory), "out of memory"),
+    (
+        RunFault::Lines(LinesFault::TooMany),
+        "ballots refused: too many lines",
+    ),
+    (RunFault::Lines(LinesFault::Memory), "out of memory"),
+    (RunFault::NoSuchOption, "casting option is not in the poll"),
+    (RunFault::Vote(VoteFault::Memory), "out of memory"),
+    (
+        RunFault::Vote(VoteFault::Thread),
+        "a desk could not be started",
+    ),
+    (
+        RunFault::Vote(VoteFault::Gate(2)),
+        "desk 2 stopped at its gate",
+    ),
+    (
+        RunFault::Vote(VoteFault::Enter(3, EnterFault::StampUsed)),
+        "desk 3 was refused by the box",
+    ),
+    (
+        RunFault::Vote(VoteFault::Desk(DeskFault::MissingDesk)),
+        "the desks could not be gathered",
+    ),
+    (
+        RunFault::Vote(VoteFault::Audit(AuditFault::StepDiffers(1))),
+        "audit failed",
+    ),
+    (RunFault::Memory, "out of memory"),
+    (RunFault::Output, "output failed"),
+];
+
 #[test]
 fn fault_lines(rt: HostRuntime) -> Result<(), Fail> {
-    for (fault, words) in [
-        (
-            RunFault::Poll(PollFault::Key(PollKey::DefaultOption)),
-            "poll refused: key default",
-        ),
-        (
-            RunFault::Poll(PollFault::OptionName(3)),
-            "poll refused: name of option 3",
-        ),
-        (
-            RunFault::Poll(PollFault::Key(PollKey::LastEnvelope)),
-            "poll refused: key last_envelope",
-        ),
-        (
-            RunFault::Poll(PollFault::LastEnvelope),
-            "poll refused: last envelope",
-        ),
-        (
-            RunFault::Poll(PollFault::Key(PollKey::Wording)),
-            "poll refused: key wording",
-        ),
-        (RunFault::Poll(PollFault::Wording), "poll refused: wording"),
-        (RunFault::Poll(PollFault::Memory), "out of memory"),
-        (
-            RunFault::Lines(LinesFault::TooMany),
-            "ballots refused: too many lines",
-        ),
-        (RunFault::Lines(LinesFault::Memory), "out of memory"),
-        (RunFault::NoSuchOption, "casting option is not in the poll"),
-        (RunFault::Vote(VoteFault::Memory), "out of memory"),
-        (
-            RunFault::Vote(VoteFault::Thread),
-            "a desk could not be started",
-        ),
-        (
-            RunFault::Vote(VoteFault::Gate(2)),
-            "desk 2 stopped at its gate",
-        ),
-        (
-            RunFault::Vote(VoteFault::Enter(3, EnterFault::StampUsed)),
-            "desk 3 was refused by the box",
-        ),
-        (
-            RunFault::Vote(VoteFault::Desk(DeskFault::MissingDesk)),
-            "the desks could not be gathered",
-        ),
-        (
-            RunFault::Vote(VoteFault::Audit(AuditFault::StepDiffers(1))),
-            "audit failed",
-        ),
-        (RunFault::Memory, "out of memory"),
-        (RunFault::Output, "output failed"),
-    ] {
-        assert!(rt; reads_as(rt.alloc(), fault, words)?);
+    for (fault, words) in FAULT_LINES {
+        assert!(rt; reads_as(rt.alloc(), *fault, words)?, "{words}");
     }
     Ok(())
 }
