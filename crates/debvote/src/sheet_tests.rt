@@ -3,6 +3,7 @@
 ghost use Rattle.std.specs.Prelude.{◌≤◌, IfSome};
 ghost use Rattle.vote_poll.specs.Options.{IsOption};
 ghost use Rattle.vote_poll.specs.PollContent.{option_count};
+ghost use Rattle.vote_desks.specs.Audit.{IsAudited};
 
 use crate::sheet::{sheet, sheet_and_decision};
 use std::alloc::{AllocError, Global};
@@ -11,7 +12,7 @@ use std::sync::Wait;
 use std::test::Fail;
 use std::thread::Threads;
 use vote_count::Decision;
-use vote_desks::{NoGate, take_votes};
+use vote_desks::{Audited, NoGate, take_votes};
 use vote_poll::{Lines, Poll};
 use vote_steps::MAX_DESKS;
 
@@ -66,6 +67,25 @@ fn option_of(poll: &Poll, name: &str) -> Option<u8>
     poll.option_of(name.as_bytes())
 }
 
+/// The sheet and the decision of an audited box, which both calls answer alike.
+fn the_one_sheet(
+    alloc: Global,
+    poll: &Poll,
+    lines: &Lines<'_>,
+    audited: &Audited,
+    casting: Option<u8>,
+) -> Result<(String, Decision), Fail>
+    requires audited { IsAudited poll.now lines.now audited.now.ballot_box audited.now.sheets }
+    requires casting { IfSome casting (IsOption (option_count poll.now)) }
+{
+    let text = sheet(alloc, poll, lines, audited, casting)?;
+    let (same, decision) = sheet_and_decision(alloc, poll, lines, audited, casting)?;
+    if same.as_str() != text.as_str() {
+        return Err(Fail::from("two sheets"));
+    }
+    Ok((text, decision))
+}
+
 fn printed<R: Threads + Wait + Sync>(
     rt: &R,
     alloc: Global,
@@ -83,12 +103,7 @@ fn printed<R: Threads + Wait + Sync>(
         Some(name) => option_of(&poll, name),
         None => None,
     };
-    let text = sheet(alloc, &poll, &lines, &audited, casting)?;
-    let (same, decision) = sheet_and_decision(alloc, &poll, &lines, &audited, casting)?;
-    if same.as_str() != text.as_str() {
-        return Err(Fail::from("two sheets"));
-    }
-    Ok((text, decision))
+    the_one_sheet(alloc, &poll, &lines, &audited, casting)
 }
 
 /// The ballots of a cycle among three options.

@@ -375,29 +375,31 @@ fn audits_find_what_differs(rt: HostRuntime) -> Result<(), Fail> {
     Ok(())
 }
 
-/// Compares a sealed box with at most one sheet.
+/// Compares a sealed box of two lines with at most one sheet.
 fn compared(
     rt: &impl Abort,
-    poll: &Poll,
-    lines: &Lines<'_>,
+    alloc: Global,
     sealed: &Sealed,
     sheets: &[Vec<Slip>],
-) -> Result<(), AuditFault> {
-    assert!(rt; !sealed.ballot_box().is_open() && sheets.len() <= 1);
-    compare(poll, lines, sealed.ballot_box(), sheets)
+) -> Result<Result<(), AuditFault>, Fail> {
+    let poll = Poll::from_text(alloc, TWO_ELECTORS.as_bytes())?;
+    let lines = Lines::split(alloc, TWO_LINES.as_bytes())?;
+    let ballot_box = sealed.ballot_box();
+    assert!(rt; !ballot_box.is_open() && sheets.len() <= 1);
+    Ok(compare(&poll, &lines, ballot_box, sheets))
 }
 
 /// The sheet of the first desk with another reply on its first slip, or none where it has no slip.
-fn with_another_reply(alloc: Global, sealed: &Sealed) -> Result<Option<Vec<Slip>>, AllocError> {
-    if sealed.desks() < 1 {
-        return Ok(None);
+fn with_another_reply(alloc: Global, sealed: &Sealed) -> Result<Vec<Vec<Slip>>, AllocError> {
+    let mut sheets = Vec::new(alloc);
+    if sealed.desks() >= 1 {
+        let mut sheet = sealed.sheet_of(1).to_vec(alloc)?;
+        if let Some(slip) = sheet.first_mut() {
+            slip.reply = Reply::BadLine(LineFault::Shape);
+            sheets.push(sheet)?;
+        }
     }
-    let mut sheet = sealed.sheet_of(1).to_vec(alloc)?;
-    match sheet.first_mut() {
-        Some(slip) => slip.reply = Reply::BadLine(LineFault::Shape),
-        None => return Ok(None),
-    }
-    Ok(Some(sheet))
+    Ok(sheets)
 }
 
 #[test]
@@ -406,14 +408,9 @@ fn a_changed_sheet_differs(rt: HostRuntime) -> Result<(), Fail> {
     let (ann, bob) = ann_and_bob(alloc)?;
     let both = [counted(1, &ann), counted(2, &bob)];
     let sealed = acted_by(&rt, alloc, TWO_ELECTORS, 2, 1, &both, Back::InOrder)?;
-    let poll = Poll::from_text(alloc, TWO_ELECTORS.as_bytes())?;
-    let lines = Lines::split(alloc, TWO_LINES.as_bytes())?;
-    let mut sheets = Vec::new(alloc);
-    let without = compared(&rt, &poll, &lines, &sealed, &sheets);
-    if let Some(sheet) = with_another_reply(alloc, &sealed)? {
-        sheets.push(sheet)?;
-    }
-    let changed = compared(&rt, &poll, &lines, &sealed, &sheets);
+    let without = compared(&rt, alloc, &sealed, &[])?;
+    let sheets = with_another_reply(alloc, &sealed)?;
+    let changed = compared(&rt, alloc, &sealed, &sheets)?;
     let other = Err(AuditFault::SlipDiffers(1, 1));
     assert_eq!(rt; (without, sheets.len(), changed), (other, 1, other));
     Ok(())

@@ -1,4 +1,6 @@
 //! Votes taken by workers: any number of desks, gates that wait or do not let pass, and what a want of memory or of a thread leaves.
+ghost use Rattle.std.specs.Prelude.{◌≤◌};
+
 use crate::tests::{
     HUNDRED, TEN_ELECTORS, TWO_ELECTORS, assert_hundred, hundred_lines, lines_in, poll_in,
 };
@@ -12,7 +14,7 @@ use std::test::Fail;
 use std::thread;
 use std::thread::Threads;
 use vote_poll::{Lines, Poll};
-use vote_steps::{BallotBox, Step, Totals};
+use vote_steps::{BallotBox, MAX_DESKS, Step, Totals};
 
 const NINE_ELECTORS: &str =
     "title = \"Nine\"\noptions = [\"A\", \"B\", \"C\"]\nratios = [1, 1, 1]\ndefault = \"None\"\nquorum = 3\nroll = [\"v0\", \"v1\", \"v2\", \"v3\", \"v4\", \"v5\", \"v6\", \"v7\", \"v8\"]\n";
@@ -45,11 +47,28 @@ fn assert_nine(rt: &impl Abort, ballot_box: &BallotBox) {
     );
 }
 
-#[test]
-fn any_number_of_desks_counts_alike(rt: HostRuntime) -> Result<(), Fail> {
-    let alloc = rt.alloc();
+/// Takes the votes of a hundred lines at some desks, by a poll with this key, and asserts what is counted.
+fn assert_counts<R: Threads + Wait + Abort + Sync>(
+    rt: &R,
+    alloc: Global,
+    desks: u8,
+    key: &str,
+    counts: (u64, u64, u64),
+) -> Result<(), Fail>
+    requires { (1 ≤ desks) × (desks ≤ MAX_DESKS) }
+{
+    let content = format!(in alloc; "{TEN_ELECTORS}{key}")?;
+    let poll = Poll::from_text(alloc, content.as_bytes())?;
     let text = hundred_lines(alloc)?;
     let lines = Lines::split(alloc, text.as_bytes())?;
+    let audited = take_votes(rt, alloc, &poll, &lines, desks, &NoGate)?;
+    assert_hundred(rt, audited.ballot_box(), counts);
+    assert_eq!(rt; audited.desks(), desks);
+    Ok(())
+}
+
+#[test]
+fn any_number_of_desks_counts_alike(rt: HostRuntime) -> Result<(), Fail> {
     // A key of the poll, and what is counted with it.
     let cases = [
         ("", HUNDRED),
@@ -57,13 +76,8 @@ fn any_number_of_desks_counts_alike(rt: HostRuntime) -> Result<(), Fail> {
         ("last_envelope = 0\n", (0, 100, 0)),
     ];
     for (key, counts) in cases {
-        let content = format!(in alloc; "{TEN_ELECTORS}{key}")?;
-        let poll = Poll::from_text(alloc, content.as_bytes())?;
         for desks in [1, 2, 8] {
-            assert!(rt; 1 <= desks && desks <= 8);
-            let audited = take_votes(&rt, alloc, &poll, &lines, desks, &NoGate)?;
-            assert_hundred(&rt, audited.ballot_box(), counts);
-            assert_eq!(rt; audited.desks(), desks);
+            assert_counts(&rt, rt.alloc(), desks, key, counts)?;
         }
     }
     Ok(())
@@ -169,26 +183,46 @@ impl Gate for Turnstile {
     }
 }
 
-#[test]
-fn envelopes_wait_for_one_another(rt: HostRuntime) -> Result<(), Fail> {
-    let alloc = rt.alloc();
+/// Whether the first steps are the casts of these stamps.
+fn are_cast(audited: &Audited, stamps: [u32; 2]) -> bool {
+    match audited.ballot_box().steps() {
+        [
+            Step::Cast { stamp: first, .. },
+            Step::Cast { stamp: second, .. },
+            ..
+        ] => *first == stamps[0] && *second == stamps[1],
+        _ => false,
+    }
+}
+
+/// Takes two lines at two desks by such a gate, and asserts in which order they are cast.
+fn assert_waits<R: Threads + Wait + Abort + Sync>(
+    rt: &R,
+    alloc: Global,
+    passes: Passes,
+    order: Option<[u32; 2]>,
+) -> Result<(), Fail> {
     let poll = Poll::from_text(alloc, TWO_ELECTORS.as_bytes())?;
     let lines = Lines::split(alloc, b"ann 1,2,3\nbob 2,1,3\n")?;
+    let gate = Turnstile::new(alloc, passes, 2)?;
+    let audited = take_votes(rt, alloc, &poll, &lines, 2, &gate)?;
+    gate.assert_told(rt, &audited, 2);
+    if let Some(order) = order {
+        let began = (gate.first.get(), are_cast(&audited, order));
+        assert_eq!(rt; began, (Some(&1), true));
+    }
+    Ok(())
+}
+
+#[test]
+fn envelopes_wait_for_one_another(rt: HostRuntime) -> Result<(), Fail> {
     let cases = [
         (Passes::Together, None),
         (Passes::Behind(1, 1), Some([2, 1])),
         (Passes::Behind(2, 1), Some([1, 2])),
     ];
     for (passes, order) in cases {
-        let gate = Turnstile::new(alloc, passes, 2)?;
-        let audited = take_votes(&rt, alloc, &poll, &lines, 2, &gate)?;
-        gate.assert_told(&rt, &audited, 2);
-        if let Some(order) = order {
-            assert_eq!(rt; gate.first.get(), Some(&1));
-            for (step, wanted) in audited.ballot_box().steps().iter().zip(order) {
-                assert!(rt; matches!(step, Step::Cast { stamp, .. } if *stamp == wanted));
-            }
-        }
+        assert_waits(&rt, rt.alloc(), passes, order)?;
     }
     Ok(())
 }
@@ -206,76 +240,73 @@ fn one_desk_waits_while_the_other_serves(rt: HostRuntime) -> Result<(), Fail> {
     Ok(())
 }
 
-/// Takes votes by a gate, and asserts the fault, for how many envelopes the gate was asked, and of how many casts it was told.
-fn assert_stops<R: Threads + Wait + Abort + Sync>(
+/// Takes votes by a gate, and answers the fault, for how many envelopes the gate was asked, and of how many casts it was told.
+fn stopped<R: Threads + Wait + Sync>(
     rt: &R,
     alloc: Global,
-    poll: &Poll,
-    lines: &Lines<'_>,
+    poll: &str,
+    lines: &str,
     desks: u8,
     passes: Passes,
-    fault: Option<VoteFault>,
-    asked: u64,
-    told: u64,
-) -> Result<(), AllocError> {
-    assert!(rt; 1 <= desks && desks <= 8);
+) -> Result<(Option<VoteFault>, u64, u64), Fail>
+    requires { (1 ≤ desks) × (desks ≤ MAX_DESKS) }
+{
+    let poll = Poll::from_text(alloc, poll.as_bytes())?;
+    let lines = Lines::split(alloc, lines.as_bytes())?;
     let gate = Turnstile::new(alloc, passes, 100)?;
-    let taken = take_votes(rt, alloc, poll, lines, desks, &gate);
-    assert_eq!(rt; taken.err(), fault, "at {desks} desks");
-    assert_eq!(rt; gate.asked.load(SeqCst), asked, "at {desks} desks");
-    assert_eq!(rt; gate.cast.load(SeqCst), told, "at {desks} desks");
-    Ok(())
+    let fault = take_votes(rt, alloc, &poll, &lines, desks, &gate).err();
+    Ok((fault, gate.asked.load(SeqCst), gate.cast.load(SeqCst)))
 }
 
 #[test]
 fn the_least_desk_that_stopped_is_named(rt: HostRuntime) -> Result<(), Fail> {
     let alloc = rt.alloc();
-    let nine = Poll::from_text(alloc, NINE_ELECTORS.as_bytes())?;
-    let nine_lines = Lines::split(alloc, NINE_LINES.as_bytes())?;
-    let ten = Poll::from_text(alloc, TEN_ELECTORS.as_bytes())?;
-    let text = hundred_lines(alloc)?;
-    let hundred = Lines::split(alloc, text.as_bytes())?;
-    let none = Lines::split(alloc, b"")?;
+    let hundred = hundred_lines(alloc)?;
     let first = Some(VoteFault::Gate(1));
     let but_5 = Passes::AllBut(5);
-    assert_stops(&rt, alloc, &nine, &nine_lines, 1, but_5, first, 5, 4)?;
-    assert_stops(&rt, alloc, &ten, &hundred, 8, Passes::Never, first, 8, 0)?;
-    assert_stops(&rt, alloc, &ten, &none, 8, Passes::Never, None, 0, 0)?;
+    let found = stopped(&rt, alloc, NINE_ELECTORS, NINE_LINES, 1, but_5)?;
+    assert_eq!(rt; found, (first, 5, 4));
+    let found = stopped(&rt, alloc, TEN_ELECTORS, &hundred, 8, Passes::Never)?;
+    assert_eq!(rt; found, (first, 8, 0));
+    let found = stopped(&rt, alloc, TEN_ELECTORS, "", 8, Passes::Never)?;
+    assert_eq!(rt; found, (None, 0, 0));
     Ok(())
+}
+
+/// The fault of taking the nine lines at some desks, or none where what was counted is right.
+fn fault_of_nine<R: Threads + Wait + Abort + Sync>(
+    rt: &R,
+    alloc: Global,
+    desks: u8,
+) -> Result<Option<VoteFault>, &'static str>
+    requires { (1 ≤ desks) × (desks ≤ MAX_DESKS) }
+{
+    let poll = poll_in(rt, alloc, NINE_ELECTORS)?;
+    let lines = lines_in(rt, alloc, NINE_LINES)?;
+    match take_votes(rt, alloc, &poll, &lines, desks, &NoGate) {
+        Ok(audited) => {
+            assert_eq!(rt; audited.desks(), desks);
+            assert_nine(rt, audited.ballot_box());
+            Ok(None)
+        }
+        Err(fault) => Ok(Some(fault)),
+    }
 }
 
 #[test]
 fn memory_of_take_votes(rt: HostRuntime) -> Result<(), Fail> {
-    let alloc = rt.alloc();
-    let poll = poll_in(&rt, alloc, NINE_ELECTORS)?;
-    let lines = lines_in(&rt, alloc, NINE_LINES)?;
-    match take_votes(&rt, alloc, &poll, &lines, 2, &NoGate) {
-        Ok(audited) => {
-            assert_eq!(rt; audited.desks(), 2);
-            assert_nine(&rt, audited.ballot_box());
-            Ok(())
-        }
-        Err(fault) => {
-            assert!(rt; matches!(fault, VoteFault::Memory | VoteFault::Thread));
-            Err("refused".into())
-        }
-    }
+    let Some(fault) = fault_of_nine(&rt, rt.alloc(), 2)? else {
+        return Ok(());
+    };
+    assert!(rt; matches!(fault, VoteFault::Memory | VoteFault::Thread));
+    Err("refused".into())
 }
 
 #[test]
 fn threads_of_take_votes(rt: HostRuntime) -> Result<(), Fail> {
-    let alloc = rt.alloc();
-    let poll = poll_in(&rt, alloc, NINE_ELECTORS)?;
-    let lines = lines_in(&rt, alloc, NINE_LINES)?;
-    match take_votes(&rt, alloc, &poll, &lines, 3, &NoGate) {
-        Ok(audited) => {
-            assert_eq!(rt; audited.desks(), 3);
-            assert_nine(&rt, audited.ballot_box());
-            Ok(())
-        }
-        Err(fault) => {
-            assert_eq!(rt; fault, VoteFault::Thread);
-            Err("refused".into())
-        }
-    }
+    let Some(fault) = fault_of_nine(&rt, rt.alloc(), 3)? else {
+        return Ok(());
+    };
+    assert_eq!(rt; fault, VoteFault::Thread);
+    Err("refused".into())
 }
