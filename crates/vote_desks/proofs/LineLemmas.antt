@@ -1,28 +1,25 @@
 -- What an audited box counts is what the lines say.
-use Rattle.std.proofs.Common.{◌≡◌, ℕ, ◌+◌, ◌-◌, ◌<◌, ◌≤◌, zero, suc, cond, eqb, Bool, true, false, not, ◌&&◌, ◌||◌, List, [], ◌∷◌, ◌++◌, Option, Some, None, length, take, map, refl, sym, ap, ◌∙◌, subst, ⊎_elim, arith, append_assoc}
+use Rattle.std.proofs.Common.{◌≡◌, ℕ, ◌+◌, ◌-◌, ◌<◌, ◌≤◌, zero, suc, cond, eqb, Bool, true, false, not, ◌||◌, List, [], ◌∷◌, ◌++◌, Option, Some, None, length, take, map, refl, sym, ap, ◌∙◌, ⊎_elim, arith, append_assoc}
 use Rattle.std.specs.Prelude.{slice_get, is_some, option_and_then}
-use Rattle.std.specs.List.{All, AllByRecursion, count_by, range_with_len}
+use Rattle.std.specs.List.{AllByRecursion, count_by, range_with_len}
 use Rattle.std.proofs.lemmas.Bool.{cases_eq, cases_lt, eq-eqb, ne_eqb, lt-ltb, le-ltb}
 use Rattle.std.proofs.lemmas.List.{take_all}
 use Rattle.std.proofs.lemmas.List.Elements.{recursion_from_All}
 use Rattle.std.proofs.lemmas.List.Sums.{sum_by-cons, sum_by_push}
 use Rattle.std.proofs.lemmas.Option.{slice_get_within}
-use Rattle.vote_poll.specs.PollContent.{PollContent}
 use Rattle.vote_poll.specs.declared.Reading.{Reading}
 use Rattle.vote_poll.specs.declared.Reading.TheVariants.{Ballot, Bad}
 use Rattle.vote_poll.specs.Readings.{is_ballot as is_ballot_reading, readings}
 use Rattle.vote_count.specs.Ballots.{entry_prefers}
-use Rattle.vote_desks.specs.declared.slip.Slip.{Slip}
 use Rattle.vote_steps.specs.declared.Received.{Received}
 use Rattle.vote_steps.specs.declared.Step.{Step}
 use Rattle.vote_steps.specs.declared.Step.TheVariants.{Cast, Close}
-use Rattle.vote_steps.specs.History.{is_cast, is_ballot, is_late, is_used, is_for, before_close, standing, standing_ranks, standing_votes, valid, refused, voters}
+use Rattle.vote_steps.specs.History.{is_ballot, is_late, is_used, is_for, before_close, standing, standing_ranks, valid}
 use Rattle.vote_steps.specs.Boxes.{BoxState, IsLegal}
 use Rattle.vote_steps.specs.Order.{HasOwnReading, last_ballot}
 use Rattle.vote_steps.proofs.HistoryLemmas.{valid-refused, is_used-cast, is_used-close}
 use Rattle.vote_steps.proofs.LegalLemmas.{each_stamp_is_used_lem}
-use Rattle.vote_desks.specs.Audit.{IsAudited}
-use Rattle.vote_desks.specs.Standing.{LinesAreCounted, CountsLines}
+use Rattle.vote_desks.specs.Standing.{LinesAreCounted}
 use Rattle.vote_desks.proofs.SlipLemmas.{take-suc-get}
 use Rattle.vote_desks.proofs.StandingLemmas.{as_long, last_lines_stand_lem}
 

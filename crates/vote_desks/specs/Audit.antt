@@ -1,5 +1,5 @@
 -- What an audit finds.
-use Rattle.std.specs.Prelude.{◌≡◌, ◌≢◌, ℕ, ◌+◌, ◌<◌, ◌≤◌, List, [], ◌∷◌, ◌++◌, length, map, take, slice_get, count_by, All}
+use Rattle.std.specs.Prelude.{◌≡◌, ◌≢◌, ℕ, ◌+◌, ◌<◌, ◌≤◌, List, [], ◌∷◌, ◌++◌, length, take, slice_get, count_by, All}
 use Rattle.vote_poll.specs.PollContent.{PollContent, option_count, elector_count, last_of}
 use Rattle.vote_poll.specs.Readings.{readings}
 use Rattle.vote_desks.specs.declared.slip.Slip.{Slip}

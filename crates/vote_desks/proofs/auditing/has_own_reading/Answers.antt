@@ -1,4 +1,4 @@
-use Rattle.std.proofs.Common.{length, ◌≡◌, ◌↔◌, ◌-◌, Some, subst, sym, ap, ◌∙◌, arith, IsTrue}
+use Rattle.std.proofs.Common.{length, ◌≡◌, ◌↔◌, ◌-◌, Some, subst, sym, ap, ◌∙◌, IsTrue}
 use Rattle.std.specs.Prelude.{slice_get, option_map}
 use Rattle.std.proofs.lemmas.Option.{slice_get-map}
 use Rattle.vote_poll.specs.Readings.{reading, readings}

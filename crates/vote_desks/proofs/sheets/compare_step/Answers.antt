@@ -1,4 +1,4 @@
-use Rattle.std.proofs.Common.{◌≡◌, ℕ, List, ◌∷◌, ◌++◌, ◌-◌, [], map, vec_items, set, subst, sym, ap, arith}
+use Rattle.std.proofs.Common.{◌∷◌, ◌++◌, ◌-◌, [], map, vec_items, set, subst, sym, ap, arith}
 use Rattle.vote_steps.specs.declared.Step.{Step}
 use Rattle.vote_desks.specs.Comparing.{AgreeWith, HasDesk, compared_at}
 use Rattle.vote_desks.proofs.SlipLemmas.{close_compared, cast_compared}

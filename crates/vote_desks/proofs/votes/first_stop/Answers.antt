@@ -1,4 +1,4 @@
-use Rattle.std.proofs.Common.{◌≡◌, Some, ap, ◌∙◌, subst, sym, arith}
+use Rattle.std.proofs.Common.{Some, ap, ◌∙◌, subst, sym, arith}
 use Rattle.vote_desks.specs.Faults.{CanStopVotes}
 use Rattle.vote_desks.specs.Stops.{fault_of}
 use Rattle.vote_desks.proofs.StopLemmas.{least_stop, can_stop}

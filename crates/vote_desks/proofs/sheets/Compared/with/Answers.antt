@@ -1,4 +1,3 @@
-use Rattle.std.proofs.Common.{rules}
 use Rattle.vote_desks.proofs.SlipLemmas.{still_parted, one_more_alike, parts_here}
 use Rattle.vote_desks.proofs.sheets.Compared.with.Goals as goal
 
