@@ -332,7 +332,7 @@ fn counted(stamp: u32, reading: &Reading) -> Deed {
     cast(0, stamp, reading, Ok(Reply::Counted))
 }
 
-const TWO_LINES: &str = "ann 1,2,3\nbob 2,1,3\n";
+pub(crate) const TWO_LINES: &str = "ann 1,2,3\nbob 2,1,3\n";
 
 /// Does the deeds at one desk of a box for a poll, with room for two slips, and audits it for another poll and its lines.
 fn audit_of(
@@ -489,21 +489,22 @@ fn slips_of_two(audited: &Audited) -> Option<(usize, usize)> {
     Some((audited.sheet_of(1).len(), audited.sheet_of(2).len()))
 }
 
-#[test]
-fn two_desks_in_threads(rt: HostRuntime) -> Result<(), Fail> {
-    let alloc = rt.alloc();
+/// What two desks in threads of their own do with a hundred lines, audited.
+fn audited_halves<R: Threads + Wait + Abort + Sync>(
+    rt: &R,
+    alloc: Global,
+) -> Result<Audited, Fail> {
     let poll = Poll::from_text(alloc, TEN_ELECTORS.as_bytes())?;
     let text = hundred_lines(alloc)?;
     let lines = Lines::split(alloc, text.as_bytes())?;
-    let sealed = halves::<Brand, Brand, _>(
-        &rt,
-        alloc,
-        &poll,
-        &lines,
-        Blank::new(2),
-        Blank::new(2),
-    )?;
-    let audited = audit(&poll, &lines, sealed)?;
+    let (valid, refused) = (Blank::new(2), Blank::new(2));
+    let sealed = halves::<Brand, Brand, R>(rt, alloc, &poll, &lines, valid, refused)?;
+    Ok(audit(&poll, &lines, sealed)?)
+}
+
+#[test]
+fn two_desks_in_threads(rt: HostRuntime) -> Result<(), Fail> {
+    let audited = audited_halves(&rt, rt.alloc())?;
     assert_hundred(&rt, audited.ballot_box(), HUNDRED);
     assert_eq!(rt; slips_of_two(&audited), Some((50, 50)));
     Ok(())

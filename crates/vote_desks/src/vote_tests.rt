@@ -2,7 +2,8 @@
 ghost use Rattle.std.specs.Prelude.{◌≤◌};
 
 use crate::tests::{
-    HUNDRED, TEN_ELECTORS, TWO_ELECTORS, assert_hundred, hundred_lines, lines_in, poll_in,
+    HUNDRED, TEN_ELECTORS, TWO_ELECTORS, TWO_LINES, assert_hundred, hundred_lines, lines_in,
+    poll_in,
 };
 use crate::{Audited, Gate, NoGate, Slip, VoteFault, take_votes};
 use std::alloc::{AllocError, Global};
@@ -47,6 +48,22 @@ fn assert_nine(rt: &impl Abort, ballot_box: &BallotBox) {
     );
 }
 
+/// Takes the votes of the lines of a text by the poll of a text.
+fn taken<G: Gate + Sync, R: Threads + Wait + Sync>(
+    rt: &R,
+    alloc: Global,
+    poll: &str,
+    lines: &str,
+    desks: u8,
+    gate: &G,
+) -> Result<Audited, Fail>
+    requires { (1 ≤ desks) × (desks ≤ MAX_DESKS) }
+{
+    let poll = Poll::from_text(alloc, poll.as_bytes())?;
+    let lines = Lines::split(alloc, lines.as_bytes())?;
+    Ok(take_votes(rt, alloc, &poll, &lines, desks, gate)?)
+}
+
 /// Takes the votes of a hundred lines at some desks, by a poll with this key, and asserts what is counted.
 fn assert_counts<R: Threads + Wait + Abort + Sync>(
     rt: &R,
@@ -57,11 +74,9 @@ fn assert_counts<R: Threads + Wait + Abort + Sync>(
 ) -> Result<(), Fail>
     requires { (1 ≤ desks) × (desks ≤ MAX_DESKS) }
 {
-    let content = format!(in alloc; "{TEN_ELECTORS}{key}")?;
-    let poll = Poll::from_text(alloc, content.as_bytes())?;
-    let text = hundred_lines(alloc)?;
-    let lines = Lines::split(alloc, text.as_bytes())?;
-    let audited = take_votes(rt, alloc, &poll, &lines, desks, &NoGate)?;
+    let poll = format!(in alloc; "{TEN_ELECTORS}{key}")?;
+    let lines = hundred_lines(alloc)?;
+    let audited = taken(rt, alloc, &poll, &lines, desks, &NoGate)?;
     assert_hundred(rt, audited.ballot_box(), counts);
     assert_eq!(rt; audited.desks(), desks);
     Ok(())
@@ -202,10 +217,8 @@ fn assert_waits<R: Threads + Wait + Abort + Sync>(
     passes: Passes,
     order: Option<[u32; 2]>,
 ) -> Result<(), Fail> {
-    let poll = Poll::from_text(alloc, TWO_ELECTORS.as_bytes())?;
-    let lines = Lines::split(alloc, b"ann 1,2,3\nbob 2,1,3\n")?;
     let gate = Turnstile::new(alloc, passes, 2)?;
-    let audited = take_votes(rt, alloc, &poll, &lines, 2, &gate)?;
+    let audited = taken(rt, alloc, TWO_ELECTORS, TWO_LINES, 2, &gate)?;
     gate.assert_told(rt, &audited, 2);
     if let Some(order) = order {
         let began = (gate.first.get(), are_cast(&audited, order));
@@ -230,11 +243,9 @@ fn envelopes_wait_for_one_another(rt: HostRuntime) -> Result<(), Fail> {
 #[test]
 fn one_desk_waits_while_the_other_serves(rt: HostRuntime) -> Result<(), Fail> {
     let alloc = rt.alloc();
-    let poll = Poll::from_text(alloc, TEN_ELECTORS.as_bytes())?;
-    let text = hundred_lines(alloc)?;
-    let lines = Lines::split(alloc, text.as_bytes())?;
+    let lines = hundred_lines(alloc)?;
     let gate = Turnstile::new(alloc, Passes::Behind(1, 99), 100)?;
-    let audited = take_votes(&rt, alloc, &poll, &lines, 2, &gate)?;
+    let audited = taken(&rt, alloc, TEN_ELECTORS, &lines, 2, &gate)?;
     gate.assert_told(&rt, &audited, 100);
     assert_hundred(&rt, audited.ballot_box(), HUNDRED);
     Ok(())

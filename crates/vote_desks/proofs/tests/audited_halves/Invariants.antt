@@ -1,4 +1,4 @@
-use Rattle.vote_desks.proofs.tests.two_desks_in_threads.Given as goal
+use Rattle.vote_desks.proofs.tests.audited_halves.Given as goal
 
 abbrev pub ghosts-halves-VL-Ledger : goal.ghosts-halves-VL-Ledger
 ghosts-halves-VL-Ledger g a = record { name = a.valid.name; parts = a.valid.parts }
