@@ -1,23 +1,24 @@
 //! The command `count`: the sheet of a poll file and a ballot file.
 
-ghost use Rattle.std.specs.Prelude.{◌≡◌, ◌<◌, ◌≤◌, ◌↔◌, true, Err, IfNone, IfSome, IsErrOf, OnOk, option_map};
+ghost use Rattle.std.specs.Prelude.{◌≡◌, ◌<◌, ◌≤◌, ◌↔◌, true, Err, IfErr, IfNone, IfOk, IfSome, IsErrOf, OnOk, option_map, string_bytes};
 ghost use Rattle.vote_poll.specs.Lines.{lines_of};
 ghost use Rattle.vote_poll.specs.Options.{IsOption};
 ghost use Rattle.vote_poll.specs.PollContent.{option_count};
 ghost use Rattle.vote_desks.specs.Faults.{CanStopVotes};
-ghost use Rattle.vote_desks.specs.declared.VoteFault.{VoteFault};
 ghost use Rattle.debvote.specs.Counting.{AnswersCasting, NamesNoOption, WritesCount, casting_option, ended_of};
 ghost use Rattle.debvote.specs.Runs.{AnswersLines, AnswersPoll};
+ghost use Rattle.debvote.specs.Sheet.{Sheet, sheet_text};
+ghost use Rattle.debvote.specs.SheetOf.{IsSheetOf};
 
 use crate::device::{DeviceFault, Sink};
 use crate::fault::{Ended, RunFault};
 use crate::output::write_text;
 use crate::sheet::sheet_and_decision;
-use std::alloc::Global;
+use std::alloc::{AllocError, Global};
 use std::sync::Wait;
 use std::thread::Threads;
 use vote_count::Decision;
-use vote_desks::{Gate, take_votes};
+use vote_desks::{Gate, VoteFault, take_votes};
 use vote_poll::{Lines, Poll};
 use vote_steps::MAX_DESKS;
 
@@ -45,6 +46,28 @@ fn ended_of(decision: Decision) -> Ended
         Decision::Winner(option) => Ended::Decided(option),
         Decision::Tie => Ended::Tie,
         Decision::CastingOutside(option) => Ended::CastingOutside(option),
+    }
+}
+
+/// The sheet of the votes that so many desks take, with the option of the casting vote, and what the sheet decides.
+fn sheet_of_votes<G: Gate + Sync, R: Threads + Wait + Sync>(
+    rt: &R,
+    alloc: Global,
+    poll: &Poll,
+    lines: &Lines<'_>,
+    desks: u8,
+    casting: Option<u8>,
+    gate: &G,
+) -> Result<(String, Decision), VoteFault>
+    requires desks { (1 ≤ desks) × (desks ≤ MAX_DESKS) }
+    requires casting { IfSome casting (IsOption (option_count poll.now)) }
+    ensures sheet { IfOk result (λ printed. (s : Sheet) × IsSheetOf poll.now lines.now casting s × (string_bytes printed.0 ≡ sheet_text s) × (printed.1 ≡ s.decision)) }
+    ensures votes { IfErr result CanStopVotes }
+{
+    let audited = take_votes(rt, alloc, poll, lines, desks, gate)?;
+    match sheet_and_decision(alloc, poll, lines, &audited, casting) {
+        Ok(printed) => Ok(printed),
+        Err(AllocError) => Err(VoteFault::Memory),
     }
 }
 
@@ -80,11 +103,10 @@ pub fn run<G: Gate + Sync, W: Sink, R: Threads + Wait + Sync>(
         Ok(lines) => lines,
         Err(fault) => return Err(RunFault::Lines(fault)),
     };
-    let audited = match take_votes(rt, alloc, &poll, &lines, desks, gate) {
-        Ok(audited) => audited,
+    let (text, decision) = match sheet_of_votes(rt, alloc, &poll, &lines, desks, casting, gate) {
+        Ok(printed) => printed,
         Err(fault) => return Err(RunFault::Vote(fault)),
     };
-    let (text, decision) = sheet_and_decision(alloc, &poll, &lines, &audited, casting)?;
     let ended = ended_of(decision);
     match write_text(sink, text.as_bytes()) {
         Ok(()) => Ok(ended),
