@@ -7,7 +7,7 @@ use Rattle.vote_poll.specs.declared.Reading.{Reading}
 use Rattle.vote_count.specs.Ballots.{entry_prefers}
 use Rattle.vote_steps.specs.Order.{last_ballots}
 
--- what it reads in the lines that are not late
+-- what the poll reads in the lines that are not late
 abbrev pub readings_in_time : PollContent → List (List ℕ) → List Reading
 readings_in_time poll lines = take (last_of poll) (readings poll lines)
 
