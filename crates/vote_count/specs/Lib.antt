@@ -8,5 +8,4 @@ pub mod Laws
 -- what types stand for, and what private functions say of their parts
 pub mod Bits
 pub mod Found
-pub mod Places
 pub mod Weakest

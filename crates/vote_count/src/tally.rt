@@ -1,9 +1,8 @@
 //! The matrix of votes.
-ghost use Rattle.std.specs.Prelude.{◌≡◌, ℕ, ◌+◌, ◌-◌, ◌^◌, ◌<◌, ◌≤◌, length, slice_index_or, count_by, All, None, nat_lt, IsSome, IfSome, IsTrue, if◌then◌else◌};
+ghost use Rattle.std.specs.Prelude.{◌≡◌, ℕ, ◌+◌, ◌-◌, ◌^◌, ◌<◌, ◌≤◌, length, slice_index_or, count_by, All, nat_lt, IsSome, IfSome, IsTrue, if◌then◌else◌};
 ghost use Rattle.vote_count.specs.Ballots.{entry_prefers, IsBallotOf};
 ghost use Rattle.vote_poll.specs.Ranks.{prefers};
 ghost use Rattle.vote_poll.specs.Options.{IsOption};
-ghost use Rattle.vote_count.specs.Places.{IsPlace};
 ghost use Rattle.vote_count.specs.Votes.{votes};
 
 use std::marker::Model;
@@ -69,10 +68,10 @@ impl Matrix {
         ensures options { self.new.options ≡ self.old.options }
         ensures votes { (a b : ℕ) → IsOption self.old.options a → IsOption self.old.options b → votes self.new a b ≡ votes self.old a b + (if prefers ranks.now a b then 1 else 0) }
     {
-        let places = places(ranks.as_slice());
+        let places = ranks.places();
         let options = self.options;
         for option in 0..options as usize {
-            raise(&mut self.counts[option], places[option], &places, options);
+            raise(&mut self.counts[option], places[option], places, options);
         }
     }
 
@@ -83,35 +82,12 @@ impl Matrix {
         ensures options { self.new.options ≡ self.old.options }
         ensures votes { (a b : ℕ) → IsOption self.old.options a → IsOption self.old.options b → votes self.new a b + (if prefers ranks.now a b then 1 else 0) ≡ votes self.old a b }
     {
-        let places = places(ranks.as_slice());
+        let places = ranks.places();
         let options = self.options;
         for option in 0..options as usize {
-            lower(&mut self.counts[option], places[option], &places, options);
+            lower(&mut self.counts[option], places[option], places, options);
         }
     }
-}
-
-// Where an option of this rank stands in the order of a ballot: behind all ranks where it has none.
-fn place(rank: Option<u8>) -> u16
-    ensures { IsPlace rank result }
-{
-    match rank {
-        Some(rank) => u16::from(rank),
-        None => 256,
-    }
-}
-
-// Where the options of a ballot stand in its order. What is no option stands before all.
-fn places(ranks: &[Option<u8>]) -> [u16; MAX_OPTIONS]
-    requires { length ranks.now ≤ MAX_OPTIONS }
-    ensures options { (k : ℕ) → k < length ranks.now → IsPlace (slice_index_or ranks.now k None) (slice_index_or result k 0) }
-    ensures others { (k : ℕ) → length ranks.now ≤ k → slice_index_or result k 0 ≡ 0 }
-{
-    let mut places = [0; MAX_OPTIONS];
-    for (option, rank) in ranks.iter().enumerate() {
-        places[option] = place(*rank);
-    }
-    places
 }
 
 // How many options of a row are counted in one pass. LLVM makes vector code of a pass, since this is
@@ -120,7 +96,7 @@ const PASS: usize = MAX_OPTIONS / 2;
 
 // One more vote, in the row of the option at this place, over each option behind it.
 #[inline(always)]
-fn raise(row: &mut [u32], place: u16, places: &[u16], options: u8)
+fn raise(row: &mut [u32], place: u8, places: &[u8], options: u8)
     requires row { length row.old ≡ MAX_OPTIONS }
     requires places { length places.now ≡ MAX_OPTIONS }
     requires options { options ≤ MAX_OPTIONS }
@@ -135,7 +111,7 @@ fn raise(row: &mut [u32], place: u16, places: &[u16], options: u8)
 
 // The same, in the pass from this option on.
 #[inline(always)]
-fn raise_from(row: &mut [u32], place: u16, places: &[u16], first: usize)
+fn raise_from(row: &mut [u32], place: u8, places: &[u8], first: usize)
     requires row { first + PASS ≤ length row.old }
     requires places { first + PASS ≤ length places.now }
     requires room { (k : ℕ) → first ≤ k → k < first + PASS → place < slice_index_or places.now k 0 → slice_index_or row.old k 0 < 2 ^ 32 - 1 }
@@ -151,7 +127,7 @@ fn raise_from(row: &mut [u32], place: u16, places: &[u16], first: usize)
 
 // One vote less, in the row of the option at this place, over each option behind it.
 #[inline(always)]
-fn lower(row: &mut [u32], place: u16, places: &[u16], options: u8)
+fn lower(row: &mut [u32], place: u8, places: &[u8], options: u8)
     requires row { length row.old ≡ MAX_OPTIONS }
     requires places { length places.now ≡ MAX_OPTIONS }
     requires options { options ≤ MAX_OPTIONS }
@@ -166,7 +142,7 @@ fn lower(row: &mut [u32], place: u16, places: &[u16], options: u8)
 
 // The same, in the pass from this option on.
 #[inline(always)]
-fn lower_from(row: &mut [u32], place: u16, places: &[u16], first: usize)
+fn lower_from(row: &mut [u32], place: u8, places: &[u8], first: usize)
     requires row { first + PASS ≤ length row.old }
     requires places { first + PASS ≤ length places.now }
     requires some { (k : ℕ) → first ≤ k → k < first + PASS → place < slice_index_or places.now k 0 → 0 < slice_index_or row.old k 0 }

@@ -60,6 +60,9 @@ pub const MAX_QUORUM_MULTIPLE: u8 = 10;
 /// The greatest rank that a ballot can give an option. The least is 1.
 pub const MAX_RANK: u8 = 99;
 
+/// Where an unranked option stands in the order of a ballot: behind all ranks.
+pub const UNRANKED: u8 = 255;
+
 /// The most bytes that a ballot line can have, its line feed not counted.
 pub const MAX_LINE: usize = 200;
 

@@ -1,12 +1,13 @@
 //! The ranks that a ballot gives.
-ghost use Rattle.std.specs.Prelude.{◌≡◌, ◌+◌, ◌-◌, ◌<◌, ◌≤◌, ◌↔◌, IsTrue, List, ℕ, [], ◌∷◌, ◌++◌, length, take, Option};
+ghost use Rattle.std.specs.Prelude.{◌≡◌, ◌<◌, ◌≤◌, ◌↔◌, ℕ, IfSome, IsTrue, None, [], ◌∷◌, ◌++◌, length, slice_index_or, take};
 ghost use Rattle.vote_poll.specs.Comparisons.{are_same_ranks};
 ghost use Rattle.vote_poll.specs.Options.{IsOption};
+ghost use Rattle.vote_poll.specs.Places.{IsPlace};
 ghost use Rattle.vote_poll.specs.Ranks.{rank_of, prefers};
 ghost use Rattle.std.proofs.Common.{rules};
 ghost use Rattle.std.specs.Cmp.Rules.{comparing};
 
-use crate::MAX_OPTIONS;
+use crate::{MAX_OPTIONS, UNRANKED};
 use std::marker::Model;
 
 /// The rank that a ballot gives each option, or none; contracts see the list of these. Options are numbered from 1,
@@ -15,20 +16,24 @@ use std::marker::Model;
 #[derive(Clone, Copy, Debug)]
 pub struct Ranks {
     options: u8,
-    places: [Option<u8>; MAX_OPTIONS],
+    /// Where each option stands in the order of the ballot, as [`Ranks::places`] says.
+    places: [u8; MAX_OPTIONS],
 }
 
 impl Model for Ranks {
-    ghost use Rattle.std.specs.Prelude.{◌≡◌, ◌-◌, ◌≤◌, ℕ, List, ◌++◌, Option, None, length, take, replicate};
-    ghost use Rattle.vote_poll.specs.declared.TheConstants.{MAX_OPTIONS};
+    ghost use Rattle.std.specs.Prelude.{◌≡◌, ◌-◌, ◌≤◌, ℕ, List, ◌++◌, Option, length, map, slice_index_or, take, replicate};
+    ghost use Rattle.vote_poll.specs.Places.{place_of, rank_at, kept_options, kept_places};
+    ghost use Rattle.vote_poll.specs.declared.TheConstants.{MAX_OPTIONS, UNRANKED};
 
     ghost Value = { List (Option ℕ) };
 
-    ghost view = { λ r. take r.options r.places };
+    ghost view = { λ r. map rank_at (take r.options r.places) };
 
-    ghost invariant = { λ r. (r.options ≤ MAX_OPTIONS) × (length r.places ≡ MAX_OPTIONS) × (take r.options r.places ++ replicate (MAX_OPTIONS - r.options) None ≡ r.places) };
+    ghost invariant = { λ r. (r.options ≤ MAX_OPTIONS) × (length r.places ≡ MAX_OPTIONS) × (take r.options r.places ++ replicate (MAX_OPTIONS - r.options) 0 ≡ r.places) × ((k : ℕ) → slice_index_or r.places k 0 ≤ UNRANKED) };
 
-    ghost inverse = { λ ranks. record { options = length ranks; places = ranks ++ replicate (MAX_OPTIONS - length ranks) None } };
+    ghost inverse = { λ ranks. record { options = length ranks; places = map place_of ranks ++ replicate (MAX_OPTIONS - length ranks) 0 } };
+
+    ghost inverse_ok = { λ a h i. record { options = kept_options a.options a.places h.0 h.1 i; places = kept_places a.options a.places h.0 h.1 h.2 i } };
 }
 
 impl Ranks {
@@ -38,12 +43,13 @@ impl Ranks {
     {
         Ranks {
             options: 0,
-            places: [None; MAX_OPTIONS],
+            places: [0; MAX_OPTIONS],
         }
     }
 
     /// Adds the rank of the next option, where there is room for it.
     pub(crate) fn push_if_room(&mut self, rank: Option<u8>)
+        requires { IfSome rank (λ r. r < UNRANKED) }
         ensures { self.new ≡ take MAX_OPTIONS (self.old ++ rank ∷ []) }
     {
         if (self.options as usize) < MAX_OPTIONS {
@@ -53,10 +59,11 @@ impl Ranks {
 
     /// Adds the rank of the next option.
     fn push(&mut self, rank: Option<u8>)
-        requires { length self.old < MAX_OPTIONS }
+        requires room { length self.old < MAX_OPTIONS }
+        requires rank { IfSome rank (λ r. r < UNRANKED) }
         ensures { self.new ≡ self.old ++ rank ∷ [] }
     {
-        self.places[self.options as usize] = rank;
+        self.places[self.options as usize] = rank.unwrap_or(UNRANKED);
         self.options += 1;
     }
 
@@ -68,12 +75,15 @@ impl Ranks {
         self.options
     }
 
-    /// The ranks of the options, in order: that of option `k` at place `k - 1`.
-    pub fn as_slice(&self) -> &[Option<u8>]
-        ensures same { result.now ≡ self.now }
-        ensures at_most { length result.now ≤ MAX_OPTIONS }
+    /// Where each option stands in the order of the ballot, that of option `k` at place `k - 1`: at its rank, or at
+    /// [`UNRANKED`] where it has none. So of two options the ballot prefers the one with the smaller number, and neither
+    /// where the numbers are equal. Behind the options there are zeros.
+    pub fn places(&self) -> &[u8]
+        ensures long { length result.now ≡ MAX_OPTIONS }
+        ensures options { (k : ℕ) → k < length self.now → IsPlace (slice_index_or self.now k None) (slice_index_or result.now k 0) }
+        ensures others { (k : ℕ) → length self.now ≤ k → slice_index_or result.now k 0 ≡ 0 }
     {
-        &self.places[..self.options as usize]
+        &self.places
     }
 
     /// The rank of an option, or none where the ballot leaves it unranked.
@@ -81,7 +91,8 @@ impl Ranks {
         requires { IsOption (length self.now) option }
         ensures { result ≡ rank_of self.now option }
     {
-        self.places[option as usize - 1]
+        let place = self.places[option as usize - 1];
+        if place < UNRANKED { Some(place) } else { None }
     }
 
     /// Whether the ballot prefers option `a` to option `b`: it ranks `a`, and leaves `b` unranked or gives it a greater
@@ -111,7 +122,7 @@ impl PartialEq for Ranks {
         ensures test { result ≡ are_same_ranks self.now other.now }
         ensures same { IsTrue result ↔ (self.now ≡ other.now) }
     {
-        self.as_slice() == other.as_slice()
+        self.places[..self.options as usize] == other.places[..other.options as usize]
     }
 }
 

@@ -12,7 +12,7 @@ ghost use Rattle.std.specs.Cmp.Rules.{comparing};
 
 use crate::poll::Poll;
 use crate::ranks::Ranks;
-use crate::{MAX_LINE, MAX_VOTER_NAME};
+use crate::{MAX_LINE, MAX_RANK, MAX_VOTER_NAME};
 
 /// What a poll reads in a line. Two readings are the same for `==` just where they are equal for contracts.
 #[derive(Clone, Copy, Debug)]
@@ -37,7 +37,8 @@ pub enum LineFault {
 
 /// The rank that a text spells, a hyphen for none.
 fn rank_of(text: &[u8]) -> Option<Option<u8>>
-    ensures { result ≡ rank_in text.now }
+    ensures same { result ≡ rank_in text.now }
+    ensures few { IfSome result (λ rank. IfSome rank (λ r. r ≤ MAX_RANK)) }
 {
     match text {
         [b'-'] => Some(None),
