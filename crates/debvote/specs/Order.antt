@@ -1,6 +1,6 @@
 -- What the words ask for, from what `clap` found in them.
-use Rattle.std.specs.Prelude.{◌≡◌, ◌≤◌, ◌⊎◌, ℕ, List, Option, Some, codes, option_map}
-use Rattle.std.specs.Str.Parse.{digits_value, without_leading_plus}
+use Rattle.std.specs.Prelude.{◌≡◌, ◌≢◌, ◌≤◌, ◌⊎◌, ℕ, List, Option, Some, codes, option_map}
+use Rattle.std.specs.Str.Parse.{IsNumeral, digits_value, without_leading_plus}
 use Rattle.clap.specs.Words.{Row, Text, first_of, one_of}
 use Rattle.clap.specs.Kinds.{IsAmong, Kinds}
 use Rattle.clap.specs.declared.error.kind.ErrorKind.{ErrorKind}
@@ -14,9 +14,9 @@ use Rattle.debvote.specs.declared.order.Task.TheVariants.{Count, Steps, Check}
 abbrev pub HasText : List Row → Text → Text → Type 0
 HasText rows name text = first_of name rows ≡ Some text
 
--- the value in decimal digits
+-- the value in decimal digits, which a plus may precede
 abbrev pub HasNumber : List Row → Text → ℕ → Type 0
-HasNumber rows name n = (text : Text) × (one_of name rows ≡ Some text) × (n ≡ digits_value 10 (without_leading_plus text))
+HasNumber rows name n = (text : Text) × (one_of name rows ≡ Some text) × IsNumeral 10 (without_leading_plus text) × (n ≡ digits_value 10 (without_leading_plus text))
 
 abbrev pub HasDesks : List Row → ℕ → Type 0
 HasDesks rows desks = (1 ≤ desks) × (desks ≤ 8) × HasNumber rows (codes "desks") desks
@@ -45,14 +45,24 @@ AsksFor subcommand task = (rows : List Row) × (subcommand ≡ Some (subcommand_
 abbrev pub AsksForHelp : ErrorKind → Type 0
 AsksForHelp k = (k ≡ kind.DisplayHelp) ⊎ (k ≡ kind.DisplayVersion)
 
--- an error of this kind is answered with help only where it asks for help
-abbrev pub HelpsByKind : ErrorKind → OrderFault → Type 0
-HelpsByKind k (Help text) = AsksForHelp k
-HelpsByKind k (Refused text) = Unit {0}
-HelpsByKind k Memory = Unit {0}
+-- the kinds that refuse the words
+abbrev pub IsRefusal : ErrorKind → Type 0
+IsRefusal k = (k ≢ kind.DisplayHelp) × (k ≢ kind.DisplayVersion) × (k ≢ kind.OutOfMemory)
+
+-- an error of this kind is answered so
+abbrev pub IsFaultOfKind : ErrorKind → OrderFault → Type 0
+IsFaultOfKind k (Help text) = AsksForHelp k
+IsFaultOfKind k (Refused text) = IsRefusal k
+IsFaultOfKind k Memory = k ≡ kind.OutOfMemory
 
 -- help is answered only where the words ask for it
 abbrev pub HelpsIfAsked : Kinds → OrderFault → Type 0
 HelpsIfAsked kinds (Help text) = (k : ErrorKind) × AsksForHelp k × IsAmong k kinds
 HelpsIfAsked kinds (Refused text) = Unit {0}
 HelpsIfAsked kinds Memory = Unit {0}
+
+-- words are refused only where `clap` finds a fault in them, or where no task has the values that it finds
+abbrev pub RefusesIfAtFault : Kinds → Option (Text × List Row) → OrderFault → Type 0
+RefusesIfAtFault kinds subcommand (Help text) = Unit {0}
+RefusesIfAtFault kinds subcommand (Refused text) = ((k : ErrorKind) × IsRefusal k × IsAmong k kinds) ⊎ ((task : Task) → AsksFor subcommand task → ⊥)
+RefusesIfAtFault kinds subcommand Memory = Unit {0}

@@ -1,13 +1,14 @@
 //! The command line.
 
-ghost use Rattle.std.specs.Prelude.{◌≡◌, IfErr, IfOk, IfSome, OnOk, [], codes, map, false};
+ghost use Rattle.std.specs.Prelude.{◌≡◌, ℕ, IfErr, IfNone, IfOk, IfSome, OnOk, [], codes, map, option_map, false};
 ghost use Rattle.clap.specs.Faults.{fault_of};
 ghost use Rattle.clap.specs.Values.{kind_of};
 ghost use Rattle.clap.specs.declared.builder.command.Command.TheViews.{out-Command as fields_of};
-ghost use Rattle.clap.specs.Words.{app_of, found_of, rows_of, rule_of, subcommand_of, subcommand_rows_of};
+ghost use Rattle.clap.specs.Words.{app_of, first_of, found_of, rows_of, rule_of, subcommand_of, subcommand_rows_of};
 ghost use Rattle.debvote.specs.CommandLine.{bare_command, check_command, count_command, debvote_command, desks_option, option, required_option, steps_command};
-ghost use Rattle.debvote.specs.Order.{AsksFor, HasDesks, HasText, HasValues, HelpsByKind, HelpsIfAsked, subcommand_name};
+ghost use Rattle.debvote.specs.Order.{AsksFor, HasDesks, HasValues, HelpsIfAsked, IsFaultOfKind, RefusesIfAtFault, subcommand_name};
 ghost use Rattle.debvote.specs.Status.{order_status};
+ghost use Rattle.debvote.specs.declared.order.Task.{Task};
 
 use clap::error::ErrorKind;
 use clap::{Arg, ArgAction, ArgMatches, Command, Error};
@@ -164,17 +165,20 @@ fn debvote_command<'a>(alloc: Global) -> Result<Command<'a>, AllocError>
 }
 
 fn desks(given: &ArgMatches<'_>) -> Option<u8>
-    ensures { IfSome result (HasDesks (rows_of (found_of given.now))) }
+    ensures found { IfSome result (HasDesks (rows_of (found_of given.now))) }
+    ensures none { IfNone result ((desks : ℕ) → HasDesks (rows_of (found_of given.now)) desks → ⊥) }
 {
-    match given.get_one::<u8>("desks") {
-        Some(desks @ 1..=8) => Some(desks),
-        _ => None,
+    let desks = given.get_one::<u8>("desks")?;
+    if 1 <= desks && desks <= 8 {
+        Some(desks)
+    } else {
+        None
     }
 }
 
 #[tactic(auto, using(crate::proofs::Orders::first_value_rows))]
 fn file<'a>(given: &ArgMatches<'a>, id: &str) -> Option<&'a str>
-    ensures { IfSome result (λ name. HasText (rows_of (found_of given.now)) id.now name.now) }
+    ensures { option_map (λ name. name.now) result ≡ first_of id.now (rows_of (found_of given.now)) }
 {
     given.get_str(id)
 }
@@ -183,6 +187,7 @@ fn file<'a>(given: &ArgMatches<'a>, id: &str) -> Option<&'a str>
 fn count_task<'a>(given: &ArgMatches<'a>) -> Option<Task<'a>>
     ensures name { IfSome result (λ task. subcommand_name task ≡ codes "count") }
     ensures values { IfSome result (HasValues (rows_of (found_of given.now))) }
+    ensures none { IfNone result ((task : Task) → subcommand_name task ≡ codes "count" → HasValues (rows_of (found_of given.now)) task → ⊥) }
 {
     Some(Task::Count {
         poll: file(given, "poll")?,
@@ -195,6 +200,7 @@ fn count_task<'a>(given: &ArgMatches<'a>) -> Option<Task<'a>>
 fn steps_task<'a>(given: &ArgMatches<'a>) -> Option<Task<'a>>
     ensures name { IfSome result (λ task. subcommand_name task ≡ codes "steps") }
     ensures values { IfSome result (HasValues (rows_of (found_of given.now))) }
+    ensures none { IfNone result ((task : Task) → subcommand_name task ≡ codes "steps" → HasValues (rows_of (found_of given.now)) task → ⊥) }
 {
     Some(Task::Steps {
         poll: file(given, "poll")?,
@@ -205,6 +211,7 @@ fn steps_task<'a>(given: &ArgMatches<'a>) -> Option<Task<'a>>
 fn check_task<'a>(given: &ArgMatches<'a>) -> Option<Task<'a>>
     ensures name { IfSome result (λ task. subcommand_name task ≡ codes "check") }
     ensures values { IfSome result (HasValues (rows_of (found_of given.now))) }
+    ensures none { IfNone result ((task : Task) → subcommand_name task ≡ codes "check" → HasValues (rows_of (found_of given.now)) task → ⊥) }
 {
     Some(Task::Check {
         poll: file(given, "poll")?,
@@ -212,7 +219,8 @@ fn check_task<'a>(given: &ArgMatches<'a>) -> Option<Task<'a>>
 }
 
 fn task_of<'a>(matches: &ArgMatches<'a>) -> Option<Task<'a>>
-    ensures { IfSome result (AsksFor (subcommand_rows_of matches.now)) }
+    ensures found { IfSome result (AsksFor (subcommand_rows_of matches.now)) }
+    ensures none { IfNone result ((task : Task) → AsksFor (subcommand_rows_of matches.now) task → ⊥) }
 {
     let (name, given) = matches.subcommand()?;
     match name {
@@ -225,7 +233,7 @@ fn task_of<'a>(matches: &ArgMatches<'a>) -> Option<Task<'a>>
 
 /// What an error of `clap` is to the caller: help that was asked for, or a refusal, with `clap`'s text.
 fn fault(alloc: Global, error: &Error) -> Result<OrderFault, AllocError>
-    ensures { IfOk result (HelpsByKind (kind_of error.now)) }
+    ensures { IfOk result (IsFaultOfKind (kind_of error.now)) }
 {
     let text = error.to_string(alloc)?;
     Ok(match error.kind() {
@@ -239,6 +247,7 @@ fn fault(alloc: Global, error: &Error) -> Result<OrderFault, AllocError>
 pub fn order<'a>(alloc: Global, words: &'a [&'a str]) -> Result<Task<'a>, OrderFault>
     ensures ok { IfOk result (AsksFor (subcommand_of debvote_command (map (λ word. word.now) words.entry.now))) }
     ensures help { IfErr result (HelpsIfAsked (fault_of debvote_command (map (λ word. word.now) words.entry.now))) }
+    ensures refused { IfErr result (RefusesIfAtFault (fault_of debvote_command (map (λ word. word.now) words.entry.now)) (subcommand_of debvote_command (map (λ word. word.now) words.entry.now))) }
     ensures accepted { OnOk result (fault_of debvote_command (map (λ word. word.now) words.entry.now) ≡ []) }
 {
     let mut command = debvote_command(alloc)?;
