@@ -2,8 +2,8 @@ mod hostile;
 mod optional_keys;
 
 use crate::{
-    LineFault, Lines, LinesFault, MAX_LINES, Poll, PollFault, PollKey, Ranks, Reading, Wording,
-    read_line,
+    LineFault, Lines, LinesFault, MAX_LINES, Poll, PollFault, PollKey, Ranks, Reading, UNRANKED,
+    Wording, read_line,
 };
 use std::alloc::{AllocError, Global};
 use std::test::Fail;
@@ -110,7 +110,11 @@ fn a_ballot_as_read(rt: HostRuntime) -> Result<(), Fail> {
         (ranks.rank(1), ranks.rank(2), ranks.rank(3)),
         (Some(10), None, Some(9))
     );
-    assert!(rt; ranks.as_slice() == [Some(10), None, Some(9)].as_slice());
+    let places = ranks.places();
+    assert_eq!(rt;
+        (places[0], places[1], places[2], places[3]),
+        (10, UNRANKED, 9, 0)
+    );
     Ok(())
 }
 
