@@ -10,5 +10,4 @@ pub mod PrintedSheets
 pub mod Separators
 pub mod Texts
 pub mod Uniqueness
-pub mod Writing
 pub mod Written

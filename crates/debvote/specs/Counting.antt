@@ -7,7 +7,7 @@ use Rattle.vote_poll.specs.Lines.{lines_of}
 use Rattle.vote_poll.specs.Names.{place_of}
 use Rattle.vote_poll.specs.PollContent.{PollContent}
 use Rattle.vote_poll.specs.PollFile.{poll_in}
-use Rattle.debvote.specs.Device.{AppendsPrefix}
+use Rattle.vote_files.specs.Device.{AppendsPrefix}
 use Rattle.debvote.specs.Sheet.{Sheet, Text, sheet_text}
 use Rattle.debvote.specs.SheetOf.{IsSheetOf}
 use Rattle.debvote.specs.declared.fault.Ended.{Ended}

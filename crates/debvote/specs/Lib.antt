@@ -1,6 +1,5 @@
 -- what the contracts of public calls say
 pub mod Texts
-pub mod Device
 pub mod Joined
 pub mod LastBallots
 pub mod Casting
@@ -13,5 +12,4 @@ pub mod Status
 pub mod CommandLine
 pub mod Order
 -- what types stand for
-pub mod Meter
 pub mod Results

@@ -7,7 +7,7 @@ use Rattle.vote_poll.specs.Lines.{lines_of}
 use Rattle.vote_poll.specs.declared.lines.TheConstants.{MAX_LINES}
 use Rattle.vote_poll.specs.declared.lines.LinesFault.{LinesFault}
 use Rattle.vote_poll.specs.declared.lines.LinesFault.TheVariants as lines
-use Rattle.debvote.specs.Device.{AppendsPrefix}
+use Rattle.vote_files.specs.Device.{AppendsPrefix}
 use Rattle.debvote.specs.Joined.{joined_parts}
 use Rattle.debvote.specs.Steps.{IsStepsText, check_text}
 use Rattle.debvote.specs.Texts.{Text}

@@ -10,15 +10,14 @@ ghost use Rattle.debvote.specs.Runs.{AnswersLines, AnswersPoll};
 ghost use Rattle.debvote.specs.Sheet.{Sheet, sheet_text};
 ghost use Rattle.debvote.specs.SheetOf.{IsSheetOf};
 
-use crate::device::{DeviceFault, Sink};
 use crate::fault::{Ended, RunFault};
-use crate::output::write_text;
 use crate::sheet::sheet_and_decision;
 use std::alloc::{AllocError, Global};
 use std::sync::Wait;
 use std::thread::Threads;
 use vote_count::Decision;
 use vote_desks::{Gate, VoteFault, take_votes};
+use vote_files::{DeviceFault, Sink, write_text};
 use vote_poll::{Lines, Poll};
 use vote_steps::MAX_DESKS;
 

@@ -3,10 +3,10 @@
 ghost use Rattle.std.specs.Prelude.{◌≡◌};
 ghost use Rattle.debvote.specs.Status.{fault_status, status, vote_status};
 
-use crate::device::DeviceFault;
 use std::alloc::AllocError;
 use thiserror::Error;
 use vote_desks::{DeskFault, VoteFault};
+use vote_files::DeviceFault;
 use vote_poll::{LinesFault, PollFault};
 
 /// What a count decided. Options are numbered from 1, and the default option is the last.

@@ -7,12 +7,11 @@
 
 use crate::counting_tests::{ENDLESS, Kind, count, count_through, plain_election};
 use crate::fault::{Ended, RunFault, status};
-use crate::input::ReadFault;
 use crate::order::{OrderFault, Task, order};
 use crate::sheet::sheet;
 use crate::sheet_tests::{A_CYCLE, CYCLE, ballots_text, hundred_ballots, poll_text};
 use crate::tests::{
-    ELEVEN_LINES, ELEVEN_REPLIES, JOINED, JOINED_REPLIES, Job, TWO_ELECTORS, TWO_ELECTORS_OK, read,
+    ELEVEN_LINES, ELEVEN_REPLIES, JOINED, JOINED_REPLIES, Job, TWO_ELECTORS, TWO_ELECTORS_OK,
     run_job,
 };
 use std::alloc::{AllocError, Global};
@@ -113,19 +112,6 @@ fn a_gate_stops_a_count(rt: HostRuntime) -> Result<(), Fail> {
         let stopped = Err(RunFault::Vote(VoteFault::Gate(1)));
         assert_eq!(rt; (written.len(), ended, status(&ended)), (0, stopped, 6));
     }
-    Ok(())
-}
-
-#[test]
-fn an_input_of_a_mebibyte_and_a_byte_is_too_long(rt: HostRuntime) -> Result<(), Fail> {
-    let alloc = rt.alloc();
-    let limit = 1_048_576;
-    let most = vec![in alloc; b'x'; 1_048_576]?;
-    let all = read(alloc, most.as_slice(), usize::MAX, u32::MAX, limit)?;
-    assert!(rt; all.as_slice() == most.as_slice());
-    let more = vec![in alloc; b'x'; 1_048_577]?;
-    let refused = read(alloc, more.as_slice(), usize::MAX, u32::MAX, limit);
-    assert!(rt; matches!(&refused, Err(ReadFault::TooLong)));
     Ok(())
 }
 
@@ -233,22 +219,6 @@ fn memory_of_check_poll(rt: HostRuntime) -> Result<(), Fail> {
 #[test]
 fn memory_of_steps_joined(rt: HostRuntime) -> Result<(), Fail> {
     is_done(&rt, rt.alloc(), &Job::Joined(JOINED), JOINED_REPLIES)
-}
-
-#[test]
-fn memory_of_read_limited(rt: HostRuntime) -> Result<(), Fail> {
-    let alloc = rt.alloc();
-    let bytes = vec![in alloc; b'x'; 10_000]?;
-    match read(alloc, bytes.as_slice(), usize::MAX, 9, 10_000) {
-        Ok(all) => {
-            assert!(rt; all.as_slice() == bytes.as_slice());
-            Ok(())
-        }
-        Err(fault) => {
-            assert_eq!(rt; fault, ReadFault::Memory);
-            Err(Fail::from("refused"))
-        }
-    }
 }
 
 #[test]

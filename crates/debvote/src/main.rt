@@ -7,8 +7,7 @@
 //! `main` reads, calls and reports. All that matters stands in the modules, each of whose public functions has a contract:
 //!
 //! - `order`: what the words of the command line ask for;
-//! - `device`, `meter`, `standard`: where bytes come from and go to, over std's readers and writers;
-//! - `input`, `output`: an input read whole up to a limit, a text written whole;
+//! - `output`: the text of a run written whole;
 //! - `joined`: the two parts of a joined input;
 //! - `casting`: one desk that casts the lines in order;
 //! - `steps`: the texts of `steps` and `check`, and the runs that write them;
@@ -21,13 +20,10 @@ mod casting;
 mod counting;
 #[cfg(test)]
 mod counting_tests;
-mod device;
 mod fault;
 #[cfg(test)]
 mod hostile_tests;
-mod input;
 mod joined;
-mod meter;
 mod order;
 mod output;
 mod results;
@@ -35,7 +31,6 @@ mod sheet;
 #[cfg(test)]
 mod sheet_tests;
 mod sheet_text;
-mod standard;
 mod steps;
 #[cfg(test)]
 mod tests;
@@ -44,10 +39,7 @@ ghost use Rattle.std.specs.Prelude.{◌≡◌, ◌≤◌, IfOk, IfSome, vec_len}
 
 use crate::counting::run;
 use crate::fault::{RunFault, fault_status, status};
-use crate::input::{ReadFault, read_limited};
-use crate::meter::Meter;
 use crate::order::{OrderFault, Task, order, order_status};
-use crate::standard::{ReaderSource, WriterSink};
 use crate::steps::{check_poll, print_steps, steps_joined};
 use std::alloc::{AllocError, Global};
 use std::env;
@@ -61,6 +53,7 @@ use std::sync::ledger::{Blank, Ledger};
 use std::thread::Threads;
 use thiserror::Error;
 use vote_desks::NoGate;
+use vote_files::{Meter, ReadFault, ReaderSource, WriterSink, read_limited};
 use vote_steps::MAX_DESKS;
 
 /// The most bytes of a poll file.

@@ -1,31 +1,10 @@
-//! Writing a text whole.
+//! Writing the text of a run.
 
-ghost use Rattle.std.specs.Prelude.{◌≡◌, ◌+◌, ◌<◌, ◌↔◌, true, IfErr, IsErr, OnErr, OnOk};
-ghost use Rattle.std.specs.Io.KnownBytes.{Appends};
-ghost use Rattle.debvote.specs.Device.{AppendsPrefix};
+ghost use Rattle.std.specs.Prelude.{◌≡◌, ◌<◌, ◌↔◌, true, IfErr, IsErr, OnOk};
 ghost use Rattle.debvote.specs.Runs.{Writes};
 
-use crate::device::{DeviceFault, Sink};
 use crate::fault::RunFault;
-
-/// Writes the text, all of it and nothing else, and flushes the sink. An error comes exactly where a `put` or the flush
-/// failed or a `put` took no bytes, and a front of the text was written then.
-pub fn write_text<W: Sink>(sink: &mut W, text: &[u8]) -> Result<(), DeviceFault>
-    ensures ok { OnOk result (Appends (W.contents sink.old) (W.contents sink.new) text.now) }
-    ensures err { OnErr result (AppendsPrefix (W.contents sink.old) (W.contents sink.new) text.now) }
-    ensures fault { IsErr result ↔ (W.faults sink.old < W.faults sink.new) }
-    ensures flushed { OnOk result (W.flushed sink.new ≡ true) }
-{
-    let mut rest = text;
-    while !rest.is_empty() {
-        let taken = sink.put(rest)?;
-        if taken == 0 {
-            return Err(DeviceFault);
-        }
-        rest = &rest[taken..];
-    }
-    sink.flush()
-}
+use vote_files::{DeviceFault, Sink, write_text};
 
 /// Writes the text of a run, whose only fault from here on is its output's.
 pub fn write_run<W: Sink>(sink: &mut W, text: &[u8]) -> Result<(), RunFault>

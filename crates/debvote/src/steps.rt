@@ -8,11 +8,11 @@ ghost use Rattle.debvote.specs.Runs.{AnswersLines, AnswersPoll, AreSteps, AreSte
 ghost use Rattle.debvote.specs.Steps.{IsStepsText, StepsAreDetermined, check_text, reply_words, step_line, step_lines};
 
 use crate::casting::cast_all;
-use crate::device::Sink;
 use crate::fault::RunFault;
 use crate::joined::split_joined;
 use crate::output::write_run;
 use std::alloc::{AllocError, Global};
+use vote_files::Sink;
 use vote_poll::{LineFault, Lines, Poll};
 use vote_steps::{Reply, Step};
 

@@ -2,11 +2,7 @@
 
 ghost use Rattle.std.specs.Prelude.{◌≡◌};
 
-use crate::device::{DeviceFault, Sink, Source};
 use crate::fault::{Ended, RunFault, status};
-use crate::input::{ReadFault, read_limited};
-use crate::meter::Meter;
-use crate::output::write_text;
 use crate::steps::{check_poll, print_steps, steps_joined};
 use std::alloc::{AllocError, Global};
 use std::marker::Brand;
@@ -14,6 +10,7 @@ use std::snapshot::Snapshot;
 use std::sync::ledger::{Blank, Ledger};
 use std::test::Fail;
 use vote_desks::{AuditFault, DeskFault, EnterFault, VoteFault};
+use vote_files::{DeviceFault, Meter, Sink};
 use vote_poll::{LinesFault, PollFault, PollKey};
 
 /// A sink in memory that takes so many bytes at once, and fails once it holds as many as its limit.
@@ -99,140 +96,6 @@ impl<L: Ledger> Sink for Paper<L> {
         }
         self.flushed = Snapshot::of(&true);
         Ok(())
-    }
-}
-
-fn write_metered<L: Ledger>(
-    alloc: Global,
-    at_once: usize,
-    limit: usize,
-    flushes: bool,
-    text: &[u8],
-    blank: Blank,
-) -> (Vec<u8>, bool)
-    requires name { blank.name ≡ L.name }
-    requires parts { blank.parts ≡ L.parts }
-    requires two { blank.parts ≡ 2 }
-{
-    let mut paper = Paper::<L>::new(Vec::new(alloc), at_once, limit, flushes, blank);
-    let ended = write_text(&mut paper, text).is_ok();
-    (paper.into_written(), ended)
-}
-
-fn write(
-    alloc: Global,
-    at_once: usize,
-    limit: usize,
-    flushes: bool,
-    text: &[u8],
-) -> (Vec<u8>, bool) {
-    write_metered::<Brand>(alloc, at_once, limit, flushes, text, Blank::new(2))
-}
-
-#[test]
-fn a_text_is_written_whole_or_to_the_fault(rt: HostRuntime) {
-    let text = b"Poll: Votes";
-    for (at_once, limit, flushes, len, ends) in [
-        (100, 100, true, 11, true),
-        (1, 100, true, 11, true),
-        (10, 10, true, 10, false),
-        (0, 100, true, 0, false),
-        (100, 100, false, 11, false),
-        (1, 3, true, 3, false),
-    ] {
-        let (written, ended) = write(rt.alloc(), at_once, limit, flushes, text);
-        let starts = text.starts_with(written.as_slice());
-        assert_eq!(rt; (starts, written.len(), ended), (true, len, ends));
-    }
-}
-
-/// A source over bytes that gives so many at once, but one at least, and fails after some reads.
-#[derive(Drop)]
-struct Tape<'a, L: Ledger> {
-    rest: &'a [u8],
-    at_once: usize,
-    reads: u32,
-    meter: Meter<L>,
-}
-
-impl<L: Ledger> Source for Tape<'_, L> {
-    ghost use Rattle.std.specs.Prelude.{Some};
-
-    ghost reads = { λ s. s.meter.calls };
-
-    ghost faults = { λ s. s.meter.faults };
-
-    ghost remaining = { λ s. Some s.rest.now };
-
-    fn get(&mut self, buffer: &mut [u8]) -> Result<usize, DeviceFault> {
-        self.meter.count_call();
-        if self.reads == 0 {
-            self.meter.count_fault();
-            return Err(DeviceFault);
-        }
-        self.reads -= 1;
-        let most = self.rest.len().min(self.at_once.max(1));
-        let count = buffer.len().min(most);
-        buffer[..count].copy_from_slice(&self.rest[..count]);
-        self.rest = &self.rest[count..];
-        Ok(count)
-    }
-}
-
-fn read_metered<L: Ledger>(
-    alloc: Global,
-    bytes: &[u8],
-    at_once: usize,
-    reads: u32,
-    limit: usize,
-    blank: Blank,
-) -> Result<Vec<u8>, ReadFault>
-    requires name { blank.name ≡ L.name }
-    requires parts { blank.parts ≡ L.parts }
-    requires two { blank.parts ≡ 2 }
-{
-    let mut tape = Tape {
-        rest: bytes,
-        at_once,
-        reads,
-        meter: Meter::<L>::new(blank),
-    };
-    read_limited(alloc, &mut tape, limit)
-}
-
-pub(crate) fn read(
-    alloc: Global,
-    bytes: &[u8],
-    at_once: usize,
-    reads: u32,
-    limit: usize,
-) -> Result<Vec<u8>, ReadFault> {
-    read_metered::<Brand>(alloc, bytes, at_once, reads, limit, Blank::new(2))
-}
-
-/// Whether five bytes are read whole, and the fault where they are not, by so many at once, reads and bytes.
-fn five_bytes(
-    alloc: Global,
-    at_once: usize,
-    reads: u32,
-    limit: usize,
-) -> (bool, Option<ReadFault>) {
-    match read(alloc, b"hello", at_once, reads, limit) {
-        Ok(all) => (all.as_slice() == b"hello".as_slice(), None),
-        Err(fault) => (false, Some(fault)),
-    }
-}
-
-#[test]
-fn an_input_is_read_to_its_end_or_refused(rt: HostRuntime) {
-    for (reads, limit, answer) in [
-        (9, 5, (true, None)),
-        (9, 4, (false, Some(ReadFault::TooLong))),
-        (0, 9, (false, Some(ReadFault::Device))),
-        (1, 9, (false, Some(ReadFault::Device))),
-        (2, 9, (false, Some(ReadFault::Device))),
-    ] {
-        assert_eq!(rt; five_bytes(rt.alloc(), 3, reads, limit), answer);
     }
 }
 
