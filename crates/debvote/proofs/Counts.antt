@@ -1,13 +1,7 @@
 -- How many of a list pass a test.
-use Rattle.std.proofs.Common.{◌≡◌, ℕ, ◌+◌, Bool, true, false, cond, not, List, [], ◌∷◌, length, refl, arith}
+use Rattle.std.proofs.Common.{◌≡◌, ℕ, ◌+◌, Bool, true, false, not, List, [], ◌∷◌, length, refl, arith}
 use Rattle.std.specs.Prelude.{count_by}
-use Rattle.std.proofs.lemmas.List.Sums.{sum_by-cons}
-
-abbrev pub one : Bool → ℕ
-one mark = cond mark 1 0
-
-pub count-cons : {X : Type 0} (p : X → Bool) (x : X) (xs : List X) → count_by p (x ∷ xs) ≡ one (p x) + count_by p xs
-count-cons p x xs = sum_by-cons (λ y. one (p y)) x xs
+use Rattle.vote_steps.proofs.LineLemmas.{count-cons, one}
 
 one_not : (b : Bool) → one b + one (not b) ≡ 1
 one_not true = refl

@@ -1,5 +1,3 @@
-pub mod Audits
-pub mod CastLemmas
 pub mod Counted
 pub mod Counts
 pub mod Deciding

@@ -2,7 +2,6 @@
 pub mod Texts
 pub mod Joined
 pub mod LastBallots
-pub mod Casting
 pub mod Steps
 pub mod Sheet
 pub mod SheetOf

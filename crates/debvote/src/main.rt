@@ -9,14 +9,12 @@
 //! - `order`: what the words of the command line ask for;
 //! - `output`: the text of a run written whole;
 //! - `joined`: the two parts of a joined input;
-//! - `casting`: one desk that casts the lines in order;
 //! - `steps`: the texts of `steps` and `check`, and the runs that write them;
 //! - `results`, `sheet_text`, `sheet`: the result sheet, its text and what it means;
 //! - `counting`: the run that counts and writes the sheet;
 //! - `fault`: how a run ends, its fault lines and exit statuses.
 #![tactic(auto)]
 
-mod casting;
 mod counting;
 #[cfg(test)]
 mod counting_tests;

@@ -4,7 +4,7 @@ ghost use Rattle.std.specs.Prelude.{◌≡◌, IfOk, IfSome, string_bytes};
 ghost use Rattle.vote_poll.specs.Options.{IsOption};
 ghost use Rattle.vote_poll.specs.PollContent.{option_count};
 ghost use Rattle.vote_desks.specs.Audit.{IsAudited};
-ghost use Rattle.debvote.specs.Casting.{HoldsLines};
+ghost use Rattle.vote_steps.specs.Casting.{HoldsLines};
 ghost use Rattle.debvote.specs.Sheet.{Sheet, sheet_text};
 ghost use Rattle.debvote.specs.SheetOf.{IsSheet, IsSheetOf, SheetIsUnique};
 

@@ -7,14 +7,13 @@ ghost use Rattle.debvote.specs.Joined.{joined_parts};
 ghost use Rattle.debvote.specs.Runs.{AnswersLines, AnswersPoll, AreSteps, AreStepsJoined, IsCheck, Writes};
 ghost use Rattle.debvote.specs.Steps.{IsStepsText, StepsAreDetermined, check_text, reply_words, step_line, step_lines};
 
-use crate::casting::cast_all;
 use crate::fault::RunFault;
 use crate::joined::split_joined;
 use crate::output::write_run;
 use std::alloc::{AllocError, Global};
 use vote_files::Sink;
 use vote_poll::{LineFault, Lines, Poll};
-use vote_steps::{Reply, Step};
+use vote_steps::{Reply, Step, cast_all};
 
 /// The words of a reply.
 fn reply_words(reply: Reply) -> &'static str

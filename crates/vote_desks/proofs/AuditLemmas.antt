@@ -18,7 +18,8 @@ use Rattle.vote_steps.specs.Order.{HasOwnReading}
 use Rattle.vote_desks.specs.Slips.{slips}
 use Rattle.vote_desks.specs.Desks.{sheet_at}
 use Rattle.vote_desks.specs.Comparing.{HasDesk, HasEnvelope}
-use Rattle.vote_desks.specs.Audit.{HasOwnReadings, HasSlips, IsAudited, DiffersFirst, PartAt, SheetDiffers, IsEarlyClose, IsFaultOf}
+use Rattle.vote_steps.specs.Casting.{HasOwnReadings}
+use Rattle.vote_desks.specs.Audit.{HasSlips, IsAudited, DiffersFirst, PartAt, SheetDiffers, IsEarlyClose, IsFaultOf}
 
 -- lists
 
@@ -196,11 +197,11 @@ not_early steps n h last =
 -- each answer is the only one
 
 pub sound : (poll : PollContent) (lines : List (List ℕ)) (b : BoxState) (sheets : List (List Slip)) (f : AuditFault) → IsAudited poll lines b sheets → IsFaultOf poll lines b sheets f → ⊥
-sound poll lines b sheets SizeDiffers a h = h a.sizes
-sound poll lines b sheets CountDiffers a h = h.1 a.casts
-sound poll lines b sheets (StepDiffers n) a h = no_step poll lines b.steps n h.2 a.own_readings
+sound poll lines b sheets SizeDiffers a h = h a.holds.sizes
+sound poll lines b sheets CountDiffers a h = h.1 a.holds.casts
+sound poll lines b sheets (StepDiffers n) a h = no_step poll lines b.steps n h.2 a.holds.own_readings
 sound poll lines b sheets (SlipDiffers d p) a h = no_slip b.steps sheets d p h.3 a.sheets_are
-sound poll lines b sheets (ClosedEarly n) a h = not_early b.steps n h.4 a.closed_last
+sound poll lines b sheets (ClosedEarly n) a h = not_early b.steps n h.4 a.holds.closed_last
 
 one_fault : (poll : PollContent) (lines : List (List ℕ)) (b : BoxState) (sheets : List (List Slip)) (f g : AuditFault) → IsFaultOf poll lines b sheets f → IsFaultOf poll lines b sheets g → f ≡ g
 one_fault poll lines b sheets SizeDiffers SizeDiffers h k = refl

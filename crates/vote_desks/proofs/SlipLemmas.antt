@@ -12,6 +12,7 @@ use Rattle.vote_desks.specs.declared.sheets.Compared.{Compared}
 use Rattle.vote_steps.specs.declared.Reply.{Reply}
 use Rattle.vote_steps.specs.declared.Step.{Step}
 use Rattle.vote_steps.specs.declared.Step.TheVariants.{Cast, Close}
+use Rattle.vote_steps.proofs.LineLemmas.{take_next}
 use Rattle.vote_desks.specs.Slips.{slip_of, slips_from, slips}
 use Rattle.vote_desks.specs.Desks.{sheet_at}
 use Rattle.vote_desks.specs.Audit.{PartAt}
@@ -38,13 +39,8 @@ get-append_seam [] y (suc n) h = absurd (omega arith)
 get-append_seam (x ∷ xs) y zero h = absurd (omega arith)
 get-append_seam (x ∷ xs) y (suc n) h = get-append_seam xs y n (omega arith)
 
-pub take-suc-get : {X : Type 0} (xs : List X) (n : ℕ) (x : X) → slice_get xs n ≡ Some x → take (suc n) xs ≡ take n xs ++ x ∷ []
-take-suc-get [] n x h = absurd (let inside = slice_get_within [] n x h in omega arith)
-take-suc-get (y ∷ ys) zero x h = let same : y ≡ x = cc in ap (λ z. z ∷ []) same
-take-suc-get (y ∷ ys) (suc k) x h = ap (λ zs. y ∷ zs) (take-suc-get ys k x h)
-
 take-get : {X : Type 0} (xs : List X) (n : ℕ) (x : X) → slice_get xs n ≡ Some x → take (n + 1) xs ≡ take n xs ++ x ∷ []
-take-get xs n x h = let at : suc n ≡ n + 1 = omega arith in sym (ap (λ k. take k xs) at) ∙ take-suc-get xs n x h
+take-get xs n x h = let at : suc n ≡ n + 1 = omega arith in sym (ap (λ k. take k xs) at) ∙ take_next xs n x h
 
 get_within : {X : Type 0} (xs : List X) (n : ℕ) → n < length xs → slice_get xs n ≡ None → ⊥
 get_within [] n h e = absurd (omega arith)

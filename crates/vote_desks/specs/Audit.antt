@@ -1,38 +1,26 @@
 -- What an audit finds.
-use Rattle.std.specs.Prelude.{◌≡◌, ◌≢◌, ℕ, ◌+◌, ◌<◌, ◌≤◌, List, [], ◌∷◌, ◌++◌, length, take, slice_get, count_by, All}
-use Rattle.vote_poll.specs.PollContent.{PollContent, option_count, elector_count, last_of}
+use Rattle.std.specs.Prelude.{◌≡◌, ◌≢◌, ℕ, ◌+◌, ◌<◌, ◌≤◌, List, ◌∷◌, ◌++◌, length, take, slice_get, count_by}
+use Rattle.vote_poll.specs.PollContent.{PollContent}
 use Rattle.vote_poll.specs.Readings.{readings}
 use Rattle.vote_desks.specs.declared.slip.Slip.{Slip}
 use Rattle.vote_desks.specs.declared.fault.AuditFault.{AuditFault}
 use Rattle.vote_desks.specs.declared.fault.AuditFault.TheVariants.{SizeDiffers, CountDiffers, StepDiffers, SlipDiffers, ClosedEarly}
 use Rattle.vote_steps.specs.declared.TheConstants.{MAX_DESKS}
 use Rattle.vote_steps.specs.declared.Step.{Step}
-use Rattle.vote_steps.specs.declared.Step.TheVariants.{Close}
 use Rattle.vote_steps.specs.History.{is_cast, before_close}
-use Rattle.vote_steps.specs.Boxes.{BoxState, IsLegal}
+use Rattle.vote_steps.specs.Boxes.{BoxState}
 use Rattle.vote_steps.specs.Order.{HasOwnReading}
+use Rattle.vote_steps.specs.Casting.{HasOwnReadings, HasSizes, HoldsLines}
 use Rattle.vote_desks.specs.Slips.{slips}
 use Rattle.vote_desks.specs.Desks.{sheet_at}
-
--- the box is of the poll's size and has its last envelope, and has a number for each line
-abbrev pub HasSizes : PollContent → List (List ℕ) → BoxState → Type 0
-HasSizes poll lines b = (b.options ≡ option_count poll) × (b.electors ≡ elector_count poll) × (b.limit ≡ length lines) × (b.last ≡ last_of poll)
-
--- each cast has the reading of the line with its stamp
-abbrev pub HasOwnReadings : PollContent → List (List ℕ) → List Step → Type 0
-HasOwnReadings poll lines steps = All (HasOwnReading (readings poll lines)) steps
 
 -- the sheet of each desk is the slips of its casts
 abbrev pub HasSlips : List Step → List (List Slip) → Type 0
 HasSlips steps sheets = (desk : ℕ) → 1 ≤ desk → desk ≤ MAX_DESKS → sheet_at sheets desk ≡ slips steps desk
 
--- each line of a poll is one step of a legal history, whose only close is the last, and the sheets are those of its desks
+-- the box holds the lines of the poll, and the sheets are those of its desks
 pub record IsAudited (poll : PollContent) (lines : List (List ℕ)) (b : BoxState) (sheets : List (List Slip)) : Type 0 where
-  pub sizes : HasSizes poll lines b
-  pub casts : count_by is_cast b.steps ≡ length lines
-  pub legal : IsLegal b
-  pub closed_last : b.steps ≡ before_close b.steps ++ Close ∷ []
-  pub own_readings : HasOwnReadings poll lines b.steps
+  pub holds : HoldsLines poll lines b
   pub sheets_are : HasSlips b.steps sheets
 
 -- the step of this number is the first cast with another reading than its line

@@ -1,13 +1,12 @@
 -- What an audited box says of the voters: it is what the lines say, whatever the order in which they were cast.
-use Rattle.std.specs.Prelude.{◌≡◌, ℕ, ◌+◌, List, is_some, length, take, count_by}
+use Rattle.std.specs.Prelude.{◌≡◌, ℕ, List, take}
 use Rattle.vote_poll.specs.PollContent.{PollContent}
-use Rattle.vote_poll.specs.declared.Reading.{Reading}
-use Rattle.vote_poll.specs.Readings.{is_ballot, readings}
-use Rattle.vote_count.specs.Ballots.{entry_prefers}
+use Rattle.vote_poll.specs.Readings.{readings}
 use Rattle.vote_desks.specs.declared.slip.Slip.{Slip}
-use Rattle.vote_steps.specs.History.{standing_ranks, standing_votes, valid, refused, voters}
+use Rattle.vote_steps.specs.History.{standing_ranks}
 use Rattle.vote_steps.specs.Boxes.{BoxState}
-use Rattle.vote_steps.specs.Order.{last_ballot, last_ballots}
+use Rattle.vote_steps.specs.Order.{last_ballot}
+use Rattle.vote_steps.specs.Standing.{CountsLines}
 use Rattle.vote_desks.specs.Audit.{IsAudited}
 
 -- of each voter the ranks of the last line stand that reads as a ballot and is not late
@@ -16,14 +15,7 @@ LastLinesStand =
     (poll : PollContent) (lines : List (List ℕ)) (b : BoxState) (sheets : List (List Slip)) (voter : ℕ) → IsAudited poll lines b sheets
     → standing_ranks b.last b.steps voter ≡ last_ballot (take b.last (readings poll lines)) voter
 
--- the totals and the votes of a box are those of the lines: a line is valid where it reads as a ballot and is not late, and the
--- last valid one of each voter counts
-pub record CountsLines (readings : List Reading) (b : BoxState) : Type 0 where
-  pub valid_is : valid b.last b.steps ≡ count_by is_ballot (take b.last readings)
-  pub refused_is : valid b.last b.steps + refused b.last b.steps ≡ length readings
-  pub voters_are : voters b.last b.steps b.electors ≡ count_by is_some (last_ballots (take b.last readings) b.electors)
-  pub votes_are : (a c : ℕ) → standing_votes b.last b.steps b.electors a c ≡ count_by (entry_prefers a c) (last_ballots (take b.last readings) b.electors)
-
+-- the totals and the votes of the box are those of the lines
 abbrev pub LinesAreCounted : Type 0
 LinesAreCounted =
     (poll : PollContent) (lines : List (List ℕ)) (b : BoxState) (sheets : List (List Slip)) → IsAudited poll lines b sheets → CountsLines (readings poll lines) b

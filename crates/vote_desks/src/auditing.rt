@@ -3,9 +3,10 @@ ghost use Rattle.std.specs.Prelude.{◌≡◌, ◌≤◌, ◌↔◌, Err, length
 ghost use Rattle.vote_poll.specs.Readings.{readings};
 ghost use Rattle.vote_steps.specs.History.{is_cast, is_close, is_closed};
 ghost use Rattle.vote_steps.specs.Order.{HasOwnReading};
+ghost use Rattle.vote_steps.specs.Casting.{HasSizes, HasOwnReadings};
 ghost use Rattle.vote_desks.specs.Desks.{sheet_at};
 ghost use Rattle.vote_desks.specs.Comparing.{HasEnvelope};
-ghost use Rattle.vote_desks.specs.Audit.{HasSizes, HasOwnReadings, IsAudited, DiffersFirst, IsFaultOf};
+ghost use Rattle.vote_desks.specs.Audit.{IsAudited, DiffersFirst, IsFaultOf};
 
 use crate::fault::AuditFault;
 use crate::sealed::Sealed;

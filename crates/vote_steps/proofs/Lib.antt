@@ -4,3 +4,6 @@ pub mod LegalLemmas
 pub mod RecountLemmas
 pub mod KeepingLemmas
 pub mod OrderLemmas
+pub mod StandingLemmas
+pub mod LineLemmas
+pub mod CastLemmas

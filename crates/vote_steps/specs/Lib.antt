@@ -3,6 +3,8 @@ pub mod History
 pub mod Boxes
 pub mod Order
 pub mod Laws
+pub mod Casting
+pub mod Standing
 -- what types stand for, and what private functions say of their parts
 pub mod Keeping
 pub mod Receiving

@@ -1,6 +1,8 @@
 //! What the definitions on histories mean: each law is the contract of a function that does nothing.
 ghost use Rattle.vote_steps.specs.Order.{OrderDoesNotMatter, TheGreatestStands, EachCastIsCounted};
 ghost use Rattle.vote_steps.specs.Laws.{StampsAreDistinct, EachStampIsUsed, ClosesOnce, HasRoomForAll, VotesAreRecounted};
+ghost use Rattle.vote_steps.specs.Casting.{OrderLeavesNoChoice};
+ghost use Rattle.vote_steps.specs.Standing.{LastLinesStand, LinesAreCounted};
 
 /// Of each voter the ballot with the greatest stamp stands, of those that came before the close and are not late.
 pub fn the_greatest_stands()
@@ -40,4 +42,21 @@ pub fn has_room_for_all()
 /// The votes of a history are those of a recount of the ballots that stand.
 pub fn votes_are_recounted()
     ensures { VotesAreRecounted }
+{}
+
+/// In a box that holds the lines of a poll the last line of each voter stands that is not late, whatever the order in which
+/// the lines were cast.
+pub fn last_lines_stand()
+    ensures { LastLinesStand }
+{}
+
+/// What a box counts that holds the lines of a poll is what the lines say: how many are ballots and not late, how many voters
+/// have one, and how many voters' last such ballots prefer one option to another.
+pub fn lines_are_counted()
+    ensures { LinesAreCounted }
+{}
+
+/// There is one history in which desk 1 casts the lines of a poll in their order.
+pub fn order_leaves_no_choice()
+    ensures { OrderLeavesNoChoice }
 {}

@@ -15,6 +15,8 @@
 //! - A box may refuse late envelopes, those with a stamp above its last envelope. An envelope is late by its own number and
 //!   never by when it came, so that lateness, too, does not depend on the order of the desks. This is a rule of this project.
 //! - The matrix is at each time that of a recount of the ballots that stand.
+//! - [`cast_all`] casts the lines of a ballot file at one desk, in their order, and closes the box. What it means that a box
+//!   holds the lines of a poll (`HoldsLines`) is said here for every box, whatever the number of desks and the order.
 //! - The functions of [`laws`] say what follows of every history, whoever made it.
 //!
 //! Numbering: desks from 1 to [`MAX_DESKS`], stamps from 1 to the limit of the box, options from 1 with the default last,
@@ -23,11 +25,13 @@
 #![tactic(auto)]
 
 mod ballot_box;
+mod casting;
 pub mod laws;
 mod roll;
 mod step;
 
 pub use ballot_box::{AlreadyClosed, BallotBox, StepFault, Totals};
+pub use casting::cast_all;
 pub use step::{Received, Reply, Step};
 
 /// The most desks at which envelopes are cast. Desks are numbered from 1.

@@ -1,12 +1,12 @@
 //! Worked examples, whose readings are the poll's own.
 ghost use Rattle.std.specs.Prelude.{◌<◌, ◌≤◌};
 
-use crate::{AlreadyClosed, BallotBox, Reply, Step, StepFault, Totals};
+use crate::{AlreadyClosed, BallotBox, Reply, Step, StepFault, Totals, cast_all};
 use std::alloc::{AllocError, Global};
 use std::process::Abort;
 use std::test::Fail;
 use vote_count::{Matrix, recount};
-use vote_poll::{LineFault, MAX_LINES, Poll, PollFault, read_line};
+use vote_poll::{LineFault, Lines, LinesFault, MAX_LINES, Poll, PollFault, read_line};
 
 const TWO_ELECTORS: &str =
     "title = \"Two\"\noptions = [\"A\", \"B\"]\nratios = [1, 1]\ndefault = \"None\"\nquorum = 0\nroll = [\"ann\", \"bob\"]\n";
@@ -283,5 +283,31 @@ fn memory_of_new(rt: HostRuntime) -> Result<(), Fail> {
     let votes = [[0, 0, 1], [2, 0, 1], [1, 1, 0]];
     look(&rt, &ballot_box, [3, 0, 2], votes);
     assert_eq!(rt; ballot_box.steps().len(), 4);
+    Ok(())
+}
+
+// The lines of a ballot file, or `refused` where their memory was.
+fn lines_of<'a>(rt: &impl Abort, alloc: Global, text: &'a str) -> Result<Lines<'a>, &'static str> {
+    match Lines::split(alloc, text.as_bytes()) {
+        Ok(lines) => Ok(lines),
+        Err(fault) => {
+            assert_eq!(rt; fault, LinesFault::Memory);
+            Err("refused")
+        }
+    }
+}
+
+// One desk casts all lines in their order and closes the box, or is refused for want of memory.
+#[test]
+fn memory_of_cast_all(rt: HostRuntime) -> Result<(), Fail> {
+    let poll = poll_of_two(&rt, rt.alloc())?;
+    let lines = lines_of(&rt, rt.alloc(), "ann 1,2,3\nbob 2,1,3\nann 3,2,1\n")?;
+    let Ok(ballot_box) = cast_all(rt.alloc(), &poll, &lines) else {
+        return Err("refused".into());
+    };
+    assert!(rt; !ballot_box.is_open());
+    let votes = [[0, 0, 1], [2, 0, 1], [1, 1, 0]];
+    look(&rt, &ballot_box, [3, 0, 2], votes);
+    assert_eq!(rt; count_of(&ballot_box, Reply::Replaced), 1);
     Ok(())
 }

@@ -51,9 +51,9 @@ returns c =
       valid = ap (λ (t : Totals). t.valid) totals ∙ valid_are poll lines c.args.ballot_box.now held;
       refused = ap (λ (t : Totals). t.refused) totals ∙ refused_are poll lines c.args.ballot_box.now held;
       voters = ap (λ (t : Totals). t.voters) totals ∙ voters_are poll lines c.args.ballot_box.now held;
-      size = c.matrix-matrix.ensures.options ∙ held.options;
+      size = c.matrix-matrix.ensures.options ∙ held.sizes.0;
       counted = λ a b in_a in_b.
-          c.matrix-matrix.ensures.votes a b (in_a.0, omega (arith, in_a.1, held.options)) (in_b.0, omega (arith, in_b.1, held.options))
+          c.matrix-matrix.ensures.votes a b (in_a.0, omega (arith, in_a.1, held.sizes.0)) (in_b.0, omega (arith, in_b.1, held.sizes.0))
           ∙ votes_are poll lines c.args.ballot_box.now held a b;
       outcome = record {
         causes = c.in_ok-verdict.ensures.causes;

@@ -1,7 +1,7 @@
 use Rattle.std.proofs.Common.{◌∙◌, ap, sym}
 use Rattle.vote_steps.specs.Boxes.{BoxState}
 use Rattle.debvote.specs.Steps.{step_lines}
-use Rattle.debvote.proofs.CastLemmas.{one_history}
+use Rattle.vote_steps.proofs.CastLemmas.{one_history}
 use Rattle.debvote.proofs.steps.steps_are_determined.Goals as goal
 
 pub returns : goal.returns

@@ -5,7 +5,8 @@ use Rattle.vote_desks.specs.declared.fault.AuditFault.TheVariants.{StepDiffers, 
 use Rattle.vote_steps.specs.declared.Step.{Step}
 use Rattle.vote_steps.specs.declared.Step.TheVariants.{Close}
 use Rattle.vote_steps.specs.History.{is_cast, is_close, before_close}
-use Rattle.vote_desks.specs.Audit.{DiffersFirst, SheetDiffers, HasOwnReadings, HasSlips, IsEarlyClose, IsAudited}
+use Rattle.vote_steps.specs.Casting.{HasOwnReadings, HoldsLines}
+use Rattle.vote_desks.specs.Audit.{DiffersFirst, SheetDiffers, HasSlips, IsEarlyClose, IsAudited}
 use Rattle.vote_desks.specs.Comparing.{HasDesk, HasEnvelope}
 use Rattle.vote_desks.proofs.AuditLemmas.{legal_desks, legal_envelopes, Found, ok_exact, fault_exact, close_found, closed_last_at, early_at}
 use Rattle.vote_desks.proofs.auditing.compare.Goals as goal
@@ -75,7 +76,7 @@ returns-in_default-close_place c =
     let at = ap (position is_close) (sym here) ∙ sym c.in-Some-close_place.ensures in
     let long = ap length here in
     let last = closed_last_at b.steps c.in-Some-close_place.place c.requires.closed at (omega (arith, long, c.if-place-steps.false)) in
-    let found : Found poll lines b sheets (Ok tt) = (let a : IsAudited poll lines b sheets = record { sizes = sizes; casts = casts; legal = c.steps-steps.ensures.legal; closed_last = last; own_readings = readings; sheets_are = slips } in a) in
+    let found : Found poll lines b sheets (Ok tt) = (let held : HoldsLines poll lines b = record { sizes = sizes; casts = casts; legal = c.steps-steps.ensures.legal; closed_last = last; own_readings = readings } in let a : IsAudited poll lines b sheets = record { holds = held; sheets_are = slips } in a) in
     record { ok = ok_exact poll lines b sheets (Ok tt) found; fault = fault_exact poll lines b sheets (Ok tt) found }
 
 pub returns-in_default-close_place-2 : goal.returns-in_default-close_place-2
@@ -91,5 +92,5 @@ returns-in_default-close_place-2 c =
     let slips = subst (λ (xs : List Step). HasSlips xs sheets) here c.in_default-first_other_sheet.ensures in
     let at = ap (position is_close) (sym here) ∙ sym c.in_default-close_place.ensures in
     let last : b.steps ≡ before_close b.steps ++ Close ∷ [] = absurd (close_found b.steps at c.requires.closed) in
-    let found : Found poll lines b sheets (Ok tt) = (let a : IsAudited poll lines b sheets = record { sizes = sizes; casts = casts; legal = c.steps-steps.ensures.legal; closed_last = last; own_readings = readings; sheets_are = slips } in a) in
+    let found : Found poll lines b sheets (Ok tt) = (let held : HoldsLines poll lines b = record { sizes = sizes; casts = casts; legal = c.steps-steps.ensures.legal; closed_last = last; own_readings = readings } in let a : IsAudited poll lines b sheets = record { holds = held; sheets_are = slips } in a) in
     record { ok = ok_exact poll lines b sheets (Ok tt) found; fault = fault_exact poll lines b sheets (Ok tt) found }

@@ -2,23 +2,25 @@
 use Rattle.std.proofs.Common.{◌≡◌, ℕ, zero, suc, ◌+◌, ◌-◌, ◌<◌, ◌≤◌, false, ◌||◌, eqb, List, [], ◌∷◌, ◌++◌, Some, length, get_or, refl, inl, inr, sym, ap, ◌∙◌, subst, length-append, take, drop, arith}
 use Rattle.std.specs.Prelude.{All, count_by, slice_get}
 use Rattle.std.proofs.lemmas.Bool.{cases_lt, ne_eqb}
+use Rattle.std.proofs.lemmas.List.{take_at}
 use Rattle.std.proofs.lemmas.List.Elements.{All-nil, All-push}
+use Rattle.std.proofs.lemmas.Option.{get_or_from_slice_get, slice_get_within, slice_get-get_or}
 use mathlib.Core.List.{append-nil}
-use Rattle.vote_poll.specs.PollContent.{PollContent, elector_count, last_of, option_count}
+use Rattle.vote_poll.specs.PollContent.{PollContent, last_of}
 use Rattle.vote_poll.specs.Readings.{reading, readings}
 use Rattle.vote_poll.specs.declared.Reading.{Reading}
 use Rattle.vote_poll.specs.declared.Reading.TheVariants.{Bad}
 use Rattle.vote_poll.specs.declared.LineFault.TheVariants.{Shape}
-use Rattle.vote_steps.specs.declared.Reply.{Reply}
-use Rattle.vote_steps.specs.declared.Step.{Step}
-use Rattle.vote_steps.specs.declared.Step.TheVariants.{Cast, Close}
+use Rattle.vote_steps.specs.declared.step.Reply.{Reply}
+use Rattle.vote_steps.specs.declared.step.Step.{Step}
+use Rattle.vote_steps.specs.declared.step.Step.TheVariants.{Cast, Close}
 use Rattle.vote_steps.specs.History.{before_close, is_cast, is_closed, is_used, reply_to}
 use Rattle.vote_steps.specs.Boxes.{BoxState, IsLegal}
 use Rattle.vote_steps.specs.Order.{HasOwnReading}
 use Rattle.vote_steps.proofs.HistoryLemmas.{before_close-append_open, count_by-cast, is_closed-append, is_used-cast}
-use Rattle.vote_desks.proofs.StandingLemmas.{as_long}
-use Rattle.debvote.specs.Casting.{AreCastInOrder, HoldsLines, OrderLeavesNoChoice}
-use Rattle.debvote.proofs.Counts.{count-cons}
+use Rattle.vote_steps.specs.Casting.{AreCastInOrder, HasSizes, HoldsLines, OrderLeavesNoChoice}
+use Rattle.vote_steps.proofs.LineLemmas.{count-cons, take_next}
+use Rattle.vote_steps.proofs.StandingLemmas.{as_long}
 
 abbrev reading_at : List Reading → ℕ → Reading
 reading_at readings k = get_or readings k (Bad Shape)
@@ -35,16 +37,6 @@ pub begins : (b : BoxState) (readings : List Reading) (o options e electors l li
 unfolding casts_of
 begins b readings o options e electors l limit u last is same_options same_electors same_limit same_last = cc
 
-get_at : (readings : List Reading) (k : ℕ) (r : Reading) → slice_get readings k ≡ Some r → reading_at readings k ≡ r
-get_at [] k r h = cc
-get_at (x ∷ xs) zero r h = cc
-get_at (x ∷ xs) (suc k) r h = get_at xs k r h
-
-at_get : (readings : List Reading) (k : ℕ) → k < length readings → slice_get readings k ≡ Some (reading_at readings k)
-at_get [] k h = absurd (omega arith)
-at_get (x ∷ xs) zero h = refl
-at_get (x ∷ xs) (suc k) h = at_get xs k (omega arith)
-
 pub read_at : (poll : PollContent) (lines : List (List ℕ)) (k : ℕ) (line : List ℕ) → slice_get lines k ≡ Some line → slice_get (readings poll lines) k ≡ Some (reading poll line)
 read_at poll [] k line h = cc
 read_at poll (x ∷ xs) zero line h = let same : x ≡ line = cc in ap (λ y. Some (reading poll y)) same
@@ -57,7 +49,7 @@ unfolding casts_of
 casts_of_next last readings k zero r h e = absurd (omega arith)
 casts_of_next last readings k (suc m) r h e =
     let same : k ≡ m = omega arith in
-    let is = get_at readings k r h in
+    let is = get_or_from_slice_get readings k r (Bad Shape) h in
     ap (λ x. casts_of last readings k ++ Cast 1 (suc m) x (reply_to last (casts_of last readings k) (suc m) x) ∷ []) (sym is)
     ∙ ap (λ j. casts_of last readings j ++ Cast 1 (suc m) (reading_at readings j) (reply_to last (casts_of last readings j) (suc m) (reading_at readings j)) ∷ []) same
 
@@ -99,7 +91,7 @@ casts_of_own last readings (suc k) h =
     let back : suc k - 1 ≡ k = omega arith in
     All-push (HasOwnReading readings) (casts_of last readings k) (Cast 1 (suc k) r (reply_to last (casts_of last readings k) (suc k) r))
     (casts_of_own last readings k (omega arith))
-    (omega arith, ap (slice_get readings) back ∙ at_get readings k (omega arith))
+    (omega arith, ap (slice_get readings) back ∙ slice_get-get_or readings k (Bad Shape) (omega arith))
 
 get_before : (steps : List Step) (step : Step) (k : ℕ) → k < length steps → slice_get (steps ++ step ∷ []) k ≡ slice_get steps k
 get_before [] step k h = absurd (omega arith)
@@ -137,30 +129,22 @@ casts_of_at last readings (suc k) place h =
 module _ (last : ℕ) (readings : List Reading) (steps : List Step) (is : steps ≡ casts_of last readings (length readings) ++ Close ∷ []) where
   pub in_order : AreCastInOrder readings steps
   in_order place r h =
-      let within : place < length readings = get_within readings place r h in
+      let within : place < length readings = slice_get_within readings place r h in
       let at = casts_of_at last readings (length readings) place within in
       let long = casts_of_length last readings (length readings) in (
         at.0,
         ap (λ xs. slice_get xs place) is
             ∙ (get_before (casts_of last readings (length readings)) Close place (omega arith)
-            ∙ (at.1 ∙ ap (λ x. Some (Cast 1 (place + 1) x at.0)) (get_at readings place r h))),
+            ∙ (at.1 ∙ ap (λ x. Some (Cast 1 (place + 1) x at.0)) (get_or_from_slice_get readings place r (Bad Shape) h))),
       )
-    where
-      get_within : (xs : List Reading) (k : ℕ) (x : Reading) → slice_get xs k ≡ Some x → k < length xs
-      get_within [] k x e = cc
-      get_within (y ∷ ys) zero x e = omega arith
-      get_within (y ∷ ys) (suc k) x e = omega (arith, get_within ys k x e)
 
-pub holds_lines : (poll : PollContent) (lines : List (List ℕ)) (b : BoxState) → b.options ≡ option_count poll → b.electors ≡ elector_count poll → b.limit ≡ length lines → b.last ≡ last_of poll
+pub holds_lines : (poll : PollContent) (lines : List (List ℕ)) (b : BoxState) → HasSizes poll lines b
     → b.steps ≡ casts_of (last_of poll) (readings poll lines) (length lines) ++ Close ∷ [] → IsLegal b → HoldsLines poll lines b
-holds_lines poll lines b options electors limit last steps legal =
+holds_lines poll lines b sizes steps legal =
     let xs = casts_of (last_of poll) (readings poll lines) (length lines) in
     let open_is = casts_of_open (last_of poll) (readings poll lines) (length lines) in
     record {
-      options = options;
-      electors = electors;
-      limit = limit;
-      last = last;
+      sizes = sizes;
       casts = omega (arith, ap (count_by is_cast) steps, count_by-cast xs Close, casts_of_count (last_of poll) (readings poll lines) (length lines));
       legal = legal;
       closed_last = steps ∙ ap (λ front. front ++ Close ∷ []) (sym (ap before_close steps ∙ (before_close-append_open xs (Close ∷ []) open_is ∙ append-nil xs)));
@@ -175,17 +159,6 @@ split_at [] k step h = cc
 split_at (x ∷ xs) zero step h = let same : x ≡ step = cc in ap (λ y. y ∷ xs) same
 split_at (x ∷ xs) (suc k) step h = ap (λ ys. x ∷ ys) (split_at xs k step h)
 
-take_next : (steps : List Step) (k : ℕ) (step : Step) → slice_get steps k ≡ Some step → take (suc k) steps ≡ take k steps ++ step ∷ []
-take_next [] k step h = cc
-take_next (x ∷ xs) zero step h = let same : x ≡ step = cc in ap (λ y. y ∷ []) same
-take_next (x ∷ xs) (suc k) step h = ap (λ ys. x ∷ ys) (take_next xs k step h)
-
-take_front : (xs ys : List Step) (n : ℕ) → n ≡ length xs → take n (xs ++ ys) ≡ xs
-take_front [] ys zero e = refl
-take_front [] ys (suc n) e = absurd (omega arith)
-take_front (x ∷ xs) ys zero e = absurd (omega arith)
-take_front (x ∷ xs) ys (suc n) e = ap (λ zs. x ∷ zs) (take_front xs ys n (omega arith))
-
 only_casts : (steps : List Step) → count_by is_cast (before_close steps) ≡ length (before_close steps)
 only_casts [] = refl
 only_casts (Close ∷ steps) = refl
@@ -199,12 +172,12 @@ module _ (poll : PollContent) (lines : List (List ℕ)) (b : BoxState) (held : H
   so_far (suc k) h =
       let all = readings poll lines in
       let r = reading_at all k in
-      let at : (reply : Reply) × (slice_get b.steps k ≡ Some (Cast 1 (k + 1) r reply)) = in_turn k r (at_get all k (omega (arith, as_long poll lines))) in
+      let at : (reply : Reply) × (slice_get b.steps k ≡ Some (Cast 1 (k + 1) r reply)) = in_turn k r (slice_get-get_or all k (Bad Shape) (omega (arith, as_long poll lines))) in
       let step = Cast 1 (k + 1) r at.0 in
       let may = held.legal (take k b.steps) (drop (suc k) b.steps) step (split_at b.steps k step at.1) in
       let number : k + 1 ≡ suc k = omega arith in
       take_next b.steps k step at.1
-      ∙ (ap (λ reply. take k b.steps ++ Cast 1 (k + 1) r reply ∷ []) (may.answered ∙ ap (λ last. reply_to last (take k b.steps) (k + 1) r) held.last)
+      ∙ (ap (λ reply. take k b.steps ++ Cast 1 (k + 1) r reply ∷ []) (may.answered ∙ ap (λ last. reply_to last (take k b.steps) (k + 1) r) held.sizes.3)
       ∙ (ap (λ xs. xs ++ Cast 1 (k + 1) r (reply_to (last_of poll) xs (k + 1) r) ∷ []) (so_far k (omega arith))
       ∙ ap (λ n. casts_of (last_of poll) all k ++ Cast 1 n r (reply_to (last_of poll) (casts_of (last_of poll) all k) n r) ∷ []) number))
 
@@ -214,7 +187,7 @@ module _ (poll : PollContent) (lines : List (List ℕ)) (b : BoxState) (held : H
       let long : length lines ≡ length xs = omega (arith, held.casts, ap (count_by is_cast) held.closed_last, count_by-cast xs Close, only_casts b.steps) in
       held.closed_last
       ∙ ap (λ front. front ++ Close ∷ [])
-      (sym (take_front xs (Close ∷ []) (length lines) long) ∙ (sym (ap (take (length lines)) held.closed_last) ∙ so_far (length lines) (omega arith)))
+      (sym (take_at xs (Close ∷ []) (length lines) (sym long)) ∙ (sym (ap (take (length lines)) held.closed_last) ∙ so_far (length lines) (omega arith)))
 
 same_box : (b c : BoxState) → b.options ≡ c.options → b.electors ≡ c.electors → b.limit ≡ c.limit → b.last ≡ c.last → b.steps ≡ c.steps → b ≡ c
 same_box b c options electors limit last steps =
@@ -226,5 +199,7 @@ same_box b c options electors limit last steps =
 
 pub one_history : OrderLeavesNoChoice
 one_history poll lines b c held held' in_turn in_turn' =
-    same_box b c (held.options ∙ sym held'.options) (held.electors ∙ sym held'.electors) (held.limit ∙ sym held'.limit) (held.last ∙ sym held'.last)
+    let mine = held.sizes in
+    let theirs = held'.sizes in
+    same_box b c (mine.0 ∙ sym theirs.0) (mine.1 ∙ sym theirs.1) (mine.2 ∙ sym theirs.2) (mine.3 ∙ sym theirs.3)
     (history_is poll lines b held in_turn ∙ sym (history_is poll lines c held' in_turn'))

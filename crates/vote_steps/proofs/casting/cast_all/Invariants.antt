@@ -1,8 +1,8 @@
 use Rattle.std.proofs.Common.{◌≡◌, length}
 use Rattle.vote_poll.specs.PollContent.{elector_count, last_of, option_count}
 use Rattle.vote_poll.specs.Readings.{readings}
-use Rattle.debvote.proofs.CastLemmas.{casts_of}
-use Rattle.debvote.proofs.casting.cast_all.Given as goal
+use Rattle.vote_steps.proofs.CastLemmas.{casts_of}
+use Rattle.vote_steps.proofs.casting.cast_all.Given as goal
 
 -- the lines before this one are cast
 abbrev pub invariant-loop-place : goal.invariant-loop-place

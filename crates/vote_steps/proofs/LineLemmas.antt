@@ -1,32 +1,36 @@
--- What an audited box counts is what the lines say.
-use Rattle.std.proofs.Common.{◌≡◌, ℕ, ◌+◌, ◌-◌, ◌<◌, ◌≤◌, zero, suc, cond, eqb, Bool, true, false, not, ◌||◌, List, [], ◌∷◌, ◌++◌, Option, Some, None, length, take, map, refl, sym, ap, ◌∙◌, ⊎_elim, arith, append_assoc}
+-- What a box that holds the lines counts is what the lines say.
+use Rattle.std.proofs.Common.{◌≡◌, ℕ, ◌+◌, ◌-◌, ◌<◌, ◌≤◌, zero, suc, cond, eqb, Bool, true, false, not, ◌||◌, List, [], ◌∷◌, ◌++◌, Option, Some, None, length, get_or, take, map, refl, sym, ap, ◌∙◌, ⊎_elim, arith, append_assoc}
 use Rattle.std.specs.Prelude.{slice_get, is_some, option_and_then}
 use Rattle.std.specs.List.{AllByRecursion, count_by, range_with_len}
 use Rattle.std.proofs.lemmas.Bool.{cases_eq, cases_lt, eq-eqb, ne_eqb, lt-ltb, le-ltb}
 use Rattle.std.proofs.lemmas.List.{take_all}
+use Rattle.std.proofs.Math.Bool.{or-false}
+use Rattle.std.proofs.Math.Seq.{take-suc}
 use Rattle.std.proofs.lemmas.List.Elements.{recursion_from_All}
 use Rattle.std.proofs.lemmas.List.Sums.{sum_by-cons, sum_by_push}
-use Rattle.std.proofs.lemmas.Option.{slice_get_within}
+use Rattle.std.proofs.lemmas.Option.{get_or_from_slice_get, slice_get_within, slice_get-get_or}
 use Rattle.vote_poll.specs.declared.Reading.{Reading}
 use Rattle.vote_poll.specs.declared.Reading.TheVariants.{Ballot, Bad}
 use Rattle.vote_poll.specs.Readings.{is_ballot as is_ballot_reading, readings}
 use Rattle.vote_count.specs.Ballots.{entry_prefers}
-use Rattle.vote_steps.specs.declared.Received.{Received}
-use Rattle.vote_steps.specs.declared.Step.{Step}
-use Rattle.vote_steps.specs.declared.Step.TheVariants.{Cast, Close}
+use Rattle.vote_steps.specs.declared.step.Received.{Received}
+use Rattle.vote_steps.specs.declared.step.Step.{Step}
+use Rattle.vote_steps.specs.declared.step.Step.TheVariants.{Cast, Close}
 use Rattle.vote_steps.specs.History.{is_ballot, is_late, is_used, is_for, before_close, standing, standing_ranks, valid}
 use Rattle.vote_steps.specs.Boxes.{BoxState, IsLegal}
 use Rattle.vote_steps.specs.Order.{HasOwnReading, last_ballot}
 use Rattle.vote_steps.proofs.HistoryLemmas.{valid-refused, is_used-cast, is_used-close}
 use Rattle.vote_steps.proofs.LegalLemmas.{each_stamp_is_used_lem}
-use Rattle.vote_desks.specs.Standing.{LinesAreCounted}
-use Rattle.vote_desks.proofs.SlipLemmas.{take-suc-get}
-use Rattle.vote_desks.proofs.StandingLemmas.{as_long, last_lines_stand_lem}
+use Rattle.vote_steps.specs.Standing.{LinesAreCounted}
+use Rattle.vote_steps.proofs.StandingLemmas.{as_long, last_lines_stand_lem}
 
-abbrev one : Bool → ℕ
+pub take_next : {X : Type 0} (xs : List X) (n : ℕ) (x : X) → slice_get xs n ≡ Some x → take (suc n) xs ≡ take n xs ++ x ∷ []
+take_next xs n x h = take-suc xs n x (slice_get_within xs n x h) ∙ ap (λ y. take n xs ++ y ∷ []) (get_or_from_slice_get xs n x x h)
+
+abbrev pub one : Bool → ℕ
 one t = cond {A = ℕ} t 1 0
 
-count-cons : {X : Type 0} (p : X → Bool) (x : X) (xs : List X) → count_by p (x ∷ xs) ≡ one (p x) + count_by p xs
+pub count-cons : {X : Type 0} (p : X → Bool) (x : X) (xs : List X) → count_by p (x ∷ xs) ≡ one (p x) + count_by p xs
 count-cons p x xs = sum_by-cons (λ y. one (p y)) x xs
 
 -- each envelope is cast once
@@ -56,13 +60,9 @@ at_most_once b legal n before (Cast d s r p ∷ after) here =
     let now : (is_used before n || eqb s n) ≡ true = ap (λ t. t || eqb s n) unused ∙ eq-eqb s n is in
     omega (arith, more, next, same, ap (λ t. cond {A = ℕ} t 0 1) now, ap (λ t. cond {A = ℕ} t 0 1) unused, ap one (eq-eqb s n is)))
     (λ (other : s ≡ n → ⊥).
-    let now : (is_used before n || eqb s n) ≡ is_used before n = ap (λ t. is_used before n || t) (ne_eqb s n other) ∙ or_false (is_used before n) in
+    let now : (is_used before n || eqb s n) ≡ is_used before n = ap (λ t. is_used before n || t) (ne_eqb s n other) ∙ or-false (is_used before n) in
     omega (arith, more, next, same, ap (λ t. cond {A = ℕ} t 0 1) now, ap one (ne_eqb s n other)))
     (cases_eq s n)
-  where
-    or_false : (t : Bool) → (t || false) ≡ t
-    or_false true = refl
-    or_false false = refl
 
 used_is_cast : (n : ℕ) (steps : List Step) → is_used steps n ≡ true → 1 ≤ casts_of n steps
 used_is_cast n [] used = cc
@@ -185,8 +185,7 @@ all_in_time last readings (Cast d s (Ballot voter ranks) p ∷ steps) above own 
 
 some_within : (readings : List Reading) (n : ℕ) → n < length readings → (r : Reading) × (slice_get readings n ≡ Some r)
 some_within [] n h = absurd (omega arith)
-some_within (r ∷ rs) zero h = (r, refl)
-some_within (r ∷ rs) (suc n) h = some_within rs n (omega arith)
+some_within (r ∷ rs) n h = (get_or (r ∷ rs) n r, slice_get-get_or (r ∷ rs) n r h)
 
 ballots_in_time : (readings : List Reading) (steps : List Step) → AllByRecursion (HasOwnReading readings) steps → ((n : ℕ) → n < length readings → casts_of (suc n) steps ≡ 1)
     → (n : ℕ) → n ≤ length readings → count_by (is_ballot n) steps ≡ count_by is_ballot_reading (take n readings)
@@ -195,7 +194,7 @@ ballots_in_time readings steps own once (suc n) h =
     let line = some_within readings n (omega arith) in
     let t = is_ballot_reading line.0 in
     let here : count_by is_ballot_reading (take (suc n) readings) ≡ count_by is_ballot_reading (take n readings) + one t =
-    ap (count_by is_ballot_reading) (take-suc-get readings n line.0 line.1) ∙ sum_by_push (λ r. one (is_ballot_reading r)) (take n readings) line.0 in
+    ap (count_by is_ballot_reading) (take_next readings n line.0 line.1) ∙ sum_by_push (λ r. one (is_ballot_reading r)) (take n readings) line.0 in
     omega (
       arith,
       one_envelope_more n steps,
@@ -231,22 +230,22 @@ prefers_alike a c None = refl
 prefers_alike a c (Some ballot) = refl
 
 pub lines_are_counted_lem : LinesAreCounted
-lines_are_counted_lem poll lines b sheets a =
+lines_are_counted_lem poll lines b held =
     let rs = readings poll lines in
     let early = take b.last rs in
-    let stand : (voter : ℕ) → standing_ranks b.last b.steps voter ≡ last_ballot early voter = λ voter. last_lines_stand_lem poll lines b sheets voter a in
+    let stand : (voter : ℕ) → standing_ranks b.last b.steps voter ≡ last_ballot early voter = λ voter. last_lines_stand_lem poll lines b voter held in
     let long = as_long poll lines in
-    let limit = a.sizes.2 in
-    let own = recursion_from_All (HasOwnReading rs) b.steps a.own_readings in
+    let limit = held.sizes.2 in
+    let own = recursion_from_All (HasOwnReading rs) b.steps held.own_readings in
     let once : (n : ℕ) → n < length rs → casts_of (suc n) b.steps ≡ 1 = λ n low.
-    (let used = each_stamp_is_used_lem b a.legal (a.casts ∙ sym a.sizes.2) (suc n) (omega arith) (omega (arith, low, long, limit)) in
-    omega (arith, at_most_once b a.legal (suc n) [] b.steps refl, used_is_cast (suc n) b.steps used)) in
+    (let used = each_stamp_is_used_lem b held.legal (held.casts ∙ sym held.sizes.2) (suc n) (omega arith) (omega (arith, low, long, limit)) in
+    omega (arith, at_most_once b held.legal (suc n) [] b.steps refl, used_is_cast (suc n) b.steps used)) in
     let before : count_by (is_ballot b.last) b.steps ≡ valid b.last b.steps =
-    ap (count_by (is_ballot b.last)) a.closed_last ∙ sum_by_push (λ s. one (is_ballot b.last s)) (before_close b.steps) Close ∙ omega arith in
+    ap (count_by (is_ballot b.last)) held.closed_last ∙ sum_by_push (λ s. one (is_ballot b.last s)) (before_close b.steps) Close ∙ omega arith in
     let standing_there = standing b.last b.steps in
     record {
       valid_is = sym before ∙ valid_lines b.last rs b.steps own once;
-      refused_is = valid-refused b.last b.steps ∙ a.casts ∙ sym long;
+      refused_is = valid-refused b.last b.steps ∙ held.casts ∙ sym long;
       voters_are = count-maps is_some is_some standing_there (last_ballot early) (range_with_len 0 b.electors) (λ voter. has_ranks (standing_there voter) ∙ ap is_some (stand voter));
       votes_are = λ x y. count-maps (is_for x y) (entry_prefers x y) standing_there (last_ballot early) (range_with_len 0 b.electors) (λ voter. prefers_alike x y (standing_there voter) ∙ ap (entry_prefers x y) (stand voter));
     }

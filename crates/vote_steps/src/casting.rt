@@ -3,12 +3,12 @@
 ghost use Rattle.std.specs.Prelude.{◌≡◌, ◌≤◌, ◌∷◌, ◌++◌, [], false, IfOk};
 ghost use Rattle.vote_poll.specs.Readings.{ReadingFits, readings};
 ghost use Rattle.vote_steps.specs.History.{is_used, reply_to};
-ghost use Rattle.vote_steps.specs.declared.Step.TheVariants.{Cast};
-ghost use Rattle.debvote.specs.Casting.{AreCastInOrder, HoldsLines, OrderLeavesNoChoice};
+ghost use Rattle.vote_steps.specs.declared.step.Step.TheVariants.{Cast};
+ghost use Rattle.vote_steps.specs.Casting.{AreCastInOrder, HoldsLines};
 
+use crate::ballot_box::BallotBox;
 use std::alloc::{AllocError, Global};
 use vote_poll::{Lines, Poll, Reading, read_line};
-use vote_steps::BallotBox;
 
 // Casts at desk 1 what was read in the line with this stamp, which is a new one.
 fn cast_at_desk_1(ballot_box: &mut BallotBox, stamp: u32, reading: Reading)
@@ -44,8 +44,3 @@ pub fn cast_all(alloc: Global, poll: &Poll, lines: &Lines<'_>) -> Result<BallotB
     };
     Ok(ballot_box)
 }
-
-/// There is one history in which desk 1 casts the lines of a poll in their order.
-pub fn order_leaves_no_choice()
-    ensures { OrderLeavesNoChoice }
-{}

@@ -2,13 +2,13 @@ use Rattle.std.proofs.Common.{◌≡◌, ℕ, ◌+◌, ◌∷◌, ◌++◌, [], 
 use Rattle.std.proofs.lemmas.Bool.{true≢false}
 use Rattle.vote_poll.specs.PollContent.{elector_count, last_of, option_count}
 use Rattle.vote_poll.specs.Readings.{readings}
-use Rattle.vote_steps.specs.declared.Step.{Step}
-use Rattle.vote_steps.specs.declared.Step.TheVariants.{Cast, Close}
+use Rattle.vote_steps.specs.declared.step.Step.{Step}
+use Rattle.vote_steps.specs.declared.step.Step.TheVariants.{Cast, Close}
 use Rattle.vote_steps.specs.History.{is_closed, is_used, reply_to}
 use Rattle.vote_steps.specs.Boxes.{BoxState}
-use Rattle.vote_desks.proofs.StandingLemmas.{as_long}
-use Rattle.debvote.proofs.CastLemmas.{begins, casts_of, casts_of_next, casts_of_open, casts_of_unused, holds_lines, in_order, read_at}
-use Rattle.debvote.proofs.casting.cast_all.Goals as goal
+use Rattle.vote_steps.proofs.StandingLemmas.{as_long}
+use Rattle.vote_steps.proofs.CastLemmas.{begins, casts_of, casts_of_next, casts_of_open, casts_of_unused, holds_lines, in_order, read_at}
+use Rattle.vote_steps.proofs.casting.cast_all.Goals as goal
 
 pub loop-place-init : goal.loop-place-init
 loop-place-init c =
@@ -68,7 +68,8 @@ pub returns-clause-held : goal.returns-clause-held
 returns-clause-held c =
     let is = closed_steps c in
     holds_lines c.args.poll.now c.args.lines.now c.close.new.self
-    (ap (λ (b : BoxState). b.options) is) (ap (λ (b : BoxState). b.electors) is) (ap (λ (b : BoxState). b.limit) is) (ap (λ (b : BoxState). b.last) is) (ap (λ (b : BoxState). b.steps) is)
+    (ap (λ (b : BoxState). b.options) is, ap (λ (b : BoxState). b.electors) is, ap (λ (b : BoxState). b.limit) is, ap (λ (b : BoxState). b.last) is)
+    (ap (λ (b : BoxState). b.steps) is)
     c.in-Ok.ensures.legal
 
 pub returns-clause-in_order : goal.returns-clause-in_order

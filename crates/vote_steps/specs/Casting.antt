@@ -3,24 +3,28 @@ use Rattle.std.specs.Prelude.{◌≡◌, ℕ, ◌+◌, List, [], ◌∷◌, ◌+
 use Rattle.vote_poll.specs.PollContent.{PollContent, elector_count, last_of, option_count}
 use Rattle.vote_poll.specs.declared.Reading.{Reading}
 use Rattle.vote_poll.specs.Readings.{readings}
-use Rattle.vote_steps.specs.declared.Reply.{Reply}
-use Rattle.vote_steps.specs.declared.Step.{Step}
-use Rattle.vote_steps.specs.declared.Step.TheVariants.{Cast, Close}
+use Rattle.vote_steps.specs.declared.step.Reply.{Reply}
+use Rattle.vote_steps.specs.declared.step.Step.{Step}
+use Rattle.vote_steps.specs.declared.step.Step.TheVariants.{Cast, Close}
 use Rattle.vote_steps.specs.History.{before_close, is_cast}
 use Rattle.vote_steps.specs.Boxes.{BoxState, IsLegal}
 use Rattle.vote_steps.specs.Order.{HasOwnReading}
 
--- The box is of the poll's size, and has a number for each line and the poll's last envelope. Its history is legal, has as many
--- casts as there are lines, each with what the poll reads in the line with its stamp, and ends with its only close.
+-- the box is of the poll's size and has its last envelope, and has a number for each line
+abbrev pub HasSizes : PollContent → List (List ℕ) → BoxState → Type 0
+HasSizes poll lines b = (b.options ≡ option_count poll) × (b.electors ≡ elector_count poll) × (b.limit ≡ length lines) × (b.last ≡ last_of poll)
+
+-- each cast has what the poll reads in the line with its stamp
+abbrev pub HasOwnReadings : PollContent → List (List ℕ) → List Step → Type 0
+HasOwnReadings poll lines steps = All (HasOwnReading (readings poll lines)) steps
+
+-- each line of a poll is one step of a legal history, whose only close is the last
 pub record HoldsLines (poll : PollContent) (lines : List (List ℕ)) (b : BoxState) : Type 0 where
-  pub options : b.options ≡ option_count poll
-  pub electors : b.electors ≡ elector_count poll
-  pub limit : b.limit ≡ length lines
-  pub last : b.last ≡ last_of poll
+  pub sizes : HasSizes poll lines b
   pub casts : count_by is_cast b.steps ≡ length lines
   pub legal : IsLegal b
   pub closed_last : b.steps ≡ before_close b.steps ++ Close ∷ []
-  pub own_readings : All (HasOwnReading (readings poll lines)) b.steps
+  pub own_readings : HasOwnReadings poll lines b.steps
 
 -- desk 1 cast the lines in their order: the step at each line's place is the cast of that line
 abbrev pub AreCastInOrder : List Reading → List Step → Type 0
