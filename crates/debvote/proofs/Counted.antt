@@ -5,8 +5,8 @@ use Rattle.vote_poll.specs.Lines.{lines_of}
 use Rattle.vote_poll.specs.PollContent.{PollContent}
 use Rattle.vote_poll.specs.PollFile.{poll_in}
 use Rattle.debvote.specs.Counting.{IsCountOf, casting_option, ended_of}
-use Rattle.debvote.specs.Sheet.{Sheet, Text, sheet_text}
-use Rattle.debvote.specs.SheetOf.{IsSheetOf}
+use Rattle.vote_sheet.specs.Sheet.{Sheet, Text, sheet_text}
+use Rattle.vote_sheet.specs.SheetOf.{IsSheetOf}
 use Rattle.debvote.specs.declared.fault.Ended.{Ended}
 
 -- the sheet that was made of the lines, and how the count ends by it

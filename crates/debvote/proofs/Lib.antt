@@ -1,11 +1,4 @@
 pub mod Counted
-pub mod Counts
-pub mod Deciding
-pub mod Holding
 pub mod Orders
-pub mod Padding
-pub mod PrintedSheets
 pub mod Separators
-pub mod Texts
-pub mod Uniqueness
 pub mod Written

@@ -3,7 +3,7 @@ use Rattle.std.proofs.Common.{◌≡◌, List, Option, Result, Ok, Err, IsOk, If
 use Rattle.vote_poll.specs.PollFile.{poll_in}
 use Rattle.vote_poll.specs.declared.lines.TheConstants.{MAX_LINES}
 use Rattle.debvote.specs.Runs.{AnswersLines, AnswersPoll, Writes}
-use Rattle.debvote.specs.Texts.{Text}
+use Rattle.vote_sheet.specs.Texts.{Text}
 use Rattle.debvote.specs.declared.fault.RunFault.{RunFault}
 use Rattle.debvote.specs.declared.fault.RunFault.TheVariants.{Poll, NoSuchOption, Lines, Vote, Memory, Output}
 

@@ -8,8 +8,8 @@ use Rattle.vote_poll.specs.Names.{place_of}
 use Rattle.vote_poll.specs.PollContent.{PollContent}
 use Rattle.vote_poll.specs.PollFile.{poll_in}
 use Rattle.vote_files.specs.Device.{AppendsPrefix}
-use Rattle.debvote.specs.Sheet.{Sheet, Text, sheet_text}
-use Rattle.debvote.specs.SheetOf.{IsSheetOf}
+use Rattle.vote_sheet.specs.Sheet.{Sheet, Text, sheet_text}
+use Rattle.vote_sheet.specs.SheetOf.{IsSheetOf}
 use Rattle.debvote.specs.declared.fault.Ended.{Ended}
 use Rattle.debvote.specs.declared.fault.Ended.TheVariants as ended
 use Rattle.debvote.specs.declared.fault.RunFault.{RunFault}

@@ -2,7 +2,7 @@
 use Rattle.std.specs.Prelude.{ℕ, ◌-◌, ◌==◌, ◌||◌, ◌&&◌, Bool, [], Option, Some, None, codes, drop, length, position, slice_index, take}
 use Rattle.std.specs.List.{range_with_len}
 use Rattle.std.specs.Str.{bytes_eq}
-use Rattle.debvote.specs.Texts.{Text}
+use Rattle.vote_sheet.specs.Texts.{Text}
 
 -- a line begins at the front of a text, and after each line feed
 abbrev pub begins_line : Text → ℕ → Bool

@@ -9,8 +9,8 @@ use Rattle.vote_poll.specs.declared.lines.LinesFault.{LinesFault}
 use Rattle.vote_poll.specs.declared.lines.LinesFault.TheVariants as lines
 use Rattle.vote_files.specs.Device.{AppendsPrefix}
 use Rattle.debvote.specs.Joined.{joined_parts}
-use Rattle.debvote.specs.Steps.{IsStepsText, check_text}
-use Rattle.debvote.specs.Texts.{Text}
+use Rattle.vote_sheet.specs.Steps.{IsStepsText, check_text}
+use Rattle.vote_sheet.specs.Texts.{Text}
 use Rattle.debvote.specs.declared.fault.RunFault.{RunFault}
 use Rattle.debvote.specs.declared.fault.RunFault.TheVariants as run
 

@@ -7,8 +7,8 @@ ghost use Rattle.vote_poll.specs.PollContent.{option_count};
 ghost use Rattle.vote_desks.specs.Faults.{CanStopVotes};
 ghost use Rattle.debvote.specs.Counting.{AnswersCasting, NamesNoOption, WritesCount, casting_option, ended_of};
 ghost use Rattle.debvote.specs.Runs.{AnswersLines, AnswersPoll};
-ghost use Rattle.debvote.specs.Sheet.{Sheet, sheet_text};
-ghost use Rattle.debvote.specs.SheetOf.{IsSheetOf};
+ghost use Rattle.vote_sheet.specs.Sheet.{Sheet, sheet_text};
+ghost use Rattle.vote_sheet.specs.SheetOf.{IsSheetOf};
 
 use crate::fault::{Ended, RunFault};
 use crate::sheet::sheet_and_decision;

@@ -9,8 +9,8 @@
 //! - `order`: what the words of the command line ask for;
 //! - `output`: the text of a run written whole;
 //! - `joined`: the two parts of a joined input;
-//! - `steps`: the texts of `steps` and `check`, and the runs that write them;
-//! - `results`, `sheet_text`, `sheet`: the result sheet, its text and what it means;
+//! - `steps`: the runs of `steps` and `check`;
+//! - `sheet`: the result sheet of an audited box;
 //! - `counting`: the run that counts and writes the sheet;
 //! - `fault`: how a run ends, its fault lines and exit statuses.
 #![tactic(auto)]
@@ -24,11 +24,9 @@ mod hostile_tests;
 mod joined;
 mod order;
 mod output;
-mod results;
 mod sheet;
 #[cfg(test)]
 mod sheet_tests;
-mod sheet_text;
 mod steps;
 #[cfg(test)]
 mod tests;

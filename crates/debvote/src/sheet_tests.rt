@@ -59,14 +59,6 @@ pub(crate) fn ballots_text(alloc: Global, ballots: &[(usize, &str)]) -> Result<S
     Ok(text)
 }
 
-/// The option of a name.
-#[tactic(auto, using(crate::proofs::Deciding::named_option))]
-fn option_of(poll: &Poll, name: &str) -> Option<u8>
-    ensures { IfSome result (IsOption (option_count poll.now)) }
-{
-    poll.option_of(name.as_bytes())
-}
-
 /// The sheet and the decision of an audited box, which both calls answer alike.
 fn the_one_sheet(
     alloc: Global,
@@ -92,18 +84,13 @@ fn printed<R: Threads + Wait + Sync>(
     desks: u8,
     poll: &str,
     ballots: &str,
-    casting: Option<&str>,
 ) -> Result<(String, Decision), Fail>
     requires { (1 ≤ desks) × (desks ≤ MAX_DESKS) }
 {
     let poll = Poll::from_text(alloc, poll.as_bytes())?;
     let lines = Lines::split(alloc, ballots.as_bytes())?;
     let audited = take_votes(rt, alloc, &poll, &lines, desks, &NoGate)?;
-    let casting = match casting {
-        Some(name) => option_of(&poll, name),
-        None => None,
-    };
-    the_one_sheet(alloc, &poll, &lines, &audited, casting)
+    the_one_sheet(alloc, &poll, &lines, &audited, None)
 }
 
 /// The ballots of a cycle among three options.
@@ -111,12 +98,6 @@ pub(crate) const CYCLE: [(usize, &str); 3] = [(4, "1,2,3,4"), (3, "3,1,2,4"), (2
 
 pub(crate) const A_CYCLE: &str =
     "Poll: A cycle\nElectors: 9\nQuorum: 3Q, 5 votes\nLines: 9\nValid: 9\nRefused: 0\nVoters: 9\nOptions:\n  1 ratio 1 A\n  2 ratio 1 B\n  3 ratio 1 C\n  4 default None\nVotes:\n        1     2     3     4\n  1     -     6     4     9\n  2     3     -     7     9\n  3     5     2     -     9\n  4     0     0     0     -\nDropped:\n  none\nDefeats:\n  1 over 2 by 6 to 3\n  1 over 4 by 9 to 0\n  2 over 3 by 7 to 2\n  2 over 4 by 9 to 0\n  3 over 1 by 5 to 4\n  3 over 4 by 9 to 0\nRound 1: 1 2 3\n  drop 3 over 1\nRound 2: 1\nWinner: 1 A\n";
-
-const NO_BALLOTS: &str =
-    "Poll: No ballots\nElectors: 9\nQuorum: 3Q, 5 votes\nLines: 0\nValid: 0\nRefused: 0\nVoters: 0\nOptions:\n  1 ratio 1 A\n  2 ratio 1 B\n  3 ratio 1 C\n  4 default None\nVotes:\n        1     2     3     4\n  1     -     0     0     0\n  2     0     -     0     0\n  3     0     0     -     0\n  4     0     0     0     -\nDropped:\n  1 quorum\n  2 quorum\n  3 quorum\nDefeats:\n  none\nRound 1: 4\nWinner: 4 None\n";
-
-const A_TIE: &str =
-    "Poll: A tie\nElectors: 3\nQuorum: 1Q, 1 votes\nLines: 3\nValid: 3\nRefused: 0\nVoters: 3\nOptions:\n  1 ratio 1 A\n  2 ratio 1 B\n  3 ratio 1 C\n  4 default None\nVotes:\n        1     2     3     4\n  1     -     2     1     3\n  2     1     -     2     3\n  3     2     1     -     3\n  4     0     0     0     -\nDropped:\n  none\nDefeats:\n  1 over 2 by 2 to 1\n  1 over 4 by 3 to 0\n  2 over 3 by 2 to 1\n  2 over 4 by 3 to 0\n  3 over 1 by 2 to 1\n  3 over 4 by 3 to 0\nRound 1: 1 2 3\n  drop 1 over 2\n  drop 2 over 3\n  drop 3 over 1\nRound 2: 1 2 3\n";
 
 /// The sheet of a hundred envelopes up to the number of lines, and from the number of voters.
 const A_HUNDRED_LINES: &str =
@@ -134,66 +115,15 @@ fn assert_printed<R: Threads + Wait + Abort + Sync>(
     alloc: Global,
     desks: u8,
     texts: (&str, &str),
-    casting: Option<&str>,
     whole: &str,
     decision: Decision,
 ) -> Result<(), Fail>
     requires { (1 ≤ desks) × (desks ≤ MAX_DESKS) }
 {
     let (poll, ballots) = texts;
-    let (text, decided) = printed(rt, alloc, desks, poll, ballots, casting)?;
+    let (text, decided) = printed(rt, alloc, desks, poll, ballots)?;
     assert!(rt; text.as_str() == whole, "{}", text);
     assert_eq!(rt; decided, decision);
-    Ok(())
-}
-
-#[test]
-fn no_ballots(rt: HostRuntime) -> Result<(), Fail> {
-    let alloc = rt.alloc();
-    let poll = poll_text(alloc, "No ballots", &["A", "B", "C"], 1, 3, 9)?;
-    let texts = (poll.as_str(), "");
-    assert_printed(&rt, alloc, 8, texts, None, NO_BALLOTS, Decision::Winner(4))
-}
-
-#[test]
-fn a_cycle(rt: HostRuntime) -> Result<(), Fail> {
-    let alloc = rt.alloc();
-    let poll = poll_text(alloc, "A cycle", &["A", "B", "C"], 1, 3, 9)?;
-    let ballots = ballots_text(alloc, &CYCLE)?;
-    let texts = (poll.as_str(), ballots.as_str());
-    for casting in [None, Some("None")] {
-        let winner = Decision::Winner(1);
-        assert_printed(&rt, alloc, 1, texts, casting, A_CYCLE, winner)?;
-    }
-    Ok(())
-}
-
-/// Asserts how the sheet of a tie among three options ends.
-fn assert_tie<R: Threads + Wait + Abort + Sync>(
-    rt: &R,
-    alloc: Global,
-    casting: Option<&str>,
-    decision: Decision,
-    ending: &str,
-) -> Result<(), Fail> {
-    let poll = poll_text(alloc, "A tie", &["A", "B", "C"], 1, 1, 3)?;
-    let ballots = ballots_text(alloc, &[(1, "1,2,3,4"), (1, "3,1,2,4"), (1, "2,3,1,4")])?;
-    let whole = format!(in alloc; "{A_TIE}{ending}")?;
-    let texts = (poll.as_str(), ballots.as_str());
-    assert_printed(rt, alloc, 1, texts, casting, whole.as_str(), decision)
-}
-
-#[test]
-fn endings_of_a_tie(rt: HostRuntime) -> Result<(), Fail> {
-    let by_casting = "Winner: 2 B by casting vote\n";
-    let outside = "Tie: 1 2 3, casting option 4 is not among them\n";
-    for (casting, decision, ending) in [
-        (None, Decision::Tie, "Tie: 1 2 3\n"),
-        (Some("B"), Decision::Winner(2), by_casting),
-        (Some("None"), Decision::CastingOutside(4), outside),
-    ] {
-        assert_tie(&rt, rt.alloc(), casting, decision, ending)?;
-    }
     Ok(())
 }
 
@@ -229,7 +159,7 @@ fn assert_hundred<R: Threads + Wait + Abort + Sync>(
     let ballots = hundred_ballots(alloc)?;
     let whole = format!(in alloc; "{A_HUNDRED_LINES}{lines}{rest}")?;
     let texts = (poll.as_str(), ballots.as_str());
-    assert_printed(rt, alloc, desks, texts, None, whole.as_str(), decision)
+    assert_printed(rt, alloc, desks, texts, whole.as_str(), decision)
 }
 
 #[test]
@@ -259,7 +189,7 @@ fn the_greatest_roll(rt: HostRuntime) -> Result<(), Fail> {
     let alloc = rt.alloc();
     let poll = poll_text(alloc, "All agree", &["A"], 10, 10, 10_000)?;
     let ballots = ballots_text(alloc, &[(10_000, "1,2")])?;
-    let (text, decision) = printed(&rt, alloc, 1, poll.as_str(), ballots.as_str(), None)?;
+    let (text, decision) = printed(&rt, alloc, 1, poll.as_str(), ballots.as_str())?;
     let said = text.contains("Quorum: 10Q, 500 votes\n") && text.contains("\n  1     - 10000\n");
     assert!(rt; said, "{}", text);
     assert_eq!(rt; decision, Decision::Winner(1));

@@ -1,7 +1,7 @@
 use Rattle.std.proofs.Common.{◌∙◌, ap, arith, length, sym, rules, take, drop}
 use Rattle.std.proofs.lemmas.List.{take_rest}
 use Rattle.debvote.specs.Joined.{is_separator_at, parts_at}
-use Rattle.debvote.specs.Texts.{Text}
+use Rattle.vote_sheet.specs.Texts.{Text}
 use Rattle.debvote.proofs.Separators.{first_place, no_place}
 use Rattle.debvote.proofs.joined.split_joined.Goals as goal
 

@@ -1,6 +1,6 @@
 use Rattle.std.proofs.Common.{subst}
 use Rattle.debvote.specs.Runs.{AreSteps, Writes}
-use Rattle.debvote.specs.Texts.{Text}
+use Rattle.vote_sheet.specs.Texts.{Text}
 use Rattle.debvote.proofs.steps.steps_joined.Goals as goal
 
 pub returns-clause-writes : goal.returns-clause-writes

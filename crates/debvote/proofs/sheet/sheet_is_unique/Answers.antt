@@ -1,5 +1,0 @@
-use Rattle.debvote.proofs.Uniqueness.{sheet_is_unique_lem}
-use Rattle.debvote.proofs.sheet.sheet_is_unique.Goals as goal
-
-pub returns : goal.returns
-returns c = sheet_is_unique_lem

@@ -1,7 +1,0 @@
-use Rattle.std.proofs.Common.{◌≡◌, ◌-◌, ◌++◌, string_bytes}
-use Rattle.debvote.specs.Sheet.{each, option_text}
-use Rattle.debvote.proofs.sheet_text.push_options.Given as goal
-
-abbrev pub invariant-loop-option : goal.invariant-loop-option
-invariant-loop-option l =
-    string_bytes l.text ≡ string_bytes l.initial.text ++ each (l.option - 1) (option_text l.poll.options l.poll.ratios)

@@ -1,9 +1,0 @@
-use Rattle.std.proofs.Common.{◌∙◌, ap, sym}
-use Rattle.vote_steps.specs.Boxes.{BoxState}
-use Rattle.debvote.specs.Steps.{step_lines}
-use Rattle.vote_steps.proofs.CastLemmas.{one_history}
-use Rattle.debvote.proofs.steps.steps_are_determined.Goals as goal
-
-pub returns : goal.returns
-returns c poll lines text other is is' =
-    is.3 ∙ ap (λ (b : BoxState). step_lines b.steps) (one_history poll lines is.0 is'.0 is.1 is'.1 is.2 is'.2) ∙ sym is'.3

@@ -1,0 +1,7 @@
+pub mod Counts
+pub mod Deciding
+pub mod Holding
+pub mod Padding
+pub mod PrintedSheets
+pub mod Texts
+pub mod Uniqueness

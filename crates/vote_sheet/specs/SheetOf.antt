@@ -1,0 +1,57 @@
+-- Which sheet a poll, its lines and the casting vote have. No history, desk or reply occurs in it.
+use Rattle.std.specs.Prelude.{◌≡◌, ℕ, ◌≤◌, ◌↔◌, List, Bool, Option, length}
+use Rattle.vote_poll.specs.Options.{IsOption}
+use Rattle.vote_poll.specs.PollContent.{PollContent, elector_count, option_count}
+use Rattle.vote_count.specs.Votes.{Votes, votes}
+use Rattle.vote_count.specs.Sets.{IsAlone, Pairs}
+use Rattle.vote_count.specs.Rules.{IsKept, MeetsQuorum, PairwiseDefeats}
+use Rattle.vote_count.specs.Rounds.{AreRounds, HasCause, IsByCasting, Outcome, cause_of, final_set}
+use Rattle.vote_count.specs.declared.Decision.{Decision}
+use Rattle.vote_count.specs.declared.Decision.TheVariants.{Winner}
+use Rattle.vote_sheet.specs.LastBallots.{refused_count, valid_count, voter_count, votes_for}
+use Rattle.vote_sheet.specs.Sheet.{Sheet, Text, sheet_text}
+
+-- what a count of the matrix comes to: who is dropped and why, the defeats between the options that are kept, and the rounds
+pub record IsOutcome (poll : PollContent) (matrix : Votes) (outcome : Outcome) : Type 0 where
+  pub causes : (o : ℕ) → IsOption (option_count poll) o → HasCause poll matrix o (cause_of outcome o)
+  pub defeats : (a b : ℕ) → Pairs outcome.defeats a b ↔ PairwiseDefeats (IsKept poll matrix) matrix a b
+  pub rounds :
+      let kept = IsKept poll matrix in
+      AreRounds kept matrix (PairwiseDefeats kept matrix) outcome.rounds
+
+-- an option that is alone in the final set wins, and else the casting vote decides
+pub record IsDecision (set : List Bool) (casting : Option ℕ) (decision : Decision) : Type 0 where
+  pub alone : (o : ℕ) → IsAlone set o → decision ≡ Winner o
+  pub several : ((o : ℕ) → ¬ IsAlone set o) → IsByCasting set casting decision
+
+pub record IsSheetOf (poll : PollContent) (lines : List Text) (casting : Option ℕ) (s : Sheet) : Type 0 where
+  -- what the poll says
+  pub title : s.title ≡ poll.title
+  pub electors : s.electors ≡ elector_count poll
+  pub names : s.names ≡ poll.options
+  pub ratios : s.ratios ≡ poll.ratios
+  pub quorum_multiple : s.quorum_multiple ≡ poll.quorum_multiple
+  pub wording : s.wording ≡ poll.wording
+  pub last_envelope : s.last_envelope ≡ poll.last_envelope
+  -- the least number of votes that meets the quorum
+  pub quorum_met : MeetsQuorum poll s.quorum_votes
+  pub quorum_least : (n : ℕ) → MeetsQuorum poll n → s.quorum_votes ≤ n
+  -- what the lines are
+  pub line_count : s.line_count ≡ length lines
+  pub valid : s.valid ≡ valid_count poll lines
+  pub refused : s.refused ≡ refused_count poll lines
+  pub voters : s.voters ≡ voter_count poll lines
+  -- the votes over each voter's last valid ballot, and what they come to
+  pub size : s.matrix.options ≡ option_count poll
+  pub counted : (a b : ℕ) → IsOption (option_count poll) a → IsOption (option_count poll) b → votes s.matrix a b ≡ votes_for poll lines a b
+  pub outcome : IsOutcome poll s.matrix s.outcome
+  pub decision : IsDecision (final_set s.outcome.rounds) casting s.decision
+
+-- the text is a sheet of the poll, the lines and the casting vote
+abbrev pub IsSheet : PollContent → List Text → Option ℕ → Text → Type 0
+IsSheet poll lines casting text = (s : Sheet) × IsSheetOf poll lines casting s × (text ≡ sheet_text s)
+
+-- the poll, the lines and the casting vote leave no choice in a sheet
+abbrev pub SheetIsUnique : Type 0
+SheetIsUnique =
+    (poll : PollContent) (lines : List Text) (casting : Option ℕ) (text other : Text) → IsSheet poll lines casting text → IsSheet poll lines casting other → text ≡ other

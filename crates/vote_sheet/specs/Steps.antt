@@ -1,0 +1,47 @@
+-- What `steps` and `check` write.
+use Rattle.std.specs.Prelude.{◌≡◌, List, [], ◌∷◌, codes, decimal}
+use Rattle.std.specs.List.{flat_map}
+use Rattle.vote_poll.specs.PollContent.{PollContent, elector_count, option_count}
+use Rattle.vote_poll.specs.declared.LineFault.{LineFault}
+use Rattle.vote_poll.specs.declared.LineFault.TheVariants.{Shape, RankCount, Roll}
+use Rattle.vote_poll.specs.Readings.{readings}
+use Rattle.vote_steps.specs.declared.Reply.{Reply}
+use Rattle.vote_steps.specs.declared.Reply.TheVariants.{BoxClosed, Late, BadLine, Superseded, Replaced, Counted}
+use Rattle.vote_steps.specs.declared.Step.{Step}
+use Rattle.vote_steps.specs.declared.Step.TheVariants.{Cast, Close}
+use Rattle.vote_steps.specs.Boxes.{BoxState}
+use Rattle.vote_steps.specs.Casting.{AreCastInOrder, HoldsLines}
+use Rattle.vote_sheet.specs.Texts.{Text, line}
+
+abbrev pub line_fault_words : LineFault → Text
+line_fault_words Shape = codes "bad shape"
+line_fault_words RankCount = codes "bad rank count"
+line_fault_words Roll = codes "bad not on roll"
+
+abbrev pub reply_words : Reply → Text
+reply_words Counted = codes "counted"
+reply_words Replaced = codes "replaced"
+reply_words Superseded = codes "superseded"
+reply_words (BadLine fault) = line_fault_words fault
+reply_words Late = codes "late"
+reply_words BoxClosed = codes "closed"
+
+-- the line of a cast: the number of its envelope and the words of its reply; the close has none
+unfoldable pub step_line : Step → Text
+step_line Close = []
+step_line (Cast desk stamp reading reply) = line (decimal stamp ∷ codes " " ∷ reply_words reply ∷ [])
+
+abbrev pub step_lines : List Step → Text
+step_lines steps = flat_map step_line steps
+
+-- the text of the box that holds the lines as desk 1 cast them in their order
+abbrev pub IsStepsText : PollContent → List Text → Text → Type 0
+IsStepsText poll lines text = (b : BoxState) × HoldsLines poll lines b × AreCastInOrder (readings poll lines) b.steps × (text ≡ step_lines b.steps)
+
+-- the line of a poll that is in order
+unfoldable pub check_text : PollContent → Text
+check_text poll = line (codes "poll ok: " ∷ decimal (option_count poll) ∷ codes " options, " ∷ decimal (elector_count poll) ∷ codes " electors" ∷ [])
+
+-- the lines of a poll have one such text
+abbrev pub StepsAreDetermined : Type 0
+StepsAreDetermined = (poll : PollContent) (lines : List Text) (text other : Text) → IsStepsText poll lines text → IsStepsText poll lines other → text ≡ other

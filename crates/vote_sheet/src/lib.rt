@@ -1,0 +1,24 @@
+//! What is printed of a poll and its lines: the result sheet, the lines of `steps` and the line of `check`.
+//!
+//! - [`sheet_of_box`] gives the sheet of a box that holds the lines of the poll, and what the sheet decides. What the sheet
+//!   says is a relation between the poll, the lines, the casting vote and the sheet (`IsSheetOf`), in which no history, desk or
+//!   reply occurs; its text is a function of it (`sheet_text`). So by [`sheet_is_unique`] it is the same for every number of
+//!   desks and every order in which the lines came, byte for byte.
+//! - [`steps_text`] gives the reply of the box to each line, where one desk casts the lines in their order. By
+//!   [`steps_are_determined`] the poll and the lines leave no choice in it.
+//! - [`check_text`] gives the line of a poll that is in order.
+//!
+//! Nothing here knows a file, a thread or a device: what is made is a text in memory, or a want of memory. The modules:
+//! `results` is what a sheet is made of, `sheet_text` its text part by part, `sheet` and `steps` the public calls.
+#![tactic(auto)]
+
+mod results;
+mod sheet;
+mod sheet_text;
+mod steps;
+
+pub use sheet::{sheet_is_unique, sheet_of_box};
+pub use steps::{check_text, steps_are_determined, steps_text};
+
+#[cfg(test)]
+mod tests;

@@ -1,0 +1,486 @@
+//! The text of a result sheet, part by part. Each function adds its part at the end of the text.
+
+ghost use Rattle.std.specs.Prelude.{◌≡◌, ◌++◌, ◌+◌, ◌-◌, ◌≤◌, ◌<◌, OnOk, IfOk, decimal, length, string_bytes};
+ghost use Rattle.vote_poll.specs.Options.{IsOption};
+ghost use Rattle.vote_poll.specs.declared.TheConstants.{MAX_OPTIONS};
+ghost use Rattle.vote_poll.specs.PollContent.{elector_count, option_count};
+ghost use Rattle.vote_count.specs.Sets.{has_pair};
+ghost use Rattle.vote_count.specs.Rounds.{cause_of};
+ghost use Rattle.vote_sheet.specs.Results.{IsDecided, sheet_of};
+ghost use Rattle.vote_sheet.specs.Sheet.{casting_note, cause_name, causes_text, column_text, decision_text, default_text, defeat_line, defeat_lines, defeats_text, defeats_by, drop_line, drops_of, each, ending, tie_text, winner_text, dropped_line, dropped_text, head_text, last_text, name_of, numbers, option_text, options_text, right, round_text, rounds_from, row_text, sheet_text, table_head_text, table_text, totals_text, votes_text, when, wording_text};
+
+use crate::results::Results;
+use std::alloc::{AllocError, Global};
+use vote_count::{Cause, Decision, Defeats, Matrix, OptionSet, Round, Verdict};
+use vote_poll::{Poll, Wording};
+use vote_steps::Totals;
+
+/// How the majority is worded, where it is not as the Constitution words it.
+#[tactic(auto, unfolding(crate::specs::Sheet::wording_text))]
+fn push_wording(text: &mut String, wording: Wording) -> Result<(), AllocError>
+    ensures { OnOk result (string_bytes text.new ≡ string_bytes text.old ++ wording_text wording) }
+{
+    match wording {
+        Wording::AtLeast => Ok(()),
+        Wording::MoreThan => writeln!(text, "Majority: more than"),
+    }
+}
+
+/// The title, the electors, the quorum and the majority.
+#[tactic(auto, unfolding(crate::specs::Sheet::head_text))]
+fn push_head(text: &mut String, poll: &Poll, votes: u64) -> Result<(), AllocError>
+    ensures { OnOk result (string_bytes text.new ≡ string_bytes text.old ++ head_text poll.now.title (elector_count poll.now) poll.now.quorum_multiple votes poll.now.wording) }
+{
+    writeln!(text, "Poll: {}", poll.title())?;
+    writeln!(text, "Electors: {}", poll.electors())?;
+    let multiple = poll.quorum_multiple();
+    writeln!(text, "Quorum: {multiple}Q, {votes} votes")?;
+    push_wording(text, poll.wording())
+}
+
+/// The last envelope, where the poll has one.
+#[tactic(auto, unfolding(crate::specs::Sheet::last_text))]
+fn push_last(text: &mut String, last: Option<u32>) -> Result<(), AllocError>
+    ensures { OnOk result (string_bytes text.new ≡ string_bytes text.old ++ last_text last) }
+{
+    match last {
+        Some(last) => writeln!(text, "Last envelope: {last}"),
+        None => Ok(()),
+    }
+}
+
+/// The numbers of lines and of voters.
+#[tactic(auto, unfolding(crate::specs::Sheet::totals_text))]
+fn push_totals(
+    text: &mut String,
+    lines: usize,
+    last: Option<u32>,
+    totals: &Totals,
+) -> Result<(), AllocError>
+    ensures { OnOk result (string_bytes text.new ≡ string_bytes text.old ++ totals_text lines last totals.now.valid totals.now.refused totals.now.voters) }
+{
+    writeln!(text, "Lines: {lines}")?;
+    push_last(text, last)?;
+    writeln!(text, "Valid: {}", totals.valid)?;
+    writeln!(text, "Refused: {}", totals.refused)?;
+    writeln!(text, "Voters: {}", totals.voters)
+}
+
+#[tactic(auto, using(crate::proofs::Texts::name_found))]
+fn option_name(poll: &Poll, option: u8) -> &str
+    requires { IsOption (option_count poll.now) option }
+    ensures { result.now ≡ name_of poll.now.options option }
+{
+    poll.option_name(option)
+}
+
+#[tactic(auto, using(crate::proofs::Padding::number_in_3), unfolding(crate::specs::Sheet::default_text))]
+fn push_default(text: &mut String, poll: &Poll) -> Result<(), AllocError>
+    ensures { OnOk result (string_bytes text.new ≡ string_bytes text.old ++ default_text poll.now.options) }
+{
+    let option = poll.options();
+    writeln!(text, "{option:>3} default {}", option_name(poll, option))
+}
+
+#[tactic(auto, using(crate::proofs::Padding::number_in_3), unfolding(crate::specs::Sheet::option_text))]
+fn push_option(text: &mut String, poll: &Poll, option: u8) -> Result<(), AllocError>
+    requires least { 1 ≤ option }
+    requires below_default { option < option_count poll.now }
+    ensures { OnOk result (string_bytes text.new ≡ string_bytes text.old ++ option_text poll.now.options poll.now.ratios option) }
+{
+    let ratio = poll.ratio(option);
+    let name = option_name(poll, option);
+    writeln!(text, "{option:>3} ratio {ratio} {name}")
+}
+
+#[tactic(auto, using(crate::proofs::Texts::each_next), unfolding(crate::specs::Sheet::options_text))]
+fn push_options(text: &mut String, poll: &Poll) -> Result<(), AllocError>
+    ensures { OnOk result (string_bytes text.new ≡ string_bytes text.old ++ options_text poll.now.options poll.now.ratios) }
+{
+    writeln!(text, "Options:")?;
+    for option in 1..poll.options() {
+        push_option(text, poll, option)?;
+    }
+    push_default(text, poll)
+}
+
+/// The votes for `a` over `b`, in a cell of the table.
+#[tactic(auto, using(crate::proofs::Padding::number_in_6, crate::proofs::Padding::dash_in_6), unfolding(crate::specs::Sheet::votes_text))]
+fn push_votes(text: &mut String, matrix: &Matrix, a: u8, b: u8) -> Result<(), AllocError>
+    requires a { IsOption matrix.now.options a }
+    requires b { IsOption matrix.now.options b }
+    ensures { OnOk result (string_bytes text.new ≡ string_bytes text.old ++ votes_text matrix.now a b) }
+{
+    if a == b {
+        write!(text, "{:>6}", "-")
+    } else {
+        write!(text, "{:>6}", matrix.votes(a, b))
+    }
+}
+
+#[tactic(auto, using(crate::proofs::Texts::each_next))]
+fn push_votes_over_each(text: &mut String, matrix: &Matrix, a: u8) -> Result<(), AllocError>
+    requires { IsOption matrix.now.options a }
+    ensures { OnOk result (string_bytes text.new ≡ string_bytes text.old ++ each matrix.now.options (votes_text matrix.now a)) }
+{
+    for b in 1..=matrix.options() {
+        push_votes(text, matrix, a, b)?;
+    }
+    Ok(())
+}
+
+#[tactic(auto, using(crate::proofs::Padding::number_in_3))]
+fn push_row_number(text: &mut String, option: u8) -> Result<(), AllocError>
+    ensures { OnOk result (string_bytes text.new ≡ string_bytes text.old ++ right 3 (decimal option)) }
+{
+    write!(text, "{option:>3}")
+}
+
+#[tactic(auto, unfolding(crate::specs::Sheet::row_text))]
+fn push_row(text: &mut String, matrix: &Matrix, a: u8) -> Result<(), AllocError>
+    requires { IsOption matrix.now.options a }
+    ensures { OnOk result (string_bytes text.new ≡ string_bytes text.old ++ row_text matrix.now a) }
+{
+    push_row_number(text, a)?;
+    push_votes_over_each(text, matrix, a)?;
+    writeln!(text)
+}
+
+#[tactic(auto, using(crate::proofs::Padding::number_in_6), unfolding(crate::specs::Sheet::column_text))]
+fn push_column(text: &mut String, option: u8) -> Result<(), AllocError>
+    ensures { OnOk result (string_bytes text.new ≡ string_bytes text.old ++ column_text option) }
+{
+    write!(text, "{option:>6}")
+}
+
+#[tactic(auto, using(crate::proofs::Texts::each_next))]
+fn push_columns(text: &mut String, options: u8) -> Result<(), AllocError>
+    requires { 1 ≤ options }
+    ensures { OnOk result (string_bytes text.new ≡ string_bytes text.old ++ each options column_text) }
+{
+    for option in 1..=options {
+        push_column(text, option)?;
+    }
+    Ok(())
+}
+
+#[tactic(auto, unfolding(crate::specs::Sheet::table_head_text))]
+fn push_table_head(text: &mut String, options: u8) -> Result<(), AllocError>
+    requires { 1 ≤ options }
+    ensures { OnOk result (string_bytes text.new ≡ string_bytes text.old ++ table_head_text options) }
+{
+    write!(text, "Votes:\n   ")?;
+    push_columns(text, options)?;
+    writeln!(text)
+}
+
+#[tactic(auto, using(crate::proofs::Texts::each_next), unfolding(crate::specs::Sheet::table_text))]
+fn push_table(text: &mut String, matrix: &Matrix) -> Result<(), AllocError>
+    requires { 1 ≤ matrix.now.options }
+    ensures { OnOk result (string_bytes text.new ≡ string_bytes text.old ++ table_text matrix.now) }
+{
+    push_table_head(text, matrix.options())?;
+    for a in 1..=matrix.options() {
+        push_row(text, matrix, a)?;
+    }
+    Ok(())
+}
+
+/// The word for a cause.
+fn cause_name(cause: Cause) -> &'static str
+    ensures { result.now ≡ cause_name cause }
+{
+    match cause {
+        Cause::Quorum => "quorum",
+        Cause::Majority => "majority",
+    }
+}
+
+/// The line of an option that was dropped.
+#[tactic(auto, using(crate::proofs::Padding::number_in_3), unfolding(crate::specs::Sheet::dropped_line))]
+fn push_cause(text: &mut String, option: u8, cause: Option<Cause>) -> Result<(), AllocError>
+    ensures { OnOk result (string_bytes text.new ≡ string_bytes text.old ++ dropped_line option cause) }
+{
+    match cause {
+        Some(cause) => writeln!(text, "{option:>3} {}", cause_name(cause)),
+        None => Ok(()),
+    }
+}
+
+#[tactic(auto, using(crate::proofs::Texts::each_next), unfolding(crate::specs::Sheet::causes_text))]
+fn push_causes(text: &mut String, options: u8, verdict: &Verdict) -> Result<(), AllocError>
+    requires { IsOption MAX_OPTIONS options }
+    ensures { OnOk result (string_bytes text.new ≡ string_bytes text.old ++ causes_text options verdict.now) }
+{
+    for option in 1..=options {
+        push_cause(text, option, verdict.dropped(option))?;
+    }
+    Ok(())
+}
+
+#[tactic(auto, unfolding(crate::specs::Sheet::dropped_text))]
+fn push_dropped(text: &mut String, options: u8, verdict: &Verdict) -> Result<(), AllocError>
+    requires { IsOption MAX_OPTIONS options }
+    ensures { OnOk result (string_bytes text.new ≡ string_bytes text.old ++ dropped_text options verdict.now) }
+{
+    writeln!(text, "Dropped:")?;
+    let start = text.len();
+    push_causes(text, options, verdict)?;
+    if text.len() == start {
+        writeln!(text, "  none")?;
+    }
+    Ok(())
+}
+
+/// The line of the defeat of `b` by `a`, if there is one.
+#[tactic(auto, using(crate::proofs::Padding::number_in_3), unfolding(crate::specs::Sheet::defeat_line))]
+fn push_defeat(
+    text: &mut String,
+    matrix: &Matrix,
+    defeats: &Defeats,
+    a: u8,
+    b: u8,
+) -> Result<(), AllocError>
+    requires a { IsOption matrix.now.options a }
+    requires b { IsOption matrix.now.options b }
+    ensures { OnOk result (string_bytes text.new ≡ string_bytes text.old ++ when (has_pair defeats.now a b) (defeat_line matrix.now a b)) }
+{
+    if defeats.has(a, b) {
+        let won = matrix.votes(a, b);
+        let lost = matrix.votes(b, a);
+        writeln!(text, "{a:>3} over {b} by {won} to {lost}")?;
+    }
+    Ok(())
+}
+
+#[tactic(auto, using(crate::proofs::Texts::each_next), unfolding(crate::specs::Sheet::defeats_by))]
+fn push_defeats_by(
+    text: &mut String,
+    matrix: &Matrix,
+    defeats: &Defeats,
+    a: u8,
+) -> Result<(), AllocError>
+    requires { IsOption matrix.now.options a }
+    ensures { OnOk result (string_bytes text.new ≡ string_bytes text.old ++ defeats_by matrix.now defeats.now a) }
+{
+    for b in 1..=matrix.options() {
+        push_defeat(text, matrix, defeats, a, b)?;
+    }
+    Ok(())
+}
+
+#[tactic(auto, using(crate::proofs::Texts::each_next), unfolding(crate::specs::Sheet::defeat_lines))]
+fn push_defeat_lines(
+    text: &mut String,
+    matrix: &Matrix,
+    defeats: &Defeats,
+) -> Result<(), AllocError>
+    requires { 1 ≤ matrix.now.options }
+    ensures { OnOk result (string_bytes text.new ≡ string_bytes text.old ++ defeat_lines matrix.now defeats.now) }
+{
+    for a in 1..=matrix.options() {
+        push_defeats_by(text, matrix, defeats, a)?;
+    }
+    Ok(())
+}
+
+#[tactic(auto, unfolding(crate::specs::Sheet::defeats_text))]
+fn push_defeats(text: &mut String, matrix: &Matrix, defeats: &Defeats) -> Result<(), AllocError>
+    requires { 1 ≤ matrix.now.options }
+    ensures { OnOk result (string_bytes text.new ≡ string_bytes text.old ++ defeats_text matrix.now defeats.now) }
+{
+    writeln!(text, "Defeats:")?;
+    let start = text.len();
+    push_defeat_lines(text, matrix, defeats)?;
+    if text.len() == start {
+        writeln!(text, "  none")?;
+    }
+    Ok(())
+}
+
+/// The options of a set.
+#[tactic(auto, using(crate::proofs::Texts::each_next))]
+fn push_numbers(text: &mut String, options: u8, set: &OptionSet) -> Result<(), AllocError>
+    requires { 1 ≤ options }
+    ensures { OnOk result (string_bytes text.new ≡ string_bytes text.old ++ numbers options set.now) }
+{
+    for option in 1..=options {
+        if set.has(option) {
+            write!(text, " {option}")?;
+        }
+    }
+    Ok(())
+}
+
+/// The line of the defeat of `b` by `a`, if it is removed.
+#[tactic(auto, unfolding(crate::specs::Sheet::drop_line))]
+fn push_drop(text: &mut String, removed: &Defeats, a: u8, b: u8) -> Result<(), AllocError>
+    ensures { OnOk result (string_bytes text.new ≡ string_bytes text.old ++ when (has_pair removed.now a b) (drop_line a b)) }
+{
+    if removed.has(a, b) {
+        writeln!(text, "  drop {a} over {b}")?;
+    }
+    Ok(())
+}
+
+#[tactic(auto, using(crate::proofs::Texts::each_next), unfolding(crate::specs::Sheet::drops_of))]
+fn push_drops_of(text: &mut String, options: u8, removed: &Defeats, a: u8) -> Result<(), AllocError>
+    requires { 1 ≤ options }
+    ensures { OnOk result (string_bytes text.new ≡ string_bytes text.old ++ drops_of options removed.now a) }
+{
+    for b in 1..=options {
+        push_drop(text, removed, a, b)?;
+    }
+    Ok(())
+}
+
+#[tactic(auto, using(crate::proofs::Texts::each_next))]
+fn push_drops(text: &mut String, options: u8, removed: &Defeats) -> Result<(), AllocError>
+    requires { 1 ≤ options }
+    ensures { OnOk result (string_bytes text.new ≡ string_bytes text.old ++ each options (drops_of options removed.now)) }
+{
+    for a in 1..=options {
+        push_drops_of(text, options, removed, a)?;
+    }
+    Ok(())
+}
+
+/// A round: its set, and then the defeats that it removes.
+#[tactic(auto, unfolding(crate::specs::Sheet::round_text))]
+fn push_round(
+    text: &mut String,
+    options: u8,
+    number: usize,
+    round: &Round,
+) -> Result<(), AllocError>
+    requires { 1 ≤ options }
+    ensures { OnOk result (string_bytes text.new ≡ string_bytes text.old ++ round_text options number round.now) }
+{
+    write!(text, "Round {number}:")?;
+    push_numbers(text, options, &round.set)?;
+    writeln!(text)?;
+    push_drops(text, options, &round.removed)
+}
+
+fn push_rounds(text: &mut String, options: u8, rounds: &[Round]) -> Result<(), AllocError>
+    requires { 1 ≤ options }
+    ensures { OnOk result (string_bytes text.new ≡ string_bytes text.old ++ rounds_from options 1 rounds.now) }
+{
+    for (index, round) in rounds.iter().enumerate() {
+        push_round(text, options, index + 1, round)?;
+    }
+    Ok(())
+}
+
+/// That the casting vote decided, which it does only among several options.
+#[tactic(auto, unfolding(crate::specs::Sheet::casting_note))]
+fn push_casting_note(text: &mut String, set: &OptionSet) -> Result<(), AllocError>
+    ensures { OnOk result (string_bytes text.new ≡ string_bytes text.old ++ casting_note set.now) }
+{
+    if set.len() > 1 {
+        write!(text, " by casting vote")?;
+    }
+    Ok(())
+}
+
+#[tactic(auto, unfolding(crate::specs::Sheet::winner_text))]
+fn push_winner(
+    text: &mut String,
+    poll: &Poll,
+    set: &OptionSet,
+    option: u8,
+) -> Result<(), AllocError>
+    requires { IsOption (option_count poll.now) option }
+    ensures { OnOk result (string_bytes text.new ≡ string_bytes text.old ++ winner_text poll.now.options set.now option) }
+{
+    write!(text, "Winner: {option} {}", option_name(poll, option))?;
+    push_casting_note(text, set)
+}
+
+#[tactic(auto, unfolding(crate::specs::Sheet::tie_text))]
+fn push_tie(text: &mut String, options: u8, set: &OptionSet) -> Result<(), AllocError>
+    requires { 1 ≤ options }
+    ensures { OnOk result (string_bytes text.new ≡ string_bytes text.old ++ tie_text options set.now) }
+{
+    write!(text, "Tie:")?;
+    push_numbers(text, options, set)
+}
+
+fn push_ending(
+    text: &mut String,
+    poll: &Poll,
+    set: &OptionSet,
+    decision: Decision,
+) -> Result<(), AllocError>
+    requires { IsDecided (option_count poll.now) decision }
+    ensures { OnOk result (string_bytes text.new ≡ string_bytes text.old ++ ending poll.now.options set.now decision) }
+{
+    match decision {
+        Decision::Winner(option) => push_winner(text, poll, set, option),
+        Decision::Tie => push_tie(text, poll.options(), set),
+        Decision::CastingOutside(casting) => {
+            push_tie(text, poll.options(), set)?;
+            write!(text, ", casting option {casting} is not among them")
+        }
+    }
+}
+
+#[tactic(auto, unfolding(crate::specs::Sheet::decision_text))]
+fn push_decision(
+    text: &mut String,
+    poll: &Poll,
+    set: &OptionSet,
+    decision: Decision,
+) -> Result<(), AllocError>
+    requires { IsDecided (option_count poll.now) decision }
+    ensures { OnOk result (string_bytes text.new ≡ string_bytes text.old ++ decision_text poll.now.options set.now decision) }
+{
+    push_ending(text, poll, set, decision)?;
+    writeln!(text)
+}
+
+/// How many bytes a sheet has at most, for so many options and rounds.
+fn room(options: u8, rounds: usize) -> usize {
+    let options = usize::from(options);
+    let pairs = options * options;
+    let head_and_ending = 448;
+    // a name has at most 40 bytes
+    let option_lines = 80 * options;
+    // each pair has a cell of the table, and at most half of them a defeat, which is dropped once
+    let table_and_defeats = 32 * (pairs + options + 1);
+    let round_line = 16 + 3 * options;
+    rounds
+        .saturating_mul(round_line)
+        .saturating_add(head_and_ending + option_lines + table_and_defeats)
+}
+
+/// The text of the sheet with these results, in one buffer that is reserved at once.
+pub(crate) fn sheet_text(alloc: Global, results: &Results<'_>) -> Result<String, AllocError>
+    requires options { results.now.matrix.now.options ≡ option_count results.now.poll.now }
+    requires decision { IsDecided (option_count results.now.poll.now) results.now.decision }
+    ensures { IfOk result (λ text. string_bytes text ≡ sheet_text (sheet_of results.now)) }
+{
+    let poll = results.poll;
+    let options = poll.options();
+    let rounds = results.verdict.rounds();
+    let mut text = String::with_capacity(alloc, room(options, rounds.len()))?;
+    push_head(&mut text, poll, results.quorum_votes)?;
+    push_totals(
+        &mut text,
+        results.lines,
+        poll.last_envelope(),
+        &results.totals,
+    )?;
+    push_options(&mut text, poll)?;
+    push_table(&mut text, results.matrix)?;
+    push_dropped(&mut text, options, results.verdict)?;
+    push_defeats(&mut text, results.matrix, &results.verdict.defeats())?;
+    push_rounds(&mut text, options, rounds)?;
+    push_decision(
+        &mut text,
+        poll,
+        &results.verdict.final_set(),
+        results.decision,
+    )?;
+    Ok(text)
+}

@@ -1,0 +1,69 @@
+//! The texts of `steps` and `check`: a line for each envelope, and the line of a poll that is in order.
+
+ghost use Rattle.std.specs.Prelude.{◌≡◌, ◌++◌, IfOk, OnOk, string_bytes};
+ghost use Rattle.vote_sheet.specs.Steps.{IsStepsText, StepsAreDetermined, check_text, reply_words, step_line, step_lines};
+
+use std::alloc::{AllocError, Global};
+use vote_poll::{LineFault, Lines, Poll};
+use vote_steps::{Reply, Step, cast_all};
+
+/// The words of a reply.
+fn reply_words(reply: Reply) -> &'static str
+    ensures { result.now ≡ reply_words reply }
+{
+    match reply {
+        Reply::Counted => "counted",
+        Reply::Replaced => "replaced",
+        Reply::Superseded => "superseded",
+        Reply::BadLine(LineFault::Shape) => "bad shape",
+        Reply::BadLine(LineFault::RankCount) => "bad rank count",
+        Reply::BadLine(LineFault::Roll) => "bad not on roll",
+        Reply::Late => "late",
+        Reply::BoxClosed => "closed",
+    }
+}
+
+/// Appends the line of a step.
+#[tactic(auto, unfolding(crate::specs::Steps::step_line))]
+fn push_step(text: &mut String, step: &Step) -> Result<(), AllocError>
+    ensures { OnOk result (string_bytes text.new ≡ string_bytes text.old ++ step_line step.now) }
+{
+    match step {
+        Step::Cast { stamp, reply, .. } => writeln!(text, "{stamp} {}", reply_words(*reply)),
+        Step::Close => Ok(()),
+    }
+}
+
+/// The lines of all steps.
+fn step_lines(alloc: Global, steps: &[Step]) -> Result<String, AllocError>
+    ensures { IfOk result (λ text. string_bytes text ≡ step_lines steps.now) }
+{
+    let mut text = String::new(alloc);
+    for step in steps {
+        push_step(&mut text, step)?;
+    }
+    Ok(text)
+}
+
+/// The text of `steps`: the reply of the box to each line, where one desk casts the lines in their order.
+pub fn steps_text(alloc: Global, poll: &Poll, lines: &Lines<'_>) -> Result<String, AllocError>
+    ensures { IfOk result (λ text. IsStepsText poll.now lines.now (string_bytes text)) }
+{
+    let ballot_box = cast_all(alloc, poll, lines)?;
+    step_lines(alloc, ballot_box.steps())
+}
+
+/// The line of a poll that is in order.
+#[tactic(auto, unfolding(crate::specs::Steps::check_text))]
+pub fn check_text(alloc: Global, poll: &Poll) -> Result<String, AllocError>
+    ensures { IfOk result (λ text. string_bytes text ≡ check_text poll.now) }
+{
+    let options = poll.options();
+    let electors = poll.electors();
+    format!(in alloc; "poll ok: {options} options, {electors} electors\n")
+}
+
+/// The lines of a poll have one text of `steps`.
+pub fn steps_are_determined()
+    ensures { StepsAreDetermined }
+{}
