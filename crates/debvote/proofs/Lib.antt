@@ -1,4 +1,1 @@
-pub mod Counted
 pub mod Orders
-pub mod Separators
-pub mod Written

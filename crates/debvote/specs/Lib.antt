@@ -1,7 +1,3 @@
 -- what the contracts of public calls say
-pub mod Joined
-pub mod Runs
-pub mod Counting
-pub mod Status
 pub mod CommandLine
 pub mod Order

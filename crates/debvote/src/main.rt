@@ -4,39 +4,17 @@
 //! reply of the ballot box to each line, and `debvote check` checks a poll file. Without arguments the program reads a poll
 //! and its ballots from standard input, joined by a line `%%`, and acts as `steps`.
 //!
-//! `main` reads, calls and reports. All that matters stands in the modules, each of whose public functions has a contract:
-//!
-//! - `order`: what the words of the command line ask for;
-//! - `output`: the text of a run written whole;
-//! - `joined`: the two parts of a joined input;
-//! - `steps`: the runs of `steps` and `check`;
-//! - `sheet`: the result sheet of an audited box;
-//! - `counting`: the run that counts and writes the sheet;
-//! - `fault`: how a run ends, its fault lines and exit statuses.
+//! `main` reads, calls and reports. All that matters stands in functions with contracts: `order` says what the words of the
+//! command line ask for, `vote_files` reads the inputs, and `vote_runs` has the runs, how they end, and what they say then.
 #![tactic(auto)]
 
-mod counting;
-#[cfg(test)]
-mod counting_tests;
-mod fault;
-#[cfg(test)]
-mod hostile_tests;
-mod joined;
 mod order;
-mod output;
-mod sheet;
-#[cfg(test)]
-mod sheet_tests;
-mod steps;
 #[cfg(test)]
 mod tests;
 
 ghost use Rattle.std.specs.Prelude.{◌≡◌, ◌≤◌, IfOk, IfSome, vec_len};
 
-use crate::counting::run;
-use crate::fault::{RunFault, fault_status, status};
 use crate::order::{OrderFault, Task, order, order_status};
-use crate::steps::{check_poll, print_steps, steps_joined};
 use std::alloc::{AllocError, Global};
 use std::env;
 use std::fs::File;
@@ -50,6 +28,7 @@ use std::thread::Threads;
 use thiserror::Error;
 use vote_desks::NoGate;
 use vote_files::{Meter, ReadFault, ReaderSource, WriterSink, read_limited};
+use vote_runs::{RunFault, check_poll, fault_status, print_steps, run, status, steps_joined};
 use vote_steps::MAX_DESKS;
 
 /// The most bytes of a poll file.

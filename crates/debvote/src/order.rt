@@ -6,8 +6,7 @@ ghost use Rattle.clap.specs.Values.{kind_of};
 ghost use Rattle.clap.specs.declared.builder.command.Command.TheViews.{out-Command as fields_of};
 ghost use Rattle.clap.specs.Words.{app_of, first_of, found_of, rows_of, rule_of, subcommand_of, subcommand_rows_of};
 ghost use Rattle.debvote.specs.CommandLine.{bare_command, check_command, count_command, debvote_command, desks_option, option, required_option, steps_command};
-ghost use Rattle.debvote.specs.Order.{AsksFor, HasDesks, HasValues, HelpsIfAsked, IsFaultOfKind, RefusesIfAtFault, subcommand_name};
-ghost use Rattle.debvote.specs.Status.{order_status};
+ghost use Rattle.debvote.specs.Order.{AsksFor, HasDesks, HasValues, HelpsIfAsked, IsFaultOfKind, RefusesIfAtFault, order_status, subcommand_name};
 ghost use Rattle.debvote.specs.declared.order.Task.{Task};
 
 use clap::error::ErrorKind;

@@ -1,0 +1,5 @@
+-- what the contracts of public calls say
+pub mod Joined
+pub mod Runs
+pub mod Counting
+pub mod Status

@@ -1,0 +1,51 @@
+-- The exit status of a run.
+use Rattle.std.specs.Prelude.{ℕ, Result, Ok, Err}
+use Rattle.vote_poll.specs.declared.fault.PollFault.{PollFault}
+use Rattle.vote_poll.specs.declared.fault.PollFault.TheVariants as poll
+use Rattle.vote_poll.specs.declared.lines.LinesFault.{LinesFault}
+use Rattle.vote_poll.specs.declared.lines.LinesFault.TheVariants as lines
+use Rattle.vote_desks.specs.declared.DeskFault.{DeskFault}
+use Rattle.vote_desks.specs.declared.DeskFault.TheVariants as desk
+use Rattle.vote_desks.specs.declared.VoteFault.{VoteFault}
+use Rattle.vote_desks.specs.declared.VoteFault.TheVariants as vote
+use Rattle.vote_runs.specs.declared.fault.Ended.{Ended}
+use Rattle.vote_runs.specs.declared.fault.Ended.TheVariants as ended
+use Rattle.vote_runs.specs.declared.fault.RunFault.{RunFault}
+use Rattle.vote_runs.specs.declared.fault.RunFault.TheVariants as run
+
+abbrev pub poll_status : PollFault → ℕ
+poll_status poll.Memory = 5
+poll_status _ = 3
+
+abbrev pub lines_status : LinesFault → ℕ
+lines_status lines.TooMany = 4
+lines_status lines.Memory = 5
+
+abbrev pub desk_status : DeskFault → ℕ
+desk_status desk.MissingDesk = 6
+desk_status desk.Memory = 5
+
+abbrev pub vote_status : VoteFault → ℕ
+vote_status vote.Memory = 5
+vote_status vote.Thread = 5
+vote_status (vote.Gate number) = 6
+vote_status (vote.Enter number fault) = 6
+vote_status (vote.Desk fault) = desk_status fault
+vote_status (vote.Audit fault) = 6
+
+abbrev pub fault_status : RunFault → ℕ
+fault_status (run.Poll fault) = poll_status fault
+fault_status run.NoSuchOption = 8
+fault_status (run.Lines fault) = lines_status fault
+fault_status (run.Vote fault) = vote_status fault
+fault_status run.Memory = 5
+fault_status run.Output = 7
+
+abbrev pub ended_status : Ended → ℕ
+ended_status (ended.Decided option) = 0
+ended_status ended.Tie = 1
+ended_status (ended.CastingOutside option) = 8
+
+abbrev pub status : Result Ended RunFault → ℕ
+status (Ok end) = ended_status end
+status (Err fault) = fault_status fault
