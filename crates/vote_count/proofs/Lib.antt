@@ -6,5 +6,4 @@ pub mod RoundLemmas
 pub mod Sizes
 pub mod LawLemmas
 pub mod Winners
-pub mod FoundLemmas
 pub mod BitLemmas

@@ -7,5 +7,4 @@ pub mod Rounds
 pub mod Laws
 -- what types stand for, and what private functions say of their parts
 pub mod Bits
-pub mod Found
 pub mod Weakest

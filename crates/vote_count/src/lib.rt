@@ -28,7 +28,6 @@
 //! the number of options.
 #![tactic(auto)]
 
-mod found;
 mod laws;
 mod options;
 mod pairs;
@@ -36,7 +35,6 @@ mod rounds;
 mod rules;
 mod tally;
 
-pub use found::reach_by_pairs;
 pub use laws::{
     ballots_are_anonymous, condorcet_winners_win, final_set_is_in_smith_set, rounds_are_determined,
 };

@@ -159,14 +159,6 @@ impl Model for Chains {
 
 #[tactic(auto, using(vote_poll::proofs::OptionLaws::options))]
 impl Chains {
-    // The set with these rows.
-    pub(crate) fn of_rows(rows: [OptionSet; MAX_OPTIONS]) -> Self
-        requires { length rows ≡ MAX_OPTIONS }
-        ensures { (a c : ℕ) → has_pair result a c ≡ has_pair rows a c }
-    {
-        Self { reached: rows }
-    }
-
     /// Whether `a` transitively defeats `c`. What is no option does not, and is not defeated.
     pub fn has(&self, a: u8, c: u8) -> bool
         ensures { result ≡ has_pair self.now a c }
