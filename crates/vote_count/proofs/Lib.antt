@@ -7,3 +7,6 @@ pub mod Sizes
 pub mod LawLemmas
 pub mod Winners
 pub mod BitLemmas
+pub mod Strengths
+pub mod Schulze
+pub mod Raising

@@ -1,13 +1,14 @@
 -- Laws of the count, in the words of the literature on voting.
-use Rattle.std.specs.Prelude.{◌≡◌, ◌≢◌, ℕ, Bool, List, Option, count_by}
+use Rattle.std.specs.Prelude.{◌≡◌, ◌≢◌, ℕ, ◌≤◌, ◌↔◌, Bool, List, [], ◌∷◌, Option, IsTrue, ⊤, count_by}
 use Rattle.std.specs.List.Sorted.{IsPermutation}
-use Rattle.vote_poll.specs.PollContent.{PollContent}
+use Rattle.vote_poll.specs.Options.{IsOption}
+use Rattle.vote_poll.specs.PollContent.{PollContent, IsPoll, option_count}
 use Rattle.vote_count.specs.declared.rounds.Round.{Round}
 use Rattle.vote_count.specs.Ballots.{entry_prefers}
 use Rattle.vote_count.specs.Rounds.{AreRounds, final_set}
-use Rattle.vote_count.specs.Rules.{IsKept, PairwiseDefeats}
+use Rattle.vote_count.specs.Rules.{IsKept, PairwiseDefeats, TransitivelyDefeats, IsWeaker}
 use Rattle.vote_count.specs.Sets.{In, IsAlone}
-use Rattle.vote_count.specs.Votes.{Votes}
+use Rattle.vote_count.specs.Votes.{Votes, votes}
 
 -- Anonymity: the votes do not depend on the order of the ballots.
 abbrev pub BallotsAreAnonymous : Type 0
@@ -42,3 +43,61 @@ FinalSetIsInSmithSet =
     (poll : PollContent) (matrix : Votes) (rounds : List Round) (a : ℕ) →
     let kept = IsKept poll matrix in
     AreRounds kept matrix (PairwiseDefeats kept matrix) rounds → In (final_set rounds) a → InSmithSet kept matrix a
+
+-- A has a chain of defeats to B, each of which is no weaker than the defeat (X,Y)
+abbrev pub ReachesBy : Votes → (ℕ → ℕ → Type 0) → ℕ → ℕ → ℕ → ℕ → Type 0
+ReachesBy matrix defeats x y a b = TransitivelyDefeats (λ c d. defeats c d × ¬ IsWeaker matrix c d x y) a b
+
+-- A wins by Schulze's method: it is one of the options, and however strong a chain of defeats another option has to it, it has a chain to that option that is as strong
+abbrev pub IsSchulzeWinner : (ℕ → Type 0) → Votes → (ℕ → ℕ → Type 0) → ℕ → Type 0
+IsSchulzeWinner options matrix defeats a =
+    options a × ((b : ℕ) → options b → (x y : ℕ) → defeats x y → ReachesBy matrix defeats x y b a → ReachesBy matrix defeats x y a b)
+
+-- The final set has exactly the options that win by Schulze's method, among those that are not dropped.
+abbrev pub FinalSetIsSchulze : Type 0
+FinalSetIsSchulze =
+    (poll : PollContent) (matrix : Votes) (rounds : List Round) (a : ℕ) →
+    let kept = IsKept poll matrix in
+    let defeats = PairwiseDefeats kept matrix in
+    AreRounds kept matrix defeats rounds → In (final_set rounds) a ↔ IsSchulzeWinner kept matrix defeats a
+
+-- Of so many options A is liked no less in the second matrix than in the first, and nothing else has changed: each other option has no more votes over A, and A no fewer over it; between other options the votes are the same.
+pub record IsRaised (options : ℕ) (a : ℕ) (matrix raised : Votes) : Type 0 where
+  pub for : (b : ℕ) → IsOption options b → b ≢ a → votes matrix a b ≤ votes raised a b
+  pub against : (b : ℕ) → IsOption options b → b ≢ a → votes raised b a ≤ votes matrix b a
+  pub same : (b c : ℕ) → IsOption options b → IsOption options c → b ≢ a → c ≢ a → votes raised b c ≡ votes matrix b c
+
+-- Monotonicity: an option of the final set stays in it where it is liked more and nothing else changes.
+abbrev pub RaisedWinnersWin : Type 0
+RaisedWinnersWin =
+    (poll : PollContent) (matrix raised : Votes) (rounds raised_rounds : List Round) (a : ℕ) →
+    let kept = IsKept poll matrix in
+    let raised_kept = IsKept poll raised in
+    IsPoll poll → IsRaised (option_count poll) a matrix raised →
+    AreRounds kept matrix (PairwiseDefeats kept matrix) rounds → AreRounds raised_kept raised (PairwiseDefeats raised_kept raised) raised_rounds →
+    In (final_set rounds) a → In (final_set raised_rounds) a
+
+-- Of so many options the second entry prefers A to whatever the first prefers it to, prefers nothing to A that the first does not, and prefers as the first does between other options.
+pub record IsRaisedEntry (options : ℕ) (a : ℕ) (entry raised : Option (List (Option ℕ))) : Type 0 where
+  pub for : (b : ℕ) → IsOption options b → b ≢ a → IsTrue (entry_prefers a b entry) → IsTrue (entry_prefers a b raised)
+  pub against : (b : ℕ) → IsOption options b → b ≢ a → IsTrue (entry_prefers b a raised) → IsTrue (entry_prefers b a entry)
+  pub same : (b c : ℕ) → IsOption options b → IsOption options c → b ≢ a → c ≢ a → entry_prefers b c raised ≡ entry_prefers b c entry
+
+-- two lists of ballots are as long, and each entry of the second so raises A over the first list's entry in its place
+abbrev pub AreRaisedBallots : ℕ → ℕ → List (Option (List (Option ℕ))) → List (Option (List (Option ℕ))) → Type 0
+AreRaisedBallots options a [] [] = ⊤
+AreRaisedBallots options a [] (raised ∷ more) = ⊥
+AreRaisedBallots options a (entry ∷ ballots) [] = ⊥
+AreRaisedBallots options a (entry ∷ ballots) (raised ∷ more) = IsRaisedEntry options a entry raised × AreRaisedBallots options a ballots more
+
+-- the matrix has the votes of these ballots, between so many options
+abbrev pub IsMatrixOf : ℕ → List (Option (List (Option ℕ))) → Votes → Type 0
+IsMatrixOf options ballots matrix =
+    (a b : ℕ) → IsOption options a → IsOption options b → votes matrix a b ≡ count_by (entry_prefers a b) ballots
+
+-- Where the ballots raise an option, so do their matrices.
+abbrev pub RaisedBallotsRaise : Type 0
+RaisedBallotsRaise =
+    (options a : ℕ) (ballots raised_ballots : List (Option (List (Option ℕ)))) (matrix raised : Votes) →
+    IsOption options a → AreRaisedBallots options a ballots raised_ballots → IsMatrixOf options ballots matrix → IsMatrixOf options raised_ballots raised →
+    IsRaised options a matrix raised

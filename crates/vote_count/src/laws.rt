@@ -1,5 +1,5 @@
 //! Laws of the count. Each function does nothing: its contract is the law, and that is proved.
-ghost use Rattle.vote_count.specs.Laws.{BallotsAreAnonymous, CondorcetWinnersWin, FinalSetIsInSmithSet};
+ghost use Rattle.vote_count.specs.Laws.{BallotsAreAnonymous, CondorcetWinnersWin, FinalSetIsInSmithSet, FinalSetIsSchulze, RaisedWinnersWin, RaisedBallotsRaise};
 ghost use Rattle.vote_count.specs.Rounds.{RoundsAreDetermined};
 
 /// The rules leave no choice: two lists of rounds of the same poll and matrix are the same.
@@ -22,4 +22,22 @@ pub fn condorcet_winners_win()
 /// each option outside it. Dropped options do not count.
 pub fn final_set_is_in_smith_set()
     ensures { FinalSetIsInSmithSet }
+{}
+
+/// The final set has exactly the winners of Schulze's method of strongest chains: whatever strength of
+/// chain another option has to a winner, the winner has to that option. Dropped options do not count.
+pub fn final_set_is_schulze()
+    ensures { FinalSetIsSchulze }
+{}
+
+/// Monotonicity: voters who like an option of the final set more, and change nothing else, never put
+/// it out of the final set, whatever the quorum, the majorities and the default option.
+pub fn raised_winners_win()
+    ensures { RaisedWinnersWin }
+{}
+
+/// What `raised_winners_win` asks of two matrices holds of the matrices of two lists of ballots, where
+/// each entry of the second differs from the first list's at most by ranking the option higher.
+pub fn raised_ballots_raise()
+    ensures { RaisedBallotsRaise }
 {}

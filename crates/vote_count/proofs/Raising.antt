@@ -1,0 +1,1 @@
+-- Ranking an option higher.

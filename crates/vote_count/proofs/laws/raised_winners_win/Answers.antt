@@ -1,0 +1,4 @@
+use Rattle.vote_count.proofs.laws.raised_winners_win.Goals as goal
+
+pub returns : goal.returns
+returns c = ?
