@@ -1,5 +1,5 @@
 -- The final set has exactly the winners of Schulze's method.
-use Rattle.std.proofs.Common.{◌≡◌, ℕ, zero, suc, ◌<◌, ◌≤◌, ◌⊎◌, ◌↔◌, Bool, List, [], ◌∷◌, ◌++◌, inl, inr, refl, sym, subst, arith}
+use Rattle.std.proofs.Common.{◌≡◌, ℕ, zero, suc, ◌<◌, ◌⊎◌, ◌↔◌, List, [], ◌∷◌, ◌++◌, inl, inr, refl, sym, subst, arith}
 use Rattle.std.proofs.lemmas.Bool.{cases_lt, cases_Bool, both_ways}
 use Rattle.vote_count.specs.declared.rounds.Round.{Round}
 use Rattle.vote_poll.specs.PollContent.{PollContent, option_count}
@@ -183,7 +183,7 @@ module _ (K : ℕ → Type 0) (m : Votes) (n : ℕ) (few : (o : ℕ) → K o →
     ];
     weaker = λ c d defeat gone p q w to.
         let to' : (q ≡ a) ⊎ TransitivelyDefeats E q a =
-            elim to [ inl same ↦ inl same | inr chain ↦ inr (monotone (Without E (Pairs r.removed)) E (λ x y s. s.0) q a chain) ] in
+        elim to [ inl same ↦ inl same | inr chain ↦ inr (monotone (Without E (Pairs r.removed)) E (λ x y s. s.0) q a chain) ] in
         elim (left.known c d defeat) [
           | inr before ↦ left.weaker c d defeat before p q w.0 to'
           | inl stays ↦ elim (is_removed r c d) [

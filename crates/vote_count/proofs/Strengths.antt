@@ -72,10 +72,15 @@ module _ (m : Votes) where
         let x = later.0 in
         let y = later.1 in
         elim (below_or_not (votes m a z) (votes m z a) (votes m x y) (votes m y x)) [
-          | inl weaker ↦ (a, z, h.0, inr (between, h.1),
-              let rest = monotone (λ p q. E p q × ¬ IsWeaker m p q x y) (λ p q. E p q × ¬ IsWeaker m p q a z)
-                  (λ p q s. (s.0, λ below. s.1 (below_transitive (votes m p q) (votes m q p) (votes m a z) (votes m z a) (votes m x y) (votes m y x) below weaker))) z c later.4 in
-              (z ∷ rest.0, ((h.0, not_below_itself (votes m a z) (votes m z a)), rest.1)))
+          | inl weaker ↦ (
+            a,
+            z,
+            h.0,
+            inr (between, h.1),
+            let rest = monotone (λ p q. E p q × ¬ IsWeaker m p q x y) (λ p q. E p q × ¬ IsWeaker m p q a z)
+                (λ p q s. (s.0, λ below. s.1 (below_transitive (votes m p q) (votes m q p) (votes m a z) (votes m z a) (votes m x y) (votes m y x) below weaker))) z c later.4 in
+                (z ∷ rest.0, ((h.0, not_below_itself (votes m a z) (votes m z a)), rest.1)),
+          )
           | inr not_weaker ↦ (x, y, later.2, later.3, (z ∷ later.4.0, ((h.0, not_weaker), later.4.1)))
         ]
 

@@ -1,5 +1,6 @@
 -- Laws of the count, in the words of the literature on voting.
-use Rattle.std.specs.Prelude.{◌≡◌, ◌≢◌, ℕ, ◌≤◌, ◌↔◌, Bool, List, [], ◌∷◌, Option, IsTrue, ⊤, count_by}
+use Rattle.std.specs.Prelude.{◌≡◌, ◌≢◌, ℕ, ◌≤◌, ◌↔◌, Bool, List, Option, IsTrue, count_by}
+use Rattle.std.specs.List.{AllZip}
 use Rattle.std.specs.List.Sorted.{IsPermutation}
 use Rattle.vote_poll.specs.Options.{IsOption}
 use Rattle.vote_poll.specs.PollContent.{PollContent, IsPoll, option_count}
@@ -83,21 +84,14 @@ pub record IsRaisedEntry (options : ℕ) (a : ℕ) (entry raised : Option (List 
   pub against : (b : ℕ) → IsOption options b → b ≢ a → IsTrue (entry_prefers b a raised) → IsTrue (entry_prefers b a entry)
   pub same : (b c : ℕ) → IsOption options b → IsOption options c → b ≢ a → c ≢ a → entry_prefers b c raised ≡ entry_prefers b c entry
 
--- two lists of ballots are as long, and each entry of the second so raises A over the first list's entry in its place
-abbrev pub AreRaisedBallots : ℕ → ℕ → List (Option (List (Option ℕ))) → List (Option (List (Option ℕ))) → Type 0
-AreRaisedBallots options a [] [] = ⊤
-AreRaisedBallots options a [] (raised ∷ more) = ⊥
-AreRaisedBallots options a (entry ∷ ballots) [] = ⊥
-AreRaisedBallots options a (entry ∷ ballots) (raised ∷ more) = IsRaisedEntry options a entry raised × AreRaisedBallots options a ballots more
-
 -- the matrix has the votes of these ballots, between so many options
 abbrev pub IsMatrixOf : ℕ → List (Option (List (Option ℕ))) → Votes → Type 0
 IsMatrixOf options ballots matrix =
     (a b : ℕ) → IsOption options a → IsOption options b → votes matrix a b ≡ count_by (entry_prefers a b) ballots
 
--- Where the ballots raise an option, so do their matrices.
+-- Where each entry of a second list of ballots so raises A over the entry of the first list in its place, the matrix of the second list raises A over that of the first.
 abbrev pub RaisedBallotsRaise : Type 0
 RaisedBallotsRaise =
     (options a : ℕ) (ballots raised_ballots : List (Option (List (Option ℕ)))) (matrix raised : Votes) →
-    IsOption options a → AreRaisedBallots options a ballots raised_ballots → IsMatrixOf options ballots matrix → IsMatrixOf options raised_ballots raised →
+    IsOption options a → AllZip (IsRaisedEntry options a) ballots raised_ballots → IsMatrixOf options ballots matrix → IsMatrixOf options raised_ballots raised →
     IsRaised options a matrix raised
