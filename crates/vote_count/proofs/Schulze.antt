@@ -25,7 +25,7 @@ module _ (E R : ℕ → ℕ → Type 0) (known : (a b : ℕ) → R a b ⊎ ¬ R 
         | inr found ↦ inr found
       ]
 
-pub is_removed : (r : Round) (a b : ℕ) → Pairs r.removed a b ⊎ ¬ Pairs r.removed a b
+is_removed : (r : Round) (a b : ℕ) → Pairs r.removed a b ⊎ ¬ Pairs r.removed a b
 is_removed r a b = elim (cases_Bool (has_pair r.removed a b)) [ inl removed ↦ inl removed | inr left ↦ inr (λ removed. both_ways _ left removed) ]
 
 -- one round

@@ -24,20 +24,20 @@ pub fn final_set_is_in_smith_set()
     ensures { FinalSetIsInSmithSet }
 {}
 
-/// The final set has exactly the winners of Schulze's method of strongest chains: whatever strength of
-/// chain another option has to a winner, the winner has to that option. Dropped options do not count.
+/// The final set has exactly the winners of Schulze's method: however strong a chain of defeats another
+/// option has to a winner, the winner has a chain to it that is as strong. Dropped options do not count.
 pub fn final_set_is_schulze()
     ensures { FinalSetIsSchulze }
 {}
 
-/// Monotonicity: voters who like an option of the final set more, and change nothing else, never put
-/// it out of the final set, whatever the quorum, the majorities and the default option.
+/// Monotonicity: where an option of the final set is liked more and nothing else changes, it stays in
+/// the final set, whatever the quorum and the majorities, and be it the default option or another.
 pub fn raised_winners_win()
     ensures { RaisedWinnersWin }
 {}
 
-/// What `raised_winners_win` asks of two matrices holds of the matrices of two lists of ballots, where
-/// each entry of the second differs from the first list's at most by ranking the option higher.
+/// Monotonicity of the matrix: where each ballot of a second list differs from that of the first in its
+/// place at most by liking one option more, `raised_winners_win` speaks of the matrices of the lists.
 pub fn raised_ballots_raise()
     ensures { RaisedBallotsRaise }
 {}
