@@ -7,6 +7,8 @@ pub mod Sizes
 pub mod LawLemmas
 pub mod Winners
 pub mod BitLemmas
+pub mod Counts
 pub mod Strengths
 pub mod Schulze
 pub mod Raising
+pub mod Clones

@@ -1,11 +1,10 @@
 -- Ranking an option higher.
-use Rattle.std.proofs.Common.{◌≡◌, ◌≢◌, ℕ, suc, Bool, true, false, cond, count_by, ◌∙◌, ◌*◌, ◌-◌, ◌<◌, ◌≤◌, ◌⊎◌, List, [], ◌∷◌, ◌++◌, inl, inr, refl, sym, subst, arith}
-use Rattle.std.specs.Prelude.{IsTrue, Option}
+use Rattle.std.proofs.Common.{◌≡◌, ◌≢◌, ℕ, suc, ◌∙◌, ◌*◌, ◌-◌, ◌<◌, ◌≤◌, ◌⊎◌, List, [], ◌∷◌, ◌++◌, inl, inr, refl, sym, subst, arith}
+use Rattle.std.specs.Prelude.{Option}
 use Rattle.std.specs.List.{AllZip}
 use Rattle.std.proofs.Math.Nat.{mul-le-mul_left, mul-le-mul_right, pow-le-pow_left}
 use Rattle.std.proofs.lemmas.Bool.{cases_eq, cases_lt}
 use Rattle.std.proofs.lemmas.List.Elements.{All-get_or}
-use Rattle.std.proofs.lemmas.List.Sums.{sum_by-cons}
 use Rattle.vote_poll.specs.declared.wording.Wording.{Wording}
 use Rattle.vote_poll.specs.declared.wording.Wording.TheVariants.{AtLeast, MoreThan}
 use Rattle.vote_poll.specs.declared.TheConstants.{MAX_RATIO}
@@ -16,13 +15,14 @@ use Rattle.vote_count.specs.declared.rounds.Round.{Round}
 use Rattle.vote_count.specs.Ballots.{entry_prefers}
 use Rattle.vote_count.specs.Votes.{Votes, votes}
 use Rattle.vote_count.specs.Sets.{In}
-use Rattle.vote_count.specs.Rules.{MeetsQuorum, IsMajority, IsKept, PairwiseDefeats, EachDefeatsNext, TransitivelyDefeats, IsWeaker}
+use Rattle.vote_count.specs.Rules.{MeetsQuorum, IsMajority, IsKept, PairwiseDefeats, EachDefeatsNext, TransitivelyDefeats}
 use Rattle.vote_count.specs.Rounds.{AreRounds, final_set}
 use Rattle.vote_count.specs.Laws.{IsSchulzeWinner, IsRaised, IsRaisedEntry, IsMatrixOf}
-use Rattle.vote_count.proofs.Closure.{monotone}
-use Rattle.vote_count.proofs.Strengths.{IsBelow, not_below_transitive, weakest_of_chain}
+use Rattle.vote_count.proofs.Closure.{monotone, to_itself}
+use Rattle.vote_count.proofs.Counts.{count_more, flipped}
+use Rattle.vote_count.proofs.Strengths.{IsBelow, Strong}
 use Rattle.vote_count.proofs.LawLemmas.{default_law}
-use Rattle.vote_count.proofs.Schulze.{schulze_law, kept_below}
+use Rattle.vote_count.proofs.Schulze.{schulze_law, back_as_strong, kept_below, kept_option}
 
 equal_more : (v w v' w' x y : ℕ) → v ≤ v' → w' ≤ w → (v' ≡ x) × (y < w') → IsBelow v w x y
 equal_more v w v' w' x y more fewer h = let same = h.0 in let less = h.1 in elim (cases_lt v x) [ inl below ↦ inl below | inr at ↦ inr (omega arith, omega arith) ]
@@ -70,13 +70,13 @@ module _ (K L : ℕ → Type 0) (to : (o : ℕ) → K o → L o) (from : (o : �
   D' = PairwiseDefeats L n
 
   -- the defeats of either matrix that are no weaker than so many votes for and against
-  abbrev Strong : ℕ → ℕ → ℕ → ℕ → Type 0
-  Strong v w c d = D c d × ¬ IsBelow (votes m c d) (votes m d c) v w
+  abbrev S : ℕ → ℕ → ℕ → ℕ → Type 0
+  S = Strong m D
 
-  abbrev Strong' : ℕ → ℕ → ℕ → ℕ → Type 0
-  Strong' v w c d = D' c d × ¬ IsBelow (votes n c d) (votes n d c) v w
+  abbrev S' : ℕ → ℕ → ℕ → ℕ → Type 0
+  S' = Strong n D'
 
-  lowered : (v w c d : ℕ) → Strong' v w c d → c ≢ a → Strong v w c d
+  lowered : (v w c d : ℕ) → S' v w c d → c ≢ a → S v w c d
   lowered v w c d h other =
       let kc = from c h.0.0 in
       let kd = from d h.0.1 in
@@ -84,34 +84,24 @@ module _ (K L : ℕ → Type 0) (to : (o : ℕ) → K o → L o) (from : (o : �
       let won = h.0.2 in
       ((kc, kd, omega arith), not_below_more (votes n c d) (votes n d c) (votes m c d) (votes m d c) v w l.0 l.1 h.1)
 
-  lifted : (v w c d : ℕ) → Strong v w c d → d ≢ a → Strong' v w c d
+  lifted : (v w c d : ℕ) → S v w c d → d ≢ a → S' v w c d
   lifted v w c d h other =
       let l = less d c h.0.1 h.0.0 other in
       let won = h.0.2 in
       ((to c h.0.0, to d h.0.1, omega arith), not_below_more (votes m c d) (votes m d c) (votes n c d) (votes n d c) v w l.1 l.0 h.1)
 
   -- a chain to another option that was as strong as one from it is so still
-  strong_back : IsSchulzeWinner K m D a → (b : ℕ) → K b → b ≢ a → (v w : ℕ) → TransitivelyDefeats (Strong' v w) b a → TransitivelyDefeats (Strong' v w) a b
+  strong_back : IsSchulzeWinner K m D a → (b : ℕ) → K b → b ≢ a → (v w : ℕ) → TransitivelyDefeats (S' v w) b a → TransitivelyDefeats (S' v w) a b
   strong_back wins b k other v w chain =
-      let S = Strong v w in
-      let before = monotone (λ c d. Strong' v w c d × (c ≢ a)) S (λ c d h. lowered v w c d h.0 h.1) b a (chain_to (Strong' v w) a b other chain) in
-      let weakest = weakest_of_chain m S b a before in
-      let p = weakest.0 in
-      let q = weakest.1 in
-      let as_strong = λ (c d : ℕ). D c d × ¬ IsWeaker m c d p q in
-      let back = wins.1 b k p q weakest.2.0 (monotone (λ c d. S c d × ¬ IsWeaker m c d p q) as_strong (λ c d h. (h.0.0, h.1)) b a weakest.4) in
-      monotone (λ c d. as_strong c d × (d ≢ a)) (Strong' v w)
-      (λ c d h. lifted v w c d (h.0.0, not_below_transitive (votes m c d) (votes m d c) (votes m p q) (votes m q p) v w h.0.1 weakest.2.1) h.1)
-      a b (chain_from as_strong a b other back)
+      let before = monotone (λ c d. S' v w c d × (c ≢ a)) (S v w) (λ c d h. lowered v w c d h.0 h.1) b a (chain_to (S' v w) a b other chain) in
+      monotone (λ c d. S v w c d × (d ≢ a)) (S' v w) (λ c d h. lifted v w c d h.0 h.1) a b (chain_from (S v w) a b other (back_as_strong K m a wins b k v w before))
 
   raised_winner : IsSchulzeWinner K m D a → IsSchulzeWinner L n D' a
   raised_winner wins = (
     to a wins.0,
-    λ b l x y defeat chain. elim (cases_eq b a) [
-      | inl same ↦
-          let P : ℕ → ℕ → Type 0 = TransitivelyDefeats (Strong' (votes n x y) (votes n y x)) in
-          subst (P a) (sym same) (subst (λ (z : ℕ). P z a) same chain)
-      | inr other ↦ strong_back wins b (from b l) other (votes n x y) (votes n y x) chain
+    λ b l x y defeat chain. elim (cases_eq a b) [
+      | inl same ↦ to_itself (TransitivelyDefeats (S' (votes n x y) (votes n y x))) a b same chain
+      | inr other ↦ strong_back wins b (from b l) (λ same. other (sym same)) (votes n x y) (votes n y x) chain
     ],
   )
 
@@ -142,8 +132,8 @@ module _ (poll : PollContent) (is : IsPoll poll) where
         | inr h ↦ majority_wins poll.wording (ratio_of poll o) (votes m o (option_count poll)) (votes m (option_count poll) o) (some_ratio o h.0 h.1) h.3
       ]
 
-  kept_option : (m : Votes) (o : ℕ) → IsKept poll m o → IsOption (option_count poll) o
-  kept_option m o kept = let some = is.options_min in elim kept [ inl default ↦ (omega arith, omega arith) | inr h ↦ let low = h.0 in let high = h.1 in (omega arith, omega arith) ]
+  kept_one : (m : Votes) (o : ℕ) → IsKept poll m o → IsOption (option_count poll) o
+  kept_one m = kept_option poll m (let some = is.options_min in omega arith)
 
   -- an option with no fewer votes for it and no more against it stays
   kept_still : (m n : Votes) (o : ℕ) → (o ≢ option_count poll → (votes m o (option_count poll) ≤ votes n o (option_count poll)) × (votes n (option_count poll) o ≤ votes m (option_count poll) o))
@@ -168,16 +158,16 @@ module _ (poll : PollContent) (is : IsPoll poll) where
         ]
 
     default_option : IsOption (option_count poll) (option_count poll)
-    default_option = kept_option m (option_count poll) (inl refl)
+    default_option = kept_one m (option_count poll) (inl refl)
 
     -- an option other than A that is kept now was kept before
     was_kept : (o : ℕ) → o ≢ a → IsKept poll n o → IsKept poll m o
-    was_kept o other kept = kept_still n m o (λ _. less o (option_count poll) (kept_option n o kept) default_option other) kept
+    was_kept o other kept = kept_still n m o (λ _. less o (option_count poll) (kept_one n o kept) default_option other) kept
 
     -- where A is not the default, an option that was kept is kept now
     is_kept : a ≢ option_count poll → (o : ℕ) → IsKept poll m o → IsKept poll n o
     is_kept other o kept =
-        kept_still m n o (λ _. let l = less (option_count poll) o default_option (kept_option m o kept) (λ same. other (sym same)) in (l.1, l.0)) kept
+        kept_still m n o (λ _. let l = less (option_count poll) o default_option (kept_one m o kept) (λ same. other (sym same)) in (l.1, l.0)) kept
 
     default_wins : a ≡ option_count poll → In (final_set rs) a → In (final_set ss) a
     default_wins default i =
@@ -195,29 +185,10 @@ module _ (poll : PollContent) (is : IsPoll poll) where
         (schulze_law (IsKept poll n) n (suc (option_count poll)) (kept_below poll n) ss so a).1
         (raised_winner (IsKept poll m) (IsKept poll n) (is_kept other)
         (λ o kept. elim (cases_eq o a) [ inl same ↦ subst (IsKept poll m) (sym same) wins.0 | inr another ↦ was_kept o another kept ])
-        m n a (λ c d kc kd. less c d (kept_option m c kc) (kept_option m d kd)) wins)
+        m n a (λ c d kc kd. less c d (kept_one m c kc) (kept_one m d kd)) wins)
 
     pub raised_wins : In (final_set rs) a → In (final_set ss) a
     raised_wins i = elim (cases_eq a (option_count poll)) [ inl default ↦ default_wins default i | inr other ↦ other_wins other i ]
-
-one_more : (b c : Bool) → (IsTrue b → IsTrue c) → cond b 1 0 ≤ cond c 1 0
-one_more false c h = omega arith
-one_more true c h = rw (h refl) (omega arith)
-
--- two lists, place by place
-module _ {X : Type 0} where
-  flipped : (R : X → X → Type 0) (xs ys : List X) → AllZip R xs ys → AllZip (λ y x. R x y) ys xs
-  flipped R [] [] h = tt
-  flipped R [] (y ∷ ys) h = absurd h
-  flipped R (x ∷ xs) [] h = absurd h
-  flipped R (x ∷ xs) (y ∷ ys) h = (h.0, flipped R xs ys h.1)
-
-  count_more : (R : X → X → Type 0) (p q : X → Bool) → ((x y : X) → R x y → IsTrue (p x) → IsTrue (q y)) → (xs ys : List X) → AllZip R xs ys → count_by p xs ≤ count_by q ys
-  count_more R p q into [] [] h = omega arith
-  count_more R p q into [] (y ∷ ys) h = absurd h
-  count_more R p q into (x ∷ xs) [] h = absurd h
-  count_more R p q into (x ∷ xs) (y ∷ ys) h =
-      omega (arith, sum_by-cons (λ z. cond (p z) 1 0) x xs, sum_by-cons (λ z. cond (q z) 1 0) y ys, one_more (p x) (q y) (into x y h.0), count_more R p q into xs ys h.1)
 
 module _ (options a : ℕ) (option : IsOption options a) (ballots raised : List (Option (List (Option ℕ)))) (m n : Votes)
     (h : AllZip (IsRaisedEntry options a) ballots raised) (of : IsMatrixOf options ballots m) (of' : IsMatrixOf options raised n) where

@@ -1,7 +1,8 @@
 -- The final set has exactly the winners of Schulze's method.
-use Rattle.std.proofs.Common.{◌≡◌, ℕ, zero, suc, ◌<◌, ◌⊎◌, ◌↔◌, List, [], ◌∷◌, ◌++◌, inl, inr, refl, sym, subst, arith}
-use Rattle.std.proofs.lemmas.Bool.{cases_lt, cases_Bool, both_ways}
+use Rattle.std.proofs.Common.{◌≡◌, ℕ, zero, suc, ◌≢◌, ◌<◌, ◌≤◌, ◌∙◌, ◌⊎◌, ◌↔◌, List, [], ◌∷◌, ◌++◌, inl, inr, refl, sym, subst, arith}
+use Rattle.std.proofs.lemmas.Bool.{cases_eq, cases_lt, cases_Bool, both_ways}
 use Rattle.vote_count.specs.declared.rounds.Round.{Round}
+use Rattle.vote_poll.specs.Options.{IsOption}
 use Rattle.vote_poll.specs.PollContent.{PollContent, option_count}
 use Rattle.vote_count.specs.Votes.{Votes, votes}
 use Rattle.vote_count.specs.Sets.{In, Pairs, has, has_pair}
@@ -9,10 +10,21 @@ use Rattle.vote_count.specs.Rules.{IsKept, PairwiseDefeats, EachDefeatsNext, Tra
 use Rattle.vote_count.specs.Rounds.{IsRound, RemovesNothing, AreRounds, final_set}
 use Rattle.vote_count.specs.Laws.{ReachesBy, IsSchulzeWinner}
 use Rattle.vote_count.proofs.Closure.{transitive, monotone, first_defeat}
-use Rattle.vote_count.proofs.Strengths.{below_or_not, not_below_transitive, no_weakest, weakest_of_chain}
+use Rattle.vote_count.proofs.Strengths.{Strong, as_strong, below_or_not, not_below_transitive, no_weakest, weakest_of_chain}
 
 pub kept_below : (poll : PollContent) (m : Votes) (o : ℕ) → IsKept poll m o → o < suc (option_count poll)
 kept_below poll m o kept = elim kept [ inl default ↦ omega arith | inr other ↦ let less = other.1 in omega arith ]
+
+pub kept_option : (poll : PollContent) (m : Votes) → 1 ≤ option_count poll → (o : ℕ) → IsKept poll m o → IsOption (option_count poll) o
+kept_option poll m some o kept = elim kept [ inl default ↦ (omega arith, omega arith) | inr other ↦ let low = other.0 in let high = other.1 in (omega arith, omega arith) ]
+
+-- of two kept options one is not the default
+pub other_kept : (poll : PollContent) (m : Votes) (a b : ℕ) → IsKept poll m a → IsKept poll m b → a ≢ b → (o : ℕ) × IsKept poll m o × (o ≢ option_count poll) × (1 ≤ option_count poll)
+other_kept poll m a b first second apart =
+    elim (cases_eq a (option_count poll)) [
+      | inr other ↦ (a, first, other, elim first [ inl default ↦ absurd (other default) | inr h ↦ let high = h.1 in omega arith ])
+      | inl default ↦ let other : b ≢ option_count poll = λ same. apart (default ∙ sym same) in (b, second, other, elim second [ inl same ↦ absurd (other same) | inr h ↦ let high = h.1 in omega arith ])
+    ]
 
 module _ (E R : ℕ → ℕ → Type 0) (known : (a b : ℕ) → R a b ⊎ ¬ R a b) where
   -- a chain has no removed defeat, or goes on from the end of its last removed one
@@ -140,7 +152,7 @@ module _ (K : ℕ → Type 0) (m : Votes) where
       ]
 
 -- what is not refuted at any number below n is not refuted at all of them together
-all_below : (P : ℕ → Type 0) (n : ℕ) → ((b : ℕ) → ¬ (¬ P b)) → ¬ (¬ ((b : ℕ) → b < n → P b))
+pub all_below : (P : ℕ → Type 0) (n : ℕ) → ((b : ℕ) → ¬ (¬ P b)) → ¬ (¬ ((b : ℕ) → b < n → P b))
 all_below P zero each none = none (λ b less. absurd (omega arith))
 all_below P (suc n) each none =
     all_below P n each (λ below. each n (λ here. none (λ b less. elim (cases_lt b n) [
@@ -213,3 +225,16 @@ module _ (K : ℕ → Type 0) (m : Votes) (n : ℕ) (few : (o : ℕ) → K o →
     λ i. (final_kept K m rs (PairwiseDefeats K m) (λ x y d. d) are a i, λ b k x y defeat. reaches_back K m rs (PairwiseDefeats K m) (λ x y d. d) are a i b k x y),
     λ wins. winner_final K m n few a wins rs are,
   )
+
+-- a winner has a chain to each option that has one to it, as strong as any number of votes that this one is as strong as
+module _ (K : ℕ → Type 0) (m : Votes) (a : ℕ) (wins : IsSchulzeWinner K m (PairwiseDefeats K m) a) where
+  abbrev S : ℕ → ℕ → ℕ → ℕ → Type 0
+  S = Strong m (PairwiseDefeats K m)
+
+  pub back_as_strong : (b : ℕ) → K b → (v w : ℕ) → TransitivelyDefeats (S v w) b a → TransitivelyDefeats (S v w) a b
+  back_as_strong b k v w chain =
+      let weakest = weakest_of_chain m (S v w) b a chain in
+      let x = weakest.0 in
+      let y = weakest.1 in
+      as_strong m (PairwiseDefeats K m) (votes m x y) (votes m y x) v w weakest.2.1 a b
+      (wins.1 b k x y weakest.2.0 (monotone (λ c d. S v w c d × ¬ IsWeaker m c d x y) (S (votes m x y) (votes m y x)) (λ c d s. (s.0.0, s.1)) b a weakest.4))

@@ -51,7 +51,15 @@ measure_below v w x y won won' h =
       | inr same ↦ let squares : v * v ≡ x * x = ap (λ z. z * z) same.0 in omega arith
     ]
 
+-- the defeats that are no weaker than so many votes for and against
+abbrev pub Strong : Votes → (ℕ → ℕ → Type 0) → ℕ → ℕ → ℕ → ℕ → Type 0
+Strong m E v w a b = E a b × ¬ IsBelow (votes m a b) (votes m b a) v w
+
 module _ (m : Votes) where
+  -- a chain is as strong as what is no stronger than another strength that it has
+  pub as_strong : (E : ℕ → ℕ → Type 0) (v w x y : ℕ) → ¬ IsBelow v w x y → (a b : ℕ) → TransitivelyDefeats (Strong m E v w) a b → TransitivelyDefeats (Strong m E x y) a b
+  as_strong E v w x y h = monotone (Strong m E v w) (Strong m E x y) (λ a b s. (s.0, not_below_transitive (votes m a b) (votes m b a) v w x y s.1 h))
+
   none_below : (W : ℕ → ℕ → Type 0) → ((a b : ℕ) → W a b → votes m b a < votes m a b)
       → ((a b : ℕ) → W a b → ((x y : ℕ) → W x y → ¬ IsWeaker m x y a b) → ⊥) → (k a b : ℕ) → measure (votes m a b) (votes m b a) < k → ¬ W a b
   none_below W won step zero a b less w = omega arith

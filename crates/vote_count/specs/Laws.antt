@@ -1,6 +1,6 @@
 -- Laws of the count, in the words of the literature on voting.
-use Rattle.std.specs.Prelude.{◌≡◌, ◌≢◌, ℕ, ◌≤◌, ◌↔◌, Bool, List, Option, IsTrue, count_by}
-use Rattle.std.specs.List.{AllZip}
+use Rattle.std.specs.Prelude.{◌≡◌, ◌≢◌, ℕ, ◌≤◌, ◌⊎◌, ◌↔◌, Bool, List, Option, IsTrue, count_by}
+use Rattle.std.specs.List.{All, AllZip}
 use Rattle.std.specs.List.Sorted.{IsPermutation}
 use Rattle.vote_poll.specs.Options.{IsOption}
 use Rattle.vote_poll.specs.PollContent.{PollContent, IsPoll, option_count}
@@ -95,3 +95,37 @@ RaisedBallotsRaise =
     (options a : ℕ) (ballots raised_ballots : List (Option (List (Option ℕ)))) (matrix raised : Votes) →
     IsOption options a → AllZip (IsRaisedEntry options a) ballots raised_ballots → IsMatrixOf options ballots matrix → IsMatrixOf options raised_ballots raised →
     IsRaised options a matrix raised
+
+-- Two of the options are clones: each further option has the same votes over the one as over the other, and each of the two the same over it.
+pub record AreClones (options : ℕ → Type 0) (matrix : Votes) (c d : ℕ) : Type 0 where
+  pub first : options c
+  pub second : options d
+  pub distinct : c ≢ d
+  pub for : (x : ℕ) → options x → x ≢ c → x ≢ d → votes matrix c x ≡ votes matrix d x
+  pub against : (x : ℕ) → options x → x ≢ c → x ≢ d → votes matrix x c ≡ votes matrix x d
+
+-- the options without one of them
+abbrev pub Except : (ℕ → Type 0) → ℕ → ℕ → Type 0
+Except options d a = options a × (a ≢ d)
+
+-- Independence of clones: without one of two clones, of the options that are not dropped, the final set has the same other options, and the other clone exactly where it had one of the two.
+abbrev pub FinalSetIsCloneproof : Type 0
+FinalSetIsCloneproof =
+    (poll : PollContent) (matrix : Votes) (rounds fewer : List Round) (c d : ℕ) →
+    let kept = IsKept poll matrix in
+    let less = Except kept d in
+    AreClones kept matrix c d → AreRounds kept matrix (PairwiseDefeats kept matrix) rounds → AreRounds less matrix (PairwiseDefeats less matrix) fewer →
+    ((x : ℕ) → x ≢ c → x ≢ d → In (final_set rounds) x ↔ In (final_set fewer) x) × (In (final_set fewer) c ↔ (In (final_set rounds) c ⊎ In (final_set rounds) d))
+
+-- Two of so many options are clones on an entry: it ranks no further option between the two, nor as high as one of them alone.
+pub record AreClonesOn (options : ℕ) (c d : ℕ) (entry : Option (List (Option ℕ))) : Type 0 where
+  pub for : (x : ℕ) → IsOption options x → x ≢ c → x ≢ d → entry_prefers c x entry ≡ entry_prefers d x entry
+  pub against : (x : ℕ) → IsOption options x → x ≢ c → x ≢ d → entry_prefers x c entry ≡ entry_prefers x d entry
+
+-- Of the options that are not dropped, two that are clones on each entry of a list of ballots are clones in the matrix of the ballots.
+abbrev pub ClonesOnBallotsAreClones : Type 0
+ClonesOnBallotsAreClones =
+    (poll : PollContent) (ballots : List (Option (List (Option ℕ)))) (matrix : Votes) (c d : ℕ) →
+    let kept = IsKept poll matrix in
+    kept c → kept d → c ≢ d → All (AreClonesOn (option_count poll) c d) ballots → IsMatrixOf (option_count poll) ballots matrix →
+    AreClones kept matrix c d

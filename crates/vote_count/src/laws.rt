@@ -1,5 +1,5 @@
 //! Laws of the count. Each function does nothing: its contract is the law, and that is proved.
-ghost use Rattle.vote_count.specs.Laws.{BallotsAreAnonymous, CondorcetWinnersWin, FinalSetIsInSmithSet, FinalSetIsSchulze, RaisedWinnersWin, RaisedBallotsRaise};
+ghost use Rattle.vote_count.specs.Laws.{BallotsAreAnonymous, CondorcetWinnersWin, FinalSetIsInSmithSet, FinalSetIsSchulze, RaisedWinnersWin, RaisedBallotsRaise, FinalSetIsCloneproof, ClonesOnBallotsAreClones};
 ghost use Rattle.vote_count.specs.Rounds.{RoundsAreDetermined};
 
 /// The rules leave no choice: two lists of rounds of the same poll and matrix are the same.
@@ -40,4 +40,17 @@ pub fn raised_winners_win()
 /// place at most by liking one option more, `raised_winners_win` speaks of the matrices of the lists.
 pub fn raised_ballots_raise()
     ensures { RaisedBallotsRaise }
+{}
+
+/// Independence of clones: where one of two options that each further option has the same votes over,
+/// and the same against, is taken out, the final set has the same further options, and the one that is
+/// left exactly where it had one of the two. Dropped options do not count.
+pub fn final_set_is_cloneproof()
+    ensures { FinalSetIsCloneproof }
+{}
+
+/// Clones of the matrix: where no ballot ranks a further option between two, or as high as one of them
+/// alone, `final_set_is_cloneproof` speaks of the two and of the matrix of the ballots.
+pub fn clones_on_ballots_are_clones()
+    ensures { ClonesOnBallotsAreClones }
 {}

@@ -1,0 +1,47 @@
+-- How many elements of a list pass a test.
+use Rattle.std.proofs.Common.{◌≡◌, ℕ, Bool, true, false, cond, count_by, ◌≤◌, List, [], ◌∷◌, refl, arith}
+use Rattle.std.specs.Prelude.{IsTrue}
+use Rattle.std.specs.List.{All, AllZip}
+use Rattle.std.proofs.lemmas.List.Elements.{All-head, All-tail}
+use Rattle.std.proofs.lemmas.List.Sums.{sum_by-cons}
+
+-- what an element adds to the count
+abbrev one : Bool → ℕ
+one passes = cond passes 1 0
+
+one_more : (b c : Bool) → (IsTrue b → IsTrue c) → one b ≤ one c
+one_more false c h = omega arith
+one_more true c h = rw (h refl) (omega arith)
+
+-- two lists, place by place
+module _ {X : Type 0} where
+  pub flipped : (R : X → X → Type 0) (xs ys : List X) → AllZip R xs ys → AllZip (λ y x. R x y) ys xs
+  flipped R [] [] h = tt
+  flipped R [] (y ∷ ys) h = absurd h
+  flipped R (x ∷ xs) [] h = absurd h
+  flipped R (x ∷ xs) (y ∷ ys) h = (h.0, flipped R xs ys h.1)
+
+  pub count_more : (R : X → X → Type 0) (p q : X → Bool) → ((x y : X) → R x y → IsTrue (p x) → IsTrue (q y)) → (xs ys : List X) → AllZip R xs ys → count_by p xs ≤ count_by q ys
+  count_more R p q into [] [] h = omega arith
+  count_more R p q into [] (y ∷ ys) h = absurd h
+  count_more R p q into (x ∷ xs) [] h = absurd h
+  count_more R p q into (x ∷ xs) (y ∷ ys) h =
+      omega (arith, sum_by-cons (λ z. one (p z)) x xs, sum_by-cons (λ z. one (q z)) y ys, one_more (p x) (q y) (into x y h.0), count_more R p q into xs ys h.1)
+
+  paired : (R : X → X → Type 0) (xs : List X) → All (λ x. R x x) xs → AllZip R xs xs
+  paired R [] h = tt
+  paired R (x ∷ xs) h = (All-head (λ z. R z z) x xs h, paired R xs (All-tail (λ z. R z z) x xs h))
+
+module _ {X : Type 0} (p q : X → Bool) where
+  abbrev Implied : X → X → Type 0
+  Implied x y = IsTrue (p x) → IsTrue (q y)
+
+  -- no more pass the one test than the other, where each that passes the one passes the other
+  pub count_implied : (xs : List X) → All (λ x. IsTrue (p x) → IsTrue (q x)) xs → count_by p xs ≤ count_by q xs
+  count_implied xs h = count_more Implied p q (λ x y r. r) xs xs (paired Implied xs h)
+
+  pub count_same : (xs : List X) → All (λ x. p x ≡ q x) xs → count_by p xs ≡ count_by q xs
+  count_same [] h = refl
+  count_same (x ∷ xs) h =
+      let same : one (p x) ≡ one (q x) = rw (All-head (λ z. p z ≡ q z) x xs h) in
+      omega (arith, sum_by-cons (λ z. one (p z)) x xs, sum_by-cons (λ z. one (q z)) x xs, count_same xs (All-tail (λ z. p z ≡ q z) x xs h))
