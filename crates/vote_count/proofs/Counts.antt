@@ -1,8 +1,9 @@
 -- How many elements of a list pass a test.
-use Rattle.std.proofs.Common.{◌≡◌, ℕ, Bool, true, false, cond, count_by, ◌≤◌, List, [], ◌∷◌, refl, arith}
+use Rattle.std.proofs.Common.{◌≡◌, ℕ, Bool, true, false, cond, count_by, ◌≤◌, List, [], ◌∷◌, inl, inr, refl, arith}
 use Rattle.std.specs.Prelude.{IsTrue}
 use Rattle.std.specs.List.{All, AllZip}
-use Rattle.std.proofs.lemmas.List.Elements.{All-head, All-tail}
+use Rattle.std.proofs.lemmas.Bool.{cases_Bool}
+use Rattle.std.proofs.lemmas.List.Elements.{All-nil, All-cons, All-head, All-tail}
 use Rattle.std.proofs.lemmas.List.Sums.{sum_by-cons}
 
 -- what an element adds to the count
@@ -12,6 +13,12 @@ one passes = cond passes 1 0
 one_more : (b c : Bool) → (IsTrue b → IsTrue c) → one b ≤ one c
 one_more false c h = omega arith
 one_more true c h = rw (h refl) (omega arith)
+
+counted : (b : Bool) → IsTrue b → one b ≡ 1
+counted b h = rw h
+
+not_counted : (b : Bool) → b ≡ false → one b ≡ 0
+not_counted b h = rw h
 
 -- two lists, place by place
 module _ {X : Type 0} where
@@ -45,3 +52,29 @@ module _ {X : Type 0} (p q : X → Bool) where
   count_same (x ∷ xs) h =
       let same : one (p x) ≡ one (q x) = rw (All-head (λ z. p z ≡ q z) x xs h) in
       omega (arith, sum_by-cons (λ z. one (p z)) x xs, sum_by-cons (λ z. one (q z)) x xs, count_same xs (All-tail (λ z. p z ≡ q z) x xs h))
+
+  -- and where as many pass the one as the other, each that passes the other passes the one
+  pub implied_back : (xs : List X) → All (λ x. IsTrue (p x) → IsTrue (q x)) xs → count_by q xs ≤ count_by p xs → All (λ x. IsTrue (q x) → IsTrue (p x)) xs
+  implied_back [] h enough = All-nil (λ x. IsTrue (q x) → IsTrue (p x))
+  implied_back (x ∷ xs) h enough =
+      let head = All-head (λ z. IsTrue (p z) → IsTrue (q z)) x xs h in
+      let tail = All-tail (λ z. IsTrue (p z) → IsTrue (q z)) x xs h in
+      let here = sum_by-cons (λ z. one (p z)) x xs in
+      let there = sum_by-cons (λ z. one (q z)) x xs in
+      let more = one_more (p x) (q x) head in
+      let rest = count_implied xs tail in
+      All-cons (λ z. IsTrue (q z) → IsTrue (p z)) x xs
+      (λ passes. elim (cases_Bool (p x)) [
+        | inl also ↦ also
+        | inr fails ↦ let yes = counted (q x) passes in let no = not_counted (p x) fails in absurd (omega arith)
+      ])
+      (implied_back xs tail (omega arith))
+
+module _ {X : Type 0} (p : X → Bool) where
+  pub count_none : (xs : List X) → All (λ x. ¬ IsTrue (p x)) xs → count_by p xs ≡ 0
+  count_none [] h = refl
+  count_none (x ∷ xs) h =
+      elim (cases_Bool (p x)) [
+        | inl passes ↦ absurd (All-head (λ z. ¬ IsTrue (p z)) x xs h passes)
+        | inr fails ↦ omega (arith, not_counted (p x) fails, sum_by-cons (λ z. one (p z)) x xs, count_none xs (All-tail (λ z. ¬ IsTrue (p z)) x xs h))
+      ]

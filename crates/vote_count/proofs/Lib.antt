@@ -12,3 +12,4 @@ pub mod Strengths
 pub mod Schulze
 pub mod Raising
 pub mod Clones
+pub mod Pareto

@@ -1,9 +1,10 @@
 -- Laws of the count, in the words of the literature on voting.
-use Rattle.std.specs.Prelude.{◌≡◌, ◌≢◌, ℕ, ◌≤◌, ◌⊎◌, ◌↔◌, Bool, List, Option, IsTrue, count_by}
+use Rattle.std.specs.Prelude.{◌≡◌, ◌≢◌, ℕ, ◌≤◌, ◌⊎◌, ◌↔◌, Bool, List, Option, IfSome, IsTrue, count_by}
 use Rattle.std.specs.List.{All, AllZip}
 use Rattle.std.specs.List.Sorted.{IsPermutation}
 use Rattle.vote_poll.specs.Options.{IsOption}
 use Rattle.vote_poll.specs.PollContent.{PollContent, IsPoll, option_count}
+use Rattle.vote_poll.specs.Ranks.{prefers}
 use Rattle.vote_count.specs.declared.rounds.Round.{Round}
 use Rattle.vote_count.specs.Ballots.{entry_prefers}
 use Rattle.vote_count.specs.Rounds.{AreRounds, final_set}
@@ -129,3 +130,15 @@ ClonesOnBallotsAreClones =
     let kept = IsKept poll matrix in
     kept c → kept d → c ≢ d → All (AreClonesOn (option_count poll) c d) ballots → IsMatrixOf (option_count poll) ballots matrix →
     AreClones kept matrix c d
+
+-- each entry that is a ballot prefers A to B
+abbrev pub IsUnanimous : ℕ → ℕ → List (Option (List (Option ℕ))) → Type 0
+IsUnanimous a b ballots = All (λ entry. IfSome entry (λ ranks. IsTrue (prefers ranks a b))) ballots
+
+-- Pareto's criterion: an option to which each ballot prefers another that is not dropped is not in the final set.
+abbrev pub FinalSetIsPareto : Type 0
+FinalSetIsPareto =
+    (poll : PollContent) (ballots : List (Option (List (Option ℕ)))) (matrix : Votes) (rounds : List Round) (a b : ℕ) →
+    let kept = IsKept poll matrix in
+    IsMatrixOf (option_count poll) ballots matrix → AreRounds kept matrix (PairwiseDefeats kept matrix) rounds →
+    kept a → a ≢ b → IsUnanimous a b ballots → ¬ In (final_set rounds) b

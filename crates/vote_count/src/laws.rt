@@ -1,5 +1,5 @@
 //! Laws of the count. Each function does nothing: its contract is the law, and that is proved.
-ghost use Rattle.vote_count.specs.Laws.{BallotsAreAnonymous, CondorcetWinnersWin, FinalSetIsInSmithSet, FinalSetIsSchulze, RaisedWinnersWin, RaisedBallotsRaise, FinalSetIsCloneproof, ClonesOnBallotsAreClones};
+ghost use Rattle.vote_count.specs.Laws.{BallotsAreAnonymous, CondorcetWinnersWin, FinalSetIsInSmithSet, FinalSetIsSchulze, RaisedWinnersWin, RaisedBallotsRaise, FinalSetIsCloneproof, ClonesOnBallotsAreClones, FinalSetIsPareto};
 ghost use Rattle.vote_count.specs.Rounds.{RoundsAreDetermined};
 
 /// The rules leave no choice: two lists of rounds of the same poll and matrix are the same.
@@ -53,4 +53,10 @@ pub fn final_set_is_cloneproof()
 /// alone, `final_set_is_cloneproof` speaks of the two and of the matrix of the ballots.
 pub fn clones_on_ballots_are_clones()
     ensures { ClonesOnBallotsAreClones }
+{}
+
+/// Pareto's criterion: where each ballot prefers one option, which is not dropped, to another, that
+/// other is not in the final set.
+pub fn final_set_is_pareto()
+    ensures { FinalSetIsPareto }
 {}
