@@ -131,6 +131,43 @@ ClonesOnBallotsAreClones =
     kept c → kept d → c ≢ d → All (AreClonesOn (option_count poll) c d) ballots → IsMatrixOf (option_count poll) ballots matrix →
     AreClones kept matrix c d
 
+-- The options of a set are clones: each option outside the set has the same votes over each of them, and each of them the same over it.
+pub record IsCloneSet (options : ℕ → Type 0) (matrix : Votes) (clones : List Bool) : Type 0 where
+  pub members : (c : ℕ) → In clones c → options c
+  pub for : (c d x : ℕ) → In clones c → In clones d → options x → ¬ In clones x → votes matrix c x ≡ votes matrix d x
+  pub against : (c d x : ℕ) → In clones c → In clones d → options x → ¬ In clones x → votes matrix x c ≡ votes matrix x d
+
+-- the options without those of a set
+abbrev pub Outside : (ℕ → Type 0) → List Bool → ℕ → Type 0
+Outside options set a = options a × ¬ In set a
+
+-- two sets have an option in common
+abbrev pub Meet : List Bool → List Bool → Type 0
+Meet set other = (a : ℕ) × In set a × In other a
+
+-- Independence of any number of clones: without some of a set of clones, but not without C of them, the final set has the same other options, and some of the clones exactly where it had some.
+abbrev pub CloneSetsAreIndependent : Type 0
+CloneSetsAreIndependent =
+    (poll : PollContent) (matrix : Votes) (rounds fewer : List Round) (clones removed : List Bool) (c : ℕ) →
+    let kept = IsKept poll matrix in
+    let less = Outside kept removed in
+    IsCloneSet kept matrix clones → ((a : ℕ) → In removed a → In clones a) → In clones c → ¬ In removed c →
+    AreRounds kept matrix (PairwiseDefeats kept matrix) rounds → AreRounds less matrix (PairwiseDefeats less matrix) fewer →
+    ((x : ℕ) → ¬ In clones x → In (final_set rounds) x ↔ In (final_set fewer) x) × (Meet clones (final_set rounds) ↔ Meet clones (final_set fewer))
+
+-- The options of a set, of so many, are clones on an entry: it ranks no option outside the set between two of them, nor as high as one of two alone.
+pub record IsCloneSetOn (options : ℕ) (clones : List Bool) (entry : Option (List (Option ℕ))) : Type 0 where
+  pub for : (c d x : ℕ) → In clones c → In clones d → IsOption options x → ¬ In clones x → entry_prefers c x entry ≡ entry_prefers d x entry
+  pub against : (c d x : ℕ) → In clones c → In clones d → IsOption options x → ¬ In clones x → entry_prefers x c entry ≡ entry_prefers x d entry
+
+-- Options that are not dropped and are clones on each entry of a list of ballots are clones in the matrix of the ballots.
+abbrev pub CloneSetsOnBallotsAreCloneSets : Type 0
+CloneSetsOnBallotsAreCloneSets =
+    (poll : PollContent) (ballots : List (Option (List (Option ℕ)))) (matrix : Votes) (clones : List Bool) →
+    let kept = IsKept poll matrix in
+    ((c : ℕ) → In clones c → kept c) → All (IsCloneSetOn (option_count poll) clones) ballots → IsMatrixOf (option_count poll) ballots matrix →
+    IsCloneSet kept matrix clones
+
 -- each entry that is a ballot prefers A to B
 abbrev pub IsUnanimous : ℕ → ℕ → List (Option (List (Option ℕ))) → Type 0
 IsUnanimous a b ballots = All (λ entry. IfSome entry (λ ranks. IsTrue (prefers ranks a b))) ballots

@@ -1,5 +1,5 @@
 //! Laws of the count. Each function does nothing: its contract is the law, and that is proved.
-ghost use Rattle.vote_count.specs.Laws.{BallotsAreAnonymous, CondorcetWinnersWin, FinalSetIsInSmithSet, FinalSetIsSchulze, RaisedWinnersWin, RaisedBallotsRaise, FinalSetIsCloneproof, ClonesOnBallotsAreClones, FinalSetIsPareto};
+ghost use Rattle.vote_count.specs.Laws.{BallotsAreAnonymous, CondorcetWinnersWin, FinalSetIsInSmithSet, FinalSetIsSchulze, RaisedWinnersWin, RaisedBallotsRaise, FinalSetIsCloneproof, ClonesOnBallotsAreClones, CloneSetsAreIndependent, CloneSetsOnBallotsAreCloneSets, FinalSetIsPareto};
 ghost use Rattle.vote_count.specs.Rounds.{RoundsAreDetermined};
 
 /// The rules leave no choice: two lists of rounds of the same poll and matrix are the same.
@@ -53,6 +53,20 @@ pub fn final_set_is_cloneproof()
 /// alone, `final_set_is_cloneproof` speaks of the two and of the matrix of the ballots.
 pub fn clones_on_ballots_are_clones()
     ensures { ClonesOnBallotsAreClones }
+{}
+
+/// Independence of clones, any number of them: where some of a set of options that each option outside
+/// it has the same votes over, and the same against, are taken out, but not all, the final set has the
+/// same options outside the set, and some of the set exactly where it had some.
+pub fn clone_sets_are_independent()
+    ensures { CloneSetsAreIndependent }
+{}
+
+/// Sets of clones of the matrix: where no ballot ranks an option outside a set between two of it, or as
+/// high as one of two alone, `clone_sets_are_independent` speaks of the set and of the matrix of the
+/// ballots.
+pub fn clone_sets_on_ballots_are_clone_sets()
+    ensures { CloneSetsOnBallotsAreCloneSets }
 {}
 
 /// Pareto's criterion: where each ballot prefers one option, which is not dropped, to another, that

@@ -23,6 +23,7 @@
 //! function that does nothing: [`ballots_are_anonymous`], [`condorcet_winners_win`],
 //! [`final_set_is_in_smith_set`], [`final_set_is_schulze`], [`raised_winners_win`],
 //! [`raised_ballots_raise`], [`final_set_is_cloneproof`], [`clones_on_ballots_are_clones`],
+//! [`clone_sets_are_independent`], [`clone_sets_on_ballots_are_clone_sets`],
 //! [`final_set_is_pareto`], [`rounds_are_determined`].
 //!
 //! A set of options is a word of bits, and a list of defeats has one such word for each option.
@@ -38,9 +39,10 @@ mod rules;
 mod tally;
 
 pub use laws::{
-    ballots_are_anonymous, clones_on_ballots_are_clones, condorcet_winners_win,
-    final_set_is_cloneproof, final_set_is_in_smith_set, final_set_is_pareto, final_set_is_schulze,
-    raised_ballots_raise, raised_winners_win, rounds_are_determined,
+    ballots_are_anonymous, clone_sets_are_independent, clone_sets_on_ballots_are_clone_sets,
+    clones_on_ballots_are_clones, condorcet_winners_win, final_set_is_cloneproof,
+    final_set_is_in_smith_set, final_set_is_pareto, final_set_is_schulze, raised_ballots_raise,
+    raised_winners_win, rounds_are_determined,
 };
 pub use options::{OptionSet, Word};
 pub use pairs::{Chains, Defeats, reach};
