@@ -153,7 +153,7 @@ has_rank text ranks h =
 abbrev HasNoComma : List ℕ → Type 0
 HasNoComma text = All (λ b. is_comma b ≡ false) text
 
-rank_text_has_no_comma : (r : Option ℕ) → IsRank r → HasNoComma (rank_text r)
+pub rank_text_has_no_comma : (r : Option ℕ) → IsRank r → HasNoComma (rank_text r)
 rank_text_has_no_comma None h = All-cons (λ b. is_comma b ≡ false) 45 [] refl (All-nil (λ b. is_comma b ≡ false))
 rank_text_has_no_comma (Some n) h =
     let P : ℕ → Type 0 = λ b. is_comma b ≡ false in
@@ -253,7 +253,7 @@ first_space (b ∷ name) rest h =
     let here : is_space b ≡ false = All-head (λ x. is_space x ≡ false) b name h in
     rw here (omega arith)
 
-read_parts : (name rest : List ℕ) (ranks : List (Option ℕ)) → is_voter_name name ≡ true → ranks_in rest ≡ Some ranks → length (name ++ 32 ∷ rest) ≤ MAX_LINE → ballot_in (name ++ 32 ∷ rest) ≡ Some (named name ranks)
+pub read_parts : (name rest : List ℕ) (ranks : List (Option ℕ)) → is_voter_name name ≡ true → ranks_in rest ≡ Some ranks → length (name ++ 32 ∷ rest) ≤ MAX_LINE → ballot_in (name ++ 32 ∷ rest) ≡ Some (named name ranks)
 read_parts name rest ranks voter is short =
     let line : List ℕ = name ++ 32 ∷ rest in
     let at : position_or_len is_space (name ++ 32 ∷ rest) ≡ length name = first_space name rest (voter_name_has_no_space name voter) in

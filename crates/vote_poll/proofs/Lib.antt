@@ -8,5 +8,6 @@ mod NamesLaws
 mod OneReading
 mod Places
 mod PollFileLaws
+mod RankRow
 mod ReadingLaws
 pub mod OptionLaws

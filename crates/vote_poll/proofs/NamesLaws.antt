@@ -1,5 +1,6 @@
 -- Look-ups of a name.
-use Rattle.std.proofs.Common.{◌≡◌, ◌<◌, ℕ, Bool, true, not, List, [], ◌∷◌, map, refl, length, get_or, Option, Some, None, arith}
+use Rattle.std.proofs.Common.{◌≡◌, ◌<◌, ℕ, Bool, true, not, List, [], ◌∷◌, map, refl, sym, length, get_or, Option, Some, None, IfSome, arith}
+use Rattle.std.specs.Prelude.{IsTrue}
 use Rattle.std.specs.List.{position, prefix_len, AllPass, list_all}
 use Rattle.std.specs.Str.{IsUtf8, bytes_eq}
 use Rattle.std.specs.Cmp.Lexicographic.{bytes_decides}
@@ -33,6 +34,17 @@ voter_name_is_text name h =
 none_if_not_some : {X : Type 0} (o : Option X) → ((x : X) → o ≡ Some x → ⊥) → o ≡ None
 none_if_not_some None h = refl
 none_if_not_some (Some x) h = absurd (h x refl)
+
+-- what is found among voters' names is a voter's name
+pub place_of-name : (name : List ℕ) (roll : List (List ℕ)) (i : ℕ) → AllPass is_voter_name roll → place_of name roll ≡ Some i → is_voter_name name ≡ true
+place_of-name name roll i names found =
+    let at = position-Some (bytes_eq name) roll i [] found in
+    let same : name ≡ get_or roll i [] = (bytes_decides name (get_or roll i [])).0 at.1 in
+    rw same (names i [] at.0)
+
+pub found-name : (name : List ℕ) (roll : List (List ℕ)) (o : Option ℕ) → AllPass is_voter_name roll → o ≡ place_of name roll → IfSome o (λ _. IsTrue (is_voter_name name))
+found-name name roll None names found = tt
+found-name name roll (Some i) names found = place_of-name name roll i names (sym found)
 
 -- bytes that are no text are nowhere among voters' names
 pub place_of-no_text : (name : List ℕ) (roll : List (List ℕ)) → AllPass is_voter_name roll → ¬ (IsUtf8 name) → place_of name roll ≡ None

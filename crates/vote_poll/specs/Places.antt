@@ -19,6 +19,10 @@ rank_at place = if nat_eq place UNRANKED then None else Some place
 abbrev pub place_of : Option ℕ → ℕ
 place_of rank = unwrap_or rank UNRANKED
 
+-- a row of the first places, as many as a poll can have options, and of zeros behind them
+abbrev pub row_of : List ℕ → List ℕ
+row_of places = take MAX_OPTIONS places ++ replicate (MAX_OPTIONS - length places) 0
+
 place_again : (place : ℕ) → place_of (rank_at place) ≡ place
 place_again place = by_test (nat_eq place UNRANKED) refl
   where

@@ -1,7 +1,7 @@
 //! The poll: its options, its quorum and its roll of voters.
-ghost use Rattle.std.specs.Prelude.{◌≡◌, ◌≤◌, ◌<◌, ◌+◌, ◌-◌, Some, IfSome, length, slice_get, option_map, position, string_bytes};
+ghost use Rattle.std.specs.Prelude.{◌≡◌, ◌≤◌, ◌<◌, ◌+◌, ◌-◌, Some, IfSome, IsTrue, length, slice_get, option_map, position, string_bytes};
 ghost use Rattle.std.specs.Str.{bytes_eq};
-ghost use Rattle.vote_poll.specs.Names.{place_of};
+ghost use Rattle.vote_poll.specs.Names.{is_voter_name, place_of};
 ghost use Rattle.vote_poll.specs.Options.{IsOption};
 ghost use Rattle.vote_poll.specs.PollContent.{IsPoll, option_count, elector_count, last_of, ratio_of};
 ghost use Rattle.vote_poll.specs.PollParts.{content_of};
@@ -185,7 +185,8 @@ impl Poll {
     /// The number (from 0) of the voter with this name, which is the place on the roll, or none where no voter has it. The
     /// bytes may be anything. The roll is hashed, so the look-up does not grow with it.
     pub fn voter_of(&self, name: &[u8]) -> Option<usize>
-        ensures { result ≡ place_of name.now self.now.roll }
+        ensures place { result ≡ place_of name.now self.now.roll }
+        ensures name { IfSome result (λ _. IsTrue (is_voter_name name.now)) }
     {
         match std::str::from_utf8(name) {
             Ok(name) => self.roll.get_index_of(name),

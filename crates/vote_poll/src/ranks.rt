@@ -1,8 +1,8 @@
 //! The ranks that a ballot gives.
-ghost use Rattle.std.specs.Prelude.{◌≡◌, ◌<◌, ◌≤◌, ◌↔◌, ℕ, IfSome, IsTrue, None, [], ◌∷◌, ◌++◌, length, slice_index_or, take};
+ghost use Rattle.std.specs.Prelude.{◌≡◌, ◌<◌, ◌≤◌, ◌↔◌, ℕ, List, IsTrue, None, length, map, slice_index_or, take};
 ghost use Rattle.vote_poll.specs.Comparisons.{are_same_ranks};
 ghost use Rattle.vote_poll.specs.Options.{IsOption};
-ghost use Rattle.vote_poll.specs.Places.{IsPlace};
+ghost use Rattle.vote_poll.specs.Places.{IsPlace, rank_at, row_of};
 ghost use Rattle.vote_poll.specs.Ranks.{rank_of, prefers};
 ghost use Rattle.std.proofs.Common.{rules};
 ghost use Rattle.std.specs.Cmp.Rules.{comparing};
@@ -37,34 +37,15 @@ impl Model for Ranks {
 }
 
 impl Ranks {
-    /// The ranks of no options.
-    pub(crate) fn new() -> Ranks
-        ensures { result ≡ [] }
+    /// The ranks of the first options, as many as a poll can have, of `count` of which a row says where each stands.
+    pub(crate) fn of_row(count: usize, row: &[u8; MAX_OPTIONS]) -> Ranks
+        requires { (places : List ℕ) × (length places ≡ count) × (row.now ≡ row_of places) }
+        ensures { (places : List ℕ) → length places ≡ count → row.now ≡ row_of places → result ≡ take MAX_OPTIONS (map rank_at places) }
     {
         Ranks {
-            options: 0,
-            places: [0; MAX_OPTIONS],
+            options: count.min(MAX_OPTIONS) as u8,
+            places: *row,
         }
-    }
-
-    /// Adds the rank of the next option, where there is room for it.
-    pub(crate) fn push_if_room(&mut self, rank: Option<u8>)
-        requires { IfSome rank (λ r. r < UNRANKED) }
-        ensures { self.new ≡ take MAX_OPTIONS (self.old ++ rank ∷ []) }
-    {
-        if (self.options as usize) < MAX_OPTIONS {
-            self.push(rank);
-        }
-    }
-
-    /// Adds the rank of the next option.
-    fn push(&mut self, rank: Option<u8>)
-        requires room { length self.old < MAX_OPTIONS }
-        requires rank { IfSome rank (λ r. r < UNRANKED) }
-        ensures { self.new ≡ self.old ++ rank ∷ [] }
-    {
-        self.places[self.options as usize] = rank.unwrap_or(UNRANKED);
-        self.options += 1;
     }
 
     /// How many options there are, ranked or not.

@@ -1,10 +1,11 @@
 //! Reading a line of the ballot file.
-ghost use Rattle.std.specs.Prelude.{◌≡◌, ◌==◌, ◌<◌, ◌≤◌, ◌↔◌, ℕ, List, length, take, position, option_map, IfSome, IsTrue, IfNone, None, []};
+ghost use Rattle.std.specs.Prelude.{◌≡◌, ◌==◌, ◌<◌, ◌≤◌, ◌↔◌, ℕ, List, length, take, position, option_map, IfSome, IsTrue, IfNone, None, [], ◌∷◌, ◌++◌};
 ghost use Rattle.std.specs.List.{before_first, after_first, list_all};
 ghost use Rattle.std.specs.Str.{byte};
 ghost use Rattle.vote_poll.specs.Comparisons.{is_same_reading};
 ghost use Rattle.vote_poll.specs.Names.{is_voter_byte, is_voter_name};
-ghost use Rattle.vote_poll.specs.Parsing.{kept_and_count, voter_kept_and_count, reading_from};
+ghost use Rattle.vote_poll.specs.Parsing.{kept_and_count, voter_kept_and_count, parts_in, reading_from};
+ghost use Rattle.vote_poll.specs.Places.{rank_at, row_of};
 ghost use Rattle.vote_poll.specs.PollContent.{PollContent, elector_count, option_count};
 ghost use Rattle.vote_poll.specs.Readings.{IsReading, ReadingFits, reading, rank_in, ranks_in, ballot_in, is_space};
 ghost use Rattle.std.proofs.Common.{rules};
@@ -12,7 +13,7 @@ ghost use Rattle.std.specs.Cmp.Rules.{comparing};
 
 use crate::poll::Poll;
 use crate::ranks::Ranks;
-use crate::{MAX_LINE, MAX_RANK, MAX_VOTER_NAME};
+use crate::{MAX_LINE, MAX_OPTIONS, MAX_VOTER_NAME, UNRANKED};
 
 /// What a poll reads in a line. Two readings are the same for `==` just where they are equal for contracts.
 #[derive(Clone, Copy, Debug)]
@@ -35,16 +36,53 @@ pub enum LineFault {
     Roll,
 }
 
-/// The rank that a text spells, a hyphen for none.
-fn rank_of(text: &[u8]) -> Option<Option<u8>>
-    ensures same { result ≡ rank_in text.now }
-    ensures few { IfSome result (λ rank. IfSome rank (λ r. r ≤ MAX_RANK)) }
+/// Where an option stands whose rank is spelled by one byte.
+fn place_of_byte(byte: u8) -> Option<u8>
+    ensures { option_map rank_at result ≡ rank_in (byte ∷ []) }
+{
+    match byte {
+        b'-' => Some(UNRANKED),
+        b'1'..=b'9' => Some(byte - b'0'),
+        _ => None,
+    }
+}
+
+/// Where an option stands whose rank is spelled by two bytes.
+fn place_of_bytes(tens: u8, ones: u8) -> Option<u8>
+    ensures { option_map rank_at result ≡ rank_in (tens ∷ ones ∷ []) }
+{
+    match (tens, ones) {
+        (b'1'..=b'9', b'0'..=b'9') => Some(10 * (tens - b'0') + (ones - b'0')),
+        _ => None,
+    }
+}
+
+/// Where an option stands whose rank a text spells.
+fn place_of(text: &[u8]) -> Option<u8>
+    ensures { option_map rank_at result ≡ rank_in text.now }
 {
     match text {
-        [b'-'] => Some(None),
-        [ones @ b'1'..=b'9'] => Some(Some(*ones - b'0')),
-        [tens @ b'1'..=b'9', ones @ b'0'..=b'9'] => {
-            Some(Some(10 * (*tens - b'0') + (*ones - b'0')))
+        [byte] => place_of_byte(*byte),
+        [tens, ones] => place_of_bytes(*tens, *ones),
+        _ => None,
+    }
+}
+
+/// Where the option of the first rank in a text stands, and the text behind the comma after this rank.
+fn first_place(text: &[u8]) -> Option<(u8, &[u8])>
+    requires { 3 ≤ length text.now }
+    ensures first { IfSome result (λ first. ranks_in text.now ≡ option_map (λ ranks. rank_at first.0 ∷ ranks) (ranks_in first.1.now)) }
+    ensures shorter { IfSome result (λ first. length first.1.now < length text.now) }
+    ensures none { IfNone result (ranks_in text.now ≡ None) }
+{
+    match text {
+        [byte, b',', rest @ ..] => {
+            let place = place_of_byte(*byte)?;
+            Some((place, rest))
+        }
+        [tens, ones, b',', rest @ ..] => {
+            let place = place_of_bytes(*tens, *ones)?;
+            Some((place, rest))
         }
         _ => None,
     }
@@ -71,19 +109,33 @@ pub(crate) fn is_voter_name(text: &[u8]) -> bool
     1 <= text.len() && text.len() <= MAX_VOTER_NAME && are_voter_bytes(text)
 }
 
+/// Writes where the next option stands into a row, where there is room for it.
+fn keep(row: &mut [u8; MAX_OPTIONS], count: usize, place: u8)
+    ensures { (places : List ℕ) → length places ≡ count → row.old ≡ row_of places → row.new ≡ row_of (places ++ place ∷ []) }
+{
+    if count < MAX_OPTIONS {
+        row[count] = place;
+    }
+}
+
 /// The ranks that a text lists, of which as many are kept as a poll can have options, and how many there are.
 fn ranks_of(text: &[u8]) -> Option<(Ranks, usize)>
     requires { length text.now ≤ MAX_LINE }
     ensures { result ≡ option_map kept_and_count (ranks_in text.now) }
 {
-    let mut ranks = Ranks::new();
+    let mut row = [0; MAX_OPTIONS];
     let mut count = 0;
-    for part in text.split(|byte| *byte == b',') {
-        let rank = rank_of(part)?;
-        ranks.push_if_room(rank);
+    let mut left = text;
+    while left.len() >= 3 {
+        let (place, rest) = first_place(left)?;
+        keep(&mut row, count, place);
         count += 1;
+        left = rest;
     }
-    Some((ranks, count))
+    let last = place_of(left)?;
+    keep(&mut row, count, last);
+    count += 1;
+    Some((Ranks::of_row(count, &row), count))
 }
 
 /// The place of the first space.
@@ -103,7 +155,7 @@ fn split_at_space(line: &[u8]) -> Option<(&[u8], &[u8])>
     Some((&line[..end], &line[end + 1..]))
 }
 
-/// The parts of a ballot line.
+/// The parts of a ballot line, where the voter may be any text.
 #[derive(Clone, Copy)]
 struct BallotLine<'t> {
     voter: &'t [u8],
@@ -113,17 +165,14 @@ struct BallotLine<'t> {
     count: usize,
 }
 
-/// The parts of a line, where it is a ballot line.
+/// The parts of a line, where it is a ballot line if the text before the first space is a voter's name.
 fn parse(line: &[u8]) -> Option<BallotLine<'_>>
-    ensures { option_map (λ parts. (parts.voter.now, parts.ranks, parts.count)) result ≡ option_map voter_kept_and_count (ballot_in line.now) }
+    ensures { option_map (λ parts. (parts.voter.now, parts.ranks, parts.count)) result ≡ option_map voter_kept_and_count (parts_in line.now) }
 {
     if line.len() > MAX_LINE {
         return None;
     }
     let (voter, ranks) = split_at_space(line)?;
-    if !is_voter_name(voter) {
-        return None;
-    }
     let (ranks, count) = ranks_of(ranks)?;
     Some(BallotLine {
         voter,
@@ -132,17 +181,22 @@ fn parse(line: &[u8]) -> Option<BallotLine<'_>>
     })
 }
 
-/// The ballot that a line gives, as the voter's place on the roll and the ranks.
+/// The ballot that a line gives, as the voter's place on the roll and the ranks. What is on the roll is a voter's name,
+/// so only what is not is tested for one.
 fn ballot(poll: &Poll, line: &[u8]) -> Result<(usize, Ranks), LineFault>
     ensures { reading_from result ≡ reading poll.now line.now }
 {
     let Some(parts) = parse(line) else {
         return Err(LineFault::Shape);
     };
+    let found = poll.voter_of(parts.voter);
+    if found.is_none() && !is_voter_name(parts.voter) {
+        return Err(LineFault::Shape);
+    }
     if parts.count != poll.options() as usize {
         return Err(LineFault::RankCount);
     }
-    let voter = poll.voter_of(parts.voter).ok_or(LineFault::Roll)?;
+    let voter = found.ok_or(LineFault::Roll)?;
     Ok((voter, parts.ranks))
 }
 
