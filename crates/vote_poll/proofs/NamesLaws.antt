@@ -1,7 +1,10 @@
 -- Look-ups of a name.
-use Rattle.std.proofs.Common.{◌≡◌, ◌<◌, ℕ, Bool, true, not, List, [], ◌∷◌, map, refl, sym, length, get_or, Option, Some, None, IfSome, arith}
+use Rattle.std.proofs.Common.{◌≡◌, ◌<◌, ℕ, Bool, true, not, List, [], ◌∷◌, map, refl, sym, length, get_or, Option, Some, None, IfSome, nat_lt, false, arith}
 use Rattle.std.specs.Prelude.{IsTrue}
-use Rattle.std.specs.List.{position, prefix_len, AllPass, list_all}
+use Rattle.std.specs.List.{position, position_or_len, prefix_len, AllPass, list_all}
+use Rattle.std.proofs.lemmas.List.Sums.{position_or_len_is}
+use Rattle.vote_poll.specs.Names.{first_bad}
+use Rattle.vote_poll.proofs.FirstBad.{first_bad_apart, first_bad_shapes}
 use Rattle.std.specs.Str.{IsUtf8, bytes_eq}
 use Rattle.std.specs.Cmp.Lexicographic.{bytes_decides}
 use Rattle.std.proofs.lemmas.Bool.{and_parts}
@@ -54,3 +57,15 @@ place_of-no_text name roll names no_text = none_if_not_some (place_of name roll)
     no_text (rw same (voter_name_is_text (get_or roll i []) (names i [] at.0))))
 
 pub ruleset name_laws = (position-map)
+
+-- ---- the names of a roll
+-- the name at a place of the roll stands there and nowhere else
+pub name-at : (name : List ℕ) (roll : List (List ℕ)) (i : ℕ) → first_bad is_voter_name roll ≡ None → i < length roll → name ≡ get_or roll i []
+    → (place_of name roll ≡ Some i) × (is_voter_name name ≡ true)
+name-at name roll i good within is =
+    let shaped : is_voter_name name ≡ true = rw is (first_bad_shapes is_voter_name roll good i [] within) in
+    let before : (k : ℕ) → k < i → bytes_eq name (get_or roll k []) ≡ false = rw is (λ k below. first_bad_apart is_voter_name roll good i k within below) in
+    let here : bytes_eq name (get_or roll i []) ≡ true = (bytes_decides name (get_or roll i [])).1 is in
+    let first : position_or_len (bytes_eq name) roll ≡ i = position_or_len_is (bytes_eq name) roll i [] (omega arith) before (λ _. here) in
+    let found : nat_lt i (length roll) ≡ true = grind (arith, nat_tests) in
+    (rw (first, found), shaped)

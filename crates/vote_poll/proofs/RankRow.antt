@@ -1,11 +1,8 @@
 -- A row of the first places, as many as a poll can have options, with zeros behind them, and the ranks that a text lists.
-use Rattle.std.proofs.Common.{◌≡◌, ◌==◌, ◌+◌, ◌-◌, ◌<◌, ◌≤◌, ◌++◌, ℕ, suc, min, List, [], ◌∷◌, map, refl, ap, ap₂, sym, ◌∙◌, length, take, set, replicate, Option, Some, None, arith, append_assoc, Bool, true, false, inl, inr}
+use Rattle.std.proofs.Common.{◌≡◌, ◌==◌, ◌+◌, ◌-◌, ◌<◌, ◌≤◌, ◌++◌, ℕ, suc, min, List, [], ◌∷◌, map, refl, ap, ap₂, sym, ◌∙◌, length, take, set, replicate, Option, Some, None, arith, append_assoc}
 use Rattle.std.specs.Option.{option_map}
-use Rattle.std.proofs.lemmas.Bool.{cases_Bool}
-use Rattle.std.proofs.lemmas.Bool.Decides.{nat_tests}
 use Rattle.std.proofs.lemmas.List.{length_push, length-append, length-take, length-replicate, map-append, set_at, take_all, take_at, take-append-le, take-map, length-map}
 use Rattle.std.proofs.lemmas.List.Splits.{slice_split_none}
-use Rattle.std.specs.List.{slice_split}
 use Rattle.vote_poll.specs.Lists.{all_some}
 use Rattle.vote_poll.specs.Parsing.{kept_and_count}
 use Rattle.vote_poll.specs.Places.{rank_at, row_of}

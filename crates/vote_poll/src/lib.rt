@@ -42,7 +42,7 @@ pub use fault::{PollFault, PollKey};
 pub use lines::{Lines, LinesFault, MAX_LINES, lines_are_unique};
 pub use poll::Poll;
 pub use ranks::Ranks;
-pub use reading::{LineFault, Reading, read_line, readings_are_unique};
+pub use reading::{LineFault, Reading, is_reading, read_line, readings_are_unique};
 pub use wording::Wording;
 
 /// The most options that a poll can have, the default among them. It has two at least.

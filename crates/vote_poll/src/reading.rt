@@ -1,5 +1,5 @@
 //! Reading a line of the ballot file.
-ghost use Rattle.std.specs.Prelude.{◌≡◌, ◌==◌, ◌<◌, ◌≤◌, ◌↔◌, ℕ, List, length, take, position, option_map, IfSome, IsTrue, IfNone, None, [], ◌∷◌, ◌++◌};
+ghost use Rattle.std.specs.Prelude.{◌≡◌, ◌==◌, ◌<◌, ◌≤◌, ◌↔◌, ℕ, List, length, take, position, option_map, IfSome, IsTrue, IfNone, Some, None, [], ◌∷◌, ◌++◌};
 ghost use Rattle.std.specs.List.{before_first, after_first, list_all};
 ghost use Rattle.std.specs.Str.{byte};
 ghost use Rattle.vote_poll.specs.Comparisons.{is_same_reading};
@@ -8,6 +8,7 @@ ghost use Rattle.vote_poll.specs.Parsing.{kept_and_count, voter_kept_and_count, 
 ghost use Rattle.vote_poll.specs.Places.{rank_at, row_of};
 ghost use Rattle.vote_poll.specs.PollContent.{PollContent, elector_count, option_count};
 ghost use Rattle.vote_poll.specs.Readings.{IsReading, ReadingFits, reading, rank_in, ranks_in, ballot_in, is_space};
+ghost use Rattle.vote_poll.specs.declared.reading.Reading.TheVariants.{Ballot};
 ghost use Rattle.std.proofs.Common.{rules};
 ghost use Rattle.std.specs.Cmp.Rules.{comparing};
 
@@ -213,6 +214,56 @@ pub fn read_line(poll: &Poll, line: &[u8]) -> Reading
         Ok((voter, ranks)) => Reading::Ballot { voter, ranks },
         Err(fault) => Reading::Bad(fault),
     }
+}
+
+/// The ranks that a text lists, where it lists this many.
+fn ranks_for(options: u8, text: &[u8]) -> Option<Ranks>
+    requires few { options ≤ MAX_OPTIONS }
+    requires short { length text.now ≤ MAX_LINE }
+    ensures { IfSome result (λ ranks. (ranks_in text.now ≡ Some ranks) × (length ranks ≡ options)) }
+{
+    let (ranks, count) = ranks_of(text)?;
+    if count != options as usize {
+        return None;
+    }
+    Some(ranks)
+}
+
+/// The text behind a name and a space.
+fn behind_name<'t>(line: &'t [u8], name: &[u8]) -> Option<&'t [u8]>
+    ensures { IfSome result (λ text. line.now ≡ name.now ++ byte " " ∷ text.now) }
+{
+    let rest = line.strip_prefix(name)?;
+    match rest {
+        [b' ', text @ ..] => Some(text),
+        _ => None,
+    }
+}
+
+/// The ranks that a line gives, where it is a ballot of the voter at this place of the roll.
+fn ranks_by(poll: &Poll, line: &[u8], voter: usize) -> Option<Ranks>
+    ensures { IfSome result (λ ranks. reading poll.now line.now ≡ Ballot voter ranks) }
+{
+    if MAX_LINE < line.len() {
+        return None;
+    }
+    let name = poll.voter_name(voter)?;
+    let text = behind_name(line, name)?;
+    let ranks = ranks_for(poll.options(), text)?;
+    Some(ranks)
+}
+
+/// Whether this is what the poll reads in a line, so what [`read_line`] answers. A ballot is compared with the line by the
+/// name at the voter's place on the roll, which takes no look-up.
+pub fn is_reading(poll: &Poll, line: &[u8], answer: &Reading) -> bool
+    ensures { IsTrue result ↔ (answer.now ≡ reading poll.now line.now) }
+{
+    if let Reading::Ballot { voter, ranks } = answer
+        && let Some(read) = ranks_by(poll, line, *voter)
+    {
+        return read == *ranks;
+    }
+    read_line(poll, line) == *answer
 }
 
 /// A law: a poll reads one thing in a line, so what [`read_line`] answers is the only reading.
