@@ -13,7 +13,7 @@ use crate::sealed::Sealed;
 use crate::sheets::first_other_sheet;
 use crate::slip::Slip;
 use std::marker::Model;
-use vote_poll::{Lines, Poll, read_line};
+use vote_poll::{Lines, Poll, is_reading};
 use vote_steps::{BallotBox, MAX_DESKS, Step};
 
 /// Whether the box is of the poll's size and has its last envelope, and has a number for each line.
@@ -44,8 +44,7 @@ fn has_own_reading(poll: &Poll, lines: &Lines<'_>, step: &Step) -> bool
     match step {
         Step::Close => true,
         Step::Cast { stamp, reading, .. } => {
-            let read = read_line(poll, lines.line(*stamp as usize - 1));
-            read == *reading
+            is_reading(poll, lines.line(*stamp as usize - 1), reading)
         }
     }
 }
