@@ -37,34 +37,14 @@ pub enum LineFault {
     Roll,
 }
 
-/// Where an option stands whose rank is spelled by one byte.
-fn place_of_byte(byte: u8) -> Option<u8>
-    ensures { option_map rank_at result ≡ rank_in (byte ∷ []) }
-{
-    match byte {
-        b'-' => Some(UNRANKED),
-        b'1'..=b'9' => Some(byte - b'0'),
-        _ => None,
-    }
-}
-
-/// Where an option stands whose rank is spelled by two bytes.
-fn place_of_bytes(tens: u8, ones: u8) -> Option<u8>
-    ensures { option_map rank_at result ≡ rank_in (tens ∷ ones ∷ []) }
-{
-    match (tens, ones) {
-        (b'1'..=b'9', b'0'..=b'9') => Some(10 * (tens - b'0') + (ones - b'0')),
-        _ => None,
-    }
-}
-
 /// Where an option stands whose rank a text spells.
 fn place_of(text: &[u8]) -> Option<u8>
     ensures { option_map rank_at result ≡ rank_in text.now }
 {
     match text {
-        [byte] => place_of_byte(*byte),
-        [tens, ones] => place_of_bytes(*tens, *ones),
+        [b'-'] => Some(UNRANKED),
+        [ones @ b'1'..=b'9'] => Some(*ones - b'0'),
+        [tens @ b'1'..=b'9', ones @ b'0'..=b'9'] => Some(10 * (*tens - b'0') + (*ones - b'0')),
         _ => None,
     }
 }
@@ -77,14 +57,12 @@ fn first_place(text: &[u8]) -> Option<(u8, &[u8])>
     ensures none { IfNone result (ranks_in text.now ≡ None) }
 {
     match text {
-        [byte, b',', rest @ ..] => {
-            let place = place_of_byte(*byte)?;
-            Some((place, rest))
-        }
-        [tens, ones, b',', rest @ ..] => {
-            let place = place_of_bytes(*tens, *ones)?;
-            Some((place, rest))
-        }
+        [b'-', b',', rest @ ..] => Some((UNRANKED, rest)),
+        [ones @ b'1'..=b'9', b',', rest @ ..] => Some((*ones - b'0', rest)),
+        [tens @ b'1'..=b'9', ones @ b'0'..=b'9', b',', rest @ ..] => Some((
+            10 * (*tens - b'0') + (*ones - b'0'),
+            rest,
+        )),
         _ => None,
     }
 }
