@@ -1,9 +1,10 @@
 //! The lines of the ballot file.
-ghost use Rattle.std.specs.Prelude.{◌≡◌, List, ℕ, ◌<◌, ◌≤◌, ◌↔◌, ◌==◌, Some, length, map, slice_get, IfOk, IsErrOf};
+ghost use Rattle.std.specs.Prelude.{◌≡◌, List, ℕ, ◌<◌, ◌≤◌, ◌↔◌, ◌==◌, Some, length, map, count_by, slice_get, [], ◌∷◌, IfSome, IfNone, IfOk, IsErrOf};
 ghost use Rattle.std.specs.List.{slice_split};
 ghost use Rattle.vote_poll.specs.Lines.{AreLines, lines_of, without_last_feed};
 ghost use Rattle.vote_poll.specs.declared.lines.LinesFault.TheVariants.{Memory};
 
+use memchr::memchr;
 use std::alloc::{AllocError, Global};
 use std::marker::Model;
 use thiserror::Error;
@@ -61,12 +62,38 @@ fn without_last_feed(text: &[u8]) -> &[u8]
     text.strip_suffix(b"\n").unwrap_or(text)
 }
 
+/// How many line feeds a text has.
+fn count_feeds(text: &[u8]) -> usize
+    ensures { result ≡ count_by (λ byte. byte == 10) text.now }
+{
+    let mut feeds = 0;
+    for byte in text {
+        feeds += usize::from(*byte == b'\n');
+    }
+    feeds
+}
+
+/// The texts before and after the first line feed, where there is one.
+fn split_at_feed(text: &[u8]) -> Option<(&[u8], &[u8])>
+    ensures found { IfSome result (λ parts. slice_split (λ byte. byte == 10) text.now ≡ parts.0.now ∷ slice_split (λ byte. byte == 10) parts.1.now) }
+    ensures shorter { IfSome result (λ parts. length parts.1.now < length text.now) }
+    ensures none { IfNone result (slice_split (λ byte. byte == 10) text.now ≡ text.now ∷ []) }
+{
+    let end = memchr(b'\n', text)?;
+    Some((&text[..end], &text[end + 1..]))
+}
+
 /// The parts of a text between its line feeds, in a list that has room for `count` of them from the start.
 fn parts(alloc: Global, text: &[u8], count: usize) -> Result<Vec<&[u8]>, AllocError>
     ensures { IfOk result (λ parts. map (λ part. part.now) parts.items ≡ slice_split (λ byte. byte == 10) text.now) }
 {
     let mut parts = Vec::with_capacity(alloc, count)?;
-    parts.extend(text.split(|byte| *byte == b'\n'))?;
+    let mut rest = text;
+    while let Some((part, behind)) = split_at_feed(rest) {
+        parts.push(part)?;
+        rest = behind;
+    }
+    parts.push(rest)?;
     Ok(parts)
 }
 
@@ -85,7 +112,7 @@ impl<'t> Lines<'t> {
             });
         }
         let body = without_last_feed(text);
-        let feeds = body.iter().filter(|byte| **byte == b'\n').count();
+        let feeds = count_feeds(body);
         if feeds >= MAX_LINES {
             return Err(LinesFault::TooMany);
         }
