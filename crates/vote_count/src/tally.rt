@@ -88,6 +88,31 @@ impl Matrix {
             lower(&mut self.counts[option], places[option], places, options);
         }
     }
+
+    /// Counts a ballot in the place of one that was counted, in one pass: the votes are those that `take_out` of the one
+    /// before and `add` of the one after would leave.
+    pub fn exchange(&mut self, before: &Ranks, after: &Ranks)
+        requires options_before { length before.now ≡ self.old.options }
+        requires options_after { length after.now ≡ self.old.options }
+        requires counted { (a b : ℕ) → IsOption self.old.options a → IsOption self.old.options b → IsTrue (prefers before.now a b) → 0 < votes self.old a b }
+        requires room { (a b : ℕ) → IsOption self.old.options a → IsOption self.old.options b → IsTrue (prefers after.now a b) → votes self.old a b < 2 ^ 32 - 1 }
+        ensures options { self.new.options ≡ self.old.options }
+        ensures votes { (a b : ℕ) → IsOption self.old.options a → IsOption self.old.options b → votes self.new a b + (if prefers before.now a b then 1 else 0) ≡ votes self.old a b + (if prefers after.now a b then 1 else 0) }
+    {
+        let old = before.places();
+        let new = after.places();
+        let options = self.options;
+        for option in 0..options as usize {
+            change(
+                &mut self.counts[option],
+                old[option],
+                old,
+                new[option],
+                new,
+                options,
+            );
+        }
+    }
 }
 
 // How many options of a row are counted in one pass. LLVM makes vector code of a pass, since this is
@@ -153,6 +178,42 @@ fn lower_from(row: &mut [u32], place: u8, places: &[u8], first: usize)
     for k in 0..PASS {
         let option = first + k;
         row[option] -= u32::from(place < places[option]);
+    }
+}
+
+// One vote less, in the row of an option, over each option that was behind it, and one more over each that is.
+#[inline(always)]
+fn change(row: &mut [u32], was: u8, old: &[u8], is: u8, new: &[u8], options: u8)
+    requires row { length row.old ≡ MAX_OPTIONS }
+    requires old { length old.now ≡ MAX_OPTIONS }
+    requires new { length new.now ≡ MAX_OPTIONS }
+    requires options { options ≤ MAX_OPTIONS }
+    requires some { (k : ℕ) → k < MAX_OPTIONS → was < slice_index_or old.now k 0 → 0 < slice_index_or row.old k 0 }
+    requires room { (k : ℕ) → k < MAX_OPTIONS → is < slice_index_or new.now k 0 → slice_index_or row.old k 0 < 2 ^ 32 - 1 }
+    ensures { (k : ℕ) → k < options → slice_index_or row.new k 0 + (if nat_lt was (slice_index_or old.now k 0) then 1 else 0) ≡ slice_index_or row.old k 0 + (if nat_lt is (slice_index_or new.now k 0) then 1 else 0) }
+{
+    change_from(row, was, old, is, new, 0);
+    if options as usize > PASS {
+        change_from(row, was, old, is, new, PASS);
+    }
+}
+
+// The same, in the pass from this option on.
+#[inline(always)]
+fn change_from(row: &mut [u32], was: u8, old: &[u8], is: u8, new: &[u8], first: usize)
+    requires row { first + PASS ≤ length row.old }
+    requires old { first + PASS ≤ length old.now }
+    requires new { first + PASS ≤ length new.now }
+    requires some { (k : ℕ) → first ≤ k → k < first + PASS → was < slice_index_or old.now k 0 → 0 < slice_index_or row.old k 0 }
+    requires room { (k : ℕ) → first ≤ k → k < first + PASS → is < slice_index_or new.now k 0 → slice_index_or row.old k 0 < 2 ^ 32 - 1 }
+    ensures pass { (k : ℕ) → first ≤ k → k < first + PASS → slice_index_or row.new k 0 + (if nat_lt was (slice_index_or old.now k 0) then 1 else 0) ≡ slice_index_or row.old k 0 + (if nat_lt is (slice_index_or new.now k 0) then 1 else 0) }
+    ensures before { (k : ℕ) → k < first → slice_index_or row.new k 0 ≡ slice_index_or row.old k 0 }
+    ensures behind { (k : ℕ) → first + PASS ≤ k → slice_index_or row.new k 0 ≡ slice_index_or row.old k 0 }
+{
+    for k in 0..PASS {
+        let option = first + k;
+        row[option] += u32::from(is < new[option]);
+        row[option] -= u32::from(was < old[option]);
     }
 }
 
