@@ -1,7 +1,7 @@
 //! The ballots that stand, and their matrix.
 //!
-//! The matrix is kept by differences: a ballot that comes to stand is added, and one that it replaces is taken out. Each costs
-//! n² additions at n options, of which there are at most 32, and nothing in voters or lines. A recount at each question
+//! The matrix is kept by differences: a ballot that comes to stand is added, or exchanged for the one that it replaces. Each
+//! costs n² additions at n options, of which there are at most 32, and nothing in voters or lines. A recount at each question
 //! would cost as much for each voter on the roll, and a desk may ask after each cast.
 ghost use Rattle.std.specs.Prelude.{◌≡◌, ℕ, ◌<◌, ◌≤◌, None, Some, length, is_some, option_and_then, vec_len, slice_set, slice_index_or, count_by};
 ghost use Rattle.std.specs.Option.{ForSome};
@@ -54,8 +54,7 @@ impl Roll {
         match self.ballots[voter] {
             Some(standing) if ballot.stamp < standing.stamp => Reply::Superseded,
             Some(standing) => {
-                self.matrix.take_out(&standing.ranks);
-                self.matrix.add(&ballot.ranks);
+                self.matrix.exchange(&standing.ranks, &ballot.ranks);
                 self.ballots[voter] = Some(ballot);
                 Reply::Replaced
             }
