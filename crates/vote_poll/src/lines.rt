@@ -62,17 +62,6 @@ fn without_last_feed(text: &[u8]) -> &[u8]
     text.strip_suffix(b"\n").unwrap_or(text)
 }
 
-/// How many line feeds a text has.
-fn count_feeds(text: &[u8]) -> usize
-    ensures { result ≡ count_by (λ byte. byte == 10) text.now }
-{
-    let mut feeds = 0;
-    for byte in text {
-        feeds += usize::from(*byte == b'\n');
-    }
-    feeds
-}
-
 /// The texts before and after the first line feed, where there is one.
 fn split_at_feed(text: &[u8]) -> Option<(&[u8], &[u8])>
     ensures found { IfSome result (λ parts. slice_split (λ byte. byte == 10) text.now ≡ parts.0.now ∷ slice_split (λ byte. byte == 10) parts.1.now) }
@@ -81,6 +70,19 @@ fn split_at_feed(text: &[u8]) -> Option<(&[u8], &[u8])>
 {
     let end = memchr(b'\n', text)?;
     Some((&text[..end], &text[end + 1..]))
+}
+
+/// How many line feeds a text has.
+fn count_feeds(text: &[u8]) -> usize
+    ensures { result ≡ count_by (λ byte. byte == 10) text.now }
+{
+    let mut feeds = 0;
+    let mut rest = text;
+    while let Some((_, behind)) = split_at_feed(rest) {
+        feeds += 1;
+        rest = behind;
+    }
+    feeds
 }
 
 /// The parts of a text between its line feeds, in a list that has room for `count` of them from the start.
