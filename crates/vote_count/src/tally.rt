@@ -210,11 +210,8 @@ fn change_from(row: &mut [u32], was: u8, old: &[u8], is: u8, new: &[u8], first: 
     ensures before { (k : ℕ) → k < first → slice_index_or row.new k 0 ≡ slice_index_or row.old k 0 }
     ensures behind { (k : ℕ) → first + PASS ≤ k → slice_index_or row.new k 0 ≡ slice_index_or row.old k 0 }
 {
-    for k in 0..PASS {
-        let option = first + k;
-        row[option] += u32::from(is < new[option]);
-        row[option] -= u32::from(was < old[option]);
-    }
+    raise_from(row, is, new, first);
+    lower_from(row, was, old, first);
 }
 
 /// The matrix of a list of ballots of so many options, with one entry for each voter: `None` where a
