@@ -13,3 +13,4 @@ pub mod Schulze
 pub mod Raising
 pub mod Clones
 pub mod Pareto
+mod PassLanes

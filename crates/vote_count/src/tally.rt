@@ -6,6 +6,7 @@ ghost use Rattle.vote_poll.specs.Options.{IsOption};
 ghost use Rattle.vote_count.specs.Votes.{votes};
 
 use std::marker::Model;
+use std::simd::prelude::*;
 use vote_poll::{MAX_ELECTORS, MAX_OPTIONS, Ranks};
 
 /// V(A,B) for each two options A and B: the number of voters who prefer A to B (Appendix A, Vote
@@ -210,8 +211,48 @@ fn change_from(row: &mut [u32], was: u8, old: &[u8], is: u8, new: &[u8], first: 
     ensures before { (k : ℕ) → k < first → slice_index_or row.new k 0 ≡ slice_index_or row.old k 0 }
     ensures behind { (k : ℕ) → first + PASS ≤ k → slice_index_or row.new k 0 ≡ slice_index_or row.old k 0 }
 {
-    raise_from(row, is, new, first);
-    lower_from(row, was, old, first);
+    let moves = moves_of(ones_over(is, new, first), ones_over(was, old, first));
+    move_row(row, moves, first);
+}
+
+// One at each option of the pass that is behind this place, and zero at the others.
+#[inline(always)]
+fn ones_over(place: u8, places: &[u8], first: usize) -> u8x16
+    requires { first + PASS ≤ length places.now }
+    ensures long { length result ≡ PASS }
+    ensures each { (k : ℕ) → k < PASS → slice_index_or result k 0 ≡ (if nat_lt place (slice_index_or places.now (first + k) 0) then 1 else 0) }
+{
+    let all = u8x16::from_slice(&places[first..]);
+    let behind = u8x16::splat(place).simd_lt(all);
+    behind.select(u8x16::splat(1), u8x16::splat(0))
+}
+
+// How far each option of the pass moves, where 1 is to stay.
+#[inline(always)]
+fn moves_of(more: u8x16, less: u8x16) -> u8x16
+    requires long { (length more ≡ PASS) × (length less ≡ PASS) }
+    requires more { (k : ℕ) → k < PASS → slice_index_or more k 0 ≤ 1 }
+    requires less { (k : ℕ) → k < PASS → slice_index_or less k 0 ≤ 1 }
+    ensures long { length result ≡ PASS }
+    ensures each { (k : ℕ) → k < PASS → slice_index_or result k 0 + slice_index_or less k 0 ≡ slice_index_or more k 0 + 1 }
+{
+    more + u8x16::splat(1) - less
+}
+
+// The row, with the options of the pass moved.
+#[inline(always)]
+fn move_row(row: &mut [u32], moves: u8x16, first: usize)
+    requires row { first + PASS ≤ length row.old }
+    requires long { length moves ≡ PASS }
+    requires some { (k : ℕ) → k < PASS → 1 ≤ slice_index_or row.old (first + k) 0 + slice_index_or moves k 0 }
+    requires room { (k : ℕ) → k < PASS → slice_index_or row.old (first + k) 0 + slice_index_or moves k 0 ≤ 2 ^ 32 }
+    ensures pass { (k : ℕ) → k < PASS → slice_index_or row.new (first + k) 0 + 1 ≡ slice_index_or row.old (first + k) 0 + slice_index_or moves k 0 }
+    ensures before { (k : ℕ) → k < first → slice_index_or row.new k 0 ≡ slice_index_or row.old k 0 }
+    ensures behind { (k : ℕ) → first + PASS ≤ k → slice_index_or row.new k 0 ≡ slice_index_or row.old k 0 }
+{
+    let old = u32x16::from_slice(&row[first..]);
+    let new = old + moves.cast::<u32>() - u32x16::splat(1);
+    new.copy_to_slice(&mut row[first..]);
 }
 
 /// The matrix of a list of ballots of so many options, with one entry for each voter: `None` where a
