@@ -2,7 +2,7 @@
 //! Vote Counting.
 //!
 //! A [`Matrix`] has V(A,B), the number of voters who prefer option A to option B, for each two
-//! options of a poll. Ballots are added to it and taken out of it one at a time, and [`recount`]
+//! options of a poll. Ballots are added to it, taken out of it or exchanged one at a time, and [`recount`]
 //! makes it from a list of them.
 //!
 //! [`outcome`] counts a matrix by the rules of a poll. It drops the options that miss the quorum

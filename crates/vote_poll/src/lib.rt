@@ -9,6 +9,7 @@
 //! - [`Lines`]: the lines of a ballot file, each an envelope. [`Lines::split`] makes them.
 //! - [`Ranks`]: what one ballot says of the options, and which option it prefers to which.
 //! - [`Reading`]: what a poll reads in a line, by [`read_line`]: a ballot of an elector, or a [`LineFault`].
+//!   [`is_reading`] says whether a reading is that of a line.
 //!
 //! Options are numbered from 1, as in the file, and the default option has the greatest number. Voters are
 //! numbered from 0, by their place on the roll. Places of lines are numbered from 0; the line at place `i` is
