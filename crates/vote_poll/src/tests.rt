@@ -3,7 +3,7 @@ mod optional_keys;
 
 use crate::{
     LineFault, Lines, LinesFault, MAX_LINES, Poll, PollFault, PollKey, Ranks, Reading, UNRANKED,
-    Wording, read_line,
+    Wording, is_reading, read_line,
 };
 use std::alloc::{AllocError, Global};
 use std::test::Fail;
@@ -132,6 +132,32 @@ fn readings_compared(rt: HostRuntime) -> Result<(), Fail> {
         assert_eq!(rt; reading == other, same, "at {line}");
     }
     assert!(rt; Reading::Bad(LineFault::Shape) != Reading::Bad(LineFault::Roll));
+    Ok(())
+}
+
+#[test]
+fn readings_of_lines(rt: HostRuntime) -> Result<(), Fail> {
+    let poll = Poll::from_text(rt.alloc(), SMALL.as_bytes())?;
+    let ballot = read_line(&poll, b"v10 10,-,9");
+    for (line, same) in [
+        ("v10 10,-,9", true),
+        ("v10 10,-,8", false),
+        ("v10 10,-,9,1", false),
+        ("v10 10,-", false),
+        ("v10  10,-,9", false),
+        ("v1 10,-,9", false),
+        ("v11 10,-,9", false),
+        ("", false),
+    ] {
+        assert_eq!(rt;
+            is_reading(&poll, line.as_bytes(), &ballot),
+            same,
+            "at {line}"
+        );
+    }
+    let fault = Reading::Bad(LineFault::Roll);
+    assert!(rt; is_reading(&poll, b"v11 1,2,3", &fault));
+    assert!(rt; !is_reading(&poll, b"v1 1,2,3", &fault));
     Ok(())
 }
 
