@@ -5,10 +5,10 @@ use Rattle.clap.specs.Words.{Row, Text, first_of, one_of}
 use Rattle.clap.specs.Kinds.{IsAmong, Kinds}
 use Rattle.clap.specs.declared.error.kind.ErrorKind.{ErrorKind}
 use Rattle.clap.specs.declared.error.kind.ErrorKind.TheVariants as kind
-use Rattle.debvote.specs.declared.order.OrderFault.{OrderFault}
-use Rattle.debvote.specs.declared.order.OrderFault.TheVariants.{Help, Refused, Memory}
-use Rattle.debvote.specs.declared.order.Task.{Task}
-use Rattle.debvote.specs.declared.order.Task.TheVariants.{Count, Steps, Check}
+use Rattle.debvote.specs.declared.command_line.OrderFault.{OrderFault}
+use Rattle.debvote.specs.declared.command_line.OrderFault.TheVariants.{Help, Refused, Memory}
+use Rattle.debvote.specs.declared.command_line.Task.{Task}
+use Rattle.debvote.specs.declared.command_line.Task.TheVariants.{Count, Steps, Check}
 
 -- the value of a subcommand's option
 abbrev pub HasText : List Row → Text → Text → Type 0

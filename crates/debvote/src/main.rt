@@ -4,17 +4,17 @@
 //! reply of the ballot box to each line, and `debvote check` checks a poll file. Without arguments the program reads a poll
 //! and its ballots from standard input, joined by a line `%%`, and acts as `steps`.
 //!
-//! `main` reads, calls and reports. All that matters stands in functions with contracts: `order` says what the words of the
-//! command line ask for, `vote_files` reads the inputs, and `vote_runs` has the runs, how they end, and what they say then.
+//! `main` reads, calls and reports. All that matters stands in functions with contracts: `command_line` says what the
+//! words ask for, `vote_files` reads the inputs, and `vote_runs` has the runs, how they end, and what they say then.
 #![tactic(auto)]
 
-mod order;
+mod command_line;
 #[cfg(test)]
 mod tests;
 
 ghost use Rattle.std.specs.Prelude.{◌≡◌, ◌≤◌, IfOk, IfSome, vec_len};
 
-use crate::order::{OrderFault, Task, order, order_status};
+use crate::command_line::{OrderFault, Task, order, order_status};
 use std::alloc::{AllocError, Global};
 use std::env;
 use std::fs::File;

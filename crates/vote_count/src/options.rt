@@ -103,14 +103,14 @@ impl OptionSet {
     }
 
     // Puts the options of another set into this one.
-    pub(crate) fn take_in(&mut self, other: &Self)
+    pub(crate) fn union_with(&mut self, other: &Self)
         ensures { (o : ℕ) → has self.new o ≡ (has self.old o || has other.now o) }
     {
         self.bits |= other.bits;
     }
 
     // The options that this set and another have in common.
-    pub(crate) fn common(&self, other: &Self) -> Self
+    pub(crate) fn intersection(&self, other: &Self) -> Self
         ensures { (o : ℕ) → has result o ≡ (has self.now o && has other.now o) }
     {
         Self {

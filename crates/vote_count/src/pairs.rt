@@ -89,7 +89,7 @@ impl Defeats {
     {
         let mut defeated = OptionSet::empty();
         for row in &self.rows {
-            defeated.take_in(row);
+            defeated.union_with(row);
         }
         defeated
     }
@@ -119,7 +119,7 @@ impl Defeats {
         let mut inside = Self::empty();
         for i in 0..set.last() as usize {
             if set.has(i as u8 + 1) {
-                inside.rows[i] = self.rows[i].common(set);
+                inside.rows[i] = self.rows[i].intersection(set);
             }
         }
         inside
@@ -196,7 +196,7 @@ pub fn reach(defeats: &Defeats) -> Chains
             } else {
                 OptionSet::empty()
             };
-            row.take_in(&more);
+            row.union_with(&more);
         }
     }
     Chains { reached: rows }

@@ -6,7 +6,7 @@ ghost use Rattle.vote_count.specs.Rounds.{AreRounds, HasCause, IsByCasting, caus
 ghost use Rattle.vote_count.specs.Rules.{IsKept, IsQuorum, PairwiseDefeats};
 ghost use Rattle.vote_count.specs.Sets.{In, Pairs, IsAlone};
 
-use crate::rules::{has_quorum, standing_with};
+use crate::rules::{has_quorum, kept_with};
 use crate::{Defeats, Matrix, OptionSet, meets_majority, quorum_votes, reach, schwartz, weakest};
 use std::alloc::{AllocError, Global};
 use std::marker::Model;
@@ -119,7 +119,7 @@ pub fn outcome(alloc: Global, poll: &Poll, matrix: &Matrix) -> Result<Verdict, A
     ensures default_alone { IfOk result (λ verdict. In (final_set verdict.rounds) (option_count poll.now) → IsAlone (final_set verdict.rounds) (option_count poll.now)) }
 {
     let quorum = quorum_votes(poll);
-    let standing = standing_with(poll, matrix, quorum);
+    let standing = kept_with(poll, matrix, quorum);
     let mut causes = [None; MAX_OPTIONS];
     for option in 1..poll.options() {
         causes[option as usize - 1] = dropped_for(poll, matrix, option, quorum);

@@ -73,11 +73,11 @@ pub fn standing_options(poll: &Poll, matrix: &Matrix) -> OptionSet
     requires { matrix.now.options ≡ option_count poll.now }
     ensures { (o : ℕ) → In result o ↔ IsKept poll.now matrix.now o }
 {
-    standing_with(poll, matrix, quorum_votes(poll))
+    kept_with(poll, matrix, quorum_votes(poll))
 }
 
 // The same, where the fewest votes that meet the quorum are known.
-pub(crate) fn standing_with(poll: &Poll, matrix: &Matrix, quorum: u64) -> OptionSet
+pub(crate) fn kept_with(poll: &Poll, matrix: &Matrix, quorum: u64) -> OptionSet
     requires options { matrix.now.options ≡ option_count poll.now }
     requires quorum { IsQuorum poll.now quorum }
     ensures kept { (o : ℕ) → In result o ↔ IsKept poll.now matrix.now o }

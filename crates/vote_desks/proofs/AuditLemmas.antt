@@ -14,7 +14,7 @@ use Rattle.vote_steps.specs.declared.Step.{Step}
 use Rattle.vote_steps.specs.declared.Step.TheVariants.{Cast, Close}
 use Rattle.vote_steps.specs.History.{is_close, is_closed, before_close}
 use Rattle.vote_steps.specs.Boxes.{BoxState, IsLegal, MayFollow}
-use Rattle.vote_steps.specs.Order.{HasOwnReading}
+use Rattle.vote_steps.specs.Recasts.{HasOwnReading}
 use Rattle.vote_desks.specs.Slips.{slips}
 use Rattle.vote_desks.specs.Desks.{sheet_at}
 use Rattle.vote_desks.specs.Comparing.{HasDesk, HasEnvelope}

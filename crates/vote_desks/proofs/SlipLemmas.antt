@@ -65,18 +65,18 @@ slips-push before step desk number is =
 
 -- one slip more beside a sheet
 
-pub still_parted : (sheet casts : List Slip) (slip : Slip) (at : Compared) → at.parted ≡ true → AgreesWith sheet casts at → AgreesWith sheet (casts ++ slip ∷ []) at
-still_parted sheet casts slip at parted h =
-    let inside = (h.part parted).0 in
+pub still_parted : (sheet casts : List Slip) (slip : Slip) (at : Compared) → at.differs ≡ true → AgreesWith sheet casts at → AgreesWith sheet (casts ++ slip ∷ []) at
+still_parted sheet casts slip at differs h =
+    let inside = (h.part differs).0 in
     record {
       within = h.within;
       so_far = h.so_far ∙ sym (take-append-le at.alike casts (slip ∷ []) (omega arith));
-      all = λ not. absurd (let f : true ≡ false = sym parted ∙ not in cc);
-      part = λ _. (omega (arith, inside, length-append casts (slip ∷ [])), λ e. (h.part parted).1 (e ∙ get-append_left casts (slip ∷ []) at.alike inside));
+      all = λ not. absurd (let f : true ≡ false = sym differs ∙ not in cc);
+      part = λ _. (omega (arith, inside, length-append casts (slip ∷ [])), λ e. (h.part differs).1 (e ∙ get-append_left casts (slip ∷ []) at.alike inside));
     }
 
-pub one_more_alike : (sheet casts : List Slip) (slip : Slip) (at : Compared) → at.parted ≡ false → slice_get sheet at.alike ≡ Some slip → AgreesWith sheet casts at
-    → AgreesWith sheet (casts ++ slip ∷ []) (record { alike = at.alike + 1; parted = false })
+pub one_more_alike : (sheet casts : List Slip) (slip : Slip) (at : Compared) → at.differs ≡ false → slice_get sheet at.alike ≡ Some slip → AgreesWith sheet casts at
+    → AgreesWith sheet (casts ++ slip ∷ []) (record { alike = at.alike + 1; differs = false })
 one_more_alike sheet casts slip at alike here h =
     let n = at.alike in
     let inside = slice_get_within sheet n slip here in
@@ -86,11 +86,11 @@ one_more_alike sheet casts slip at alike here h =
       within = omega (arith, inside);
       so_far = take-get sheet n slip here ∙ ap (λ xs. xs ++ slip ∷ []) (h.so_far ∙ take_all n casts (omega arith)) ∙ sym (take_all (n + 1) (casts ++ slip ∷ []) (omega arith));
       all = λ _. omega (arith, longer, len);
-      part = λ parted. absurd (let f : false ≡ true = parted in cc);
+      part = λ differs. absurd (let f : false ≡ true = differs in cc);
     }
 
-pub parts_here : (sheet casts : List Slip) (slip : Slip) (at : Compared) → at.parted ≡ false → slice_get sheet at.alike ≢ Some slip → AgreesWith sheet casts at
-    → AgreesWith sheet (casts ++ slip ∷ []) (record { alike = at.alike; parted = true })
+pub parts_here : (sheet casts : List Slip) (slip : Slip) (at : Compared) → at.differs ≡ false → slice_get sheet at.alike ≢ Some slip → AgreesWith sheet casts at
+    → AgreesWith sheet (casts ++ slip ∷ []) (record { alike = at.alike; differs = true })
 parts_here sheet casts slip at alike other h =
     let n = at.alike in
     let len = h.all alike in
@@ -104,15 +104,15 @@ parts_here sheet casts slip at alike other h =
 
 -- what is found at the end
 
-pub part_found : (sheet casts : List Slip) (at : Compared) → at.parted ≡ true → AgreesWith sheet casts at → PartAt sheet casts (at.alike + 1)
-part_found sheet casts at parted h = record { before = at.alike; place_is = refl; so_far = h.so_far; differ = (h.part parted).1 }
+pub part_found : (sheet casts : List Slip) (at : Compared) → at.differs ≡ true → AgreesWith sheet casts at → PartAt sheet casts (at.alike + 1)
+part_found sheet casts at differs h = record { before = at.alike; place_is = refl; so_far = h.so_far; differ = (h.part differs).1 }
 
-pub sheet_longer : (sheet casts : List Slip) (at : Compared) → at.parted ≡ false → at.alike < length sheet → AgreesWith sheet casts at → PartAt sheet casts (at.alike + 1)
+pub sheet_longer : (sheet casts : List Slip) (at : Compared) → at.differs ≡ false → at.alike < length sheet → AgreesWith sheet casts at → PartAt sheet casts (at.alike + 1)
 sheet_longer sheet casts at alike more h =
     let len = h.all alike in
     record { before = at.alike; place_is = refl; so_far = h.so_far; differ = λ e. get_within sheet at.alike more (e ∙ slice_get_past casts at.alike (omega arith)) }
 
-pub all_alike : (sheet casts : List Slip) (at : Compared) → at.parted ≡ false → length sheet ≤ at.alike → AgreesWith sheet casts at → sheet ≡ casts
+pub all_alike : (sheet casts : List Slip) (at : Compared) → at.differs ≡ false → length sheet ≤ at.alike → AgreesWith sheet casts at → sheet ≡ casts
 all_alike sheet casts at alike whole h =
     let len = h.all alike in
     sym (take_all at.alike sheet whole) ∙ h.so_far ∙ take_all at.alike casts (omega arith)
@@ -131,7 +131,7 @@ cast_compared sheets before compared sheet was at place desk stamp number readin
     let slip : Slip = record { number = number; stamp = stamp; reply = reply } in
     let step : Step = Cast desk stamp reading reply in
     let new : List Compared = set compared place at in
-    let none : Compared = record { alike = 0; parted = false } in
+    let none : Compared = record { alike = 0; differs = false } in
     let given : Bool → List Slip = λ t. slips before other ++ cons_option (cond {A = Option Slip} t (Some slip) None) [] in
     ⊎_elim
     (λ (same : desk ≡ other).

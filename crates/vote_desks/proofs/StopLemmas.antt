@@ -7,7 +7,7 @@ use Rattle.vote_desks.specs.declared.worked.Stop.{Stop}
 use Rattle.vote_desks.specs.declared.worked.Stop.TheVariants.{Barred, Refused}
 use Rattle.vote_desks.specs.declared.fault.EnterFault.TheVariants.{SheetFull}
 use Rattle.vote_desks.specs.Faults.{CanStopVotes}
-use Rattle.vote_desks.specs.Stops.{fault_of, IsLeastStop}
+use Rattle.vote_desks.specs.Stops.{stop_fault, IsLeastStop}
 use Rattle.vote_desks.proofs.Joined.{at_range}
 use Rattle.vote_desks.proofs.BackLemmas.{length_map}
 
@@ -18,7 +18,7 @@ get-map f (x ∷ xs) (suc k) d e h = get-map f xs k d e (omega arith)
 
 -- desks that are numbered in order, of which the first at this place stopped early
 pub least_stop : {W : Type 0} (desk : W → ℕ) (stopped : W → Option Stop) (all : List W) (k : ℕ) (w : W) (stop : Stop) (fault : VoteFault)
-    → map desk all ≡ range_with_len 1 (length all) → k < length all → w ≡ get_or all k w → stopped w ≡ Some stop → fault ≡ fault_of (desk w) stop
+    → map desk all ≡ range_with_len 1 (length all) → k < length all → w ≡ get_or all k w → stopped w ≡ Some stop → fault ≡ stop_fault (desk w) stop
     → ((j : ℕ) (e : W) → j < k → stopped (get_or all j e) ≡ None)
     → IsLeastStop (map {B = ℕ × Option Stop} (λ v. (desk v, stopped v)) all) fault
 least_stop {W} desk stopped all k w stop fault numbers inside here stops is before =
@@ -44,6 +44,6 @@ least_stop {W} desk stopped all k w stop fault numbers inside here stops is befo
     }
 
 -- a desk stopped by the gate, or by a cast that was refused for want of anything but room
-pub can_stop : (desk : ℕ) (stop : Stop) → stop ≢ Refused SheetFull → CanStopVotes (fault_of desk stop)
+pub can_stop : (desk : ℕ) (stop : Stop) → stop ≢ Refused SheetFull → CanStopVotes (stop_fault desk stop)
 can_stop desk Barred h = tt
 can_stop desk (Refused fault) h = λ e. h (ap Refused e)

@@ -9,7 +9,7 @@ use Rattle.vote_steps.specs.declared.TheConstants.{MAX_DESKS}
 use Rattle.vote_steps.specs.declared.Step.{Step}
 use Rattle.vote_steps.specs.History.{is_cast, before_close}
 use Rattle.vote_steps.specs.Boxes.{BoxState}
-use Rattle.vote_steps.specs.Order.{HasOwnReading}
+use Rattle.vote_steps.specs.Recasts.{HasOwnReading}
 use Rattle.vote_steps.specs.Casting.{HasOwnReadings, HasSizes, HoldsLines}
 use Rattle.vote_desks.specs.Slips.{slips}
 use Rattle.vote_desks.specs.Desks.{sheet_at}

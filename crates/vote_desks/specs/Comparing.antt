@@ -22,12 +22,12 @@ HasEnvelope limit (Cast desk stamp reading reply) = (1 ≤ stamp) × (stamp ≤ 
 pub record AgreesWith (sheet casts : List Slip) (at : Compared) : Type 0 where
   pub within : at.alike ≤ length sheet
   pub so_far : take at.alike sheet ≡ take at.alike casts
-  pub all : at.parted ≡ false → length casts ≡ at.alike
-  pub part : at.parted ≡ true → (at.alike < length casts) × (slice_get sheet at.alike ≢ slice_get casts at.alike)
+  pub all : at.differs ≡ false → length casts ≡ at.alike
+  pub part : at.differs ≡ true → (at.alike < length casts) × (slice_get sheet at.alike ≢ slice_get casts at.alike)
 
 -- nothing was compared yet
 abbrev pub nothing_compared : Compared
-nothing_compared = record { alike = 0; parted = false }
+nothing_compared = record { alike = 0; differs = false }
 
 -- how far the sheet of this desk was compared
 abbrev pub compared_at : List Compared → ℕ → Compared

@@ -5,7 +5,7 @@ use Rattle.vote_poll.specs.Readings.{readings}
 use Rattle.vote_desks.specs.declared.slip.Slip.{Slip}
 use Rattle.vote_steps.specs.History.{standing_ranks}
 use Rattle.vote_steps.specs.Boxes.{BoxState}
-use Rattle.vote_steps.specs.Order.{last_ballot}
+use Rattle.vote_steps.specs.Recasts.{last_ballot}
 use Rattle.vote_steps.specs.Standing.{CountsLines}
 use Rattle.vote_desks.specs.Audit.{IsAudited}
 

@@ -6,14 +6,14 @@ use Rattle.vote_desks.specs.declared.fault.VoteFault.{VoteFault}
 use Rattle.vote_desks.specs.declared.fault.VoteFault.TheVariants.{Gate, Enter}
 
 -- the fault that a desk's early stop is answered by
-abbrev pub fault_of : ℕ → Stop → VoteFault
-fault_of desk Barred = Gate desk
-fault_of desk (Refused fault) = Enter desk fault
+abbrev pub stop_fault : ℕ → Stop → VoteFault
+stop_fault desk Barred = Gate desk
+stop_fault desk (Refused fault) = Enter desk fault
 
 -- of the workers, given by their desks and by why they stopped early, the one with the least desk that did has this fault
 pub record IsLeastStop (workers : List (ℕ × Option Stop)) (fault : VoteFault) : Type 0 where
   pub desk : ℕ
   pub stop : Stop
   pub stopped : Contains workers (desk, Some stop)
-  pub fault_is : fault ≡ fault_of desk stop
+  pub fault_is : fault ≡ stop_fault desk stop
   pub least : (other : ℕ) (why : Stop) → Contains workers (other, Some why) → desk ≤ other

@@ -2,7 +2,7 @@
 ghost use Rattle.std.specs.Prelude.{◌≡◌, ◌≤◌, ◌↔◌, Err, length, map, count_by, position, vec_items, IsTrue, IsOk, IfOk, MatchOption, All};
 ghost use Rattle.vote_poll.specs.Readings.{readings};
 ghost use Rattle.vote_steps.specs.History.{is_cast, is_close, is_closed};
-ghost use Rattle.vote_steps.specs.Order.{HasOwnReading};
+ghost use Rattle.vote_steps.specs.Recasts.{HasOwnReading};
 ghost use Rattle.vote_steps.specs.Casting.{HasSizes, HasOwnReadings};
 ghost use Rattle.vote_desks.specs.Desks.{sheet_at};
 ghost use Rattle.vote_desks.specs.Comparing.{HasEnvelope};

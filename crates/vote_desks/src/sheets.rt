@@ -16,7 +16,7 @@ pub(crate) struct Compared {
     /// How many slips are alike, from the first on.
     pub alike: usize,
     /// Whether the casts gave a slip after these that the sheet has not there.
-    pub parted: bool,
+    pub differs: bool,
 }
 
 impl Compared {
@@ -25,18 +25,18 @@ impl Compared {
         requires { self.alike ≤ length sheet.now }
         ensures { (casts : List Slip) → AgreesWith sheet.now casts self → AgreesWith sheet.now (casts ++ slip.now ∷ []) result }
     {
-        if self.parted {
+        if self.differs {
             return self;
         }
         if has_slip(sheet, self.alike, slip) {
             Compared {
                 alike: self.alike + 1,
-                parted: false,
+                differs: false,
             }
         } else {
             Compared {
                 alike: self.alike,
-                parted: true,
+                differs: true,
             }
         }
     }
@@ -46,7 +46,7 @@ impl Compared {
         requires { self.alike ≤ length sheet.now }
         ensures { (casts : List Slip) → AgreesWith sheet.now casts self → MatchOption result (sheet.now ≡ casts) (PartAt sheet.now casts) }
     {
-        if self.parted || self.alike < sheet.len() {
+        if self.differs || self.alike < sheet.len() {
             Some(self.alike as u64 + 1)
         } else {
             None
@@ -104,7 +104,7 @@ fn compare_steps(steps: &[Step], sheets: &[Vec<Slip>]) -> [Compared; PLACES]
 {
     let mut compared = [Compared {
         alike: 0,
-        parted: false,
+        differs: false,
     }; PLACES];
     for (place, step) in steps.iter().enumerate() {
         compare_step(&mut compared, sheets, place as u64 + 1, step);

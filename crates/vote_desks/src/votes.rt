@@ -4,7 +4,7 @@ ghost use Rattle.std.specs.List.{range_with_len};
 ghost use Rattle.vote_desks.specs.Slips.{Rises};
 ghost use Rattle.vote_desks.specs.Audit.{IsAudited};
 ghost use Rattle.vote_desks.specs.Back.{AreBackFrom, AreHandedIn};
-ghost use Rattle.vote_desks.specs.Stops.{fault_of, IsLeastStop};
+ghost use Rattle.vote_desks.specs.Stops.{stop_fault, IsLeastStop};
 ghost use Rattle.vote_desks.specs.Faults.{CanStopVotes};
 
 use crate::auditing::{Audited, audit};
@@ -12,8 +12,8 @@ use crate::desk::{Desk, Tally};
 use crate::fault::{DeskFault, VoteFault};
 use crate::sealed::gather;
 use crate::shared::open_desks;
-use crate::work::{Gate, Hall, work_all};
-use crate::worked::{Stop, Worked};
+use crate::work::{Gate, Workplace, work_all};
+use crate::worked::{Stop, WorkerResult};
 use std::alloc::{AllocError, Global};
 use std::marker::Brand;
 use std::sync::Wait;
@@ -24,8 +24,8 @@ use vote_steps::MAX_DESKS;
 use vote_tray::{Pass, Tray, TrayFault};
 
 /// The fault by which a desk's early stop is answered.
-fn fault_of(desk: u8, stop: Stop) -> VoteFault
-    ensures { result ≡ fault_of desk stop }
+fn stop_fault(desk: u8, stop: Stop) -> VoteFault
+    ensures { result ≡ stop_fault desk stop }
 {
     match stop {
         Stop::Barred => VoteFault::Gate(desk),
@@ -34,7 +34,7 @@ fn fault_of(desk: u8, stop: Stop) -> VoteFault
 }
 
 /// The fault of the least desk that stopped early.
-fn first_stop<VL: Tally, RL: Tally>(all: &[Worked<VL, RL>]) -> Option<VoteFault>
+fn first_stop<VL: Tally, RL: Tally>(all: &[WorkerResult<VL, RL>]) -> Option<VoteFault>
     requires { map (λ worked. worked.desk.number) all.now ≡ range_with_len 1 (length all.now) }
     ensures some { IfSome result (IsLeastStop (map (λ worked. (worked.desk.number, worked.stopped)) all.now)) }
     ensures can { IfSome result CanStopVotes }
@@ -42,7 +42,7 @@ fn first_stop<VL: Tally, RL: Tally>(all: &[Worked<VL, RL>]) -> Option<VoteFault>
 {
     for worked in all {
         if let Some(stop) = worked.stopped {
-            return Some(fault_of(worked.desk.number(), stop));
+            return Some(stop_fault(worked.desk.number(), stop));
         }
     }
     None
@@ -52,20 +52,20 @@ fn first_stop<VL: Tally, RL: Tally>(all: &[Worked<VL, RL>]) -> Option<VoteFault>
 fn hand_in<VL: Tally, RL: Tally>(
     alloc: Global,
     tray: &Tray,
-    all: Vec<Worked<VL, RL>>,
+    all: Vec<WorkerResult<VL, RL>>,
 ) -> Result<(Vec<Desk<VL, RL>>, Pass), AllocError>
     requires all { (0 < vec_len all) × (vec_len all ≡ tray.now.passes) }
     requires back { AreBackFrom tray.now 0 (map (λ worked. (worked.desk, worked.pass)) all.items) }
     ensures { IfOk result (λ handed. AreHandedIn tray.now tray.now.passes handed.0.items handed.1) }
 {
     let mut all = all.into_iter();
-    let Some(Worked { desk, pass, .. }) = all.next() else {
+    let Some(WorkerResult { desk, pass, .. }) = all.next() else {
         unreachable!()
     };
     let mut desks = Vec::new(alloc);
     desks.push(desk)?;
     let mut joined = pass;
-    while let Some(Worked { desk, pass, .. }) = all.next() {
+    while let Some(WorkerResult { desk, pass, .. }) = all.next() {
         desks.push(desk)?;
         joined = tray.join(joined, pass);
     }
@@ -106,14 +106,14 @@ fn serve<
         Ok(made) => made,
         Err(_) => return Err(VoteFault::Memory),
     };
-    let hall = Hall {
+    let workplace = Workplace {
         poll,
         lines,
         shared: &shared,
         gate,
         tray: &tray,
     };
-    let all = work_all(rt, alloc, &hall, opened, passes)?;
+    let all = work_all(rt, alloc, &workplace, opened, passes)?;
     if let Some(fault) = first_stop(&all) {
         return Err(fault);
     }

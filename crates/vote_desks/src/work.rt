@@ -8,7 +8,7 @@ use crate::desk::{Desk, Tally};
 use crate::fault::VoteFault;
 use crate::shared::SharedBox;
 use crate::slip::Slip;
-use crate::worked::{Stop, Worked};
+use crate::worked::{Stop, WorkerResult};
 use std::alloc::Global;
 use std::snapshot::Snapshot;
 use std::sync::Wait;
@@ -41,7 +41,7 @@ impl Gate for NoGate {
 
 /// What all workers share: the poll and its lines, the box, the gate, and the tray, which has a place for each line.
 #[derive(Drop)]
-pub(crate) struct Hall<'h, 't, VL: Tally, RL: Tally, G> {
+pub(crate) struct Workplace<'h, 't, VL: Tally, RL: Tally, G> {
     pub poll: &'h Poll,
     pub lines: &'h Lines<'t>,
     pub shared: &'h SharedBox<VL, RL>,
@@ -51,43 +51,43 @@ pub(crate) struct Hall<'h, 't, VL: Tally, RL: Tally, G> {
     ghost places: { tray.now.size ≡ length lines.now },
 }
 
-/// The desk and the pass that a worker was given.
+/// The desk and the pass that a worker was promise.
 #[derive(Drop)]
-pub(crate) struct Given {
+pub(crate) struct WorkerPromise {
     number: u8,
     pass: Snapshot<Pass>,
 }
 
-impl<VL: Tally, RL: Tally> Promise<Worked<VL, RL>> for Given {
-    ghost kept_by = { λ given worked. (worked.desk.number ≡ given.number) × (worked.pass.tray ≡ given.pass.value.tray) × (worked.pass.parts ≡ given.pass.value.parts) };
+impl<VL: Tally, RL: Tally> Promise<WorkerResult<VL, RL>> for WorkerPromise {
+    ghost kept_by = { λ promise worked. (worked.desk.number ≡ promise.number) × (worked.pass.tray ≡ promise.pass.value.tray) × (worked.pass.parts ≡ promise.pass.value.parts) };
 }
 
 /// Serves one desk until the tray is empty, or the gate or the box stops it. It takes no memory.
 fn work<VL: Tally, RL: Tally, G: Gate, R: Wait>(
     rt: &R,
-    hall: &Hall<'_, '_, VL, RL, G>,
+    workplace: &Workplace<'_, '_, VL, RL, G>,
     mut desk: Desk<VL, RL>,
     mut pass: Pass,
-) -> Worked<VL, RL>
-    requires desk { IsFresh (length hall.now.lines.now) desk }
-    requires pass { IsUnused hall.now.tray.now pass }
+) -> WorkerResult<VL, RL>
+    requires desk { IsFresh (length workplace.now.lines.now) desk }
+    requires pass { IsUnused workplace.now.tray.now pass }
     ensures desk { result.desk.number ≡ desk.number }
     ensures pass { (result.pass.tray ≡ pass.tray) × (result.pass.parts ≡ pass.parts) }
 {
-    while let Some(place) = hall.tray.take(&mut pass) {
+    while let Some(place) = workplace.tray.take(&mut pass) {
         let stamp = place as u32 + 1;
-        if !hall.gate.before(desk.number(), stamp) {
-            return Worked {
+        if !workplace.gate.before(desk.number(), stamp) {
+            return WorkerResult {
                 desk,
                 pass,
                 stopped: Some(Stop::Barred),
             };
         }
-        let reading = read_line(hall.poll, hall.lines.line(place as usize));
-        match hall.shared.cast(rt, &mut desk, stamp, reading) {
-            Ok(slip) => hall.gate.after(desk.number(), &slip),
+        let reading = read_line(workplace.poll, workplace.lines.line(place as usize));
+        match workplace.shared.cast(rt, &mut desk, stamp, reading) {
+            Ok(slip) => workplace.gate.after(desk.number(), &slip),
             Err(fault) => {
-                return Worked {
+                return WorkerResult {
                     desk,
                     pass,
                     stopped: Some(Stop::Refused(fault)),
@@ -95,7 +95,7 @@ fn work<VL: Tally, RL: Tally, G: Gate, R: Wait>(
             }
         }
     }
-    Worked {
+    WorkerResult {
         desk,
         pass,
         stopped: None,
@@ -106,26 +106,26 @@ fn work<VL: Tally, RL: Tally, G: Gate, R: Wait>(
 fn start<'s, E, VL: Tally + Send + Sync, RL: Tally + Send + Sync, G: Gate + Sync, R: Wait + Sync>(
     scope: &Scope<'s, E>,
     rt: &'s R,
-    hall: &'s Hall<'_, '_, VL, RL, G>,
+    workplace: &'s Workplace<'_, '_, VL, RL, G>,
     desk: Desk<VL, RL>,
     pass: Pass,
-) -> Result<PromisedHandle<Worked<VL, RL>, Given>, VoteFault>
-    requires desk { IsFresh (length hall.now.lines.now) desk }
-    requires pass { IsUnused hall.now.tray.now pass }
+) -> Result<PromisedHandle<WorkerResult<VL, RL>, WorkerPromise>, VoteFault>
+    requires desk { IsFresh (length workplace.now.lines.now) desk }
+    requires pass { IsUnused workplace.now.tray.now pass }
     ensures ok { IfOk result (λ handle. (handle.promise.number ≡ desk.number) × (handle.promise.pass.value ≡ pass)) }
     ensures err { IfErr result (λ fault. fault ≡ VoteFault.Thread) }
 {
-    let given = Given {
+    let promise = WorkerPromise {
         number: desk.number(),
         pass: Snapshot::of(&pass),
     };
-    let job = move || -> Worked<VL, RL>
-        requires desk { IsFresh (length hall.now.lines.now) desk }
-        requires pass { IsUnused hall.now.tray.now pass }
+    let job = move || -> WorkerResult<VL, RL>
+        requires desk { IsFresh (length workplace.now.lines.now) desk }
+        requires pass { IsUnused workplace.now.tray.now pass }
         ensures desk { result.desk.number ≡ desk.number }
         ensures pass { (result.pass.tray ≡ pass.tray) × (result.pass.parts ≡ pass.parts) }
-    { work(rt, hall, desk, pass) };
-    match scope.spawn_with(given, job) {
+    { work(rt, workplace, desk, pass) };
+    match scope.spawn_with(promise, job) {
         Ok(handle) => Ok(handle),
         Err(_) => Err(VoteFault::Thread),
     }
@@ -143,12 +143,12 @@ fn start_all<
     scope: &Scope<'s, E>,
     rt: &'s R,
     alloc: Global,
-    hall: &'s Hall<'_, '_, VL, RL, G>,
+    workplace: &'s Workplace<'_, '_, VL, RL, G>,
     mut desks: Vec<Desk<VL, RL>>,
     mut passes: Vec<Pass>,
-) -> Result<Vec<PromisedHandle<Worked<VL, RL>, Given>>, VoteFault>
-    requires desks { AllByRecursion (IsFresh (length hall.now.lines.now)) desks.items }
-    requires passes { AllByRecursion (IsUnused hall.now.tray.now) passes.items }
+) -> Result<Vec<PromisedHandle<WorkerResult<VL, RL>, WorkerPromise>>, VoteFault>
+    requires desks { AllByRecursion (IsFresh (length workplace.now.lines.now)) desks.items }
+    requires passes { AllByRecursion (IsUnused workplace.now.tray.now) passes.items }
     requires same { vec_len passes ≡ vec_len desks }
     ensures desks { IfOk result (λ handles. map (λ handle. handle.promise.number) handles.items ≡ map (λ desk. desk.number) desks.items) }
     ensures passes { IfOk result (λ handles. map (λ handle. handle.promise.pass.value) handles.items ≡ passes.items) }
@@ -158,7 +158,7 @@ fn start_all<
     while !desks.is_empty() {
         let desk = desks.remove(0);
         let pass = passes.remove(0);
-        handles.push(start(scope, rt, hall, desk, pass)?)?;
+        handles.push(start(scope, rt, workplace, desk, pass)?)?;
     }
     Ok(handles)
 }
@@ -172,12 +172,12 @@ pub(crate) fn work_all<
 >(
     rt: &R,
     alloc: Global,
-    hall: &Hall<'_, '_, VL, RL, G>,
+    workplace: &Workplace<'_, '_, VL, RL, G>,
     desks: Vec<Desk<VL, RL>>,
     passes: Vec<Pass>,
-) -> Result<Vec<Worked<VL, RL>>, VoteFault>
-    requires desks { AllByRecursion (IsFresh (length hall.now.lines.now)) desks.items }
-    requires passes { AllByRecursion (IsUnused hall.now.tray.now) passes.items }
+) -> Result<Vec<WorkerResult<VL, RL>>, VoteFault>
+    requires desks { AllByRecursion (IsFresh (length workplace.now.lines.now)) desks.items }
+    requires passes { AllByRecursion (IsUnused workplace.now.tray.now) passes.items }
     requires same { vec_len passes ≡ vec_len desks }
     ensures desks { IfOk result (λ all. map (λ worked. worked.desk.number) all.items ≡ map (λ desk. desk.number) desks.items) }
     ensures passes { IfOk result (λ all. map (λ worked. tray_and_parts worked.pass) all.items ≡ map tray_and_parts passes.items) }
@@ -186,14 +186,14 @@ pub(crate) fn work_all<
     let handles = thread::scope(
         thread::scope_env(),
         rt,
-        |scope| -> Result<Vec<PromisedHandle<Worked<VL, RL>, Given>>, VoteFault>
-            requires desks { AllByRecursion (IsFresh (length hall.now.lines.now)) desks.items }
-            requires passes { AllByRecursion (IsUnused hall.now.tray.now) passes.items }
+        |scope| -> Result<Vec<PromisedHandle<WorkerResult<VL, RL>, WorkerPromise>>, VoteFault>
+            requires desks { AllByRecursion (IsFresh (length workplace.now.lines.now)) desks.items }
+            requires passes { AllByRecursion (IsUnused workplace.now.tray.now) passes.items }
             requires same { vec_len passes ≡ vec_len desks }
             ensures desks { IfOk result (λ handles. map (λ handle. handle.promise.number) handles.items ≡ map (λ desk. desk.number) desks.items) }
             ensures passes { IfOk result (λ handles. map (λ handle. handle.promise.pass.value) handles.items ≡ passes.items) }
             ensures err { IfErr result IsStartFault }
-        { start_all(scope, rt, alloc, hall, desks, passes) },
+        { start_all(scope, rt, alloc, workplace, desks, passes) },
     )?;
     join_all(rt, handles)
 }
@@ -201,8 +201,8 @@ pub(crate) fn work_all<
 /// Joins all workers.
 fn join_all<VL: Tally, RL: Tally, R: Threads>(
     rt: &R,
-    handles: Vec<PromisedHandle<Worked<VL, RL>, Given>>,
-) -> Result<Vec<Worked<VL, RL>>, VoteFault>
+    handles: Vec<PromisedHandle<WorkerResult<VL, RL>, WorkerPromise>>,
+) -> Result<Vec<WorkerResult<VL, RL>>, VoteFault>
     ensures desks { IfOk result (λ all. map (λ worked. worked.desk.number) all.items ≡ map (λ handle. handle.promise.number) handles.items) }
     ensures passes { IfOk result (λ all. map (λ worked. tray_and_parts worked.pass) all.items ≡ map (λ handle. tray_and_parts handle.promise.pass.value) handles.items) }
     ensures err { IfErr result IsStartFault }

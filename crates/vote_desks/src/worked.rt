@@ -20,7 +20,7 @@ pub(crate) enum Stop {
 /// A desk, its pass, and why its worker stopped early, if it did. Where it did not, the tray is empty, and the desk has cast the
 /// envelopes of its pass. Where a cast was refused, it was not for want of room on the sheet.
 #[derive(Drop)]
-pub(crate) struct Worked<VL: Tally, RL: Tally> {
+pub(crate) struct WorkerResult<VL: Tally, RL: Tally> {
     pub desk: Desk<VL, RL>,
     pub pass: Pass,
     pub stopped: Option<Stop>,

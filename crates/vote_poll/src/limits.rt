@@ -113,7 +113,7 @@ pub(crate) fn voters_of(alloc: Global, texts: &[&str]) -> Result<IndexSet<String
 }
 
 /// The last envelope that is not late, where there is one.
-pub(crate) fn last_envelope_of(number: Option<i64>) -> Result<Option<u32>, PollFault>
+pub(crate) fn parse_last_envelope(number: Option<i64>) -> Result<Option<u32>, PollFault>
     ensures { Gives (λ last. last) result (last_envelope_in number) }
 {
     let Some(number) = number else {
@@ -126,7 +126,7 @@ pub(crate) fn last_envelope_of(number: Option<i64>) -> Result<Option<u32>, PollF
 }
 
 /// The wording that a text names, and the Constitution's where there is no text.
-pub(crate) fn wording_of(text: Option<&str>) -> Result<Wording, PollFault>
+pub(crate) fn parse_wording(text: Option<&str>) -> Result<Wording, PollFault>
     ensures { Gives (λ wording. wording) result (wording_in (option_copied text.entry)) }
 {
     match text {

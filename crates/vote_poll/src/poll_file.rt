@@ -8,7 +8,9 @@ ghost use Rattle.toml.specs.View.{items_view, view, table_view};
 ghost use Rattle.vote_poll.specs.PollFile.{Gives, document, each_of, err_or, field, fields_of, first_fault, list_of, optional_field, poll_in, poll_of, required_poll};
 
 use crate::fault::{PollFault, PollKey};
-use crate::limits::{is_title, last_envelope_of, option_names, ratios_of, voters_of, wording_of};
+use crate::limits::{
+    is_title, option_names, parse_last_envelope, parse_wording, ratios_of, voters_of,
+};
 use crate::poll::Poll;
 use crate::{MAX_ELECTORS, MAX_OPTIONS, MAX_QUORUM_MULTIPLE};
 use std::alloc::Global;
@@ -229,8 +231,8 @@ fn poll_of(alloc: Global, fields: Fields<'_>) -> Result<Poll, PollFault>
     let last_envelope = fields.last_envelope;
     let wording = fields.wording;
     let poll = required_poll(alloc, fields)?;
-    let last_envelope = last_envelope_of(last_envelope)?;
-    let wording = wording_of(wording)?;
+    let last_envelope = parse_last_envelope(last_envelope)?;
+    let wording = parse_wording(wording)?;
     Ok(poll.with_last_envelope(last_envelope).with_wording(wording))
 }
 

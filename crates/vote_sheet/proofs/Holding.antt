@@ -6,7 +6,7 @@ use Rattle.vote_poll.specs.Readings.{is_ballot, readings}
 use Rattle.vote_count.specs.Ballots.{entry_prefers}
 use Rattle.vote_steps.specs.History.{refused, standing_votes, valid, voters}
 use Rattle.vote_steps.specs.Boxes.{BoxState}
-use Rattle.vote_steps.specs.Order.{last_ballots}
+use Rattle.vote_steps.specs.Recasts.{last_ballots}
 use Rattle.vote_steps.specs.Standing.{CountsLines}
 use Rattle.vote_steps.proofs.LineLemmas.{lines_are_counted_lem}
 use Rattle.vote_steps.proofs.StandingLemmas.{as_long}

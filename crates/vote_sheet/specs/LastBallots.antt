@@ -5,7 +5,7 @@ use Rattle.vote_poll.specs.PollContent.{PollContent, elector_count, last_of}
 use Rattle.vote_poll.specs.Readings.{is_ballot, readings}
 use Rattle.vote_poll.specs.declared.Reading.{Reading}
 use Rattle.vote_count.specs.Ballots.{entry_prefers}
-use Rattle.vote_steps.specs.Order.{last_ballots}
+use Rattle.vote_steps.specs.Recasts.{last_ballots}
 
 -- what the poll reads in the lines that are not late
 abbrev pub readings_in_time : PollContent → List (List ℕ) → List Reading

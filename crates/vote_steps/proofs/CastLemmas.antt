@@ -16,7 +16,7 @@ use Rattle.vote_steps.specs.declared.step.Step.{Step}
 use Rattle.vote_steps.specs.declared.step.Step.TheVariants.{Cast, Close}
 use Rattle.vote_steps.specs.History.{before_close, is_cast, is_closed, is_used, reply_to}
 use Rattle.vote_steps.specs.Boxes.{BoxState, IsLegal}
-use Rattle.vote_steps.specs.Order.{HasOwnReading}
+use Rattle.vote_steps.specs.Recasts.{HasOwnReading}
 use Rattle.vote_steps.proofs.HistoryLemmas.{before_close-append_open, count_by-cast, is_closed-append, is_used-cast}
 use Rattle.vote_steps.specs.Casting.{AreCastInOrder, HasSizes, HoldsLines, OrderLeavesNoChoice}
 use Rattle.vote_steps.proofs.LineLemmas.{count-cons, take_next}

@@ -3,7 +3,7 @@ pub mod BoxLemmas
 pub mod LegalLemmas
 pub mod RecountLemmas
 pub mod KeepingLemmas
-pub mod OrderLemmas
+pub mod RecastLemmas
 pub mod StandingLemmas
 pub mod LineLemmas
 pub mod CastLemmas

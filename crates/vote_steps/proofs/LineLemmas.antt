@@ -18,7 +18,7 @@ use Rattle.vote_steps.specs.declared.step.Step.{Step}
 use Rattle.vote_steps.specs.declared.step.Step.TheVariants.{Cast, Close}
 use Rattle.vote_steps.specs.History.{is_ballot, is_late, is_used, is_for, before_close, standing, standing_ranks, valid}
 use Rattle.vote_steps.specs.Boxes.{BoxState, IsLegal}
-use Rattle.vote_steps.specs.Order.{HasOwnReading, last_ballot}
+use Rattle.vote_steps.specs.Recasts.{HasOwnReading, last_ballot}
 use Rattle.vote_steps.proofs.HistoryLemmas.{valid-refused, is_used-cast, is_used-close}
 use Rattle.vote_steps.proofs.LegalLemmas.{each_stamp_is_used_lem}
 use Rattle.vote_steps.specs.Standing.{LinesAreCounted}

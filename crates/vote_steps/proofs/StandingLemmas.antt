@@ -7,12 +7,12 @@ use Rattle.vote_steps.specs.declared.step.Step.{Step}
 use Rattle.vote_steps.specs.declared.step.Step.TheVariants.{Close}
 use Rattle.vote_steps.specs.History.{is_used, before_close}
 use Rattle.vote_steps.specs.Boxes.{BoxState}
-use Rattle.vote_steps.specs.Order.{HasOwnReading, CastsLines}
+use Rattle.vote_steps.specs.Recasts.{HasOwnReading, CastsLines}
 use Rattle.vote_steps.specs.Casting.{HoldsLines}
 use Rattle.vote_steps.specs.Standing.{LastLinesStand}
 use Rattle.vote_steps.proofs.HistoryLemmas.{is_used-close}
 use Rattle.vote_steps.proofs.LegalLemmas.{each_stamp_is_used_lem}
-use Rattle.vote_steps.proofs.OrderLemmas.{order_does_not_matter_lem}
+use Rattle.vote_steps.proofs.RecastLemmas.{order_does_not_matter_lem}
 
 pub as_long : (poll : PollContent) (lines : List (List ℕ)) → length (readings poll lines) ≡ length lines
 as_long poll lines = length-map lines (reading poll)

@@ -8,7 +8,7 @@ use Rattle.vote_steps.specs.declared.step.Step.{Step}
 use Rattle.vote_steps.specs.declared.step.Step.TheVariants.{Cast, Close}
 use Rattle.vote_steps.specs.History.{before_close, is_cast}
 use Rattle.vote_steps.specs.Boxes.{BoxState, IsLegal}
-use Rattle.vote_steps.specs.Order.{HasOwnReading}
+use Rattle.vote_steps.specs.Recasts.{HasOwnReading}
 
 -- the box is of the poll's size and has its last envelope, and has a number for each line
 abbrev pub HasSizes : PollContent → List (List ℕ) → BoxState → Type 0

@@ -1,7 +1,7 @@
 -- what the contracts of public calls say
 pub mod History
 pub mod Boxes
-pub mod Order
+pub mod Recasts
 pub mod Laws
 pub mod Casting
 pub mod Standing

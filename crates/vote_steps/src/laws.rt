@@ -1,5 +1,5 @@
 //! What the definitions on histories mean: each law is the contract of a function that does nothing.
-ghost use Rattle.vote_steps.specs.Order.{OrderDoesNotMatter, TheGreatestStands, EachCastIsCounted};
+ghost use Rattle.vote_steps.specs.Recasts.{OrderDoesNotMatter, TheGreatestStands, EachCastIsCounted};
 ghost use Rattle.vote_steps.specs.Laws.{StampsAreDistinct, EachStampIsUsed, ClosesOnce, HasRoomForAll, VotesAreRecounted};
 ghost use Rattle.vote_steps.specs.Casting.{OrderLeavesNoChoice};
 ghost use Rattle.vote_steps.specs.Standing.{LastLinesStand, LinesAreCounted};

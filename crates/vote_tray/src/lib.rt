@@ -46,12 +46,15 @@ use std::alloc::{AllocError, Global};
 use std::marker::Model;
 
 /// The most places that a tray can have.
-pub const MOST_PLACES: u64 = 100_000;
+pub const MAX_PLACES: u64 = 100_000;
+
+/// The most passes of a tray.
+pub const MAX_PASSES: u8 = 8;
 
 /// Why there is no tray.
 #[derive(Clone, Copy, Debug, PartialEq, Eq)]
 pub enum TrayFault {
-    /// More than `MOST_PLACES` places were asked for. Memory has not been asked for then.
+    /// More than `MAX_PLACES` places were asked for. Memory has not been asked for then.
     TooMany,
     /// Memory for the word or for the list of passes was refused.
     Memory,
@@ -125,18 +128,18 @@ pub enum Take {
 }
 
 impl Tray {
-    /// A tray of `size` places, at most `MOST_PLACES`, and its passes, 1 to 8 of them.
+    /// A tray of `size` places, at most `MAX_PLACES`, and its passes, 1 to `MAX_PASSES` of them.
     ///
     /// The pass at position `j` of the list, from 0, has the part `j` alone, and has taken nothing.
     pub fn new(alloc: Global, size: u64, passes: u8) -> Result<(Tray, Vec<Pass>), TrayFault>
-        requires { (1 ≤ passes) × (passes ≤ 8) }
-        ensures too_many { (result ≡ Err TrayFault.TooMany) ↔ (MOST_PLACES < size) }
-        ensures memory { result ≡ Err TrayFault.Memory → size ≤ MOST_PLACES }
+        requires { (1 ≤ passes) × (passes ≤ MAX_PASSES) }
+        ensures too_many { (result ≡ Err TrayFault.TooMany) ↔ (MAX_PLACES < size) }
+        ensures memory { result ≡ Err TrayFault.Memory → size ≤ MAX_PLACES }
         ensures tray { IfOk result (λ t. (t.0.size ≡ size) × (t.0.passes ≡ passes)) }
         ensures passes { IfOk result (λ t. (vec_len t.1 ≡ passes) × (t.1.items ≡ map (new_pass t.0) (range_with_len 0 passes))) }
         ensures sound { IfOk result (λ t. All IsSound t.1.items) }
     {
-        if size > MOST_PLACES {
+        if size > MAX_PLACES {
             return Err(TrayFault::TooMany);
         }
         let (table, seat) = Table::of_words(alloc, &[0], &Counts { size, passes })?;

@@ -1,7 +1,7 @@
 ghost use Rattle.std.specs.Prelude.{◌≡◌, IfOk};
 ghost use Rattle.vote_tray.specs.Passes.{new_pass};
 
-use crate::{MOST_PLACES, Pass, Take, Tray, TrayFault};
+use crate::{MAX_PASSES, MAX_PLACES, Pass, Take, Tray, TrayFault};
 use std::alloc::{AllocError, Global};
 use std::test::Fail;
 use std::thread::{Threads, join};
@@ -76,7 +76,7 @@ fn the_slower_pass_loses_the_only_place(rt: HostRuntime) -> Result<(), Fail> {
 fn one_place_more_than_the_most_is_too_many(rt: HostRuntime) {
     let more = Tray::new(rt.alloc(), 100_001, 1);
     assert!(rt; matches!(more, Err(TrayFault::TooMany)));
-    let most = Tray::new(rt.alloc(), MOST_PLACES, 8);
+    let most = Tray::new(rt.alloc(), MAX_PLACES, MAX_PASSES);
     assert!(rt; most.is_ok());
 }
 

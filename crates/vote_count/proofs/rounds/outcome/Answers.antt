@@ -40,8 +40,8 @@ loop-option-preserved c =
 pub returns-clause-rounds : goal.returns-clause-rounds
 returns-clause-rounds c =
     let kept = IsKept c.args.poll.now c.args.matrix.now in
-    let standing = In c.standing_with-standing.result in
-    let is = c.standing_with-standing.ensures.kept in
+    let standing = In c.kept_with-standing.result in
+    let is = c.kept_with-standing.ensures.kept in
     let of = c.of-defeats.ensures in
     rounds_same kept c.args.matrix.now (Pairs c.of-defeats.result) (PairwiseDefeats kept c.args.matrix.now)
     (λ a b p. let d = (of a b).0 p in ((is a).0 d.0, (is b).0 d.1, d.2))
@@ -50,20 +50,20 @@ returns-clause-rounds c =
     (rounds_kept standing kept c.args.matrix.now (λ o. (is o).0) (λ o. (is o).1) (Pairs c.of-defeats.result) c.in_ok-rounds.rounds.items c.in_ok-rounds.ensures)
 
 -- an option that stands is one of the poll's
-is_option : (c : goal.In_ok-rounds) (o : ℕ) → In c.standing_with-standing.result o → (1 ≤ o) × (o ≤ option_count c.args.poll.now)
+is_option : (c : goal.In_ok-rounds) (o : ℕ) → In c.kept_with-standing.result o → (1 ≤ o) × (o ≤ option_count c.args.poll.now)
 is_option c o h =
-    elim ((c.standing_with-standing.ensures.kept o).0 h) [
+    elim ((c.kept_with-standing.ensures.kept o).0 h) [
       | inl default ↦ (omega (arith, default, c.options-option-end.ensures.at_least), omega (arith, default))
       | inr other ↦ (other.0, omega (arith, other.1))
     ]
 
 pub returns-clause-some : goal.returns-clause-some
 returns-clause-some c =
-    let standing = In c.standing_with-standing.result in
+    let standing = In c.kept_with-standing.result in
     some_final standing c.args.matrix.now
-    (λ o. elim (cases_Bool (has c.standing_with-standing.result o)) [ inl kept ↦ inl kept | inr dropped ↦ inr (λ kept. both_ways _ dropped kept) ])
+    (λ o. elim (cases_Bool (has c.kept_with-standing.result o)) [ inl kept ↦ inl kept | inr dropped ↦ inr (λ kept. both_ways _ dropped kept) ])
     (option_count c.args.poll.now) (is_option c)
-    (option_count c.args.poll.now, (c.standing_with-standing.ensures.kept (option_count c.args.poll.now)).1 (inl refl))
+    (option_count c.args.poll.now, (c.kept_with-standing.ensures.kept (option_count c.args.poll.now)).1 (inl refl))
     c.in_ok-rounds.rounds.items (has_pair c.of-defeats.result)
     (λ a b p. is_option c a ((c.of-defeats.ensures a b).0 p).0)
     c.in_ok-rounds.ensures
@@ -71,7 +71,7 @@ returns-clause-some c =
 -- a kept option has more votes than the default
 more : (c : goal.In_ok-rounds) (o : ℕ) → IsKept c.args.poll.now c.args.matrix.now o → o ≢ option_count c.args.poll.now →
     votes c.args.matrix.now (option_count c.args.poll.now) o < votes c.args.matrix.now o (option_count c.args.poll.now)
-more c o kept = c.standing_with-standing.ensures.more o ((c.standing_with-standing.ensures.kept o).1 kept)
+more c o kept = c.kept_with-standing.ensures.more o ((c.kept_with-standing.ensures.kept o).1 kept)
 
 pub returns-clause-default : goal.returns-clause-default
 returns-clause-default c =

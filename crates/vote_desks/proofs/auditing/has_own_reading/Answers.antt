@@ -3,7 +3,7 @@ use Rattle.std.specs.Prelude.{slice_get, option_map}
 use Rattle.std.proofs.lemmas.Option.{slice_get-map}
 use Rattle.vote_poll.specs.Readings.{reading, readings}
 use Rattle.vote_steps.specs.declared.Step.{Step}
-use Rattle.vote_steps.specs.Order.{HasOwnReading}
+use Rattle.vote_steps.specs.Recasts.{HasOwnReading}
 use Rattle.vote_desks.specs.Comparing.{HasEnvelope}
 use Rattle.vote_desks.proofs.auditing.has_own_reading.Goals as goal
 

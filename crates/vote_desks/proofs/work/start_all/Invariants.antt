@@ -7,8 +7,8 @@ use Rattle.vote_desks.proofs.work.start_all.Given as goal
 abbrev pub invariant-loop-desks : goal.invariant-loop-desks
 invariant-loop-desks g l = record {
   same : vec_len l.passes ≡ vec_len l.desks;
-  fresh : AllByRecursion (IsFresh (length l.hall.lines.now)) l.desks.items;
-  unused : AllByRecursion (IsUnused l.hall.tray.now) l.passes.items;
+  fresh : AllByRecursion (IsFresh (length l.workplace.lines.now)) l.desks.items;
+  unused : AllByRecursion (IsUnused l.workplace.tray.now) l.passes.items;
   desks : map (λ h. h.promise.number) l.handles.items ++ map (λ (d : DeskState). d.number) l.desks.items ≡ map (λ (d : DeskState). d.number) l.fn.desks.items;
   passes : map (λ h. h.promise.pass.value) l.handles.items ++ l.passes.items ≡ l.fn.passes.items;
 }

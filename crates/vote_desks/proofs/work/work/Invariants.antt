@@ -6,8 +6,8 @@ use Rattle.vote_desks.proofs.work.work.Given as goal
 abbrev pub invariant-loop-place : goal.invariant-loop-place
 invariant-loop-place g l = record {
   number : l.desk.number ≡ l.fn.desk.number;
-  limit : l.desk.limit ≡ l.hall.tray.now.size;
-  its_tray : l.pass.tray ≡ l.hall.tray.now;
+  limit : l.desk.limit ≡ l.workplace.tray.now.size;
+  its_tray : l.pass.tray ≡ l.workplace.tray.now;
   same_tray : l.pass.tray ≡ l.fn.pass.tray;
   parts : l.pass.parts ≡ l.fn.pass.parts;
   stamps : stamps_of l.desk.slips ≡ map (λ place. place + 1) l.pass.places;
@@ -17,4 +17,4 @@ invariant-loop-place g l = record {
 }
 
 abbrev pub decreases-loop-place : goal.decreases-loop-place
-decreases-loop-place g l = l.hall.tray.now.size - l.pass.seen
+decreases-loop-place g l = l.workplace.tray.now.size - l.pass.seen

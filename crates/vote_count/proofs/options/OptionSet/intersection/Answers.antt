@@ -1,4 +1,4 @@
-use Rattle.vote_count.proofs.options.OptionSet.common.Goals as goal
+use Rattle.vote_count.proofs.options.OptionSet.intersection.Goals as goal
 use Rattle.vote_count.proofs.BitLemmas.{has-bit_and}
 use lib.Bits.{and_lt}
 use Rattle.vote_poll.specs.declared.TheConstants.{MAX_OPTIONS}

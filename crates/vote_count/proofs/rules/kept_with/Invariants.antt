@@ -3,7 +3,7 @@ use Rattle.vote_count.specs.Sets.{In}
 use Rattle.vote_count.specs.Rules.{MeetsQuorum, MeetsMajority}
 use Rattle.vote_poll.specs.PollContent.{option_count}
 use Rattle.vote_count.specs.Votes.{votes}
-use Rattle.vote_count.proofs.rules.standing_with.Given as goal
+use Rattle.vote_count.proofs.rules.kept_with.Given as goal
 
 abbrev pub invariant-loop-option : goal.invariant-loop-option
 invariant-loop-option l = record {

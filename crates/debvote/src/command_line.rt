@@ -5,9 +5,9 @@ ghost use Rattle.clap.specs.Faults.{fault_of};
 ghost use Rattle.clap.specs.Values.{kind_of};
 ghost use Rattle.clap.specs.declared.builder.command.Command.TheViews.{out-Command as fields_of};
 ghost use Rattle.clap.specs.Words.{app_of, first_of, found_of, rows_of, rule_of, subcommand_of, subcommand_rows_of};
-ghost use Rattle.debvote.specs.CommandLine.{bare_command, check_command, count_command, debvote_command, desks_option, option, required_option, steps_command};
+ghost use Rattle.debvote.specs.CommandLine.{bare_command, check_command, count_command, debvote_command, desks_flag, flag, required_flag, steps_command};
 ghost use Rattle.debvote.specs.Order.{AsksFor, HasDesks, HasValues, HelpsIfAsked, IsFaultOfKind, RefusesIfAtFault, order_status, subcommand_name};
-ghost use Rattle.debvote.specs.declared.order.Task.{Task};
+ghost use Rattle.debvote.specs.declared.command_line.Task.{Task};
 
 use clap::error::ErrorKind;
 use clap::{Arg, ArgAction, ArgMatches, Command, Error};
@@ -47,7 +47,7 @@ pub enum OrderFault {
 
 impl From<AllocError> for OrderFault {
     ghost use Rattle.std.specs.Prelude.{◌≡◌};
-    ghost use Rattle.debvote.specs.declared.order.OrderFault.TheVariants.{Memory};
+    ghost use Rattle.debvote.specs.declared.command_line.OrderFault.TheVariants.{Memory};
 
     ghost from_gives = { λ _ e. e ≡ Memory };
 
@@ -56,9 +56,9 @@ impl From<AllocError> for OrderFault {
     }
 }
 
-/// An option with one value, and the line that says what it is.
+/// A flag with one value, and the line that says what it is.
 fn value_arg<'a>(alloc: Global, id: &'a str, value: &'a str, help: &'a str) -> Arg<'a>
-    ensures rule { rule_of result ≡ option id.entry.now }
+    ensures rule { rule_of result ≡ flag id.entry.now }
     ensures local { result.global ≡ false }
 {
     Arg::new(alloc, id)
@@ -69,28 +69,28 @@ fn value_arg<'a>(alloc: Global, id: &'a str, value: &'a str, help: &'a str) -> A
 }
 
 fn file_arg<'a>(alloc: Global, id: &'a str, help: &'a str) -> Arg<'a>
-    ensures rule { rule_of result ≡ required_option id.entry.now }
+    ensures rule { rule_of result ≡ required_flag id.entry.now }
     ensures local { result.global ≡ false }
 {
     value_arg(alloc, id, "FILE", help).required(true)
 }
 
 fn poll_arg<'a>(alloc: Global) -> Arg<'a>
-    ensures rule { rule_of result ≡ required_option (codes "poll") }
+    ensures rule { rule_of result ≡ required_flag (codes "poll") }
     ensures local { result.global ≡ false }
 {
     file_arg(alloc, "poll", "The poll file, in TOML")
 }
 
 fn ballots_arg<'a>(alloc: Global) -> Arg<'a>
-    ensures rule { rule_of result ≡ required_option (codes "ballots") }
+    ensures rule { rule_of result ≡ required_flag (codes "ballots") }
     ensures local { result.global ≡ false }
 {
     file_arg(alloc, "ballots", "The ballot file, an envelope a line")
 }
 
 fn casting_arg<'a>(alloc: Global) -> Arg<'a>
-    ensures rule { rule_of result ≡ option (codes "casting") }
+    ensures rule { rule_of result ≡ flag (codes "casting") }
     ensures local { result.global ≡ false }
 {
     value_arg(
@@ -121,7 +121,7 @@ fn steps_command<'a>(alloc: Global) -> Result<Command<'a>, AllocError>
 }
 
 fn desks_arg<'a>(alloc: Global) -> Arg<'a>
-    ensures rule { rule_of result ≡ desks_option }
+    ensures rule { rule_of result ≡ desks_flag }
     ensures local { result.global ≡ false }
 {
     value_arg(alloc, "desks", "K", "How many desks enter the ballots")
