@@ -1,0 +1,400 @@
+#!/usr/bin/env python3
+"""The count of debvote a second time, written from docs/DEFINITIONS.md and docs/FORMATS.md alone.
+
+It is made to be read, and not to be fast. Each function says which definition or which section of the Constitution it is.
+It runs as debvote does, in one thread: `tests/reference.py count --poll FILE --ballots FILE [--casting NAME]`, and so on.
+Options are numbered from 1 and the default option is the last, electors from 0, envelopes (lines) and rounds from 1.
+"""
+
+import argparse
+import itertools
+import re
+import sys
+import tomllib
+
+POLL_LIMIT = 1_048_576
+BALLOTS_LIMIT = 33_554_432
+JOINED_LIMIT = 34_603_011
+MOST_LINES = 100_000
+
+
+class Fault(Exception):
+    """A fault: the words of its line on standard error, and the exit status."""
+
+
+# ---------------------------------------------------------------- the poll file
+# the keys and their kinds, in the order in which a missing or wrong one is found
+REQUIRED = {"title": str, "options": [str], "ratios": [int], "default": str, "quorum": int, "roll": [str]}
+OPTIONAL = {"last_envelope": int, "wording": str}
+
+
+class Poll:
+    """A poll whose table has no fault."""
+
+    def __init__(self, table):
+        self.title = table["title"]
+        self.names = dict(enumerate(table["options"] + [table["default"]], start=1))
+        self.ratios = dict(enumerate(table["ratios"], start=1))
+        self.options = list(self.names)
+        self.default = len(self.names)
+        self.quorum = table["quorum"]
+        self.roll = table["roll"]
+        self.last_envelope = table.get("last_envelope")
+        self.is_more_than = table.get("wording") == "more_than"
+
+
+def is_of_kind(value, kind):
+    """Whether a value is a text (str), a whole number (int), or a list of them ([str], [int])."""
+    if isinstance(kind, list):
+        return isinstance(value, list) and all(is_of_kind(entry, kind[0]) for entry in value)
+    return type(value) is kind
+
+
+def has_a_number_too_large(value):
+    """A whole number of TOML has 64 bits; tomllib would read any."""
+    if isinstance(value, (dict, list)):
+        return any(map(has_a_number_too_large, value.values() if isinstance(value, dict) else value))
+    return is_of_kind(value, int) and not -(2**63) <= value < 2**63
+
+
+def toml_of(data):
+    """The table of a TOML file. (Python reads TOML 1.0, and the program 1.1, which allows a little more.)"""
+    try:
+        table = tomllib.loads(data.decode("utf-8"))
+    except (ValueError, RecursionError):
+        table = None
+    if table is None or has_a_number_too_large(table):
+        raise refused("syntax")
+    return table
+
+
+# the shapes of names; " -~" are the bytes 0x20 to 0x7E
+TITLE = r"[ -~]{1,80}"
+OPTION_NAME = r"(?! )[ -~]{1,40}(?<! )"
+VOTER_NAME = r"[a-z0-9.-]{1,32}"
+
+
+def bad_places(names, shape):
+    """The places, from 0, of the names that are misshapen or an earlier one."""
+    for place, name in enumerate(names):
+        if not re.fullmatch(shape, name) or name in names[:place]:
+            yield place
+
+
+def refused(words):
+    return Fault(f"poll refused: {words}", 3)
+
+
+def faults_of(table):
+    """The faults of the table of a poll file, in their order. Only the first is asked for: behind it nothing is sure."""
+    for key, kind in (REQUIRED | OPTIONAL).items():
+        if (key in REQUIRED or key in table) and not is_of_kind(table.get(key), kind):
+            yield f"key {key}"
+    names, ratios = table["options"] + [table["default"]], table["ratios"]
+    if not re.fullmatch(TITLE, table["title"]):
+        yield "title"
+    if not 2 <= len(names) <= 32:
+        yield "number of options"
+    for place in bad_places(names, OPTION_NAME):
+        yield f"name of option {place + 1}"
+    if len(ratios) != len(names) - 1 or not all(1 <= ratio <= 10 for ratio in ratios):
+        yield "ratios"
+    if not 0 <= table["quorum"] <= 10:
+        yield "quorum"
+    if not 1 <= len(table["roll"]) <= 10_000:
+        yield "size of roll"
+    for place in bad_places(table["roll"], VOTER_NAME):
+        yield f"voter at position {place}"
+    if not 0 <= table.get("last_envelope", 0) <= MOST_LINES:
+        yield "last envelope"
+    if table.get("wording", "at_least") not in ("at_least", "more_than"):
+        yield "wording"
+
+
+def poll_in(data):
+    """What the text of a poll file means: the poll, or the first of its faults."""
+    table = toml_of(data)
+    for words in faults_of(table):
+        raise refused(words)
+    return Poll(table)
+
+
+# ---------------------------------------------------------------- lines, ballots and replies
+LINE = re.compile(rb"([a-z0-9.-]{1,32}) ((?:-|[1-9][0-9]?)(?:,(?:-|[1-9][0-9]?))*)")
+
+
+def lines_of(text):
+    """The lines of a ballot file; the last may lack its line feed."""
+    lines = text.split(b"\n")
+    if lines[-1] == b"":
+        lines.pop()
+    if len(lines) > MOST_LINES:
+        raise Fault("ballots refused: too many lines", 4)
+    return lines
+
+
+def reading(poll, line):
+    """What a line is: the number of its voter and its ranks (None for a hyphen), or the words of what is bad."""
+    shape = LINE.fullmatch(line)
+    if shape is None or len(line) > 200:
+        return "bad shape"
+    ranks = [None if rank == b"-" else int(rank) for rank in shape[2].split(b",")]
+    if len(ranks) != len(poll.names):
+        return "bad rank count"
+    voter = shape[1].decode()
+    if voter not in poll.roll:
+        return "bad not on roll"
+    return poll.roll.index(voter), ranks
+
+
+def replies_and_last_ballots(poll, lines):
+    """The reply to each line, where one desk casts them in order; and the ranks of the last valid ballot of each voter."""
+    replies = []
+    last_ballots = {}
+    for envelope, line in enumerate(lines, start=1):
+        read = reading(poll, line)
+        if poll.last_envelope is not None and envelope > poll.last_envelope:
+            replies.append("late")
+        elif isinstance(read, str):
+            replies.append(read)
+        else:
+            voter, ranks = read
+            replies.append("replaced" if voter in last_ballots else "counted")
+            last_ballots[voter] = ranks
+    return replies, last_ballots
+
+
+def prefers(ranks, a, b):
+    """A.5.1: the ballot ranks a, and leaves b unranked or gives it a greater rank."""
+    rank_a, rank_b = ranks[a - 1], ranks[b - 1]
+    return rank_a is not None and (rank_b is None or rank_a < rank_b)
+
+
+def votes_of(poll, last_ballots):
+    """A.5.3: V(A,B), for each two options the number of voters who prefer A to B."""
+    ballots = last_ballots.values()
+    return {
+        (a, b): sum(prefers(ranks, a, b) for ranks in ballots) for a in poll.options for b in poll.options if a != b
+    }
+
+
+# ---------------------------------------------------------------- the count
+def meets_quorum(poll, number):
+    """4.2, A.5.2: at least `quorum` times Q, where Q is half of the square root of the number of electors."""
+    return (2 * number) ** 2 >= poll.quorum**2 * len(poll.roll)
+
+
+def quorum_votes(poll):
+    """The least number of votes that meets the quorum."""
+    return next(number for number in itertools.count() if meets_quorum(poll, number))
+
+
+def meets_majority(poll, votes, option):
+    """A.5.3: how many prefer the option to the default, beside how many the default to the option."""
+    over, under = votes[option, poll.default], votes[poll.default, option]
+    if poll.is_more_than:
+        return over > poll.ratios[option] * under
+    return over >= poll.ratios[option] * under and over > under
+
+
+def dropped_options(poll, votes):
+    """A.5.2, A.5.3: the options that are dropped, each with its cause. The default option never is."""
+    dropped = {}
+    for option in poll.options[:-1]:
+        if not meets_quorum(poll, votes[option, poll.default]):
+            dropped[option] = "quorum"
+        elif not meets_majority(poll, votes, option):
+            dropped[option] = "majority"
+    return dropped
+
+
+def defeats_among(kept, votes):
+    """A.5.4: A defeats B where more voters prefer A to B than B to A."""
+    return {(a, b) for a in kept for b in kept if a != b and votes[a, b] > votes[b, a]}
+
+
+def transitive_defeats(kept, defeats):
+    """A.5.5: A transitively defeats C where a list of options goes from A to C, each of which defeats the next."""
+    chains = set(defeats)
+    while True:
+        longer = {(a, c) for a, b in chains for c in kept if (b, c) in defeats}
+        if longer <= chains:
+            return chains
+        chains |= longer
+
+
+def schwartz_set(kept, defeats):
+    """A.5.6: A is in it where, for every option B, A transitively defeats B, or B does not transitively defeat A."""
+    chains = transitive_defeats(kept, defeats)
+    return [a for a in kept if all((a, b) in chains or (b, a) not in chains for b in kept)]
+
+
+def is_weaker(votes, one, other):
+    """A.5.7: (A,X) is weaker than (B,Y) where V(A,X) is less; or they are equal, and V(X,A) is greater."""
+    (a, x), (b, y) = one, other
+    return votes[a, x] < votes[b, y] or (votes[a, x] == votes[b, y] and votes[x, a] > votes[y, b])
+
+
+def weakest_defeats(defeats, votes):
+    """A.5.7: those than which none is weaker."""
+    return {one for one in defeats if not any(is_weaker(votes, other, one) for other in defeats)}
+
+
+def rounds_of(kept, votes):
+    """A.5.6, A.5.7: each round's Schwartz set, and the defeats within it that are removed, until there are none."""
+    defeats = defeats_among(kept, votes)
+    rounds = []
+    while True:
+        final = schwartz_set(kept, defeats)
+        within = {(a, b) for a, b in defeats if a in final and b in final}
+        removed = weakest_defeats(within, votes)
+        rounds.append((final, removed))
+        if not removed:
+            return rounds
+        defeats -= removed
+
+
+# ---------------------------------------------------------------- the texts
+def decision_of(poll, final, casting):
+    """A.5.8: the last line of the sheet, and the exit status."""
+    numbers = " ".join(map(str, final))
+    if len(final) == 1:
+        return f"Winner: {final[0]} {poll.names[final[0]]}", 0
+    if casting is None:
+        return f"Tie: {numbers}", 1
+    if casting in final:
+        return f"Winner: {casting} {poll.names[casting]} by casting vote", 0
+    return f"Tie: {numbers}, casting option {casting} is not among them", 8
+
+
+def heading(poll, replies, last_ballots):
+    """What stands above the options."""
+    valid = sum(reply in ("counted", "replaced") for reply in replies)
+    yield f"Poll: {poll.title}"
+    yield f"Electors: {len(poll.roll)}"
+    yield f"Quorum: {poll.quorum}Q, {quorum_votes(poll)} votes"
+    if poll.is_more_than:
+        yield "Majority: more than"
+    yield f"Lines: {len(replies)}"
+    if poll.last_envelope is not None:
+        yield f"Last envelope: {poll.last_envelope}"
+    yield f"Valid: {valid}"
+    yield f"Refused: {len(replies) - valid}"
+    yield f"Voters: {len(last_ballots)}"
+
+
+def tables(poll, votes):
+    """The options, and the votes of each over each."""
+    yield "Options:"
+    for option in poll.options:
+        kind = "default" if option == poll.default else f"ratio {poll.ratios[option]}"
+        yield f"{option:3} {kind} {poll.names[option]}"
+    yield "Votes:"
+    yield "   " + "".join(f"{b:6}" for b in poll.options)
+    for a in poll.options:
+        yield f"{a:3}" + "".join(f"{'-' if a == b else votes[a, b]:>6}" for b in poll.options)
+
+
+def outcome(votes, dropped, defeats, rounds):
+    """What stands below the tables, but for the last line."""
+    yield "Dropped:"
+    yield from (f"{option:3} {cause}" for option, cause in dropped.items()) if dropped else ["  none"]
+    yield "Defeats:"
+    yield from (f"{a:3} over {b} by {votes[a, b]} to {votes[b, a]}" for a, b in sorted(defeats)) if defeats else ["  none"]
+    for number, (final, removed) in enumerate(rounds, start=1):
+        yield f"Round {number}: " + " ".join(map(str, final))
+        yield from (f"  drop {a} over {b}" for a, b in sorted(removed))
+
+
+def text_of(lines):
+    return "".join(f"{line}\n" for line in lines)
+
+
+def count(poll_data, ballots, casting_name=None):
+    """The sheet, and the exit status."""
+    poll = poll_in(poll_data)
+    if casting_name is not None and casting_name not in poll.names.values():
+        raise Fault("casting option is not in the poll", 8)
+    casting = next((option for option in poll.options if poll.names[option] == casting_name), None)
+    replies, last_ballots = replies_and_last_ballots(poll, lines_of(ballots))
+    votes = votes_of(poll, last_ballots)
+    dropped = dropped_options(poll, votes)
+    kept = [option for option in poll.options if option not in dropped]
+    rounds = rounds_of(kept, votes)
+    final, _ = rounds[-1]
+    decision, status = decision_of(poll, final, casting)
+    found = outcome(votes, dropped, defeats_among(kept, votes), rounds)
+    return text_of([*heading(poll, replies, last_ballots), *tables(poll, votes), *found, decision]), status
+
+
+def steps(poll_data, ballots):
+    """The replies, a line each."""
+    poll = poll_in(poll_data)
+    replies, _ = replies_and_last_ballots(poll, lines_of(ballots))
+    return text_of(f"{envelope} {reply}" for envelope, reply in enumerate(replies, start=1))
+
+
+def check(poll_data):
+    poll = poll_in(poll_data)
+    return f"poll ok: {len(poll.names)} options, {len(poll.roll)} electors\n"
+
+
+def joined_parts(data):
+    """The bytes before and after the first line that is exactly %%; without one all of them, and nothing."""
+    separator = re.search(rb"^%%(\n|\Z)", data, re.MULTILINE)
+    return (data[: separator.start()], data[separator.end() :]) if separator else (data, b"")
+
+
+# ---------------------------------------------------------------- the command line
+def read_file(name, limit, kind):
+    """The bytes of a file; `kind` is poll or ballots."""
+    status = 3 if kind == "poll" else 4
+    try:
+        with open(name, "rb") as file:
+            data = file.read(limit + 1)
+    except (OSError, ValueError):
+        raise Fault(f"{kind} unreadable", status)
+    if len(data) > limit:
+        raise Fault(f"{kind} too long", status)
+    return data
+
+
+def command_line(words):
+    """The command and its values; without words the joined input is read. A fault of the words ends with status 2."""
+    parser = argparse.ArgumentParser(allow_abbrev=False)
+    commands = parser.add_subparsers(dest="command")
+    for command, options in [("count", "poll ballots desks casting"), ("steps", "poll ballots"), ("check", "poll")]:
+        known = commands.add_parser(command, allow_abbrev=False)
+        for option in options.split():
+            choices = list("12345678") if option == "desks" else None
+            known.add_argument(f"--{option}", required=option in ("poll", "ballots"), choices=choices)
+    return parser.parse_args(words)
+
+
+def answer(words):
+    """What is written for the words of a command line, and the exit status."""
+    asked = command_line(words)
+    if asked.command is None:
+        return steps(*joined_parts(read_file(0, JOINED_LIMIT, "ballots"))), 0
+    poll_data = read_file(asked.poll, POLL_LIMIT, "poll")
+    if asked.command == "check":
+        return check(poll_data), 0
+    ballots = read_file(asked.ballots, BALLOTS_LIMIT, "ballots")
+    if asked.command == "steps":
+        return steps(poll_data, ballots), 0
+    return count(poll_data, ballots, asked.casting)
+
+
+def main():
+    try:
+        text, status = answer(sys.argv[1:])
+    except Fault as fault:
+        words, status = fault.args
+        sys.stderr.write(f"debvote: {words}\n")
+        sys.exit(status)
+    sys.stdout.write(text)
+    sys.exit(status)
+
+
+if __name__ == "__main__":
+    main()
