@@ -12,21 +12,21 @@ one_if test = cond test 1 0
 abbrev pub ones : List Bool → List ℕ
 ones tests = sel_l tests (replicate 16 1) (replicate 16 0)
 
-pub ones-long : (place : ℕ) (xs : List ℕ) → length xs ≡ 16 → length (ones (zip2 nat_lt (replicate 16 place) xs)) ≡ 16
-ones-long place xs long =
-    let tests : length (zip2 nat_lt (replicate 16 place) xs) ≡ 16 = length-zip2 nat_lt (replicate 16 place) xs (sym long) in
-    length-sel_l {X = ℕ} (zip2 nat_lt (replicate 16 place) xs) (replicate 16 1) (replicate 16 0) tests tests ∙ tests
+pub ones-long : (key : ℕ) (xs : List ℕ) → length xs ≡ 16 → length (ones (zip2 nat_lt (replicate 16 key) xs)) ≡ 16
+ones-long key xs long =
+    let tests : length (zip2 nat_lt (replicate 16 key) xs) ≡ 16 = length-zip2 nat_lt (replicate 16 key) xs (sym long) in
+    length-sel_l {X = ℕ} (zip2 nat_lt (replicate 16 key) xs) (replicate 16 1) (replicate 16 0) tests tests ∙ tests
 
-pub ones-each : (place : ℕ) (xs : List ℕ) (k : ℕ) → length xs ≡ 16 → k < 16 → get_or (ones (zip2 nat_lt (replicate 16 place) xs)) k 0 ≡ one_if (nat_lt place (get_or xs k 0))
-ones-each place xs k long within =
-    let tests : length (zip2 nat_lt (replicate 16 place) xs) ≡ 16 = length-zip2 nat_lt (replicate 16 place) xs (sym long) in
-    let test : get_or (zip2 nat_lt (replicate 16 place) xs) k false ≡ nat_lt place (get_or xs k 0) =
-    get_or-zip2 nat_lt (replicate 16 place) xs k 0 0 false within (omega arith) ∙ ap (λ p. nat_lt p (get_or xs k 0)) (get_or-replicate 16 k place 0 within) in
+pub ones-each : (key : ℕ) (xs : List ℕ) (k : ℕ) → length xs ≡ 16 → k < 16 → get_or (ones (zip2 nat_lt (replicate 16 key) xs)) k 0 ≡ one_if (nat_lt key (get_or xs k 0))
+ones-each key xs k long within =
+    let tests : length (zip2 nat_lt (replicate 16 key) xs) ≡ 16 = length-zip2 nat_lt (replicate 16 key) xs (sym long) in
+    let test : get_or (zip2 nat_lt (replicate 16 key) xs) k false ≡ nat_lt key (get_or xs k 0) =
+    get_or-zip2 nat_lt (replicate 16 key) xs k 0 0 false within (omega arith) ∙ ap (λ p. nat_lt p (get_or xs k 0)) (get_or-replicate 16 k key 0 within) in
     let one : get_or (replicate 16 1) k 0 ≡ 1 = get_or-replicate 16 k 1 0 within in
     let zero : get_or (replicate 16 0) k 0 ≡ 0 = get_or-replicate 16 k 0 0 within in
-    let chosen : get_or (ones (zip2 nat_lt (replicate 16 place) xs)) k 0 ≡ cond (get_or (zip2 nat_lt (replicate 16 place) xs) k false) (get_or (replicate 16 1) k 0) (get_or (replicate 16 0) k 0) =
-    get_or-sel_l {X = ℕ} (zip2 nat_lt (replicate 16 place) xs) (replicate 16 1) (replicate 16 0) k 0 (omega arith) within within in
-    chosen ∙ one_of (get_or (zip2 nat_lt (replicate 16 place) xs) k false) (nat_lt place (get_or xs k 0)) _ _ test one zero
+    let chosen : get_or (ones (zip2 nat_lt (replicate 16 key) xs)) k 0 ≡ cond (get_or (zip2 nat_lt (replicate 16 key) xs) k false) (get_or (replicate 16 1) k 0) (get_or (replicate 16 0) k 0) =
+    get_or-sel_l {X = ℕ} (zip2 nat_lt (replicate 16 key) xs) (replicate 16 1) (replicate 16 0) k 0 (omega arith) within within in
+    chosen ∙ one_of (get_or (zip2 nat_lt (replicate 16 key) xs) k false) (nat_lt key (get_or xs k 0)) _ _ test one zero
   where
     one_of : (b t : Bool) (x y : ℕ) → b ≡ t → x ≡ 1 → y ≡ 0 → cond b x y ≡ one_if t
     one_of b t x y same one zero = ap (λ u. cond u x y) same ∙ ap (λ v. cond t v y) one ∙ ap (λ v. cond t 1 v) zero

@@ -65,10 +65,10 @@ IsByCasting set None decision = decision ≡ Tie
 IsByCasting set (Some choice) decision = (In set choice × (decision ≡ Winner choice)) ⊎ (¬ In set choice × (decision ≡ CastingOutside choice))
 
 -- what a count came to
-pub record Outcome : Type 0 where
+pub record VerdictState : Type 0 where
   pub causes : List (Option Cause)
   pub defeats : List (List Bool)
   pub rounds : List Round
 
-abbrev pub cause_of : Outcome → ℕ → Option Cause
+abbrev pub cause_of : VerdictState → ℕ → Option Cause
 cause_of outcome o = at_option outcome.causes o None

@@ -51,9 +51,9 @@ pub struct Verdict {
 
 impl Model for Verdict {
     ghost use Rattle.std.specs.Prelude.{ℕ, ◌<◌, length};
-    ghost use Rattle.vote_count.specs.Rounds.{Outcome};
+    ghost use Rattle.vote_count.specs.Rounds.{VerdictState};
 
-    ghost Value = { Outcome };
+    ghost Value = { VerdictState };
 
     ghost view = { λ v. record { causes = v.causes; defeats = v.defeats; rounds = v.rounds.items } };
 

@@ -69,10 +69,10 @@ impl Matrix {
         ensures options { self.new.options ≡ self.old.options }
         ensures votes { (a b : ℕ) → IsOption self.old.options a → IsOption self.old.options b → votes self.new a b ≡ votes self.old a b + (if prefers ranks.now a b then 1 else 0) }
     {
-        let places = ranks.places();
+        let keys = ranks.sort_keys();
         let options = self.options;
         for option in 0..options as usize {
-            raise(&mut self.counts[option], places[option], places, options);
+            raise(&mut self.counts[option], keys[option], keys, options);
         }
     }
 
@@ -83,10 +83,10 @@ impl Matrix {
         ensures options { self.new.options ≡ self.old.options }
         ensures votes { (a b : ℕ) → IsOption self.old.options a → IsOption self.old.options b → votes self.new a b + (if prefers ranks.now a b then 1 else 0) ≡ votes self.old a b }
     {
-        let places = ranks.places();
+        let keys = ranks.sort_keys();
         let options = self.options;
         for option in 0..options as usize {
-            lower(&mut self.counts[option], places[option], places, options);
+            lower(&mut self.counts[option], keys[option], keys, options);
         }
     }
 
@@ -100,8 +100,8 @@ impl Matrix {
         ensures options { self.new.options ≡ self.old.options }
         ensures votes { (a b : ℕ) → IsOption self.old.options a → IsOption self.old.options b → votes self.new a b + (if prefers before.now a b then 1 else 0) ≡ votes self.old a b + (if prefers after.now a b then 1 else 0) }
     {
-        let old = before.places();
-        let new = after.places();
+        let old = before.sort_keys();
+        let new = after.sort_keys();
         let options = self.options;
         for option in 0..options as usize {
             change(
@@ -120,65 +120,65 @@ impl Matrix {
 // a constant, and a poll of few options does without the second one.
 const PASS: usize = MAX_OPTIONS / 2;
 
-// One more vote, in the row of the option at this place, over each option behind it.
+// One more vote, in the row of the option with this sort key, over each option behind it.
 #[inline(always)]
-fn raise(row: &mut [u32], place: u8, places: &[u8], options: u8)
+fn raise(row: &mut [u32], key: u8, keys: &[u8], options: u8)
     requires row { length row.old ≡ MAX_OPTIONS }
-    requires places { length places.now ≡ MAX_OPTIONS }
+    requires keys { length keys.now ≡ MAX_OPTIONS }
     requires options { options ≤ MAX_OPTIONS }
-    requires room { (k : ℕ) → k < MAX_OPTIONS → place < slice_index_or places.now k 0 → slice_index_or row.old k 0 < 2 ^ 32 - 1 }
-    ensures { (k : ℕ) → k < options → slice_index_or row.new k 0 ≡ slice_index_or row.old k 0 + (if nat_lt place (slice_index_or places.now k 0) then 1 else 0) }
+    requires room { (k : ℕ) → k < MAX_OPTIONS → key < slice_index_or keys.now k 0 → slice_index_or row.old k 0 < 2 ^ 32 - 1 }
+    ensures { (k : ℕ) → k < options → slice_index_or row.new k 0 ≡ slice_index_or row.old k 0 + (if nat_lt key (slice_index_or keys.now k 0) then 1 else 0) }
 {
-    raise_from(row, place, places, 0);
+    raise_from(row, key, keys, 0);
     if options as usize > PASS {
-        raise_from(row, place, places, PASS);
+        raise_from(row, key, keys, PASS);
     }
 }
 
 // The same, in the pass from this option on.
 #[inline(always)]
-fn raise_from(row: &mut [u32], place: u8, places: &[u8], first: usize)
+fn raise_from(row: &mut [u32], key: u8, keys: &[u8], first: usize)
     requires row { first + PASS ≤ length row.old }
-    requires places { first + PASS ≤ length places.now }
-    requires room { (k : ℕ) → first ≤ k → k < first + PASS → place < slice_index_or places.now k 0 → slice_index_or row.old k 0 < 2 ^ 32 - 1 }
-    ensures pass { (k : ℕ) → first ≤ k → k < first + PASS → slice_index_or row.new k 0 ≡ slice_index_or row.old k 0 + (if nat_lt place (slice_index_or places.now k 0) then 1 else 0) }
+    requires keys { first + PASS ≤ length keys.now }
+    requires room { (k : ℕ) → first ≤ k → k < first + PASS → key < slice_index_or keys.now k 0 → slice_index_or row.old k 0 < 2 ^ 32 - 1 }
+    ensures pass { (k : ℕ) → first ≤ k → k < first + PASS → slice_index_or row.new k 0 ≡ slice_index_or row.old k 0 + (if nat_lt key (slice_index_or keys.now k 0) then 1 else 0) }
     ensures before { (k : ℕ) → k < first → slice_index_or row.new k 0 ≡ slice_index_or row.old k 0 }
     ensures behind { (k : ℕ) → first + PASS ≤ k → slice_index_or row.new k 0 ≡ slice_index_or row.old k 0 }
 {
     for k in 0..PASS {
         let option = first + k;
-        row[option] += u32::from(place < places[option]);
+        row[option] += u32::from(key < keys[option]);
     }
 }
 
-// One vote less, in the row of the option at this place, over each option behind it.
+// One vote less, in the row of the option with this sort key, over each option behind it.
 #[inline(always)]
-fn lower(row: &mut [u32], place: u8, places: &[u8], options: u8)
+fn lower(row: &mut [u32], key: u8, keys: &[u8], options: u8)
     requires row { length row.old ≡ MAX_OPTIONS }
-    requires places { length places.now ≡ MAX_OPTIONS }
+    requires keys { length keys.now ≡ MAX_OPTIONS }
     requires options { options ≤ MAX_OPTIONS }
-    requires some { (k : ℕ) → k < MAX_OPTIONS → place < slice_index_or places.now k 0 → 0 < slice_index_or row.old k 0 }
-    ensures { (k : ℕ) → k < options → slice_index_or row.new k 0 + (if nat_lt place (slice_index_or places.now k 0) then 1 else 0) ≡ slice_index_or row.old k 0 }
+    requires some { (k : ℕ) → k < MAX_OPTIONS → key < slice_index_or keys.now k 0 → 0 < slice_index_or row.old k 0 }
+    ensures { (k : ℕ) → k < options → slice_index_or row.new k 0 + (if nat_lt key (slice_index_or keys.now k 0) then 1 else 0) ≡ slice_index_or row.old k 0 }
 {
-    lower_from(row, place, places, 0);
+    lower_from(row, key, keys, 0);
     if options as usize > PASS {
-        lower_from(row, place, places, PASS);
+        lower_from(row, key, keys, PASS);
     }
 }
 
 // The same, in the pass from this option on.
 #[inline(always)]
-fn lower_from(row: &mut [u32], place: u8, places: &[u8], first: usize)
+fn lower_from(row: &mut [u32], key: u8, keys: &[u8], first: usize)
     requires row { first + PASS ≤ length row.old }
-    requires places { first + PASS ≤ length places.now }
-    requires some { (k : ℕ) → first ≤ k → k < first + PASS → place < slice_index_or places.now k 0 → 0 < slice_index_or row.old k 0 }
-    ensures pass { (k : ℕ) → first ≤ k → k < first + PASS → slice_index_or row.new k 0 + (if nat_lt place (slice_index_or places.now k 0) then 1 else 0) ≡ slice_index_or row.old k 0 }
+    requires keys { first + PASS ≤ length keys.now }
+    requires some { (k : ℕ) → first ≤ k → k < first + PASS → key < slice_index_or keys.now k 0 → 0 < slice_index_or row.old k 0 }
+    ensures pass { (k : ℕ) → first ≤ k → k < first + PASS → slice_index_or row.new k 0 + (if nat_lt key (slice_index_or keys.now k 0) then 1 else 0) ≡ slice_index_or row.old k 0 }
     ensures before { (k : ℕ) → k < first → slice_index_or row.new k 0 ≡ slice_index_or row.old k 0 }
     ensures behind { (k : ℕ) → first + PASS ≤ k → slice_index_or row.new k 0 ≡ slice_index_or row.old k 0 }
 {
     for k in 0..PASS {
         let option = first + k;
-        row[option] -= u32::from(place < places[option]);
+        row[option] -= u32::from(key < keys[option]);
     }
 }
 
@@ -215,15 +215,15 @@ fn change_from(row: &mut [u32], was: u8, old: &[u8], is: u8, new: &[u8], first: 
     move_row(row, moves, first);
 }
 
-// One at each option of the pass that is behind this place, and zero at the others.
+// One at each option of the pass that is behind this sort key, and zero at the others.
 #[inline(always)]
-fn ones_over(place: u8, places: &[u8], first: usize) -> u8x16
-    requires { first + PASS ≤ length places.now }
+fn ones_over(key: u8, keys: &[u8], first: usize) -> u8x16
+    requires { first + PASS ≤ length keys.now }
     ensures long { length result ≡ PASS }
-    ensures each { (k : ℕ) → k < PASS → slice_index_or result k 0 ≡ (if nat_lt place (slice_index_or places.now (first + k) 0) then 1 else 0) }
+    ensures each { (k : ℕ) → k < PASS → slice_index_or result k 0 ≡ (if nat_lt key (slice_index_or keys.now (first + k) 0) then 1 else 0) }
 {
-    let all = u8x16::from_slice(&places[first..]);
-    let behind = u8x16::splat(place).simd_lt(all);
+    let all = u8x16::from_slice(&keys[first..]);
+    let behind = u8x16::splat(key).simd_lt(all);
     behind.select(u8x16::splat(1), u8x16::splat(0))
 }
 

@@ -8,15 +8,15 @@ use Rattle.vote_desks.specs.Slips.{refused_slips}
 use Rattle.vote_desks.specs.Desks.{DeskState}
 
 -- a count that stays where the box is closed stays too where the box was closed before
-pub valid_kept : {A E : Type 0} (r : Result A E) (old new : BoxState) → OnOk r (valid new.last new.steps ≡ valid old.last old.steps) → OnErr r (new ≡ old)
-    → valid new.last new.steps ≡ valid old.last old.steps
+pub valid_kept : {A E : Type 0} (r : Result A E) (old new : BoxState) → OnOk r (valid new.last_in_time new.steps ≡ valid old.last_in_time old.steps) → OnErr r (new ≡ old)
+    → valid new.last_in_time new.steps ≡ valid old.last_in_time old.steps
 valid_kept (Ok x) old new ok err = ok
-valid_kept (Err e) old new ok err = ap (λ (b : BoxState). valid b.last b.steps) err
+valid_kept (Err e) old new ok err = ap (λ (b : BoxState). valid b.last_in_time b.steps) err
 
-pub refused_kept : {A E : Type 0} (r : Result A E) (old new : BoxState) → OnOk r (refused new.last new.steps ≡ refused old.last old.steps) → OnErr r (new ≡ old)
-    → refused new.last new.steps ≡ refused old.last old.steps
+pub refused_kept : {A E : Type 0} (r : Result A E) (old new : BoxState) → OnOk r (refused new.last_in_time new.steps ≡ refused old.last_in_time old.steps) → OnErr r (new ≡ old)
+    → refused new.last_in_time new.steps ≡ refused old.last_in_time old.steps
 refused_kept (Ok x) old new ok err = ok
-refused_kept (Err e) old new ok err = ap (λ (b : BoxState). refused b.last b.steps) err
+refused_kept (Err e) old new ok err = ap (λ (b : BoxState). refused b.last_in_time b.steps) err
 
 -- what was refused at all desks is what their sheets say
 pub refused_gathered : (sheets : List (List Slip)) (desks : List DeskState) (n : ℕ) → sheets ≡ map (λ desk. desk.slips) desks → sum_by (λ desk. refused_slips desk.slips) desks ≡ n

@@ -40,6 +40,6 @@ Rises sheet = IsStrictlyIncreasing (stamps_of sheet)
 
 -- a reply that an envelope with this stamp and this line can have: after some steps, with some last envelope
 pub record CanReply (stamp : ℕ) (reading : Reading) (reply : Reply) : Type 0 where
-  pub last : ℕ
+  pub last_in_time : ℕ
   pub steps : List Step
-  pub answered : reply ≡ reply_to last steps stamp reading
+  pub answered : reply ≡ reply_to last_in_time steps stamp reading

@@ -13,7 +13,7 @@ use Rattle.vote_desks.specs.Audit.{IsAudited}
 abbrev pub LastLinesStand : Type 0
 LastLinesStand =
     (poll : PollContent) (lines : List (List ℕ)) (b : BoxState) (sheets : List (List Slip)) (voter : ℕ) → IsAudited poll lines b sheets
-    → standing_ranks b.last b.steps voter ≡ last_ballot (take b.last (readings poll lines)) voter
+    → standing_ranks b.last_in_time b.steps voter ≡ last_ballot (take b.last_in_time (readings poll lines)) voter
 
 -- the totals and the votes of the box are those of the lines
 abbrev pub LinesAreCounted : Type 0

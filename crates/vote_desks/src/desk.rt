@@ -35,15 +35,15 @@ impl<VL: Tally, RL: Tally> Model for Held<VL, RL> {
 
     ghost view = { λ h. record { ballot_box = h.ballot_box; valid_book = h.valid_book.total; refused_book = h.refused_book.total } };
 
-    ghost invariant = { λ h. (h.valid_book.total ≡ valid h.ballot_box.last h.ballot_box.steps) × (h.refused_book.total ≡ refused h.ballot_box.last h.ballot_box.steps) };
+    ghost invariant = { λ h. (h.valid_book.total ≡ valid h.ballot_box.last_in_time h.ballot_box.steps) × (h.refused_book.total ≡ refused h.ballot_box.last_in_time h.ballot_box.steps) };
 }
 
 impl<VL: Tally, RL: Tally> Held<VL, RL> {
     /// The box.
     pub fn ballot_box(&self) -> &BallotBox
         ensures box_is { result.now ≡ self.now.ballot_box }
-        ensures valid { self.now.valid_book ≡ valid result.now.last result.now.steps }
-        ensures refused { self.now.refused_book ≡ refused result.now.last result.now.steps }
+        ensures valid { self.now.valid_book ≡ valid result.now.last_in_time result.now.steps }
+        ensures refused { self.now.refused_book ≡ refused result.now.last_in_time result.now.steps }
     {
         &self.ballot_box
     }

@@ -17,7 +17,7 @@ pub fn enter<VL: Tally, RL: Tally>(
     reading: Reading,
 ) -> Result<Slip, EnterFault>
     ensures step { IfOk result (λ slip. held.new ≡ with_cast held.old desk.old.number stamp reading slip.reply) }
-    ensures slip { IfOk result (λ slip. slip ≡ record { number = length held.old.ballot_box.steps + 1; stamp = stamp; reply = reply_to held.old.ballot_box.last held.old.ballot_box.steps stamp reading }) }
+    ensures slip { IfOk result (λ slip. slip ≡ record { number = length held.old.ballot_box.steps + 1; stamp = stamp; reply = reply_to held.old.ballot_box.last_in_time held.old.ballot_box.steps stamp reading }) }
     ensures noted { IfOk result (λ slip. desk.new ≡ with_slip desk.old slip) }
 
     ensures sizes { (result ≡ Err EnterFault.Sizes) ↔ ¬ FitsBox held.old.ballot_box reading }

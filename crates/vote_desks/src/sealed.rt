@@ -68,10 +68,10 @@ fn meet<VL: Tally, RL: Tally>(
     requires valid { vec_len desks ≡ VL.parts }
     requires refused { vec_len desks ≡ RL.parts }
     ensures sheets { IfOk result (λ sheets. map vec_items sheets.items ≡ map (λ desk. desk.slips) desks.items) }
-    ensures valid { IfOk result (λ _. sum_by (λ desk. desk.valid_share) desks.items ≡ valid held.old.ballot_box.last held.old.ballot_box.steps) }
-    ensures refused { IfOk result (λ _. sum_by (λ desk. desk.refused_share) desks.items ≡ refused held.old.ballot_box.last held.old.ballot_box.steps) }
-    ensures valid_slips { IfOk result (λ _. sum_by (λ desk. valid_slips desk.slips) desks.items ≡ valid held.old.ballot_box.last held.old.ballot_box.steps) }
-    ensures refused_slips { IfOk result (λ _. sum_by (λ desk. refused_slips desk.slips) desks.items ≡ refused held.old.ballot_box.last held.old.ballot_box.steps) }
+    ensures valid { IfOk result (λ _. sum_by (λ desk. desk.valid_share) desks.items ≡ valid held.old.ballot_box.last_in_time held.old.ballot_box.steps) }
+    ensures refused { IfOk result (λ _. sum_by (λ desk. desk.refused_share) desks.items ≡ refused held.old.ballot_box.last_in_time held.old.ballot_box.steps) }
+    ensures valid_slips { IfOk result (λ _. sum_by (λ desk. valid_slips desk.slips) desks.items ≡ valid held.old.ballot_box.last_in_time held.old.ballot_box.steps) }
+    ensures refused_slips { IfOk result (λ _. sum_by (λ desk. refused_slips desk.slips) desks.items ≡ refused held.old.ballot_box.last_in_time held.old.ballot_box.steps) }
     ensures held { held.new ≡ held.old }
 {
     let mut desks = desks;
@@ -108,10 +108,10 @@ fn seal<VL: Tally, RL: Tally>(
     ensures legal { IfOk result (λ s. IsLegal s.ballot_box) }
     ensures closed { IfOk result (λ s. IsTrue (is_closed s.ballot_box.steps)) }
     ensures sheets { IfOk result (λ s. s.sheets ≡ map (λ desk. desk.slips) desks.items) }
-    ensures valid { IfOk result (λ s. sum_by (λ desk. desk.valid_share) desks.items ≡ valid s.ballot_box.last s.ballot_box.steps) }
-    ensures refused { IfOk result (λ s. sum_by (λ desk. desk.refused_share) desks.items ≡ refused s.ballot_box.last s.ballot_box.steps) }
-    ensures valid_slips { IfOk result (λ s. sum_by valid_slips s.sheets ≡ valid s.ballot_box.last s.ballot_box.steps) }
-    ensures refused_slips { IfOk result (λ s. sum_by refused_slips s.sheets ≡ refused s.ballot_box.last s.ballot_box.steps) }
+    ensures valid { IfOk result (λ s. sum_by (λ desk. desk.valid_share) desks.items ≡ valid s.ballot_box.last_in_time s.ballot_box.steps) }
+    ensures refused { IfOk result (λ s. sum_by (λ desk. desk.refused_share) desks.items ≡ refused s.ballot_box.last_in_time s.ballot_box.steps) }
+    ensures valid_slips { IfOk result (λ s. sum_by valid_slips s.sheets ≡ valid s.ballot_box.last_in_time s.ballot_box.steps) }
+    ensures refused_slips { IfOk result (λ s. sum_by refused_slips s.sheets ≡ refused s.ballot_box.last_in_time s.ballot_box.steps) }
 {
     let mut held = held;
     let _ = held.ballot_box.close();
@@ -153,10 +153,10 @@ pub fn gather<VL: Tally, RL: Tally>(
     ensures closed { IfOk result (λ s. IsTrue (is_closed s.ballot_box.steps)) }
     ensures sheets { IfOk result (λ s. IsPermutation (map (λ desk. (desk.number, desk.slips)) desks.items) (enumerate_from 1 s.sheets)) }
     ensures desks { IfOk result (λ s. length s.sheets ≡ shared) }
-    ensures valid { IfOk result (λ s. sum_by (λ desk. desk.valid_share) desks.items ≡ valid s.ballot_box.last s.ballot_box.steps) }
-    ensures refused { IfOk result (λ s. sum_by (λ desk. desk.refused_share) desks.items ≡ refused s.ballot_box.last s.ballot_box.steps) }
-    ensures valid_slips { IfOk result (λ s. sum_by valid_slips s.sheets ≡ valid s.ballot_box.last s.ballot_box.steps) }
-    ensures refused_slips { IfOk result (λ s. sum_by refused_slips s.sheets ≡ refused s.ballot_box.last s.ballot_box.steps) }
+    ensures valid { IfOk result (λ s. sum_by (λ desk. desk.valid_share) desks.items ≡ valid s.ballot_box.last_in_time s.ballot_box.steps) }
+    ensures refused { IfOk result (λ s. sum_by (λ desk. desk.refused_share) desks.items ≡ refused s.ballot_box.last_in_time s.ballot_box.steps) }
+    ensures valid_slips { IfOk result (λ s. sum_by valid_slips s.sheets ≡ valid s.ballot_box.last_in_time s.ballot_box.steps) }
+    ensures refused_slips { IfOk result (λ s. sum_by refused_slips s.sheets ≡ refused s.ballot_box.last_in_time s.ballot_box.steps) }
     ensures casts { IfOk result (λ s. sum_by length s.sheets ≡ count_by is_cast s.ballot_box.steps) }
     ensures missing { (result ≡ Err DeskFault.MissingDesk) ↔ ¬ IsPermutation (map (λ desk. desk.number) desks.items) (range_with_len 1 shared) }
 {

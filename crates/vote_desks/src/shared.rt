@@ -1,7 +1,7 @@
 //! The box behind its lock, and the opening of its desks.
 ghost use Rattle.std.specs.Prelude.{◌≡◌, ◌≤◌, ◌<◌, ◌↔◌, ◌∷◌, ◌++◌, [], Err, length, map, IsTrue, IfOk, OnOk, IfErr, OnErr, vec_len};
 ghost use Rattle.std.specs.List.{range_with_len};
-ghost use Rattle.vote_poll.specs.PollContent.{option_count, elector_count, last_of};
+ghost use Rattle.vote_poll.specs.PollContent.{option_count, elector_count, last_in_time};
 ghost use Rattle.vote_steps.specs.History.{is_closed, standing_ranks};
 ghost use Rattle.vote_steps.specs.declared.Step.TheVariants.{Close};
 ghost use Rattle.vote_desks.specs.Slips.{CanReply};
@@ -39,7 +39,7 @@ impl<VL: Tally, RL: Tally> Model for SharedBox<VL, RL> {
 /// An empty box for a poll, with its last envelope, that takes the stamps 1 to `limit`.
 fn empty_box(alloc: Global, poll: &Poll, limit: u32) -> Result<BallotBox, AllocError>
     requires { limit ≤ MAX_LINES }
-    ensures { IfOk result (λ b. b ≡ record { options = option_count poll.now; electors = elector_count poll.now; limit = limit; last = last_of poll.now; steps = [] }) }
+    ensures { IfOk result (λ b. b ≡ record { options = option_count poll.now; electors = elector_count poll.now; limit = limit; last_in_time = last_in_time poll.now; steps = [] }) }
 {
     let last = poll.last_in_time();
     BallotBox::new(alloc, poll.options(), poll.electors(), limit, last)
@@ -136,7 +136,7 @@ fn standing<VL: Tally, RL: Tally>(
     held: &Held<VL, RL>,
     voter: usize,
 ) -> Result<Option<Ranks>, NoVoter>
-    ensures ok { IfOk result (λ ranks. ranks ≡ standing_ranks held.now.ballot_box.last held.now.ballot_box.steps voter) }
+    ensures ok { IfOk result (λ ranks. ranks ≡ standing_ranks held.now.ballot_box.last_in_time held.now.ballot_box.steps voter) }
     ensures none { (result ≡ Err record {}) ↔ (held.now.ballot_box.electors ≤ voter) }
 {
     if voter >= held.ballot_box.electors() {

@@ -6,7 +6,7 @@ mod GrammarLaws
 mod LinesLaws
 mod NamesLaws
 mod OneReading
-mod Places
+mod SortKeys
 mod PollFileLaws
 mod RankRow
 mod ReadingLaws

@@ -9,7 +9,7 @@ pub mod Readings
 pub mod Comparisons
 pub mod Lines
 pub mod Lists
-pub mod Places
+pub mod SortKeys
 -- what types stand for, and what private functions say of their parts
 pub mod PollView
 pub mod PollParts

@@ -32,8 +32,8 @@ abbrev pub ratio_of : PollContent → ℕ → ℕ
 ratio_of poll option = at_option poll.ratios option 0
 
 -- the greatest number of an envelope that is not late; where the poll has none, the greatest that an envelope can have
-abbrev pub last_of : PollContent → ℕ
-last_of poll = unwrap_or poll.last_envelope MAX_LINES
+abbrev pub last_in_time : PollContent → ℕ
+last_in_time poll = unwrap_or poll.last_envelope MAX_LINES
 
 -- the limits that each poll keeps
 pub record IsPoll (poll : PollContent) : Type 0 where

@@ -31,8 +31,8 @@
 #![tactic(auto)]
 
 mod fault;
-mod limits;
 mod lines;
+mod names;
 mod poll;
 mod poll_file;
 mod ranks;

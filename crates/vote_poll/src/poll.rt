@@ -3,10 +3,11 @@ ghost use Rattle.std.specs.Prelude.{◌≡◌, ◌≤◌, ◌<◌, ◌+◌, ◌-
 ghost use Rattle.std.specs.Str.{bytes_eq};
 ghost use Rattle.vote_poll.specs.Names.{is_voter_name, place_of};
 ghost use Rattle.vote_poll.specs.Options.{IsOption};
-ghost use Rattle.vote_poll.specs.PollContent.{IsPoll, option_count, elector_count, last_of, ratio_of};
+ghost use Rattle.vote_poll.specs.PollContent.{IsPoll, option_count, elector_count, last_in_time, ratio_of};
 ghost use Rattle.vote_poll.specs.PollParts.{content_of};
 ghost use Rattle.vote_poll.specs.declared.lines.TheConstants.{MAX_LINES};
 
+use crate::names::place_of;
 use crate::wording::Wording;
 use crate::{MAX_ELECTORS, MAX_LINES, MAX_OPTIONS};
 use indexmap::IndexSet;
@@ -24,13 +25,6 @@ pub struct Poll {
     roll: IndexSet<String>,
     last_envelope: Option<u32>,
     wording: Wording,
-}
-
-/// The place of a name among the names of options.
-fn place_of(options: &[String], name: &[u8]) -> Option<usize>
-    ensures { result ≡ position (λ option. bytes_eq name.now (string_bytes option)) options.now }
-{
-    options.iter().position(|option| name == option.as_bytes())
 }
 
 impl Model for Poll {
@@ -128,7 +122,7 @@ impl Poll {
     /// The number above which an envelope is late: that of the last envelope, and where the poll has none
     /// [`MAX_LINES`](crate::MAX_LINES), the greatest that an envelope can have.
     pub fn last_in_time(&self) -> u32
-        ensures number { result ≡ last_of self.now }
+        ensures number { result ≡ last_in_time self.now }
         ensures at_most { result ≤ MAX_LINES }
     {
         match self.last_envelope {

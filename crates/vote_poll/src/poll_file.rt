@@ -1,18 +1,19 @@
 //! Reading a poll file.
-ghost use Rattle.std.specs.Prelude.{◌≡◌, map, option_map};
+ghost use Rattle.std.specs.Prelude.{◌≡◌, map, nat_abs, option_map, Ok, Err, if◌then◌else◌};
+ghost use Rattle.std.specs.List.{list_all};
 ghost use Rattle.std.specs.Option.{ok_or, option_copied};
 ghost use Rattle.vote_poll.specs.FieldsView.{fields_view};
 ghost use Rattle.vote_poll.specs.declared.fault.PollFault.TheVariants as fault;
 ghost use Rattle.toml.specs.Data.{get_member, as_array, as_str, as_integer};
 ghost use Rattle.toml.specs.View.{items_view, view, table_view};
-ghost use Rattle.vote_poll.specs.PollFile.{Gives, document, each_of, err_or, field, fields_of, first_fault, list_of, optional_field, poll_in, poll_of, required_poll};
+ghost use Rattle.vote_poll.specs.PollFile.{Gives, document, each_of, err_or, field, fields_of, first_fault, is_integer_within, last_envelope_in, list_of, optional_field, poll_in, poll_of, required_poll};
 
 use crate::fault::{PollFault, PollKey};
-use crate::limits::{
-    is_title, option_names, parse_last_envelope, parse_wording, ratios_of, voters_of,
-};
+use crate::lines::MAX_LINES;
+use crate::names::{is_title, parse_option_names, parse_roll};
 use crate::poll::Poll;
-use crate::{MAX_ELECTORS, MAX_OPTIONS, MAX_QUORUM_MULTIPLE};
+use crate::wording::parse_wording;
+use crate::{MAX_ELECTORS, MAX_OPTIONS, MAX_QUORUM_MULTIPLE, MAX_RATIO};
 use std::alloc::Global;
 use toml::{Table, Value};
 
@@ -186,6 +187,33 @@ fn fields_of(alloc: Global, table: &Table) -> Result<Fields<'_>, PollFault>
     })
 }
 
+/// The majority ratios, each from 1 to [`MAX_RATIO`].
+fn parse_ratios(alloc: Global, numbers: &[i64]) -> Result<Vec<u8>, PollFault>
+    ensures { Gives (λ ratios. ratios.items) result (if list_all (is_integer_within 1 MAX_RATIO) numbers.now then Ok (map nat_abs numbers.now) else Err fault.Ratio) }
+{
+    let mut ratios = Vec::new(alloc);
+    for number in numbers {
+        if *number < 1 || *number > i64::from(MAX_RATIO) {
+            return Err(PollFault::Ratio);
+        }
+        ratios.push(*number as u8)?;
+    }
+    Ok(ratios)
+}
+
+/// The last envelope that is not late, where there is one.
+fn parse_last_envelope(number: Option<i64>) -> Result<Option<u32>, PollFault>
+    ensures { Gives (λ last. last) result (last_envelope_in number) }
+{
+    let Some(number) = number else {
+        return Ok(None);
+    };
+    if number < 0 || number > MAX_LINES as i64 {
+        return Err(PollFault::LastEnvelope);
+    }
+    Ok(Some(number as u32))
+}
+
 /// The poll that the required keys give, or its first fault.
 fn required_poll(alloc: Global, fields: Fields<'_>) -> Result<Poll, PollFault>
     ensures { Gives (λ poll. poll) result (err_or (first_fault (fields_view fields.entry)) (required_poll (fields_view fields.entry))) }
@@ -207,18 +235,18 @@ fn required_poll(alloc: Global, fields: Fields<'_>) -> Result<Poll, PollFault>
     if options.len() < 2 || options.len() > MAX_OPTIONS {
         return Err(PollFault::OptionCount);
     }
-    let options = option_names(alloc, &options)?;
+    let options = parse_option_names(alloc, &options)?;
     if ratios.len() != ratio_count {
         return Err(PollFault::Ratio);
     }
-    let ratios = ratios_of(alloc, &ratios)?;
+    let ratios = parse_ratios(alloc, &ratios)?;
     if quorum < 0 || quorum > i64::from(MAX_QUORUM_MULTIPLE) {
         return Err(PollFault::Quorum);
     }
     if roll.is_empty() || roll.len() > MAX_ELECTORS {
         return Err(PollFault::RollSize);
     }
-    let roll = voters_of(alloc, &roll)?;
+    let roll = parse_roll(alloc, &roll)?;
     let title = String::from_str(alloc, title)?;
     Ok(Poll::new(title, options, ratios, quorum as u8, roll))
 }

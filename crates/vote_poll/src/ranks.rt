@@ -2,7 +2,7 @@
 ghost use Rattle.std.specs.Prelude.{◌≡◌, ◌<◌, ◌≤◌, ◌↔◌, ℕ, List, IsTrue, None, length, map, slice_index_or, take};
 ghost use Rattle.vote_poll.specs.Comparisons.{are_same_ranks};
 ghost use Rattle.vote_poll.specs.Options.{IsOption};
-ghost use Rattle.vote_poll.specs.Places.{IsPlace, rank_at, row_of};
+ghost use Rattle.vote_poll.specs.SortKeys.{IsSortKey, rank_of_key, row_of};
 ghost use Rattle.vote_poll.specs.Ranks.{rank_of, prefers};
 ghost use Rattle.std.proofs.Common.{rules};
 ghost use Rattle.std.specs.Cmp.Rules.{comparing};
@@ -16,35 +16,35 @@ use std::marker::Model;
 #[derive(Clone, Copy, Debug)]
 pub struct Ranks {
     options: u8,
-    /// Where each option stands in the order of the ballot, as [`Ranks::places`] says.
-    places: [u8; MAX_OPTIONS],
+    /// Where each option stands in the order of the ballot, as [`Ranks::sort_keys`] says.
+    sort_keys: [u8; MAX_OPTIONS],
 }
 
 impl Model for Ranks {
     ghost use Rattle.std.specs.Prelude.{◌≡◌, ◌-◌, ◌≤◌, ℕ, List, ◌++◌, Option, length, map, slice_index_or, take, replicate};
-    ghost use Rattle.vote_poll.specs.Places.{place_of, rank_at, kept_options, kept_places};
+    ghost use Rattle.vote_poll.specs.SortKeys.{key_of, rank_of_key, kept_options, kept_keys};
     ghost use Rattle.vote_poll.specs.declared.TheConstants.{MAX_OPTIONS, UNRANKED};
 
     ghost Value = { List (Option ℕ) };
 
-    ghost view = { λ r. map rank_at (take r.options r.places) };
+    ghost view = { λ r. map rank_of_key (take r.options r.sort_keys) };
 
-    ghost invariant = { λ r. (r.options ≤ MAX_OPTIONS) × (length r.places ≡ MAX_OPTIONS) × (take r.options r.places ++ replicate (MAX_OPTIONS - r.options) 0 ≡ r.places) × ((k : ℕ) → slice_index_or r.places k 0 ≤ UNRANKED) };
+    ghost invariant = { λ r. (r.options ≤ MAX_OPTIONS) × (length r.sort_keys ≡ MAX_OPTIONS) × (take r.options r.sort_keys ++ replicate (MAX_OPTIONS - r.options) 0 ≡ r.sort_keys) × ((k : ℕ) → slice_index_or r.sort_keys k 0 ≤ UNRANKED) };
 
-    ghost inverse = { λ ranks. record { options = length ranks; places = map place_of ranks ++ replicate (MAX_OPTIONS - length ranks) 0 } };
+    ghost inverse = { λ ranks. record { options = length ranks; sort_keys = map key_of ranks ++ replicate (MAX_OPTIONS - length ranks) 0 } };
 
-    ghost inverse_ok = { λ a h i. record { options = kept_options a.options a.places h.0 h.1 i; places = kept_places a.options a.places h.0 h.1 h.2 i } };
+    ghost inverse_ok = { λ a h i. record { options = kept_options a.options a.sort_keys h.0 h.1 i; sort_keys = kept_keys a.options a.sort_keys h.0 h.1 h.2 i } };
 }
 
 impl Ranks {
     /// The ranks of the first options, as many as a poll can have, of `count` of which a row says where each stands.
     pub(crate) fn of_row(count: usize, row: &[u8; MAX_OPTIONS]) -> Ranks
-        requires { (places : List ℕ) × (length places ≡ count) × (row.now ≡ row_of places) }
-        ensures { (places : List ℕ) → length places ≡ count → row.now ≡ row_of places → result ≡ take MAX_OPTIONS (map rank_at places) }
+        requires { (keys : List ℕ) × (length keys ≡ count) × (row.now ≡ row_of keys) }
+        ensures { (keys : List ℕ) → length keys ≡ count → row.now ≡ row_of keys → result ≡ take MAX_OPTIONS (map rank_of_key keys) }
     {
         Ranks {
             options: count.min(MAX_OPTIONS) as u8,
-            places: *row,
+            sort_keys: *row,
         }
     }
 
@@ -59,12 +59,12 @@ impl Ranks {
     /// Where each option stands in the order of the ballot, that of option `k` at place `k - 1`: at its rank, or at
     /// [`UNRANKED`] where it has none. So of two options the ballot prefers the one with the smaller number, and neither
     /// where the numbers are equal. Behind the options there are zeros.
-    pub fn places(&self) -> &[u8]
+    pub fn sort_keys(&self) -> &[u8]
         ensures long { length result.now ≡ MAX_OPTIONS }
-        ensures options { (k : ℕ) → k < length self.now → IsPlace (slice_index_or self.now k None) (slice_index_or result.now k 0) }
+        ensures options { (k : ℕ) → k < length self.now → IsSortKey (slice_index_or self.now k None) (slice_index_or result.now k 0) }
         ensures others { (k : ℕ) → length self.now ≤ k → slice_index_or result.now k 0 ≡ 0 }
     {
-        &self.places
+        &self.sort_keys
     }
 
     /// The rank of an option, or none where the ballot leaves it unranked.
@@ -72,8 +72,8 @@ impl Ranks {
         requires { IsOption (length self.now) option }
         ensures { result ≡ rank_of self.now option }
     {
-        let place = self.places[option as usize - 1];
-        if place < UNRANKED { Some(place) } else { None }
+        let key = self.sort_keys[option as usize - 1];
+        if key < UNRANKED { Some(key) } else { None }
     }
 
     /// Whether the ballot prefers option `a` to option `b`: it ranks `a`, and leaves `b` unranked or gives it a greater
@@ -103,7 +103,7 @@ impl PartialEq for Ranks {
         ensures test { result ≡ are_same_ranks self.now other.now }
         ensures same { IsTrue result ↔ (self.now ≡ other.now) }
     {
-        self.places[..self.options as usize] == other.places[..other.options as usize]
+        self.sort_keys[..self.options as usize] == other.sort_keys[..other.options as usize]
     }
 }
 

@@ -1,20 +1,21 @@
 //! Reading a line of the ballot file.
 ghost use Rattle.std.specs.Prelude.{◌≡◌, ◌==◌, ◌<◌, ◌≤◌, ◌↔◌, ℕ, List, length, take, position, option_map, IfSome, IsTrue, IfNone, Some, None, [], ◌∷◌, ◌++◌};
-ghost use Rattle.std.specs.List.{before_first, after_first, list_all};
+ghost use Rattle.std.specs.List.{before_first, after_first};
 ghost use Rattle.std.specs.Str.{byte};
 ghost use Rattle.vote_poll.specs.Comparisons.{is_same_reading};
-ghost use Rattle.vote_poll.specs.Names.{is_voter_byte, is_voter_name};
+ghost use Rattle.vote_poll.specs.Names.{is_voter_name};
 ghost use Rattle.vote_poll.specs.Parsing.{kept_and_count, voter_kept_and_count, parts_in, reading_from};
-ghost use Rattle.vote_poll.specs.Places.{rank_at, row_of};
+ghost use Rattle.vote_poll.specs.SortKeys.{rank_of_key, row_of};
 ghost use Rattle.vote_poll.specs.PollContent.{PollContent, elector_count, option_count};
 ghost use Rattle.vote_poll.specs.Readings.{IsReading, ReadingFits, reading, rank_in, ranks_in, ballot_in, is_space};
 ghost use Rattle.vote_poll.specs.declared.reading.Reading.TheVariants.{Ballot};
 ghost use Rattle.std.proofs.Common.{rules};
 ghost use Rattle.std.specs.Cmp.Rules.{comparing};
 
+use crate::names::is_voter_name;
 use crate::poll::Poll;
 use crate::ranks::Ranks;
-use crate::{MAX_LINE, MAX_OPTIONS, MAX_VOTER_NAME, UNRANKED};
+use crate::{MAX_LINE, MAX_OPTIONS, UNRANKED};
 
 /// What a poll reads in a line. Two readings are the same for `==` just where they are equal for contracts.
 #[derive(Clone, Copy, Debug)]
@@ -38,8 +39,8 @@ pub enum LineFault {
 }
 
 /// Where an option stands whose rank a text spells.
-fn place_of(text: &[u8]) -> Option<u8>
-    ensures { option_map rank_at result ≡ rank_in text.now }
+fn parse_rank(text: &[u8]) -> Option<u8>
+    ensures { option_map rank_of_key result ≡ rank_in text.now }
 {
     match text {
         [b'-'] => Some(UNRANKED),
@@ -50,9 +51,9 @@ fn place_of(text: &[u8]) -> Option<u8>
 }
 
 /// Where the option of the first rank in a text stands, and the text behind the comma after this rank.
-fn first_place(text: &[u8]) -> Option<(u8, &[u8])>
+fn first_key(text: &[u8]) -> Option<(u8, &[u8])>
     requires { 3 ≤ length text.now }
-    ensures first { IfSome result (λ first. ranks_in text.now ≡ option_map (λ ranks. rank_at first.0 ∷ ranks) (ranks_in first.1.now)) }
+    ensures first { IfSome result (λ first. ranks_in text.now ≡ option_map (λ ranks. rank_of_key first.0 ∷ ranks) (ranks_in first.1.now)) }
     ensures shorter { IfSome result (λ first. length first.1.now < length text.now) }
     ensures none { IfNone result (ranks_in text.now ≡ None) }
 {
@@ -67,33 +68,12 @@ fn first_place(text: &[u8]) -> Option<(u8, &[u8])>
     }
 }
 
-/// Whether a voter's name may have this byte.
-fn is_voter_byte(byte: u8) -> bool
-    ensures { result ≡ is_voter_byte byte }
-{
-    matches!(byte, b'a'..=b'z' | b'0'..=b'9' | b'.' | b'-')
-}
-
-/// Whether a voter's name may have each of these bytes.
-fn are_voter_bytes(text: &[u8]) -> bool
-    ensures { result ≡ list_all is_voter_byte text.now }
-{
-    text.iter().all(|byte| is_voter_byte(*byte))
-}
-
-/// Whether a text is a voter's name.
-pub(crate) fn is_voter_name(text: &[u8]) -> bool
-    ensures { result ≡ is_voter_name text.now }
-{
-    1 <= text.len() && text.len() <= MAX_VOTER_NAME && are_voter_bytes(text)
-}
-
 /// Writes where the next option stands into a row, where there is room for it.
-fn keep(row: &mut [u8; MAX_OPTIONS], count: usize, place: u8)
-    ensures { (places : List ℕ) → length places ≡ count → row.old ≡ row_of places → row.new ≡ row_of (places ++ place ∷ []) }
+fn keep(row: &mut [u8; MAX_OPTIONS], count: usize, key: u8)
+    ensures { (keys : List ℕ) → length keys ≡ count → row.old ≡ row_of keys → row.new ≡ row_of (keys ++ key ∷ []) }
 {
     if count < MAX_OPTIONS {
-        row[count] = place;
+        row[count] = key;
     }
 }
 
@@ -106,12 +86,12 @@ fn ranks_of(text: &[u8]) -> Option<(Ranks, usize)>
     let mut count = 0;
     let mut left = text;
     while left.len() >= 3 {
-        let (place, rest) = first_place(left)?;
-        keep(&mut row, count, place);
+        let (key, rest) = first_key(left)?;
+        keep(&mut row, count, key);
         count += 1;
         left = rest;
     }
-    let last = place_of(left)?;
+    let last = parse_rank(left)?;
     keep(&mut row, count, last);
     count += 1;
     Some((Ranks::of_row(count, &row), count))

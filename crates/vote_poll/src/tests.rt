@@ -110,11 +110,8 @@ fn a_ballot_as_read(rt: HostRuntime) -> Result<(), Fail> {
         (ranks.rank(1), ranks.rank(2), ranks.rank(3)),
         (Some(10), None, Some(9))
     );
-    let places = ranks.places();
-    assert_eq!(rt;
-        (places[0], places[1], places[2], places[3]),
-        (10, UNRANKED, 9, 0)
-    );
+    let keys = ranks.sort_keys();
+    assert_eq!(rt; (keys[0], keys[1], keys[2], keys[3]), (10, UNRANKED, 9, 0));
     Ok(())
 }
 

@@ -13,7 +13,7 @@ use Rattle.vote_count.specs.declared.Round.{Round}
 use Rattle.vote_count.specs.Votes.{Votes, votes}
 use Rattle.vote_count.specs.Sets.{In, IsAlone, Pairs, has, has_pair, size}
 use Rattle.vote_count.specs.Rules.{IsKept, IsMajority, IsWeaker, IsWeakest, MeetsMajority, MeetsQuorum, PairwiseDefeats, Without}
-use Rattle.vote_count.specs.Rounds.{AreRounds, AreSameRounds, HasCause, IsByCasting, IsRound, IsSameRound, Outcome, cause_of, final_set}
+use Rattle.vote_count.specs.Rounds.{AreRounds, AreSameRounds, HasCause, IsByCasting, IsRound, IsSameRound, VerdictState, cause_of, final_set}
 use Rattle.vote_count.proofs.RoundLemmas.{rounds_kept, rounds_same, rounds_unique}
 use Rattle.vote_count.proofs.Sizes.{size_le}
 use Rattle.vote_sheet.specs.Sheet.{Sheet, Text, casting_note, causes_text, decision_text, defeat_line, defeat_lines, defeats_by, defeats_text, drop_line, dropped_line, dropped_text, drops_of, each, ending, head_text, line, name_of, numbers, options_text, or_none, right, round_text, rounds_from, row_text, sheet_text, table_head_text, table_text, tie_text, totals_text, votes_text, when, winner_text}
@@ -145,7 +145,7 @@ module _ (n : ℕ) (K : ℕ → Type 0) (m w : Votes) (same : SameVotes n m w) w
       (round_counted E of r h.0, h.1, rounds_counted (Without E (Pairs r.removed)) (λ a b d. of a b d.0) (next ∷ later) h.2)
 
 -- counts of the same votes have the same rounds
-same_rounds : (poll : PollContent) (m w : Votes) → SameVotes (option_count poll) m w → (o u : Outcome) → IsOutcome poll m o → IsOutcome poll w u → AreSameRounds o.rounds u.rounds
+same_rounds : (poll : PollContent) (m w : Votes) → SameVotes (option_count poll) m w → (o u : VerdictState) → IsOutcome poll m o → IsOutcome poll w u → AreSameRounds o.rounds u.rounds
 same_rounds poll m w same o u is_o is_u =
     let back = turned (option_count poll) m w same in
     let K = IsKept poll w in
@@ -182,7 +182,7 @@ table_text_same n m w size_m size_w same =
     ∙ (ap (λ rows. table_head_text n ++ rows) (each_same n (row_text m) (row_text w) (row_text_same n m w size_m size_w same))
     ∙ ap (λ k. table_head_text k ++ each k (row_text w)) (sym size_w))
 
-dropped_text_same : (n : ℕ) (o u : Outcome) → ((a : ℕ) → IsOption n a → cause_of o a ≡ cause_of u a) → dropped_text n o ≡ dropped_text n u
+dropped_text_same : (n : ℕ) (o u : VerdictState) → ((a : ℕ) → IsOption n a → cause_of o a ≡ cause_of u a) → dropped_text n o ≡ dropped_text n u
 unfolding dropped_text causes_text
 dropped_text_same n o u same =
     ap (λ lines. line (codes "Dropped:" ∷ []) ++ or_none lines)

@@ -6,7 +6,7 @@ use Rattle.vote_poll.specs.declared.wording.Wording.{Wording}
 use Rattle.vote_poll.specs.declared.wording.Wording.TheVariants.{AtLeast, MoreThan}
 use Rattle.vote_count.specs.Votes.{Votes, votes}
 use Rattle.vote_count.specs.Sets.{has, has_pair, size}
-use Rattle.vote_count.specs.Rounds.{Outcome, cause_of, final_set}
+use Rattle.vote_count.specs.Rounds.{VerdictState, cause_of, final_set}
 use Rattle.vote_count.specs.declared.Round.{Round}
 use Rattle.vote_count.specs.declared.Cause.{Cause}
 use Rattle.vote_count.specs.declared.Cause.TheVariants.{Quorum, Majority}
@@ -29,7 +29,7 @@ pub record Sheet : Type 0 where
   pub names : List Text
   pub ratios : List ℕ
   pub matrix : Votes
-  pub outcome : Outcome
+  pub outcome : VerdictState
   pub decision : Decision
 
 -- ---- pieces
@@ -127,10 +127,10 @@ unfoldable pub dropped_line : ℕ → Option Cause → Text
 dropped_line o None = []
 dropped_line o (Some cause) = line (right 3 (decimal o) ∷ codes " " ∷ cause_name cause ∷ [])
 
-unfoldable pub causes_text : ℕ → Outcome → Text
+unfoldable pub causes_text : ℕ → VerdictState → Text
 causes_text n outcome = each n (λ o. dropped_line o (cause_of outcome o))
 
-unfoldable pub dropped_text : ℕ → Outcome → Text
+unfoldable pub dropped_text : ℕ → VerdictState → Text
 dropped_text n outcome = line (codes "Dropped:" ∷ []) ++ or_none (causes_text n outcome)
 
 unfoldable pub defeat_line : Votes → ℕ → ℕ → Text

@@ -5,14 +5,14 @@ use Rattle.vote_poll.specs.PollContent.{PollContent, elector_count, option_count
 use Rattle.vote_count.specs.Votes.{Votes, votes}
 use Rattle.vote_count.specs.Sets.{IsAlone, Pairs}
 use Rattle.vote_count.specs.Rules.{IsKept, MeetsQuorum, PairwiseDefeats}
-use Rattle.vote_count.specs.Rounds.{AreRounds, HasCause, IsByCasting, Outcome, cause_of, final_set}
+use Rattle.vote_count.specs.Rounds.{AreRounds, HasCause, IsByCasting, VerdictState, cause_of, final_set}
 use Rattle.vote_count.specs.declared.Decision.{Decision}
 use Rattle.vote_count.specs.declared.Decision.TheVariants.{Winner}
 use Rattle.vote_sheet.specs.LastBallots.{refused_count, valid_count, voter_count, votes_for}
 use Rattle.vote_sheet.specs.Sheet.{Sheet, Text, sheet_text}
 
 -- what a count of the matrix comes to: who is dropped and why, the defeats between the options that are kept, and the rounds
-pub record IsOutcome (poll : PollContent) (matrix : Votes) (outcome : Outcome) : Type 0 where
+pub record IsOutcome (poll : PollContent) (matrix : Votes) (outcome : VerdictState) : Type 0 where
   pub causes : (o : ℕ) → IsOption (option_count poll) o → HasCause poll matrix o (cause_of outcome o)
   pub defeats : (a b : ℕ) → Pairs outcome.defeats a b ↔ PairwiseDefeats (IsKept poll matrix) matrix a b
   pub rounds :

@@ -6,7 +6,7 @@ use Rattle.std.proofs.lemmas.List.{take_at}
 use Rattle.std.proofs.lemmas.List.Elements.{All-nil, All-push}
 use Rattle.std.proofs.lemmas.Option.{get_or_from_slice_get, slice_get_within, slice_get-get_or}
 use mathlib.Core.List.{append-nil}
-use Rattle.vote_poll.specs.PollContent.{PollContent, last_of}
+use Rattle.vote_poll.specs.PollContent.{PollContent, last_in_time}
 use Rattle.vote_poll.specs.Readings.{reading, readings}
 use Rattle.vote_poll.specs.declared.Reading.{Reading}
 use Rattle.vote_poll.specs.declared.Reading.TheVariants.{Bad}
@@ -32,8 +32,8 @@ casts_of last readings (suc k) =
     casts_of last readings k ++ Cast 1 (suc k) (reading_at readings k) (reply_to last (casts_of last readings k) (suc k) (reading_at readings k)) ∷ []
 
 -- in an open box without steps no line is cast yet
-pub begins : (b : BoxState) (readings : List Reading) (o options e electors l limit u last : ℕ) → b ≡ record { options = o; electors = e; limit = l; last = u; steps = [] }
-    → o ≡ options → e ≡ electors → l ≡ limit → u ≡ last → b ≡ record { options = options; electors = electors; limit = limit; last = last; steps = casts_of last readings 0 }
+pub begins : (b : BoxState) (readings : List Reading) (o options e electors l limit u last : ℕ) → b ≡ record { options = o; electors = e; limit = l; last_in_time = u; steps = [] }
+    → o ≡ options → e ≡ electors → l ≡ limit → u ≡ last → b ≡ record { options = options; electors = electors; limit = limit; last_in_time = last; steps = casts_of last readings 0 }
 unfolding casts_of
 begins b readings o options e electors l limit u last is same_options same_electors same_limit same_last = cc
 
@@ -139,18 +139,18 @@ module _ (last : ℕ) (readings : List Reading) (steps : List Step) (is : steps 
       )
 
 pub holds_lines : (poll : PollContent) (lines : List (List ℕ)) (b : BoxState) → HasSizes poll lines b
-    → b.steps ≡ casts_of (last_of poll) (readings poll lines) (length lines) ++ Close ∷ [] → IsLegal b → HoldsLines poll lines b
+    → b.steps ≡ casts_of (last_in_time poll) (readings poll lines) (length lines) ++ Close ∷ [] → IsLegal b → HoldsLines poll lines b
 holds_lines poll lines b sizes steps legal =
-    let xs = casts_of (last_of poll) (readings poll lines) (length lines) in
-    let open_is = casts_of_open (last_of poll) (readings poll lines) (length lines) in
+    let xs = casts_of (last_in_time poll) (readings poll lines) (length lines) in
+    let open_is = casts_of_open (last_in_time poll) (readings poll lines) (length lines) in
     record {
       sizes = sizes;
-      casts = omega (arith, ap (count_by is_cast) steps, count_by-cast xs Close, casts_of_count (last_of poll) (readings poll lines) (length lines));
+      casts = omega (arith, ap (count_by is_cast) steps, count_by-cast xs Close, casts_of_count (last_in_time poll) (readings poll lines) (length lines));
       legal = legal;
       closed_last = steps ∙ ap (λ front. front ++ Close ∷ []) (sym (ap before_close steps ∙ (before_close-append_open xs (Close ∷ []) open_is ∙ append-nil xs)));
       own_readings =
           let P : List Step → Type 0 = All (HasOwnReading (readings poll lines)) in
-          subst P (sym steps) (All-push (HasOwnReading (readings poll lines)) xs Close (casts_of_own (last_of poll) (readings poll lines) (length lines) (omega (arith, as_long poll lines))) tt);
+          subst P (sym steps) (All-push (HasOwnReading (readings poll lines)) xs Close (casts_of_own (last_in_time poll) (readings poll lines) (length lines) (omega (arith, as_long poll lines))) tt);
     }
 
 -- ---- there is one such history
@@ -166,7 +166,7 @@ only_casts (Cast desk stamp reading reply ∷ steps) =
     omega (arith, count-cons is_cast (Cast desk stamp reading reply) (before_close steps), only_casts steps)
 
 module _ (poll : PollContent) (lines : List (List ℕ)) (b : BoxState) (held : HoldsLines poll lines b) (in_turn : AreCastInOrder (readings poll lines) b.steps) where
-  so_far : (k : ℕ) → k ≤ length lines → take k b.steps ≡ casts_of (last_of poll) (readings poll lines) k
+  so_far : (k : ℕ) → k ≤ length lines → take k b.steps ≡ casts_of (last_in_time poll) (readings poll lines) k
   unfolding casts_of
   so_far zero h = refl
   so_far (suc k) h =
@@ -178,10 +178,10 @@ module _ (poll : PollContent) (lines : List (List ℕ)) (b : BoxState) (held : H
       let number : k + 1 ≡ suc k = omega arith in
       take_next b.steps k step at.1
       ∙ (ap (λ reply. take k b.steps ++ Cast 1 (k + 1) r reply ∷ []) (may.answered ∙ ap (λ last. reply_to last (take k b.steps) (k + 1) r) held.sizes.3)
-      ∙ (ap (λ xs. xs ++ Cast 1 (k + 1) r (reply_to (last_of poll) xs (k + 1) r) ∷ []) (so_far k (omega arith))
-      ∙ ap (λ n. casts_of (last_of poll) all k ++ Cast 1 n r (reply_to (last_of poll) (casts_of (last_of poll) all k) n r) ∷ []) number))
+      ∙ (ap (λ xs. xs ++ Cast 1 (k + 1) r (reply_to (last_in_time poll) xs (k + 1) r) ∷ []) (so_far k (omega arith))
+      ∙ ap (λ n. casts_of (last_in_time poll) all k ++ Cast 1 n r (reply_to (last_in_time poll) (casts_of (last_in_time poll) all k) n r) ∷ []) number))
 
-  history_is : b.steps ≡ casts_of (last_of poll) (readings poll lines) (length lines) ++ Close ∷ []
+  history_is : b.steps ≡ casts_of (last_in_time poll) (readings poll lines) (length lines) ++ Close ∷ []
   history_is =
       let xs = before_close b.steps in
       let long : length lines ≡ length xs = omega (arith, held.casts, ap (count_by is_cast) held.closed_last, count_by-cast xs Close, only_casts b.steps) in
@@ -189,12 +189,12 @@ module _ (poll : PollContent) (lines : List (List ℕ)) (b : BoxState) (held : H
       ∙ ap (λ front. front ++ Close ∷ [])
       (sym (take_at xs (Close ∷ []) (length lines) (sym long)) ∙ (sym (ap (take (length lines)) held.closed_last) ∙ so_far (length lines) (omega arith)))
 
-same_box : (b c : BoxState) → b.options ≡ c.options → b.electors ≡ c.electors → b.limit ≡ c.limit → b.last ≡ c.last → b.steps ≡ c.steps → b ≡ c
+same_box : (b c : BoxState) → b.options ≡ c.options → b.electors ≡ c.electors → b.limit ≡ c.limit → b.last_in_time ≡ c.last_in_time → b.steps ≡ c.steps → b ≡ c
 same_box b c options electors limit last steps =
     ap (λ o. record b { options = o }) options
     ∙ (ap (λ e. record b { options = c.options; electors = e }) electors
-    ∙ (ap (λ l. record c { limit = l; last = b.last; steps = b.steps }) limit
-    ∙ (ap (λ u. record c { last = u; steps = b.steps }) last
+    ∙ (ap (λ l. record c { limit = l; last_in_time = b.last_in_time; steps = b.steps }) limit
+    ∙ (ap (λ u. record c { last_in_time = u; steps = b.steps }) last
     ∙ ap (λ s. record c { steps = s }) steps)))
 
 pub one_history : OrderLeavesNoChoice

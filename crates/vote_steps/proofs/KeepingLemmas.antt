@@ -28,15 +28,15 @@ use Rattle.vote_steps.proofs.BoxLemmas.{IsLegal-append, standing_past}
 pub record TookIn (a b : Inside) (d n : ℕ) (r : Reading) (p : Reply) : Type 0 where
   pub options_are : b.roll.matrix.options ≡ a.roll.matrix.options
   pub limit_is : b.limit ≡ a.limit
-  pub last_is : b.last ≡ a.last
+  pub last_is : b.last_in_time ≡ a.last_in_time
   pub closed_is : b.closed ≡ a.closed
   pub used_are : b.used ≡ a.used
   pub steps_are : b.steps ≡ a.steps
   pub electors_are : vec_len b.roll.ballots ≡ vec_len a.roll.ballots
-  pub answered : p ≡ reply_to a.last a.steps.items n r
-  pub roll_is : b.roll.ballots.items ≡ roll a.last (a.steps.items ++ Cast d n r p ∷ []) (vec_len a.roll.ballots)
-  pub valid_is : b.valid ≡ valid a.last (a.steps.items ++ Cast d n r p ∷ [])
-  pub refused_is : b.refused ≡ refused a.last (a.steps.items ++ Cast d n r p ∷ [])
+  pub answered : p ≡ reply_to a.last_in_time a.steps.items n r
+  pub roll_is : b.roll.ballots.items ≡ roll a.last_in_time (a.steps.items ++ Cast d n r p ∷ []) (vec_len a.roll.ballots)
+  pub valid_is : b.valid ≡ valid a.last_in_time (a.steps.items ++ Cast d n r p ∷ [])
+  pub refused_is : b.refused ≡ refused a.last_in_time (a.steps.items ++ Cast d n r p ∷ [])
 
 pub took_in_closed : (a : Inside) (d n : ℕ) (r : Reading) → Keeps a → a.closed ≡ true → TookIn a (record a { refused = a.refused + 1 }) d n r BoxClosed
 took_in_closed a d n r k h =
@@ -50,15 +50,15 @@ took_in_closed a d n r k h =
       steps_are = refl;
       electors_are = refl;
       answered = rw closed refl;
-      roll_is = k.roll_is ∙ sym (roll-closed a.last a.steps.items (Cast d n r BoxClosed) (vec_len a.roll.ballots) closed);
-      valid_is = k.valid_is ∙ sym (valid-append_closed a.last a.steps.items (Cast d n r BoxClosed) closed);
-      refused_is = omega (arith, k.refused_is, refused-append_closed a.last a.steps.items (Cast d n r BoxClosed) closed);
+      roll_is = k.roll_is ∙ sym (roll-closed a.last_in_time a.steps.items (Cast d n r BoxClosed) (vec_len a.roll.ballots) closed);
+      valid_is = k.valid_is ∙ sym (valid-append_closed a.last_in_time a.steps.items (Cast d n r BoxClosed) closed);
+      refused_is = omega (arith, k.refused_is, refused-append_closed a.last_in_time a.steps.items (Cast d n r BoxClosed) closed);
     }
 
-pub took_in_late : (a : Inside) (d n : ℕ) (r : Reading) → Keeps a → a.closed ≡ false → a.last < n → TookIn a (record a { refused = a.refused + 1 }) d n r Late
+pub took_in_late : (a : Inside) (d n : ℕ) (r : Reading) → Keeps a → a.closed ≡ false → a.last_in_time < n → TookIn a (record a { refused = a.refused + 1 }) d n r Late
 took_in_late a d n r k h late =
     let open' : is_closed a.steps.items ≡ false = sym k.closed ∙ h in
-    let is_late : ltb a.last n ≡ true = lt-ltb a.last n late in
+    let is_late : ltb a.last_in_time n ≡ true = lt-ltb a.last_in_time n late in
     record {
       options_are = refl;
       limit_is = refl;
@@ -68,14 +68,14 @@ took_in_late a d n r k h late =
       steps_are = refl;
       electors_are = refl;
       answered = rw (open', is_late) refl;
-      roll_is = k.roll_is ∙ sym (roll-late a.last a.steps.items d n r Late (vec_len a.roll.ballots) open' late);
+      roll_is = k.roll_is ∙ sym (roll-late a.last_in_time a.steps.items d n r Late (vec_len a.roll.ballots) open' late);
       valid_is =
-          omega (arith, k.valid_is, valid-append_open a.last a.steps.items (Cast d n r Late) open', ap (λ t. cond {A = ℕ} t 1 0) (is_ballot_late a.last d n r Late is_late));
+          omega (arith, k.valid_is, valid-append_open a.last_in_time a.steps.items (Cast d n r Late) open', ap (λ t. cond {A = ℕ} t 1 0) (is_ballot_late a.last_in_time d n r Late is_late));
       refused_is =
-          omega (arith, k.refused_is, refused-append_open a.last a.steps.items (Cast d n r Late) open', ap (λ t. cond {A = ℕ} t 1 0) (is_refused_late a.last d n r Late is_late));
+          omega (arith, k.refused_is, refused-append_open a.last_in_time a.steps.items (Cast d n r Late) open', ap (λ t. cond {A = ℕ} t 1 0) (is_refused_late a.last_in_time d n r Late is_late));
     }
 
-pub took_in_bad : (a : Inside) (d n : ℕ) (f : LineFault) → Keeps a → a.closed ≡ false → n ≤ a.last → TookIn a (record a { refused = a.refused + 1 }) d n (Bad f) (BadLine f)
+pub took_in_bad : (a : Inside) (d n : ℕ) (f : LineFault) → Keeps a → a.closed ≡ false → n ≤ a.last_in_time → TookIn a (record a { refused = a.refused + 1 }) d n (Bad f) (BadLine f)
 took_in_bad a d n f k h early =
     let open' : is_closed a.steps.items ≡ false = sym k.closed ∙ h in
     record {
@@ -86,22 +86,22 @@ took_in_bad a d n f k h early =
       used_are = refl;
       steps_are = refl;
       electors_are = refl;
-      answered = rw (open', le-ltb a.last n early) refl;
-      roll_is = k.roll_is ∙ sym (roll-bad a.last a.steps.items d n f (BadLine f) (vec_len a.roll.ballots) open');
-      valid_is = omega (arith, k.valid_is, valid-append_open a.last a.steps.items (Cast d n (Bad f) (BadLine f)) open');
-      refused_is = omega (arith, k.refused_is, refused-append_open a.last a.steps.items (Cast d n (Bad f) (BadLine f)) open');
+      answered = rw (open', le-ltb a.last_in_time n early) refl;
+      roll_is = k.roll_is ∙ sym (roll-bad a.last_in_time a.steps.items d n f (BadLine f) (vec_len a.roll.ballots) open');
+      valid_is = omega (arith, k.valid_is, valid-append_open a.last_in_time a.steps.items (Cast d n (Bad f) (BadLine f)) open');
+      refused_is = omega (arith, k.refused_is, refused-append_open a.last_in_time a.steps.items (Cast d n (Bad f) (BadLine f)) open');
     }
 
-pub took_in_ballot : (a : Inside) (d n w : ℕ) (ranks : List (Option ℕ)) (new : Roll) (p : Reply) → Keeps a → a.closed ≡ false → n ≤ a.last → w < vec_len a.roll.ballots
+pub took_in_ballot : (a : Inside) (d n w : ℕ) (ranks : List (Option ℕ)) (new : Roll) (p : Reply) → Keeps a → a.closed ≡ false → n ≤ a.last_in_time → w < vec_len a.roll.ballots
     → vec_len new.ballots ≡ vec_len a.roll.ballots → new.matrix.options ≡ a.roll.matrix.options
     → p ≡ reply_beside (get_or a.roll.ballots.items w None) n
     → new.ballots.items ≡ set a.roll.ballots.items w (Some (after_ballot (get_or a.roll.ballots.items w None) (record { stamp = n; ranks = ranks })))
     → TookIn a (record a { valid = a.valid + 1; roll = new }) d n (Ballot w ranks) p
 took_in_ballot a d n w ranks new p k h early inside len options reply ballots =
     let open' : is_closed a.steps.items ≡ false = sym k.closed ∙ h in
-    let in_time : ltb a.last n ≡ false = le-ltb a.last n early in
+    let in_time : ltb a.last_in_time n ≡ false = le-ltb a.last_in_time n early in
     let b : Received = record { stamp = n; ranks = ranks } in
-    let old : get_or a.roll.ballots.items w None ≡ standing a.last a.steps.items w = ap (λ xs. get_or xs w None) k.roll_is ∙ get_or-roll a.last a.steps.items (vec_len a.roll.ballots) w inside in
+    let old : get_or a.roll.ballots.items w None ≡ standing a.last_in_time a.steps.items w = ap (λ xs. get_or xs w None) k.roll_is ∙ get_or-roll a.last_in_time a.steps.items (vec_len a.roll.ballots) w inside in
     record {
       options_are = options;
       limit_is = refl;
@@ -111,11 +111,11 @@ took_in_ballot a d n w ranks new p k h early inside len options reply ballots =
       steps_are = refl;
       electors_are = len;
       answered = reply ∙ ap (λ o. reply_beside o n) old ∙ sym
-          (ap (λ t. cond t BoxClosed (reply_while_open a.last a.steps.items n (Ballot w ranks))) open'
-          ∙ ap (λ t. cond t Late (reply_in_time a.last a.steps.items n (Ballot w ranks))) in_time);
-      roll_is = ballots ∙ ap (λ xs. set xs w (Some (after_ballot (get_or xs w None) b))) k.roll_is ∙ sym (roll-ballot a.last a.steps.items d b w p (vec_len a.roll.ballots) open' early inside);
-      valid_is = omega (arith, k.valid_is, valid-append_open a.last a.steps.items (Cast d n (Ballot w ranks) p) open', ap (λ t. cond {A = ℕ} (not t) 1 0) in_time);
-      refused_is = omega (arith, k.refused_is, refused-append_open a.last a.steps.items (Cast d n (Ballot w ranks) p) open', ap (λ t. cond {A = ℕ} t 1 0) in_time);
+          (ap (λ t. cond t BoxClosed (reply_while_open a.last_in_time a.steps.items n (Ballot w ranks))) open'
+          ∙ ap (λ t. cond t Late (reply_in_time a.last_in_time a.steps.items n (Ballot w ranks))) in_time);
+      roll_is = ballots ∙ ap (λ xs. set xs w (Some (after_ballot (get_or xs w None) b))) k.roll_is ∙ sym (roll-ballot a.last_in_time a.steps.items d b w p (vec_len a.roll.ballots) open' early inside);
+      valid_is = omega (arith, k.valid_is, valid-append_open a.last_in_time a.steps.items (Cast d n (Ballot w ranks) p) open', ap (λ t. cond {A = ℕ} (not t) 1 0) in_time);
+      refused_is = omega (arith, k.refused_is, refused-append_open a.last_in_time a.steps.items (Cast d n (Ballot w ranks) p) open', ap (λ t. cond {A = ℕ} t 1 0) in_time);
     }
 
 -- the same, by equations
@@ -139,7 +139,7 @@ steps_left a n k low high mark =
     omega (arith, less, length-steps (state_of a) k.legal, one_at_most (is_closed a.steps.items))
 
 pub totals_within : (a : Inside) → Keeps a → a.valid + a.refused ≤ a.limit
-totals_within a k = omega (arith, k.valid_is, k.refused_is, valid-refused a.last a.steps.items, casts_within (state_of a) k.legal)
+totals_within a k = omega (arith, k.valid_is, k.refused_is, valid-refused a.last_in_time a.steps.items, casts_within (state_of a) k.legal)
 
 or_true : (b : Bool) → (b || true) ≡ true
 or_true true = refl
@@ -196,9 +196,9 @@ keeps_close a new k h items len more =
     record {
       legal = rw items grown;
       closed = sym (ap is_closed items ∙ is_closed-append a.steps.items Close ∙ or_true (is_closed a.steps.items));
-      roll_is = rw items (k.roll_is ∙ sym (roll-close a.last a.steps.items (vec_len a.roll.ballots) open'));
-      valid_is = rw items (omega (arith, k.valid_is, valid-append_open a.last a.steps.items Close open'));
-      refused_is = rw items (omega (arith, k.refused_is, refused-append_open a.last a.steps.items Close open'));
+      roll_is = rw items (k.roll_is ∙ sym (roll-close a.last_in_time a.steps.items (vec_len a.roll.ballots) open'));
+      valid_is = rw items (omega (arith, k.valid_is, valid-append_open a.last_in_time a.steps.items Close open'));
+      refused_is = rw items (omega (arith, k.refused_is, refused-append_open a.last_in_time a.steps.items Close open'));
       used_is = λ place lt. rw items (k.used_is place lt ∙ sym (is_used-close a.steps.items (place + 1)));
       places = k.places;
       limit_fits = k.limit_fits;
@@ -207,10 +207,10 @@ keeps_close a new k h items len more =
     }
 
 -- what the roll has of a voter, and none past its end
-pub standing_at : (a : Inside) (v : ℕ) → Keeps a → get_or a.roll.ballots.items v None ≡ standing a.last a.steps.items v
+pub standing_at : (a : Inside) (v : ℕ) → Keeps a → get_or a.roll.ballots.items v None ≡ standing a.last_in_time a.steps.items v
 standing_at a v k =
     ⊎_elim
-    (λ (inside : v < vec_len a.roll.ballots). ap (λ xs. get_or xs v None) k.roll_is ∙ get_or-roll a.last a.steps.items (vec_len a.roll.ballots) v inside)
+    (λ (inside : v < vec_len a.roll.ballots). ap (λ xs. get_or xs v None) k.roll_is ∙ get_or-roll a.last_in_time a.steps.items (vec_len a.roll.ballots) v inside)
     (λ (past : vec_len a.roll.ballots ≤ v).
     get_or_past a.roll.ballots.items v None (omega (arith, past, a.roll.ballots.ok.0)) ∙ sym (standing_past (state_of a) v k.legal past))
     (cases_lt v (vec_len a.roll.ballots))
@@ -228,12 +228,12 @@ nothing [] after step e = cc
 nothing (x ∷ before) after step e = cc
 
 pub keeps_new : (a : Inside) → a.steps.items ≡ [] → a.limit + 1 ≤ vec_capacity a.steps → a.closed ≡ false → a.valid ≡ 0 → a.refused ≡ 0
-    → a.used.items ≡ replicate a.limit false → a.roll.ballots.items ≡ replicate (vec_len a.roll.ballots) None → vec_len a.used ≡ a.limit → a.limit ≤ MAX_LINES → a.last ≤ MAX_LINES → Keeps a
+    → a.used.items ≡ replicate a.limit false → a.roll.ballots.items ≡ replicate (vec_len a.roll.ballots) None → vec_len a.used ≡ a.limit → a.limit ≤ MAX_LINES → a.last_in_time ≤ MAX_LINES → Keeps a
 keeps_new a steps room closed valid refused used ballots places few last =
     record {
       legal = λ before after step e. absurd (nothing before after step (sym steps ∙ e));
       closed = closed ∙ sym (ap is_closed steps);
-      roll_is = rw steps (ballots ∙ sym (roll-empty a.last (vec_len a.roll.ballots)));
+      roll_is = rw steps (ballots ∙ sym (roll-empty a.last_in_time (vec_len a.roll.ballots)));
       valid_is = rw steps valid;
       refused_is = rw steps refused;
       used_is = λ place lt. rw (steps, used) (is_false a.limit false place lt);

@@ -232,20 +232,20 @@ prefers_alike a c (Some ballot) = refl
 pub lines_are_counted_lem : LinesAreCounted
 lines_are_counted_lem poll lines b held =
     let rs = readings poll lines in
-    let early = take b.last rs in
-    let stand : (voter : ℕ) → standing_ranks b.last b.steps voter ≡ last_ballot early voter = λ voter. last_lines_stand_lem poll lines b voter held in
+    let early = take b.last_in_time rs in
+    let stand : (voter : ℕ) → standing_ranks b.last_in_time b.steps voter ≡ last_ballot early voter = λ voter. last_lines_stand_lem poll lines b voter held in
     let long = as_long poll lines in
     let limit = held.sizes.2 in
     let own = recursion_from_All (HasOwnReading rs) b.steps held.own_readings in
     let once : (n : ℕ) → n < length rs → casts_of (suc n) b.steps ≡ 1 = λ n low.
     (let used = each_stamp_is_used_lem b held.legal (held.casts ∙ sym held.sizes.2) (suc n) (omega arith) (omega (arith, low, long, limit)) in
     omega (arith, at_most_once b held.legal (suc n) [] b.steps refl, used_is_cast (suc n) b.steps used)) in
-    let before : count_by (is_ballot b.last) b.steps ≡ valid b.last b.steps =
-    ap (count_by (is_ballot b.last)) held.closed_last ∙ sum_by_push (λ s. one (is_ballot b.last s)) (before_close b.steps) Close ∙ omega arith in
-    let standing_there = standing b.last b.steps in
+    let before : count_by (is_ballot b.last_in_time) b.steps ≡ valid b.last_in_time b.steps =
+    ap (count_by (is_ballot b.last_in_time)) held.closed_last ∙ sum_by_push (λ s. one (is_ballot b.last_in_time s)) (before_close b.steps) Close ∙ omega arith in
+    let standing_there = standing b.last_in_time b.steps in
     record {
-      valid_is = sym before ∙ valid_lines b.last rs b.steps own once;
-      refused_is = valid-refused b.last b.steps ∙ held.casts ∙ sym long;
+      valid_is = sym before ∙ valid_lines b.last_in_time rs b.steps own once;
+      refused_is = valid-refused b.last_in_time b.steps ∙ held.casts ∙ sym long;
       voters_are = count-maps is_some is_some standing_there (last_ballot early) (range_with_len 0 b.electors) (λ voter. has_ranks (standing_there voter) ∙ ap is_some (stand voter));
       votes_are = λ x y. count-maps (is_for x y) (entry_prefers x y) standing_there (last_ballot early) (range_with_len 0 b.electors) (λ voter. prefers_alike x y (standing_there voter) ∙ ap (entry_prefers x y) (stand voter));
     }

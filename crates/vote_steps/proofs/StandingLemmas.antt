@@ -34,4 +34,4 @@ casts_lines poll lines b held =
     }
 
 pub last_lines_stand_lem : LastLinesStand
-last_lines_stand_lem poll lines b voter held = order_does_not_matter_lem b.last (readings poll lines) b.steps voter (casts_lines poll lines b held)
+last_lines_stand_lem poll lines b voter held = order_does_not_matter_lem b.last_in_time (readings poll lines) b.steps voter (casts_lines poll lines b held)

@@ -14,7 +14,7 @@ pub record BoxState : Type 0 where
   pub options : ℕ
   pub electors : ℕ
   pub limit : ℕ
-  pub last : ℕ
+  pub last_in_time : ℕ
   pub steps : List Step
 
 -- a cast that may come after the steps before it
@@ -23,7 +23,7 @@ pub record MayBeCast (b : BoxState) (before : List Step) (desk stamp : ℕ) (rea
   pub stamp_fits : (1 ≤ stamp) × (stamp ≤ b.limit)
   pub stamp_new : is_used before stamp ≡ false
   pub reading_fits : ReadingFits b.options b.electors reading
-  pub answered : reply ≡ reply_to b.last before stamp reading
+  pub answered : reply ≡ reply_to b.last_in_time before stamp reading
 
 -- a step that may come after the steps before it
 abbrev pub MayFollow : BoxState → List Step → Step → Type 0

@@ -1,6 +1,6 @@
 -- What it means that a ballot box holds the lines of a poll.
 use Rattle.std.specs.Prelude.{◌≡◌, ℕ, ◌+◌, List, [], ◌∷◌, ◌++◌, length, count_by, All, Some, slice_get}
-use Rattle.vote_poll.specs.PollContent.{PollContent, elector_count, last_of, option_count}
+use Rattle.vote_poll.specs.PollContent.{PollContent, elector_count, last_in_time, option_count}
 use Rattle.vote_poll.specs.declared.Reading.{Reading}
 use Rattle.vote_poll.specs.Readings.{readings}
 use Rattle.vote_steps.specs.declared.step.Reply.{Reply}
@@ -12,7 +12,7 @@ use Rattle.vote_steps.specs.Recasts.{HasOwnReading}
 
 -- the box is of the poll's size and has its last envelope, and has a number for each line
 abbrev pub HasSizes : PollContent → List (List ℕ) → BoxState → Type 0
-HasSizes poll lines b = (b.options ≡ option_count poll) × (b.electors ≡ elector_count poll) × (b.limit ≡ length lines) × (b.last ≡ last_of poll)
+HasSizes poll lines b = (b.options ≡ option_count poll) × (b.electors ≡ elector_count poll) × (b.limit ≡ length lines) × (b.last_in_time ≡ last_in_time poll)
 
 -- each cast has what the poll reads in the line with its stamp
 abbrev pub HasOwnReadings : PollContent → List (List ℕ) → List Step → Type 0

@@ -1,5 +1,5 @@
 -- What a history says: a list of steps, oldest first, each the cast of an envelope at a desk, with its reply, or the close.
--- Desks, stamps and voters range over all natural numbers here; a legal history keeps them within the box. `last` is the
+-- Desks, stamps and voters range over all natural numbers here; a legal history keeps them within the box. `last_in_time` is the
 -- greatest stamp that is not late.
 use Rattle.std.specs.Prelude.{ℕ, ◌+◌, ◌==◌, nat_lt, Bool, true, false, not, if◌then◌else◌, List, [], ◌∷◌, Option, Some, None, option_and_then, is_some, map, count_by}
 use Rattle.std.specs.List.{filter_map, list_any, range_with_len}
@@ -52,7 +52,7 @@ is_used steps stamp = list_any (λ used. used == stamp) (stamps steps)
 
 -- whether an envelope is late: its own number is above the last, whenever it came
 abbrev pub is_late : ℕ → ℕ → Bool
-is_late last stamp = nat_lt last stamp
+is_late last_in_time stamp = nat_lt last_in_time stamp
 
 -- ---- the ballot of a voter that stands
 
@@ -63,12 +63,12 @@ ballot_read voter stamp (Ballot v ranks) = if v == voter then Some (record { sta
 
 -- what a step gives a voter: a late cast gives nobody a ballot
 abbrev pub ballot_of : ℕ → ℕ → Step → Option Received
-ballot_of last voter Close = None
-ballot_of last voter (Cast desk stamp reading reply) = if is_late last stamp then None else ballot_read voter stamp reading
+ballot_of last_in_time voter Close = None
+ballot_of last_in_time voter (Cast desk stamp reading reply) = if is_late last_in_time stamp then None else ballot_read voter stamp reading
 
 -- the ballots of a voter that came before the close and are not late
 abbrev pub ballots : ℕ → List Step → ℕ → List Received
-ballots last steps voter = filter_map (ballot_of last voter) (before_close steps)
+ballots last_in_time steps voter = filter_map (ballot_of last_in_time voter) (before_close steps)
 
 -- of two ballots the one with the greater stamp
 abbrev pub later : Received → Option Received → Option Received
@@ -82,11 +82,11 @@ latest (ballot ∷ others) = later ballot (latest others)
 
 -- the ballot of a voter that stands: of those before the close that are not late the one with the greatest stamp
 abbrev pub standing : ℕ → List Step → ℕ → Option Received
-standing last steps voter = latest (ballots last steps voter)
+standing last_in_time steps voter = latest (ballots last_in_time steps voter)
 
 -- the ranks of the ballot that stands
 abbrev pub standing_ranks : ℕ → List Step → ℕ → Option (List (Option ℕ))
-standing_ranks last steps voter = option_and_then (λ ballot. Some ballot.ranks) (standing last steps voter)
+standing_ranks last_in_time steps voter = option_and_then (λ ballot. Some ballot.ranks) (standing last_in_time steps voter)
 
 -- ---- the reply to a cast
 
@@ -97,16 +97,16 @@ reply_beside (Some ballot) stamp = if nat_lt stamp ballot.stamp then Superseded 
 
 -- the reply of an open box to an envelope that is not late
 abbrev pub reply_in_time : ℕ → List Step → ℕ → Reading → Reply
-reply_in_time last steps stamp (Bad fault) = BadLine fault
-reply_in_time last steps stamp (Ballot voter ranks) = reply_beside (standing last steps voter) stamp
+reply_in_time last_in_time steps stamp (Bad fault) = BadLine fault
+reply_in_time last_in_time steps stamp (Ballot voter ranks) = reply_beside (standing last_in_time steps voter) stamp
 
 -- the reply of an open box
 abbrev pub reply_while_open : ℕ → List Step → ℕ → Reading → Reply
-reply_while_open last steps stamp reading = if is_late last stamp then Late else reply_in_time last steps stamp reading
+reply_while_open last_in_time steps stamp reading = if is_late last_in_time stamp then Late else reply_in_time last_in_time steps stamp reading
 
 -- the reply to an envelope that comes after these steps
 abbrev pub reply_to : ℕ → List Step → ℕ → Reading → Reply
-reply_to last steps stamp reading = if is_closed steps then BoxClosed else reply_while_open last steps stamp reading
+reply_to last_in_time steps stamp reading = if is_closed steps then BoxClosed else reply_while_open last_in_time steps stamp reading
 
 -- whether a reply says that the line is a valid ballot
 abbrev pub is_valid : Reply → Bool
@@ -121,7 +121,7 @@ is_valid BoxClosed = false
 
 -- the ballots that stand, by voter
 abbrev pub roll : ℕ → List Step → ℕ → List (Option Received)
-roll last steps electors = map (standing last steps) (range_with_len 0 electors)
+roll last_in_time steps electors = map (standing last_in_time steps) (range_with_len 0 electors)
 
 -- whether an entry of the roll is a ballot that prefers option a to option b
 abbrev pub is_for : ℕ → ℕ → Option Received → Bool
@@ -130,32 +130,32 @@ is_for a b (Some ballot) = prefers ballot.ranks a b
 
 -- how many voters prefer option a to option b, by the ballots that stand
 abbrev pub standing_votes : ℕ → List Step → ℕ → ℕ → ℕ → ℕ
-standing_votes last steps electors a b = count_by (is_for a b) (roll last steps electors)
+standing_votes last_in_time steps electors a b = count_by (is_for a b) (roll last_in_time steps electors)
 
 -- whether a step is the cast of a ballot that is not late
 abbrev pub is_ballot : ℕ → Step → Bool
-is_ballot last Close = false
-is_ballot last (Cast desk stamp (Bad fault) reply) = false
-is_ballot last (Cast desk stamp (Ballot voter ranks) reply) = not (is_late last stamp)
+is_ballot last_in_time Close = false
+is_ballot last_in_time (Cast desk stamp (Bad fault) reply) = false
+is_ballot last_in_time (Cast desk stamp (Ballot voter ranks) reply) = not (is_late last_in_time stamp)
 
 -- whether a step is the cast of a line that is no ballot, or of a ballot that is late
 abbrev pub is_refused : ℕ → Step → Bool
-is_refused last Close = false
-is_refused last (Cast desk stamp (Bad fault) reply) = true
-is_refused last (Cast desk stamp (Ballot voter ranks) reply) = is_late last stamp
+is_refused last_in_time Close = false
+is_refused last_in_time (Cast desk stamp (Bad fault) reply) = true
+is_refused last_in_time (Cast desk stamp (Ballot voter ranks) reply) = is_late last_in_time stamp
 
 -- the ballots that came before the close and are not late
 abbrev pub valid : ℕ → List Step → ℕ
-valid last steps = count_by (is_ballot last) (before_close steps)
+valid last_in_time steps = count_by (is_ballot last_in_time) (before_close steps)
 
 -- the lines before the close that are no ballot or are late, and all that came after it
 abbrev pub refused : ℕ → List Step → ℕ
-refused last steps = count_by (is_refused last) (before_close steps) + count_by is_cast (after_close steps)
+refused last_in_time steps = count_by (is_refused last_in_time) (before_close steps) + count_by is_cast (after_close steps)
 
 -- the ranks of the ballots that stand, one entry for each voter
 abbrev pub standing_ballots : ℕ → List Step → ℕ → List (Option (List (Option ℕ)))
-standing_ballots last steps electors = map (standing_ranks last steps) (range_with_len 0 electors)
+standing_ballots last_in_time steps electors = map (standing_ranks last_in_time steps) (range_with_len 0 electors)
 
 -- the voters with a ballot that stands
 abbrev pub voters : ℕ → List Step → ℕ → ℕ
-voters last steps electors = count_by is_some (roll last steps electors)
+voters last_in_time steps electors = count_by is_some (roll last_in_time steps electors)

@@ -7,18 +7,18 @@ use Rattle.vote_steps.specs.declared.ballot_box.BallotBox.TheInside.{Inside}
 
 -- what callers see of a box
 abbrev pub state_of : Inside → BoxState
-state_of a = record { options = a.roll.matrix.options; electors = vec_len a.roll.ballots; limit = a.limit; last = a.last; steps = a.steps.items }
+state_of a = record { options = a.roll.matrix.options; electors = vec_len a.roll.ballots; limit = a.limit; last_in_time = a.last_in_time; steps = a.steps.items }
 
 -- The fields are those of the steps; for each stamp there is a mark, which says whether it is used; and there is room for a
 -- step with each stamp and for the close.
 pub record Keeps (a : Inside) : Type 0 where
   pub legal : IsLegal (state_of a)
   pub closed : a.closed ≡ is_closed a.steps.items
-  pub roll_is : a.roll.ballots.items ≡ roll a.last a.steps.items (vec_len a.roll.ballots)
-  pub valid_is : a.valid ≡ valid a.last a.steps.items
-  pub refused_is : a.refused ≡ refused a.last a.steps.items
+  pub roll_is : a.roll.ballots.items ≡ roll a.last_in_time a.steps.items (vec_len a.roll.ballots)
+  pub valid_is : a.valid ≡ valid a.last_in_time a.steps.items
+  pub refused_is : a.refused ≡ refused a.last_in_time a.steps.items
   pub used_is : (place : ℕ) → place < a.limit → slice_index_or a.used.items place false ≡ is_used a.steps.items (place + 1)
   pub places : vec_len a.used ≡ a.limit
   pub limit_fits : a.limit ≤ MAX_LINES
-  pub last_fits : a.last ≤ MAX_LINES
+  pub last_fits : a.last_in_time ≤ MAX_LINES
   pub room : a.limit + 1 ≤ vec_capacity a.steps

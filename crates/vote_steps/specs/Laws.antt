@@ -24,4 +24,4 @@ HasRoomForAll = (b : BoxState) → IsLegal b → length b.steps ≤ b.limit + 1
 
 -- the votes of a history are those of a recount of the ballots that stand
 abbrev pub VotesAreRecounted : Type 0
-VotesAreRecounted = (last : ℕ) (steps : List Step) (electors a b : ℕ) → standing_votes last steps electors a b ≡ count_by (entry_prefers a b) (standing_ballots last steps electors)
+VotesAreRecounted = (last_in_time : ℕ) (steps : List Step) (electors a b : ℕ) → standing_votes last_in_time steps electors a b ≡ count_by (entry_prefers a b) (standing_ballots last_in_time steps electors)

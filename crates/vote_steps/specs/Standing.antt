@@ -13,15 +13,15 @@ use Rattle.vote_steps.specs.Casting.{HoldsLines}
 abbrev pub LastLinesStand : Type 0
 LastLinesStand =
     (poll : PollContent) (lines : List (List ℕ)) (b : BoxState) (voter : ℕ) → HoldsLines poll lines b
-    → standing_ranks b.last b.steps voter ≡ last_ballot (take b.last (readings poll lines)) voter
+    → standing_ranks b.last_in_time b.steps voter ≡ last_ballot (take b.last_in_time (readings poll lines)) voter
 
 -- the totals and the votes of a box are those of the lines: a line is valid where it reads as a ballot and is not late, and the
 -- last valid one of each voter counts
 pub record CountsLines (readings : List Reading) (b : BoxState) : Type 0 where
-  pub valid_is : valid b.last b.steps ≡ count_by is_ballot (take b.last readings)
-  pub refused_is : valid b.last b.steps + refused b.last b.steps ≡ length readings
-  pub voters_are : voters b.last b.steps b.electors ≡ count_by is_some (last_ballots (take b.last readings) b.electors)
-  pub votes_are : (a c : ℕ) → standing_votes b.last b.steps b.electors a c ≡ count_by (entry_prefers a c) (last_ballots (take b.last readings) b.electors)
+  pub valid_is : valid b.last_in_time b.steps ≡ count_by is_ballot (take b.last_in_time readings)
+  pub refused_is : valid b.last_in_time b.steps + refused b.last_in_time b.steps ≡ length readings
+  pub voters_are : voters b.last_in_time b.steps b.electors ≡ count_by is_some (last_ballots (take b.last_in_time readings) b.electors)
+  pub votes_are : (a c : ℕ) → standing_votes b.last_in_time b.steps b.electors a c ≡ count_by (entry_prefers a c) (last_ballots (take b.last_in_time readings) b.electors)
 
 abbrev pub LinesAreCounted : Type 0
 LinesAreCounted = (poll : PollContent) (lines : List (List ℕ)) (b : BoxState) → HoldsLines poll lines b → CountsLines (readings poll lines) b

@@ -44,7 +44,7 @@ pub struct Totals {
 #[derive(Drop)]
 pub struct BallotBox {
     limit: u32,
-    last: u32,
+    last_in_time: u32,
     roll: Roll,
     /// For each stamp whether a step has it, from stamp 1.
     used: Vec<bool>,
@@ -68,7 +68,7 @@ impl Model for BallotBox {
 
 impl BallotBox {
     /// An open box with no steps, for `options` options with the default, `electors` electors and the stamps 1 to `limit`.
-    /// An envelope with a stamp above `last` is late, in whatever order the envelopes come: with 0 each is, and with
+    /// An envelope with a stamp above `last_in_time` is late, in whatever order the envelopes come: with 0 each is, and with
     /// `MAX_LINES` none.
     ///
     /// All memory is taken here: a ballot for each elector, a mark for each stamp, and a step for each stamp and the close.
@@ -77,20 +77,20 @@ impl BallotBox {
         options: u8,
         electors: usize,
         limit: u32,
-        last: u32,
+        last_in_time: u32,
     ) -> Result<BallotBox, AllocError>
         requires options { (2 ≤ options) × (options ≤ MAX_OPTIONS) }
         requires electors { (1 ≤ electors) × (electors ≤ MAX_ELECTORS) }
         requires limit { limit ≤ MAX_LINES }
-        requires last { last ≤ MAX_LINES }
-        ensures { IfOk result (λ b. b ≡ record { options = options; electors = electors; limit = limit; last = last; steps = [] }) }
+        requires last_in_time { last_in_time ≤ MAX_LINES }
+        ensures { IfOk result (λ b. b ≡ record { options = options; electors = electors; limit = limit; last_in_time = last_in_time; steps = [] }) }
     {
         let ballots = vec![in alloc; None; electors]?;
         let used = vec![in alloc; false; limit as usize]?;
         let steps = Vec::with_capacity(alloc, limit as usize + 1)?;
         Ok(BallotBox {
             limit,
-            last,
+            last_in_time,
             roll: Roll {
                 ballots,
                 voters: 0,
@@ -114,10 +114,10 @@ impl BallotBox {
         requires reading { ReadingFits self.old.options self.old.electors reading }
 
         // An envelope that is taken makes one step, with the reply that the steps before it call for.
-        ensures reply { IfOk result (λ reply. reply ≡ reply_to self.old.last self.old.steps stamp reading) }
+        ensures reply { IfOk result (λ reply. reply ≡ reply_to self.old.last_in_time self.old.steps stamp reading) }
         ensures step { IfOk result (λ reply. self.new ≡ record self.old { steps = self.old.steps ++ Step.Cast desk stamp reading reply ∷ [] }) }
-        ensures valid { IfOk result (λ reply. valid self.new.last self.new.steps ≡ valid self.old.last self.old.steps + (if is_valid reply then 1 else 0)) }
-        ensures refused { IfOk result (λ reply. refused self.new.last self.new.steps ≡ refused self.old.last self.old.steps + (if is_valid reply then 0 else 1)) }
+        ensures valid { IfOk result (λ reply. valid self.new.last_in_time self.new.steps ≡ valid self.old.last_in_time self.old.steps + (if is_valid reply then 1 else 0)) }
+        ensures refused { IfOk result (λ reply. refused self.new.last_in_time self.new.steps ≡ refused self.old.last_in_time self.old.steps + (if is_valid reply then 0 else 1)) }
 
         // When each refusal comes.
         ensures range { (result ≡ Err StepFault.StampRange) ↔ ((stamp ≡ 0) ⊎ (self.old.limit < stamp)) }
@@ -131,7 +131,7 @@ impl BallotBox {
         if self.used[place] {
             return Err(StepFault::StampUsed);
         }
-        let is_late = stamp > self.last;
+        let is_late = stamp > self.last_in_time;
         let reply = if self.closed {
             self.refused += 1;
             Reply::BoxClosed
@@ -164,8 +164,8 @@ impl BallotBox {
     /// Closes the box, which makes a step. `AlreadyClosed` comes where the box was closed before, and changes nothing.
     pub fn close(&mut self) -> Result<(), AlreadyClosed>
         ensures ok { OnOk result (self.new ≡ record self.old { steps = self.old.steps ++ Step.Close ∷ [] }) }
-        ensures valid { OnOk result (valid self.new.last self.new.steps ≡ valid self.old.last self.old.steps) }
-        ensures refused { OnOk result (refused self.new.last self.new.steps ≡ refused self.old.last self.old.steps) }
+        ensures valid { OnOk result (valid self.new.last_in_time self.new.steps ≡ valid self.old.last_in_time self.old.steps) }
+        ensures refused { OnOk result (refused self.new.last_in_time self.new.steps ≡ refused self.old.last_in_time self.old.steps) }
         ensures closed { IsTrue (is_closed self.new.steps) }
         ensures legal { IsLegal self.new }
         ensures already { (result ≡ Err record {}) ↔ IsTrue (is_closed self.old.steps) }
@@ -182,7 +182,7 @@ impl BallotBox {
     /// The ranks of the ballot of a voter that stands: of those cast before the close that are not late the one with the
     /// greatest stamp. Voters are numbered from 0. None where the voter has no such ballot, and where there is no such voter.
     pub fn standing(&self, voter: usize) -> Option<Ranks>
-        ensures ranks { result ≡ standing_ranks self.now.last self.now.steps voter }
+        ensures ranks { result ≡ standing_ranks self.now.last_in_time self.now.steps voter }
         ensures fits { IsBallotOf self.now.options result }
     {
         self.roll.standing(voter)
@@ -192,14 +192,14 @@ impl BallotBox {
     /// copies the matrix that the box keeps, and counts nothing.
     pub fn matrix(&self) -> Matrix
         ensures options { result.options ≡ self.now.options }
-        ensures votes { (a b : ℕ) → IsOption self.now.options a → IsOption self.now.options b → votes result a b ≡ standing_votes self.now.last self.now.steps self.now.electors a b }
+        ensures votes { (a b : ℕ) → IsOption self.now.options a → IsOption self.now.options b → votes result a b ≡ standing_votes self.now.last_in_time self.now.steps self.now.electors a b }
     {
         self.roll.matrix
     }
 
     /// How many lines counted and how many did not, and how many voters have a ballot that stands.
     pub fn totals(&self) -> Totals
-        ensures { result ≡ record { valid = valid self.now.last self.now.steps; refused = refused self.now.last self.now.steps; voters = voters self.now.last self.now.steps self.now.electors } }
+        ensures { result ≡ record { valid = valid self.now.last_in_time self.now.steps; refused = refused self.now.last_in_time self.now.steps; voters = voters self.now.last_in_time self.now.steps self.now.electors } }
     {
         Totals {
             valid: self.valid,
@@ -253,10 +253,10 @@ impl BallotBox {
 
     /// The greatest stamp that is not late.
     pub fn last_envelope(&self) -> u32
-        ensures same { result ≡ self.now.last }
+        ensures same { result ≡ self.now.last_in_time }
         ensures at_most { result ≤ MAX_LINES }
     {
-        self.last
+        self.last_in_time
     }
 }
 

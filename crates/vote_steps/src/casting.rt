@@ -15,7 +15,7 @@ fn cast_at_desk_1(ballot_box: &mut BallotBox, stamp: u32, reading: Reading)
     requires stamp { (1 ≤ stamp) × (stamp ≤ ballot_box.old.limit) }
     requires unused { is_used ballot_box.old.steps stamp ≡ false }
     requires reading { ReadingFits ballot_box.old.options ballot_box.old.electors reading }
-    ensures { ballot_box.new ≡ record ballot_box.old { steps = ballot_box.old.steps ++ Cast 1 stamp reading (reply_to ballot_box.old.last ballot_box.old.steps stamp reading) ∷ [] } }
+    ensures { ballot_box.new ≡ record ballot_box.old { steps = ballot_box.old.steps ++ Cast 1 stamp reading (reply_to ballot_box.old.last_in_time ballot_box.old.steps stamp reading) ∷ [] } }
 {
     let Ok(_) = ballot_box.cast(1, stamp, reading) else {
         unreachable!()

@@ -64,7 +64,7 @@ returns-in-Ok-clause-desks g c =
 
 pub returns-in-Ok-clause-casts : goal.returns-in-Ok-clause-casts
 returns-in-Ok-clause-casts g c =
-    omega (arith, all_slips c.in-Ok.sealed.sheets, valid-refused c.in-Ok.sealed.ballot_box.last c.in-Ok.sealed.ballot_box.steps, c.in-Ok.ensures.valid_slips, c.in-Ok.ensures.refused_slips)
+    omega (arith, all_slips c.in-Ok.sealed.sheets, valid-refused c.in-Ok.sealed.ballot_box.last_in_time c.in-Ok.sealed.ballot_box.steps, c.in-Ok.ensures.valid_slips, c.in-Ok.ensures.refused_slips)
 
 pub returns-in-Ok-clause-missing : goal.returns-in-Ok-clause-missing
 returns-in-Ok-clause-missing g c =

@@ -1,6 +1,6 @@
 use Rattle.std.proofs.Common.{◌≡◌, ℕ, ◌+◌, ◌∷◌, ◌++◌, [], List, Some, length, refl, sym, ap, ◌∙◌, arith}
 use Rattle.std.proofs.lemmas.Bool.{true≢false}
-use Rattle.vote_poll.specs.PollContent.{elector_count, last_of, option_count}
+use Rattle.vote_poll.specs.PollContent.{elector_count, last_in_time, option_count}
 use Rattle.vote_poll.specs.Readings.{readings}
 use Rattle.vote_steps.specs.declared.step.Step.{Step}
 use Rattle.vote_steps.specs.declared.step.Step.TheVariants.{Cast, Close}
@@ -12,36 +12,36 @@ use Rattle.vote_steps.proofs.casting.cast_all.Goals as goal
 
 pub loop-place-init : goal.loop-place-init
 loop-place-init c =
-    begins c.in_ok-ballot_box.ballot_box (readings c.args.poll.now c.args.lines.now) c.options.result (option_count c.args.poll.now) c.electors.result (elector_count c.args.poll.now) c.len.result (length c.args.lines.now) c.last_in_time.result (last_of c.args.poll.now)
+    begins c.in_ok-ballot_box.ballot_box (readings c.args.poll.now c.args.lines.now) c.options.result (option_count c.args.poll.now) c.electors.result (elector_count c.args.poll.now) c.len.result (length c.args.lines.now) c.last_in_time.result (last_in_time c.args.poll.now)
     c.in_ok-ballot_box.ensures c.options.ensures.number c.electors.ensures.number c.len.ensures.number c.last_in_time.ensures.number
 
 pub cast_at_desk_1-requires-clause-unused : goal.cast_at_desk_1-requires-clause-unused
 cast_at_desk_1-requires-clause-unused c =
     ap (λ (b : BoxState). is_used b.steps (c.loop-place.place + 1)) c.loop-place.invariant
-    ∙ casts_of_unused (last_of c.args.poll.now) (readings c.args.poll.now c.args.lines.now) c.loop-place.place (c.loop-place.place + 1) (omega arith)
+    ∙ casts_of_unused (last_in_time c.args.poll.now) (readings c.args.poll.now c.args.lines.now) c.loop-place.place (c.loop-place.place + 1) (omega arith)
 
 pub loop-place-preserved : goal.loop-place-preserved
 loop-place-preserved c =
     let n = c.loop-place.place + 1 in
     let r = c.read_line-reading.result in
-    let f : BoxState → BoxState = λ b. record b { steps = b.steps ++ Cast 1 n r (reply_to b.last b.steps n r) ∷ [] } in
+    let f : BoxState → BoxState = λ b. record b { steps = b.steps ++ Cast 1 n r (reply_to b.last_in_time b.steps n r) ∷ [] } in
     let with_steps : List Step → BoxState = λ xs. record {
       options = option_count c.args.poll.now;
       electors = elector_count c.args.poll.now;
       limit = length c.args.lines.now;
-      last = last_of c.args.poll.now;
+      last_in_time = last_in_time c.args.poll.now;
       steps = xs;
     } in
     let all = readings c.args.poll.now c.args.lines.now in
     c.cast_at_desk_1.ensures
     ∙ (ap f c.loop-place.invariant
-    ∙ ap with_steps (casts_of_next (last_of c.args.poll.now) all c.loop-place.place n r
+    ∙ ap with_steps (casts_of_next (last_in_time c.args.poll.now) all c.loop-place.place n r
     (read_at c.args.poll.now c.args.lines.now c.loop-place.place c.line.result.now c.line.ensures ∙ ap Some (sym c.read_line-reading.ensures.same)) refl))
 
 pub unreachable-requires : goal.unreachable-requires
 unreachable-requires c =
     let closed = c.close.ensures.already.0 c.in_default.is in
-    let is_open = ap (λ (b : BoxState). is_closed b.steps) c.loop-place.invariant ∙ casts_of_open (last_of c.args.poll.now) (readings c.args.poll.now c.args.lines.now) c.loop-place.place in
+    let is_open = ap (λ (b : BoxState). is_closed b.steps) c.loop-place.invariant ∙ casts_of_open (last_in_time c.args.poll.now) (readings c.args.poll.now c.args.lines.now) c.loop-place.place in
     true≢false (sym closed ∙ is_open)
 
 -- all lines are cast, and the box is closed
@@ -49,8 +49,8 @@ closed_steps : (c : goal.In-Ok) → c.close.new.self ≡ record {
   options = option_count c.args.poll.now;
   electors = elector_count c.args.poll.now;
   limit = length c.args.lines.now;
-  last = last_of c.args.poll.now;
-  steps = casts_of (last_of c.args.poll.now) (readings c.args.poll.now c.args.lines.now) (length c.args.lines.now) ++ Close ∷ [];
+  last_in_time = last_in_time c.args.poll.now;
+  steps = casts_of (last_in_time c.args.poll.now) (readings c.args.poll.now c.args.lines.now) (length c.args.lines.now) ++ Close ∷ [];
 }
 closed_steps c =
     let close : BoxState → BoxState = λ b. record b { steps = b.steps ++ Close ∷ [] } in
@@ -59,8 +59,8 @@ closed_steps c =
       options = option_count c.args.poll.now;
       electors = elector_count c.args.poll.now;
       limit = length c.args.lines.now;
-      last = last_of c.args.poll.now;
-      steps = casts_of (last_of c.args.poll.now) (readings c.args.poll.now c.args.lines.now) n ++ Close ∷ [];
+      last_in_time = last_in_time c.args.poll.now;
+      steps = casts_of (last_in_time c.args.poll.now) (readings c.args.poll.now c.args.lines.now) n ++ Close ∷ [];
     } in
     c.in-Ok.ensures.ok ∙ (ap close c.loop-place.invariant ∙ ap with_casts all)
 
@@ -68,12 +68,12 @@ pub returns-clause-held : goal.returns-clause-held
 returns-clause-held c =
     let is = closed_steps c in
     holds_lines c.args.poll.now c.args.lines.now c.close.new.self
-    (ap (λ (b : BoxState). b.options) is, ap (λ (b : BoxState). b.electors) is, ap (λ (b : BoxState). b.limit) is, ap (λ (b : BoxState). b.last) is)
+    (ap (λ (b : BoxState). b.options) is, ap (λ (b : BoxState). b.electors) is, ap (λ (b : BoxState). b.limit) is, ap (λ (b : BoxState). b.last_in_time) is)
     (ap (λ (b : BoxState). b.steps) is)
     c.in-Ok.ensures.legal
 
 pub returns-clause-in_order : goal.returns-clause-in_order
 returns-clause-in_order c =
     let all = readings c.args.poll.now c.args.lines.now in
-    in_order (last_of c.args.poll.now) all c.close.new.self.steps
-    (ap (λ (b : BoxState). b.steps) (closed_steps c) ∙ ap (λ n. casts_of (last_of c.args.poll.now) all n ++ Close ∷ []) (sym (as_long c.args.poll.now c.args.lines.now)))
+    in_order (last_in_time c.args.poll.now) all c.close.new.self.steps
+    (ap (λ (b : BoxState). b.steps) (closed_steps c) ∙ ap (λ n. casts_of (last_in_time c.args.poll.now) all n ++ Close ∷ []) (sym (as_long c.args.poll.now c.args.lines.now)))

@@ -1,5 +1,5 @@
 use Rattle.std.proofs.Common.{◌≡◌, length}
-use Rattle.vote_poll.specs.PollContent.{elector_count, last_of, option_count}
+use Rattle.vote_poll.specs.PollContent.{elector_count, last_in_time, option_count}
 use Rattle.vote_poll.specs.Readings.{readings}
 use Rattle.vote_steps.proofs.CastLemmas.{casts_of}
 use Rattle.vote_steps.proofs.casting.cast_all.Given as goal
@@ -11,6 +11,6 @@ invariant-loop-place l =
       options = option_count l.poll;
       electors = elector_count l.poll;
       limit = length l.lines;
-      last = last_of l.poll;
-      steps = casts_of (last_of l.poll) (readings l.poll l.lines) l.place;
+      last_in_time = last_in_time l.poll;
+      steps = casts_of (last_in_time l.poll) (readings l.poll l.lines) l.place;
     }

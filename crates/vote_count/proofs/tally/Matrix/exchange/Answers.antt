@@ -1,34 +1,34 @@
 use Rattle.std.proofs.Common.{◌≡◌, ℕ, ◌-◌, ◌<◌, ◌^◌, ap, arith}
 use Rattle.vote_count.specs.Votes.{Votes}
-use Rattle.vote_count.proofs.Cells.{ArePlaces, cell_of_preferred, votes_by_places}
+use Rattle.vote_count.proofs.Cells.{AreSortKeys, cell_of_preferred, votes_by_keys}
 use Rattle.vote_count.proofs.tally.Matrix.exchange.Goals as goal
 
 pub change-requires-clause-some : goal.change-requires-clause-some
 change-requires-clause-some c k within before =
     let option = c.loop-option.option in
-    let places = c.places-old.result.now in
+    let keys = c.sort_keys-old.result.now in
     let P : ℕ → Type 0 = λ n. 0 < n in
-    let are : ArePlaces c.args.before.now places = record { options = c.places-old.ensures.options; others = c.places-old.ensures.others } in
+    let are : AreSortKeys c.args.before.now keys = record { options = c.sort_keys-old.ensures.options; others = c.sort_keys-old.ensures.others } in
     rw (c.loop-option.invariant.waiting option (omega arith), ap (λ (m : Votes). m.rows) c.self.view_is)
-    (cell_of_preferred c.args.before.now places are P c.args.self.now c.requires.options_before c.requires.counted option k (omega (arith, ap (λ (m : Votes). m.options) c.self.view_is)) before)
+    (cell_of_preferred c.args.before.now keys are P c.args.self.now c.requires.options_before c.requires.counted option k (omega (arith, ap (λ (m : Votes). m.options) c.self.view_is)) before)
 
 pub change-requires-clause-room : goal.change-requires-clause-room
 change-requires-clause-room c k within before =
     let option = c.loop-option.option in
-    let places = c.places-new.result.now in
+    let keys = c.sort_keys-new.result.now in
     let P : ℕ → Type 0 = λ n. n < 2 ^ 32 - 1 in
-    let are : ArePlaces c.args.after.now places = record { options = c.places-new.ensures.options; others = c.places-new.ensures.others } in
+    let are : AreSortKeys c.args.after.now keys = record { options = c.sort_keys-new.ensures.options; others = c.sort_keys-new.ensures.others } in
     rw (c.loop-option.invariant.waiting option (omega arith), ap (λ (m : Votes). m.rows) c.self.view_is)
-    (cell_of_preferred c.args.after.now places are P c.args.self.now c.requires.options_after c.requires.room option k (omega (arith, ap (λ (m : Votes). m.options) c.self.view_is)) before)
+    (cell_of_preferred c.args.after.now keys are P c.args.self.now c.requires.options_after c.requires.room option k (omega (arith, ap (λ (m : Votes). m.options) c.self.view_is)) before)
 
 pub returns-clause-votes : goal.returns-clause-votes
 returns-clause-votes c a b of_a of_b =
-    let are_old : ArePlaces c.args.before.now c.places-old.result.now = record { options = c.places-old.ensures.options; others = c.places-old.ensures.others } in
-    let are_new : ArePlaces c.args.after.now c.places-new.result.now = record { options = c.places-new.ensures.options; others = c.places-new.ensures.others } in
+    let are_old : AreSortKeys c.args.before.now c.sort_keys-old.result.now = record { options = c.sort_keys-old.ensures.options; others = c.sort_keys-old.ensures.others } in
+    let are_new : AreSortKeys c.args.after.now c.sort_keys-new.result.now = record { options = c.sort_keys-new.ensures.options; others = c.sort_keys-new.ensures.others } in
     let same : c.self.inside.options ≡ c.args.self.now.options = ap (λ (m : Votes). m.options) c.self.view_is in
     let changed : Votes = record { options = c.loop-option.self-inside.options; rows = c.loop-option.self-inside.counts } in
     let cells = c.loop-option.invariant.counted (a - 1) (b - 1) (omega (arith, of_a)) (omega (arith, of_b)) in
-    votes_by_places c.args.before.now c.args.after.now c.places-old.result.now c.places-new.result.now are_old are_new c.args.self.now changed a b
+    votes_by_keys c.args.before.now c.args.after.now c.sort_keys-old.result.now c.sort_keys-new.result.now are_old are_new c.args.self.now changed a b
     (of_a.0, omega (arith, of_a.1, c.requires.options_before)) (of_b.0, omega (arith, of_b.1, c.requires.options_before))
     (of_a.0, omega (arith, of_a.1, c.requires.options_after)) (of_b.0, omega (arith, of_b.1, c.requires.options_after))
     (rw (← c.self.view_is) cells)

@@ -1,13 +1,13 @@
 use Rattle.std.proofs.Common.{ap₂, ◌∙◌, take}
 use Rattle.vote_poll.specs.Comparisons.{are_same_ranks}
 use Rattle.vote_poll.proofs.Equality.{same_ranks}
-use Rattle.vote_poll.proofs.Places.{pointwise-places}
+use Rattle.vote_poll.proofs.SortKeys.{pointwise-keys}
 use Rattle.vote_poll.proofs.ranks.RanksPartialEq.eq.Goals as goal
 
 pub returns-clause-test : goal.returns-clause-test
 returns-clause-test c =
     c.eq.ensures
-    ∙ pointwise-places (take c.self.inside.options c.self.inside.places) (take c.other.inside.options c.other.inside.places)
+    ∙ pointwise-keys (take c.self.inside.options c.self.inside.sort_keys) (take c.other.inside.options c.other.inside.sort_keys)
     ∙ ap₂ are_same_ranks c.self.view_is c.other.view_is
 
 pub returns-clause-same : goal.returns-clause-same

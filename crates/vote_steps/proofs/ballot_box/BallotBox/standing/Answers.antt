@@ -9,4 +9,4 @@ use Rattle.vote_steps.proofs.ballot_box.BallotBox.standing.Goals as goal
 pub returns-clause-ranks : goal.returns-clause-ranks
 returns-clause-ranks c =
     c.standing.ensures.ranks ∙ ap (λ (o : Option Received). option_and_then (λ ballot. Some ballot.ranks) o) (standing_at c.self.inside c.args.voter c.self.invariant)
-    ∙ ap (λ (b : BoxState). standing_ranks b.last b.steps c.args.voter) c.self.view_is
+    ∙ ap (λ (b : BoxState). standing_ranks b.last_in_time b.steps c.args.voter) c.self.view_is

@@ -1,7 +1,7 @@
 use Rattle.std.proofs.Common.{◌≡◌, true, map, take, nat_abs}
 use Rattle.std.specs.List.{list_all}
 use Rattle.vote_poll.specs.PollFile.{is_integer_within}
-use Rattle.vote_poll.proofs.limits.ratios_of.Given as goal
+use Rattle.vote_poll.proofs.poll_file.parse_ratios.Given as goal
 use Rattle.vote_poll.specs.declared.TheConstants.{MAX_RATIO}
 
 abbrev pub invariant-loop-number : goal.invariant-loop-number
