@@ -31,11 +31,9 @@ casts_of last readings zero = []
 casts_of last readings (suc k) =
     casts_of last readings k ++ Cast 1 (suc k) (reading_at readings k) (reply_to last (casts_of last readings k) (suc k) (reading_at readings k)) ∷ []
 
--- in an open box without steps no line is cast yet
-pub begins : (b : BoxState) (readings : List Reading) (o options e electors l limit u last : ℕ) → b ≡ record { options = o; electors = e; limit = l; last_in_time = u; steps = [] }
-    → o ≡ options → e ≡ electors → l ≡ limit → u ≡ last → b ≡ record { options = options; electors = electors; limit = limit; last_in_time = last; steps = casts_of last readings 0 }
+pub none_cast : (last : ℕ) (readings : List Reading) → casts_of last readings 0 ≡ []
 unfolding casts_of
-begins b readings o options e electors l limit u last is same_options same_electors same_limit same_last = cc
+none_cast last readings = refl
 
 pub read_at : (poll : PollContent) (lines : List (List ℕ)) (k : ℕ) (line : List ℕ) → slice_get lines k ≡ Some line → slice_get (readings poll lines) k ≡ Some (reading poll line)
 read_at poll [] k line h = cc

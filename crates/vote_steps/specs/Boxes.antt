@@ -1,5 +1,6 @@
 -- What a ballot box is to its callers: its sizes, and the history of what was done to it.
 use Rattle.std.specs.Prelude.{◌≡◌, ℕ, ◌≤◌, false, List, ◌∷◌, ◌++◌, count_by, IsTrue}
+use Rattle.vote_poll.specs.PollContent.{PollContent, elector_count, last_in_time, option_count}
 use Rattle.vote_poll.specs.declared.Reading.{Reading}
 use Rattle.vote_poll.specs.Readings.{ReadingFits}
 use Rattle.vote_steps.specs.declared.step.Reply.{Reply}
@@ -16,6 +17,16 @@ pub record BoxState : Type 0 where
   pub limit : ℕ
   pub last_in_time : ℕ
   pub steps : List Step
+
+-- the box of a poll, with the stamps 1 to the limit, after these steps
+abbrev pub box_of : PollContent → ℕ → List Step → BoxState
+box_of poll limit steps = record {
+  options = option_count poll;
+  electors = elector_count poll;
+  limit = limit;
+  last_in_time = last_in_time poll;
+  steps = steps;
+}
 
 -- a cast that may come after the steps before it
 pub record MayBeCast (b : BoxState) (before : List Step) (desk stamp : ℕ) (reading : Reading) (reply : Reply) : Type 0 where

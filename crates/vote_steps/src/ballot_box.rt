@@ -5,7 +5,7 @@ ghost use Rattle.vote_count.specs.Ballots.{IsBallotOf};
 ghost use Rattle.vote_count.specs.Votes.{votes};
 ghost use Rattle.vote_steps.specs.History.{is_closed, is_used, is_valid, reply_to, standing_ranks, valid, refused, voters, standing_votes};
 ghost use Rattle.vote_poll.specs.Readings.{ReadingFits};
-ghost use Rattle.vote_steps.specs.Boxes.{IsLegal, UsesAll};
+ghost use Rattle.vote_steps.specs.Boxes.{IsLegal, UsesAll, box_of};
 
 use crate::MAX_DESKS;
 use crate::roll::Roll;
@@ -13,7 +13,7 @@ use crate::step::{Received, Reply, Step};
 use std::alloc::{AllocError, Global};
 use std::marker::Model;
 use vote_count::Matrix;
-use vote_poll::{MAX_ELECTORS, MAX_LINES, MAX_OPTIONS, Ranks, Reading};
+use vote_poll::{MAX_ELECTORS, MAX_LINES, MAX_OPTIONS, Poll, Ranks, Reading};
 
 /// Why a cast is refused. No step is made, and nothing changes.
 #[derive(Clone, Copy, Debug, PartialEq, Eq)]
@@ -102,6 +102,21 @@ impl BallotBox {
             refused: 0,
             closed: false,
         })
+    }
+
+    /// An open box with no steps for a poll: with its options and electors, its last envelope in time, and the stamps 1 to
+    /// `limit`. All memory is taken here, as by [`BallotBox::new`].
+    pub fn for_poll(alloc: Global, poll: &Poll, limit: u32) -> Result<BallotBox, AllocError>
+        requires { limit ≤ MAX_LINES }
+        ensures { IfOk result (λ b. b ≡ box_of poll.now limit []) }
+    {
+        BallotBox::new(
+            alloc,
+            poll.options(),
+            poll.electors(),
+            limit,
+            poll.last_in_time(),
+        )
     }
 
     /// Casts an envelope at a desk, from 1 to `MAX_DESKS`, which makes a step with the reply. A ballot in it is of an elector
@@ -260,21 +275,11 @@ impl BallotBox {
     }
 }
 
-// Adds an item, for which room is kept.
-fn append<T: Drop>(items: &mut Vec<T>, item: T)
-    requires { vec_len items.old < vec_capacity items.old }
-    ensures items { items.new.items ≡ items.old.items ++ item ∷ [] }
-    ensures len { vec_len items.new ≡ vec_len items.old + 1 }
-    ensures capacity { vec_capacity items.old ≤ vec_capacity items.new }
-{
-    let Ok(()) = items.push(item) else {
-        unreachable!()
-    };
-}
-
-// Adds a step, for which room is kept. It is taken apart and put together again, since the kit does not prove a function that
-// moves a `Step` into a call and has no value of type `Reading` in its hands, as `steps.push(Step::Close)` in `close`: a type of
-// another crate inside an enum of this one. The copy is of one step.
+// Adds a step, for which room is kept.
+//
+// It is taken apart and put together again, since the kit does not prove a function that moves a `Step` into a call and has no
+// value of type `Reading` in its hands, as `steps.push_reserved(Step::Close)` in `close`: a type of another crate inside an enum
+// of this one. The copy is of one step.
 fn push_step(steps: &mut Vec<Step>, step: Step)
     requires { vec_len steps.old < vec_capacity steps.old }
     ensures items { steps.new.items ≡ steps.old.items ++ step ∷ [] }
@@ -287,15 +292,12 @@ fn push_step(steps: &mut Vec<Step>, step: Step)
             stamp,
             reading,
             reply,
-        } => append(
-            steps,
-            Step::Cast {
-                desk,
-                stamp,
-                reading,
-                reply,
-            },
-        ),
-        Step::Close => append(steps, Step::Close),
+        } => steps.push_reserved(Step::Cast {
+            desk,
+            stamp,
+            reading,
+            reply,
+        }),
+        Step::Close => steps.push_reserved(Step::Close),
     }
 }

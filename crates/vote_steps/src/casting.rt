@@ -28,13 +28,7 @@ pub fn cast_all(alloc: Global, poll: &Poll, lines: &Lines<'_>) -> Result<BallotB
     ensures held { IfOk result (HoldsLines poll.now lines.now) }
     ensures in_order { IfOk result (λ ballot_box. AreCastInOrder (readings poll.now lines.now) ballot_box.steps) }
 {
-    let mut ballot_box = BallotBox::new(
-        alloc,
-        poll.options(),
-        poll.electors(),
-        lines.len() as u32,
-        poll.last_in_time(),
-    )?;
+    let mut ballot_box = BallotBox::for_poll(alloc, poll, lines.len() as u32)?;
     for place in 0..lines.len() {
         let reading = read_line(poll, lines.line(place));
         cast_at_desk_1(&mut ballot_box, place as u32 + 1, reading);

@@ -1,19 +1,19 @@
 use Rattle.std.proofs.Common.{◌≡◌, ℕ, ◌+◌, ◌∷◌, ◌++◌, [], List, Some, length, refl, sym, ap, ◌∙◌, arith}
 use Rattle.std.proofs.lemmas.Bool.{true≢false}
-use Rattle.vote_poll.specs.PollContent.{elector_count, last_in_time, option_count}
+use Rattle.vote_poll.specs.PollContent.{last_in_time}
 use Rattle.vote_poll.specs.Readings.{readings}
 use Rattle.vote_steps.specs.declared.step.Step.{Step}
 use Rattle.vote_steps.specs.declared.step.Step.TheVariants.{Cast, Close}
 use Rattle.vote_steps.specs.History.{is_closed, is_used, reply_to}
-use Rattle.vote_steps.specs.Boxes.{BoxState}
+use Rattle.vote_steps.specs.Boxes.{BoxState, box_of}
 use Rattle.vote_steps.proofs.StandingLemmas.{as_long}
-use Rattle.vote_steps.proofs.CastLemmas.{begins, casts_of, casts_of_next, casts_of_open, casts_of_unused, holds_lines, in_order, read_at}
+use Rattle.vote_steps.proofs.CastLemmas.{casts_of, casts_of_next, casts_of_open, casts_of_unused, holds_lines, in_order, none_cast, read_at}
 use Rattle.vote_steps.proofs.casting.cast_all.Goals as goal
 
 pub loop-place-init : goal.loop-place-init
 loop-place-init c =
-    begins c.in_ok-ballot_box.ballot_box (readings c.args.poll.now c.args.lines.now) c.options.result (option_count c.args.poll.now) c.electors.result (elector_count c.args.poll.now) c.len.result (length c.args.lines.now) c.last_in_time.result (last_in_time c.args.poll.now)
-    c.in_ok-ballot_box.ensures c.options.ensures.number c.electors.ensures.number c.len.ensures.number c.last_in_time.ensures.number
+    c.in_ok-ballot_box.ensures ∙ ap (λ n. box_of c.args.poll.now n []) c.len.ensures.number
+    ∙ ap (box_of c.args.poll.now (length c.args.lines.now)) (sym (none_cast (last_in_time c.args.poll.now) (readings c.args.poll.now c.args.lines.now)))
 
 pub cast_at_desk_1-requires-clause-unused : goal.cast_at_desk_1-requires-clause-unused
 cast_at_desk_1-requires-clause-unused c =
@@ -25,13 +25,7 @@ loop-place-preserved c =
     let n = c.loop-place.place + 1 in
     let r = c.read_line-reading.result in
     let f : BoxState → BoxState = λ b. record b { steps = b.steps ++ Cast 1 n r (reply_to b.last_in_time b.steps n r) ∷ [] } in
-    let with_steps : List Step → BoxState = λ xs. record {
-      options = option_count c.args.poll.now;
-      electors = elector_count c.args.poll.now;
-      limit = length c.args.lines.now;
-      last_in_time = last_in_time c.args.poll.now;
-      steps = xs;
-    } in
+    let with_steps : List Step → BoxState = box_of c.args.poll.now (length c.args.lines.now) in
     let all = readings c.args.poll.now c.args.lines.now in
     c.cast_at_desk_1.ensures
     ∙ (ap f c.loop-place.invariant
@@ -45,23 +39,13 @@ unreachable-requires c =
     true≢false (sym closed ∙ is_open)
 
 -- all lines are cast, and the box is closed
-closed_steps : (c : goal.In-Ok) → c.close.new.self ≡ record {
-  options = option_count c.args.poll.now;
-  electors = elector_count c.args.poll.now;
-  limit = length c.args.lines.now;
-  last_in_time = last_in_time c.args.poll.now;
-  steps = casts_of (last_in_time c.args.poll.now) (readings c.args.poll.now c.args.lines.now) (length c.args.lines.now) ++ Close ∷ [];
-}
+closed_steps : (c : goal.In-Ok)
+    → c.close.new.self ≡ box_of c.args.poll.now (length c.args.lines.now) (casts_of (last_in_time c.args.poll.now) (readings c.args.poll.now c.args.lines.now) (length c.args.lines.now) ++ Close ∷ [])
 closed_steps c =
     let close : BoxState → BoxState = λ b. record b { steps = b.steps ++ Close ∷ [] } in
     let all : c.loop-place.place ≡ length c.args.lines.now = omega arith in
-    let with_casts : ℕ → BoxState = λ n. record {
-      options = option_count c.args.poll.now;
-      electors = elector_count c.args.poll.now;
-      limit = length c.args.lines.now;
-      last_in_time = last_in_time c.args.poll.now;
-      steps = casts_of (last_in_time c.args.poll.now) (readings c.args.poll.now c.args.lines.now) n ++ Close ∷ [];
-    } in
+    let with_casts : ℕ → BoxState =
+    λ n. box_of c.args.poll.now (length c.args.lines.now) (casts_of (last_in_time c.args.poll.now) (readings c.args.poll.now c.args.lines.now) n ++ Close ∷ []) in
     c.in-Ok.ensures.ok ∙ (ap close c.loop-place.invariant ∙ ap with_casts all)
 
 pub returns-clause-held : goal.returns-clause-held
