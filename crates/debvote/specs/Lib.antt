@@ -1,3 +1,2 @@
--- what the contracts of public calls say
-pub mod CommandLine
-pub mod Order
+-- what the contracts of the program's functions say
+pub mod Jobs

@@ -4,296 +4,138 @@
 //! reply of the ballot box to each line, and `debvote check` checks a poll file. Without arguments the program reads a poll
 //! and its ballots from standard input, joined by a line `%%`, and acts as `steps`.
 //!
-//! `main` reads, calls and reports. All that matters stands in functions with contracts: `command_line` says what the
-//! words ask for, `vote_files` reads the inputs, and `vote_runs` has the runs, how they end, and what they say then.
+//! The program reads, calls and reports. What the words ask for is said by `vote_command`, the inputs are read by `vote_files`,
+//! and all else is one call of `vote_runs`, which writes what is meant by the bytes that were read and says how the run ended.
 #![tactic(auto)]
 
-mod command_line;
-#[cfg(test)]
-mod tests;
+mod inputs;
 
-ghost use Rattle.std.specs.Prelude.{◌≡◌, ◌≤◌, IfOk, IfSome, vec_len};
+ghost use Rattle.std.specs.Prelude.{◌≡◌, ◌⊎◌, Err};
+ghost use Rattle.debvote.specs.Jobs.{IsJobOf};
+ghost use Rattle.vote_command.specs.Order.{DesksFit, order_status};
+ghost use Rattle.vote_runs.specs.Performing.{HasDesks};
+ghost use Rattle.vote_runs.specs.Status.{status};
 
-use crate::command_line::{OrderFault, Task, order, order_status};
-use std::alloc::{AllocError, Global};
-use std::env;
-use std::fs::File;
-use std::io::{self, Read, Write};
-use std::marker::Brand;
+use crate::inputs::{read_ballots, read_joined, read_poll};
 use std::process::ExitCode;
 use std::rt::{Env, Files};
 use std::sync::Wait;
-use std::sync::ledger::{Blank, Ledger};
 use std::thread::Threads;
-use thiserror::Error;
+use std::{env, io};
+use vote_command::{OrderFault, Task, order, order_status};
 use vote_desks::NoGate;
-use vote_files::{Meter, ReadFault, ReaderSource, WriterSink, read_limited};
-use vote_runs::{RunFault, check_poll, fault_status, print_steps, run, status, steps_joined};
-use vote_steps::MAX_DESKS;
+use vote_runs::{Ended, Job, RunFault, perform_on, status};
 
-/// The most bytes of a poll file.
-const POLL_LIMIT: usize = 1_048_576;
-
-/// The most bytes of a ballot file.
-const BALLOTS_LIMIT: usize = 33_554_432;
-
-/// The most bytes of a joined input: both files and the line between them.
-const JOINED_LIMIT: usize = 34_603_011;
-
-/// Why the program ends with a line on standard error.
-#[derive(Debug, Drop, Error)]
-enum Failure {
-    #[error("poll unreadable")]
-    PollUnreadable,
-    #[error("poll too long")]
-    PollTooLong,
-    #[error("ballots unreadable")]
-    BallotsUnreadable,
-    #[error("ballots too long")]
-    BallotsTooLong,
-    #[error("out of memory")]
-    Memory,
-    #[error(transparent)]
-    Run(#[from] RunFault),
-}
-
-impl Failure {
-    fn of_poll(fault: ReadFault) -> Failure {
-        match fault {
-            ReadFault::Device => Failure::PollUnreadable,
-            ReadFault::TooLong => Failure::PollTooLong,
-            ReadFault::Memory => Failure::Memory,
-        }
-    }
-
-    fn of_ballots(fault: ReadFault) -> Failure {
-        match fault {
-            ReadFault::Device => Failure::BallotsUnreadable,
-            ReadFault::TooLong => Failure::BallotsTooLong,
-            ReadFault::Memory => Failure::Memory,
-        }
-    }
-
-    /// The exit status.
-    fn status(&self) -> u8 {
-        match self {
-            Failure::PollUnreadable | Failure::PollTooLong => 3,
-            Failure::BallotsUnreadable | Failure::BallotsTooLong => 4,
-            Failure::Memory => 5,
-            Failure::Run(fault) => fault_status(fault),
-        }
-    }
-}
-
-impl From<AllocError> for Failure {
-    fn from(_fault: AllocError) -> Failure {
-        Failure::Memory
-    }
-}
-
-fn read_metered<R: Read + Drop, L: Ledger>(
-    alloc: Global,
-    reader: R,
-    limit: usize,
-    blank: Blank,
-) -> Result<Vec<u8>, ReadFault>
-    requires name { blank.name ≡ L.name }
-    requires parts { blank.parts ≡ L.parts }
-    requires two { blank.parts ≡ 2 }
-    ensures whole { IfOk result (λ bytes. IfSome (R.remaining reader) (λ input. bytes.items ≡ input)) }
-    ensures within { IfOk result (λ bytes. vec_len bytes ≤ limit) }
+/// The job of a task whose files have these bytes.
+fn job_of<'a>(task: &Task<'a>, poll: &'a [u8], ballots: &'a [u8]) -> Job<'a>
+    requires { DesksFit task.now }
+    ensures job { IsJobOf task.now poll.now ballots.now result }
+    ensures desks { HasDesks result }
 {
-    let mut source = ReaderSource::new(reader, Meter::<L>::new(blank));
-    read_limited(alloc, &mut source, limit)
-}
-
-/// All that the reader gives, where it is no more than the limit.
-fn read_all<R: Read + Drop>(alloc: Global, reader: R, limit: usize) -> Result<Vec<u8>, ReadFault>
-    ensures whole { IfOk result (λ bytes. IfSome (R.remaining reader) (λ input. bytes.items ≡ input)) }
-    ensures within { IfOk result (λ bytes. vec_len bytes ≤ limit) }
-{
-    read_metered::<R, Brand>(alloc, reader, limit, Blank::new(2))
-}
-
-/// All bytes of a file. One that can't be opened is unreadable.
-fn read_file<R: Files + AllocGlobal>(
-    rt: &R,
-    name: &str,
-    limit: usize,
-) -> Result<Vec<u8>, ReadFault> {
-    let Ok(file) = File::open(rt, name) else {
-        return Err(ReadFault::Device);
-    };
-    read_all(rt.alloc(), file, limit)
-}
-
-fn read_poll<R: Files + AllocGlobal>(rt: &R, name: &str) -> Result<Vec<u8>, Failure> {
-    read_file(rt, name, POLL_LIMIT).map_err(Failure::of_poll)
-}
-
-fn read_ballots<R: Files + AllocGlobal>(rt: &R, name: &str) -> Result<Vec<u8>, Failure> {
-    read_file(rt, name, BALLOTS_LIMIT).map_err(Failure::of_ballots)
-}
-
-/// A task with its inputs read.
-#[derive(Drop)]
-enum Job<'a> {
-    Count {
-        poll: Vec<u8>,
-        ballots: Vec<u8>,
-        desks: u8,
-        casting: Option<&'a str>,
-    },
-    Steps {
-        poll: Vec<u8>,
-        ballots: Vec<u8>,
-    },
-    Check {
-        poll: Vec<u8>,
-    },
-    Joined {
-        input: Vec<u8>,
-    },
-}
-
-/// Reads the files of a task, the poll first, before anything is checked.
-fn job_of<'a, R: Files + AllocGlobal>(rt: &R, task: Task<'a>) -> Result<Job<'a>, Failure> {
     match task {
-        Task::Count {
+        Task::Count { desks, casting, .. } => Job::Count {
             poll,
             ballots,
-            desks,
-            casting,
-        } => Ok(Job::Count {
-            poll: read_poll(rt, poll)?,
-            ballots: read_ballots(rt, ballots)?,
-            desks,
-            casting,
-        }),
-        Task::Steps { poll, ballots } => Ok(Job::Steps {
-            poll: read_poll(rt, poll)?,
-            ballots: read_ballots(rt, ballots)?,
-        }),
-        Task::Check { poll } => Ok(Job::Check {
-            poll: read_poll(rt, poll)?,
-        }),
+            desks: *desks,
+            casting: casting.map(|name| name.as_bytes()),
+        },
+        Task::Steps { .. } => Job::Steps { poll, ballots },
+        Task::Check { .. } => Job::Check { poll },
     }
 }
 
-fn perform_metered<W: Write + Drop, L: Ledger, R: Threads + Wait + Sync>(
+/// Reads the files of a task, the poll first, before anything is checked, and does its job.
+fn carry_out<R: Files + Print + AllocGlobal + Threads + Wait + Sync>(
     rt: &R,
-    alloc: Global,
-    job: &Job<'_>,
-    writer: W,
-    blank: Blank,
-) -> Result<u8, RunFault>
-    requires name { blank.name ≡ L.name }
-    requires parts { blank.parts ≡ L.parts }
-    requires two { blank.parts ≡ 2 }
+    task: &Task<'_>,
+) -> Result<Ended, RunFault>
+    requires { DesksFit task.now }
 {
-    let mut sink = WriterSink::new(writer, Meter::<L>::new(blank));
-    match job {
-        Job::Count {
-            poll,
-            ballots,
-            desks,
-            casting,
-        } => {
-            let casting = casting.map(|name| name.as_bytes());
-            let ended = run(
-                rt,
-                alloc,
-                poll.as_slice(),
-                ballots.as_slice(),
-                (*desks).clamp(1, MAX_DESKS),
-                casting,
-                &NoGate,
-                &mut sink,
-            )?;
-            Ok(status(&Ok(ended)))
+    let (poll, ballots) = match task {
+        Task::Count { poll, ballots, .. } | Task::Steps { poll, ballots } => {
+            (read_poll(rt, poll)?, read_ballots(rt, ballots)?)
         }
-        Job::Steps { poll, ballots } => {
-            print_steps(alloc, poll.as_slice(), ballots.as_slice(), &mut sink)?;
-            Ok(0)
-        }
-        Job::Check { poll } => {
-            check_poll(alloc, poll.as_slice(), &mut sink)?;
-            Ok(0)
-        }
-        Job::Joined { input } => {
-            steps_joined(alloc, input.as_slice(), &mut sink)?;
-            Ok(0)
-        }
-    }
+        Task::Check { poll } => (read_poll(rt, poll)?, Vec::new(rt.alloc())),
+    };
+    let job = job_of(task, poll.as_slice(), ballots.as_slice());
+    let (_, outcome) = perform_on(rt, rt.alloc(), &job, &NoGate, io::writer(rt));
+    outcome
 }
 
-/// Does the job, and gives the exit status.
-fn perform<W: Write + Drop, R: Threads + Wait + Sync>(
+/// Writes the reply to each ballot of standard input, a poll and its ballots joined by a line `%%`.
+fn print_joined<R: Input + Print + AllocGlobal + Threads + Wait + Sync>(
     rt: &R,
-    alloc: Global,
-    job: &Job<'_>,
-    writer: W,
-) -> Result<u8, RunFault> {
-    perform_metered::<W, Brand, R>(rt, alloc, job, writer, Blank::new(2))
+) -> Result<Ended, RunFault> {
+    let input = read_joined(rt)?;
+    let job = Job::Joined {
+        input: input.as_slice(),
+    };
+    let (_, outcome) = perform_on(rt, rt.alloc(), &job, &NoGate, io::writer(rt));
+    outcome
 }
 
-/// Prints the text of words that are no task: help on standard output, a refusal on standard error.
-fn explain<R: Print + Eprint>(rt: &R, fault: &OrderFault) -> Result<u8, Failure> {
+/// Says on standard error why a run did not come to its end, and gives the exit status.
+fn report<R: Eprint>(rt: &R, outcome: &Result<Ended, RunFault>) -> u8
+    ensures { result ≡ status outcome.now }
+{
+    if let Err(fault) = outcome {
+        let _ = eprintln!(rt; "debvote: {fault}");
+    }
+    status(outcome)
+}
+
+/// Prints the text for words that are no task, help on standard output and a refusal on standard error, and gives the exit status.
+fn explain<R: Print + Eprint>(rt: &R, fault: &OrderFault) -> u8
+    ensures { (result ≡ order_status fault.now) ⊎ (result ≡ status (Err RunFault.Output)) }
+{
     match fault {
         OrderFault::Help(text) => {
             if rt.print(text).is_err() {
-                return Err(Failure::Run(RunFault::Output));
+                return report(rt, &Err(RunFault::Output));
             }
         }
         OrderFault::Refused(text) => {
             let _ = rt.eprint(text);
         }
-        OrderFault::Memory => return Err(Failure::Memory),
+        OrderFault::Memory => return report(rt, &Err(RunFault::Memory)),
     }
-    Ok(order_status(fault))
+    order_status(fault)
 }
 
 /// Acts on the words, or without any on standard input, and gives the exit status.
 fn act<R: Files + Input + Print + Eprint + AllocGlobal + Threads + Wait + Sync>(
     rt: &R,
     words: &[&str],
-) -> Result<u8, Failure> {
-    let alloc = rt.alloc();
-    let job = if words.is_empty() {
-        let input = read_all(alloc, rt.reader(), JOINED_LIMIT).map_err(Failure::of_ballots)?;
-        Job::Joined { input }
-    } else {
-        match order(alloc, words) {
-            Ok(task) => job_of(rt, task)?,
-            Err(fault) => return explain(rt, &fault),
-        }
-    };
-    Ok(perform(rt, alloc, &job, io::writer(rt))?)
+) -> u8 {
+    if words.is_empty() {
+        return report(rt, &print_joined(rt));
+    }
+    match order(rt.alloc(), words) {
+        Ok(task) => report(rt, &carry_out(rt, &task)),
+        Err(fault) => explain(rt, &fault),
+    }
 }
 
+/// Acts on the words after the program's name, and gives the exit status.
 fn run_program<R: Files + Input + Print + Eprint + Env + AllocGlobal + Threads + Wait + Sync>(
     rt: &R,
-) -> Result<u8, Failure> {
-    let alloc = rt.alloc();
+) -> Result<u8, RunFault> {
     let Ok(args) = env::args(rt) else {
-        return Err(Failure::Memory);
+        return Err(RunFault::Memory);
     };
-    let args: Vec<String> = args.collect(alloc)?;
+    let args: Vec<String> = args.collect(rt.alloc())?;
     let words: Vec<&str> = args
         .iter()
         .skip(1)
         .map(|word| word.as_str())
-        .collect(alloc)?;
-    act(rt, words.as_slice())
+        .collect(rt.alloc())?;
+    Ok(act(rt, words.as_slice()))
 }
 
 fn main(rt: HostRuntime) -> ExitCode {
     let status = match run_program(&rt) {
         Ok(status) => status,
-        Err(failure) => {
-            let _ = eprintln!(rt; "debvote: {failure}");
-            failure.status()
-        }
+        Err(fault) => report(&rt, &Err(fault)),
     };
     ExitCode::from(status)
 }

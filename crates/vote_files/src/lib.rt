@@ -5,7 +5,7 @@
 //! contracts of [`read_limited`] and [`write_text`] hold at every device, whatever it answers and whenever it fails.
 //!
 //! - [`read_limited`] reads an input to its end, in no more than so many bytes and so many reads, or says why not: its
-//!   device failed, more came than the limit, or memory ran out.
+//!   device failed, more came than the limit, or memory ran out. [`read_all`] does so for a reader of std.
 //! - [`write_text`] writes a text, all of it and nothing else, and flushes it; where it can't, a front of the text is
 //!   written.
 //! - [`ReaderSource`] and [`WriterSink`] are devices over std's readers and writers. They count by a [`Meter`], which only
@@ -24,7 +24,7 @@ pub use device::{DeviceFault, Sink, Source};
 pub use input::{ReadFault, read_limited};
 pub use meter::Meter;
 pub use output::write_text;
-pub use standard::{ReaderSource, WriterSink};
+pub use standard::{ReaderSource, WriterSink, read_all};
 
 #[cfg(test)]
 mod tests;

@@ -1,13 +1,11 @@
 -- What a count writes, and how it ends.
-use Rattle.std.specs.Prelude.{◌≡◌, ◌+◌, ℕ, Option, Some, None, option_map, Result, Ok, Err}
-use Rattle.std.specs.Io.KnownBytes.{Appends, Keeps}
+use Rattle.std.specs.Prelude.{◌≡◌, ◌+◌, ℕ, Option, Some, None, option_map, Result, Ok, IfOk}
 use Rattle.vote_count.specs.declared.Decision.{Decision}
 use Rattle.vote_count.specs.declared.Decision.TheVariants as decision
 use Rattle.vote_poll.specs.Lines.{lines_of}
 use Rattle.vote_poll.specs.Names.{place_of}
 use Rattle.vote_poll.specs.PollContent.{PollContent}
 use Rattle.vote_poll.specs.PollFile.{poll_in}
-use Rattle.vote_files.specs.Device.{AppendsPrefix}
 use Rattle.vote_sheet.specs.Sheet.{Sheet, Text, sheet_text}
 use Rattle.vote_sheet.specs.SheetOf.{IsSheetOf}
 use Rattle.vote_runs.specs.declared.fault.Ended.{Ended}
@@ -26,10 +24,10 @@ NamesNoOption poll None = ⊥
 NamesNoOption poll (Some name) = place_of name poll.options ≡ None
 
 -- once the poll is read, the casting vote is refused exactly where it names no option
-abbrev pub AnswersCasting : {T : Type 0} → Text → Option Text → Result T RunFault → Type 0
-AnswersCasting poll_text casting (Err (run.Poll fault)) = Unit {0}
-AnswersCasting poll_text casting (Err run.NoSuchOption) = (poll : PollContent) × (poll_in poll_text ≡ Ok poll) × NamesNoOption poll casting
-AnswersCasting poll_text casting result = (poll : PollContent) × (poll_in poll_text ≡ Ok poll) × ¬ NamesNoOption poll casting
+abbrev pub AnswersCasting : Text → Option Text → Option RunFault → Type 0
+AnswersCasting poll_text casting (Some (run.Poll fault)) = Unit {0}
+AnswersCasting poll_text casting (Some run.NoSuchOption) = (poll : PollContent) × (poll_in poll_text ≡ Ok poll) × NamesNoOption poll casting
+AnswersCasting poll_text casting stop = (poll : PollContent) × (poll_in poll_text ≡ Ok poll) × ¬ NamesNoOption poll casting
 
 abbrev pub ended_of : Decision → Ended
 ended_of (decision.Winner option) = ended.Decided option
@@ -42,8 +40,6 @@ IsCountOf poll_text ballots casting text end =
     (poll : PollContent) × (s : Sheet) × (poll_in poll_text ≡ Ok poll) × IsSheetOf poll (lines_of ballots) (casting_option poll casting) s
     × (text ≡ sheet_text s) × (end ≡ ended_of s.decision)
 
--- the sheet is written once, and nothing else; where the output fails, a front of it; else nothing
-abbrev pub WritesCount : Text → Text → Option Text → Option Text → Option Text → Result Ended RunFault → Type 0
-WritesCount poll_text ballots casting old new (Ok end) = (text : Text) × IsCountOf poll_text ballots casting text end × Appends old new text
-WritesCount poll_text ballots casting old new (Err run.Output) = (text : Text) × (end : Ended) × IsCountOf poll_text ballots casting text end × AppendsPrefix old new text
-WritesCount poll_text ballots casting old new (Err fault) = Keeps old new
+-- the text is that sheet, and where the run came to an end, it ended by what the sheet decides
+abbrev pub IsCount : Text → Text → Option Text → Result Ended RunFault → Text → Type 0
+IsCount poll_text ballots casting result text = (end : Ended) × IsCountOf poll_text ballots casting text end × IfOk result (λ ended. ended ≡ end)

@@ -2,4 +2,5 @@
 pub mod Joined
 pub mod Runs
 pub mod Counting
+pub mod Performing
 pub mod Status

@@ -1,5 +1,5 @@
--- What a run answers, and what it has written then.
-use Rattle.std.specs.Prelude.{◌≡◌, ◌<◌, ◌≤◌, List, Option, Result, Ok, Err, IsOk, length}
+-- What a run answers, and what it has written then. A run that did not come to its end stopped by a fault.
+use Rattle.std.specs.Prelude.{◌≡◌, ◌<◌, ◌≤◌, List, Option, Some, None, Ok, IsOk, length}
 use Rattle.std.specs.Io.KnownBytes.{Appends, Keeps}
 use Rattle.vote_poll.specs.PollContent.{PollContent}
 use Rattle.vote_poll.specs.PollFile.{Fails, poll_in}
@@ -8,16 +8,15 @@ use Rattle.vote_poll.specs.declared.lines.TheConstants.{MAX_LINES}
 use Rattle.vote_poll.specs.declared.lines.LinesFault.{LinesFault}
 use Rattle.vote_poll.specs.declared.lines.LinesFault.TheVariants as lines
 use Rattle.vote_files.specs.Device.{AppendsPrefix}
-use Rattle.vote_runs.specs.Joined.{joined_parts}
 use Rattle.vote_sheet.specs.Steps.{IsStepsText, check_text}
 use Rattle.vote_sheet.specs.Texts.{Text}
 use Rattle.vote_runs.specs.declared.fault.RunFault.{RunFault}
 use Rattle.vote_runs.specs.declared.fault.RunFault.TheVariants as run
 
 -- the poll is refused exactly for what its text means, memory aside; any other answer comes where its text means a poll
-abbrev pub AnswersPoll : {T : Type 0} → Text → Result T RunFault → Type 0
-AnswersPoll poll_text (Err (run.Poll fault)) = Fails fault (poll_in poll_text)
-AnswersPoll poll_text result = IsOk (poll_in poll_text)
+abbrev pub AnswersPoll : Text → Option RunFault → Type 0
+AnswersPoll poll_text (Some (run.Poll fault)) = Fails fault (poll_in poll_text)
+AnswersPoll poll_text stop = IsOk (poll_in poll_text)
 
 -- too many lines, or no memory for them
 abbrev pub RefusesLines : List Text → LinesFault → Type 0
@@ -25,25 +24,21 @@ RefusesLines all lines.TooMany = MAX_LINES < length all
 RefusesLines all lines.Memory = length all ≤ MAX_LINES
 
 -- once the poll and the casting vote are read, the lines are refused exactly where there are too many, memory aside
-abbrev pub AnswersLines : {T : Type 0} → List Text → Result T RunFault → Type 0
-AnswersLines all (Err (run.Poll fault)) = Unit {0}
-AnswersLines all (Err run.NoSuchOption) = Unit {0}
-AnswersLines all (Err (run.Lines fault)) = RefusesLines all fault
-AnswersLines all result = length all ≤ MAX_LINES
+abbrev pub AnswersLines : List Text → Option RunFault → Type 0
+AnswersLines all (Some (run.Poll fault)) = Unit {0}
+AnswersLines all (Some run.NoSuchOption) = Unit {0}
+AnswersLines all (Some (run.Lines fault)) = RefusesLines all fault
+AnswersLines all stop = length all ≤ MAX_LINES
 
 -- the text that is meant is written once, and nothing else; where the output fails, a front of it; else nothing
-abbrev pub Writes : {T : Type 0} → (Text → Type 0) → Option Text → Option Text → Result T RunFault → Type 0
-Writes IsMeant old new (Ok end) = (text : Text) × IsMeant text × Appends old new text
-Writes IsMeant old new (Err run.Output) = (text : Text) × IsMeant text × AppendsPrefix old new text
-Writes IsMeant old new (Err fault) = Keeps old new
+abbrev pub Writes : (Text → Type 0) → Option Text → Option Text → Option RunFault → Type 0
+Writes IsMeant old new None = (text : Text) × IsMeant text × Appends old new text
+Writes IsMeant old new (Some run.Output) = (text : Text) × IsMeant text × AppendsPrefix old new text
+Writes IsMeant old new (Some fault) = Keeps old new
 
 -- the text of `steps` for a poll file and a ballot file
 abbrev pub AreSteps : Text → Text → Text → Type 0
 AreSteps poll_text ballots text = (poll : PollContent) × (poll_in poll_text ≡ Ok poll) × IsStepsText poll (lines_of ballots) text
-
--- the text of `steps` for both in one input
-abbrev pub AreStepsJoined : Text → Text → Type 0
-AreStepsJoined input text = AreSteps (joined_parts input).0 (joined_parts input).1 text
 
 -- the text of `check` for a poll file
 abbrev pub IsCheck : Text → Text → Type 0

@@ -1,4 +1,4 @@
--- The exit status of a run.
+-- The exit status of a run, and which fault an input gives that could not be read.
 use Rattle.std.specs.Prelude.{ℕ, Result, Ok, Err}
 use Rattle.vote_poll.specs.declared.fault.PollFault.{PollFault}
 use Rattle.vote_poll.specs.declared.fault.PollFault.TheVariants as poll
@@ -8,10 +8,32 @@ use Rattle.vote_desks.specs.declared.DeskFault.{DeskFault}
 use Rattle.vote_desks.specs.declared.DeskFault.TheVariants as desk
 use Rattle.vote_desks.specs.declared.VoteFault.{VoteFault}
 use Rattle.vote_desks.specs.declared.VoteFault.TheVariants as vote
+use Rattle.vote_files.specs.declared.ReadFault.{ReadFault}
+use Rattle.vote_files.specs.declared.ReadFault.TheVariants as read
+use Rattle.vote_runs.specs.declared.fault.InputFault.{InputFault}
+use Rattle.vote_runs.specs.declared.fault.InputFault.TheVariants as input
 use Rattle.vote_runs.specs.declared.fault.Ended.{Ended}
 use Rattle.vote_runs.specs.declared.fault.Ended.TheVariants as ended
 use Rattle.vote_runs.specs.declared.fault.RunFault.{RunFault}
 use Rattle.vote_runs.specs.declared.fault.RunFault.TheVariants as run
+
+-- why a poll file, or else the ballots or a joined input, was not read
+abbrev pub poll_unread : ReadFault → RunFault
+poll_unread read.Device = run.Input input.PollUnreadable
+poll_unread read.TooLong = run.Input input.PollTooLong
+poll_unread read.Memory = run.Memory
+
+abbrev pub ballots_unread : ReadFault → RunFault
+ballots_unread read.Device = run.Input input.BallotsUnreadable
+ballots_unread read.TooLong = run.Input input.BallotsTooLong
+ballots_unread read.Memory = run.Memory
+
+-- ---- statuses
+abbrev pub input_status : InputFault → ℕ
+input_status input.PollUnreadable = 3
+input_status input.PollTooLong = 3
+input_status input.BallotsUnreadable = 4
+input_status input.BallotsTooLong = 4
 
 abbrev pub poll_status : PollFault → ℕ
 poll_status poll.Memory = 5
@@ -34,6 +56,7 @@ vote_status (vote.Desk fault) = desk_status fault
 vote_status (vote.Audit fault) = 6
 
 abbrev pub fault_status : RunFault → ℕ
+fault_status (run.Input fault) = input_status fault
 fault_status (run.Poll fault) = poll_status fault
 fault_status run.NoSuchOption = 8
 fault_status (run.Lines fault) = lines_status fault
@@ -45,6 +68,7 @@ abbrev pub ended_status : Ended → ℕ
 ended_status (ended.Decided option) = 0
 ended_status ended.Tie = 1
 ended_status (ended.CastingOutside option) = 8
+ended_status ended.Done = 0
 
 abbrev pub status : Result Ended RunFault → ℕ
 status (Ok end) = ended_status end

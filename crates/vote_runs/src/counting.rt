@@ -1,12 +1,14 @@
 //! The command `count`: the sheet of a poll file and a ballot file.
 
-ghost use Rattle.std.specs.Prelude.{◌≡◌, ◌<◌, ◌≤◌, ◌↔◌, true, Err, IfErr, IfNone, IfOk, IfSome, IsErrOf, OnOk, option_map, string_bytes};
+ghost use Rattle.std.specs.Prelude.{◌≡◌, ◌≢◌, ◌<◌, ◌≤◌, ◌↔◌, ◌⊎◌, true, Err, IfErr, IfNone, IfOk, IfSome, IsErrOf, OnOk, option_map, string_bytes};
 ghost use Rattle.vote_poll.specs.Lines.{lines_of};
 ghost use Rattle.vote_poll.specs.Options.{IsOption};
 ghost use Rattle.vote_poll.specs.PollContent.{option_count};
 ghost use Rattle.vote_desks.specs.Faults.{CanStopVotes};
-ghost use Rattle.vote_runs.specs.Counting.{AnswersCasting, NamesNoOption, WritesCount, casting_option, ended_of};
-ghost use Rattle.vote_runs.specs.Runs.{AnswersLines, AnswersPoll};
+ghost use Rattle.vote_runs.specs.Counting.{AnswersCasting, IsCount, NamesNoOption, casting_option, ended_of};
+ghost use Rattle.std.specs.Result.{result_err};
+ghost use Rattle.vote_runs.specs.declared.fault.InputFault.{InputFault};
+ghost use Rattle.vote_runs.specs.Runs.{AnswersLines, AnswersPoll, Writes};
 ghost use Rattle.vote_sheet.specs.Sheet.{Sheet, sheet_text};
 ghost use Rattle.vote_sheet.specs.SheetOf.{IsSheetOf};
 
@@ -48,7 +50,8 @@ fn ended_of(decision: Decision) -> Ended
     }
 }
 
-/// The sheet of the votes that so many desks take, with the option of the casting vote, and what the sheet decides.
+/// The sheet of the votes that so many desks take, with the option of the casting vote, and what the sheet decides. Its faults
+/// are those of the votes, and want of memory for the sheet.
 fn sheet_of_votes<G: Gate + Sync, R: Threads + Wait + Sync>(
     rt: &R,
     alloc: Global,
@@ -57,16 +60,19 @@ fn sheet_of_votes<G: Gate + Sync, R: Threads + Wait + Sync>(
     desks: u8,
     casting: Option<u8>,
     gate: &G,
-) -> Result<(String, Decision), VoteFault>
+) -> Result<(String, Decision), RunFault>
     requires desks { (1 ≤ desks) × (desks ≤ MAX_DESKS) }
     requires casting { IfSome casting (IsOption (option_count poll.now)) }
     ensures sheet { IfOk result (λ printed. (s : Sheet) × IsSheetOf poll.now lines.now casting s × (string_bytes printed.0 ≡ sheet_text s) × (printed.1 ≡ s.decision)) }
-    ensures votes { IfErr result CanStopVotes }
+    ensures votes { IfErr result (λ fault. (fault ≡ RunFault.Memory) ⊎ ((votes : VoteFault) × (fault ≡ RunFault.Vote votes) × CanStopVotes votes)) }
 {
-    let audited = take_votes(rt, alloc, poll, lines, desks, gate)?;
+    let audited = match take_votes(rt, alloc, poll, lines, desks, gate) {
+        Ok(audited) => audited,
+        Err(fault) => return Err(RunFault::Vote(fault)),
+    };
     match sheet_and_decision(alloc, poll, lines, &audited, casting) {
         Ok(printed) => Ok(printed),
-        Err(AllocError) => Err(VoteFault::Memory),
+        Err(AllocError) => Err(RunFault::Memory),
     }
 }
 
@@ -83,10 +89,11 @@ pub fn run<G: Gate + Sync, W: Sink, R: Threads + Wait + Sync>(
     sink: &mut W,
 ) -> Result<Ended, RunFault>
     requires { (1 ≤ desks) × (desks ≤ MAX_DESKS) }
-    ensures poll { AnswersPoll poll_text.now result }
-    ensures casting { AnswersCasting poll_text.now (option_map (λ name. name.now) casting.entry) result }
-    ensures lines { AnswersLines (lines_of ballots.now) result }
-    ensures writes { WritesCount poll_text.now ballots.now (option_map (λ name. name.now) casting.entry) (W.contents sink.old) (W.contents sink.new) result }
+    ensures input { (fault : InputFault) → result ≢ Err (RunFault.Input fault) }
+    ensures poll { AnswersPoll poll_text.now (result_err result) }
+    ensures casting { AnswersCasting poll_text.now (option_map (λ name. name.now) casting.entry) (result_err result) }
+    ensures lines { AnswersLines (lines_of ballots.now) (result_err result) }
+    ensures writes { Writes (IsCount poll_text.now ballots.now (option_map (λ name. name.now) casting.entry) result) (W.contents sink.old) (W.contents sink.new) (result_err result) }
     ensures votes { (fault : VoteFault) → result ≡ Err (RunFault.Vote fault) → CanStopVotes fault }
     ensures output { IsErrOf result RunFault.Output ↔ (W.faults sink.old < W.faults sink.new) }
     ensures flushed { OnOk result (W.flushed sink.new ≡ true) }
@@ -104,7 +111,7 @@ pub fn run<G: Gate + Sync, W: Sink, R: Threads + Wait + Sync>(
     };
     let (text, decision) = match sheet_of_votes(rt, alloc, &poll, &lines, desks, casting, gate) {
         Ok(printed) => printed,
-        Err(fault) => return Err(RunFault::Vote(fault)),
+        Err(fault) => return Err(fault),
     };
     let ended = ended_of(decision);
     match write_text(sink, text.as_bytes()) {

@@ -1,29 +1,51 @@
 //! How a run ends, and the exit status that says so.
 
 ghost use Rattle.std.specs.Prelude.{◌≡◌};
-ghost use Rattle.vote_runs.specs.Status.{fault_status, status, vote_status};
+ghost use Rattle.vote_runs.specs.Status.{ballots_unread, fault_status, input_status, poll_unread, status, vote_status};
 
 use std::alloc::AllocError;
 use thiserror::Error;
 use vote_desks::{DeskFault, VoteFault};
-use vote_files::DeviceFault;
+use vote_files::{DeviceFault, ReadFault};
 use vote_poll::{LinesFault, PollFault};
 
-/// What a count decided. Options are numbered from 1, and the default option is the last.
+/// How a run ended. Options are numbered from 1, and the default option is the last.
 #[derive(Clone, Copy, Debug, PartialEq, Eq)]
 pub enum Ended {
-    /// This option won, alone or by the casting vote.
+    /// A count was decided: this option won, alone or by the casting vote.
     Decided(u8),
-    /// Several options are left, and there was no casting vote.
+    /// Several options are left of a count, and there was no casting vote.
     Tie,
-    /// Several options are left, and the casting vote was for this one, which is not among them.
+    /// Several options are left of a count, and the casting vote was for this one, which is not among them.
     CastingOutside(u8),
+    /// The text of another run was written.
+    Done,
 }
 
-/// Why a run did not end: the first of these that holds, where `Memory` can take the place of any that would come later.
-/// Its `Display` is the program's fault line.
+/// Why an input was not read. The ballots stand for a joined input too.
+#[derive(Clone, Copy, Debug, PartialEq, Eq, Error)]
+pub enum InputFault {
+    /// The poll file can't be opened, or its device failed.
+    #[error("poll unreadable")]
+    PollUnreadable,
+    /// The poll file has more bytes than its limit.
+    #[error("poll too long")]
+    PollTooLong,
+    /// The ballot file can't be opened, or its device or that of the joined input failed.
+    #[error("ballots unreadable")]
+    BallotsUnreadable,
+    /// The ballot file or the joined input has more bytes than its limit.
+    #[error("ballots too long")]
+    BallotsTooLong,
+}
+
+/// Why a run did not come to its end: the first of these that holds, where `Memory` can take the place of any that would come
+/// later. Its `Display` is the program's fault line.
 #[derive(Clone, Copy, Debug, PartialEq, Eq, Error)]
 pub enum RunFault {
+    /// An input was not read. Nothing was written.
+    #[error(transparent)]
+    Input(InputFault),
     /// The poll file is refused, or memory ran out while it was read. Nothing was written.
     #[error(transparent)]
     Poll(PollFault),
@@ -66,6 +88,37 @@ impl From<AllocError> for RunFault {
     }
 }
 
+/// Why a poll file was not read.
+pub fn poll_unread(fault: ReadFault) -> RunFault
+    ensures { result ≡ poll_unread fault }
+{
+    match fault {
+        ReadFault::Device => RunFault::Input(InputFault::PollUnreadable),
+        ReadFault::TooLong => RunFault::Input(InputFault::PollTooLong),
+        ReadFault::Memory => RunFault::Memory,
+    }
+}
+
+/// Why a ballot file or a joined input was not read.
+pub fn ballots_unread(fault: ReadFault) -> RunFault
+    ensures { result ≡ ballots_unread fault }
+{
+    match fault {
+        ReadFault::Device => RunFault::Input(InputFault::BallotsUnreadable),
+        ReadFault::TooLong => RunFault::Input(InputFault::BallotsTooLong),
+        ReadFault::Memory => RunFault::Memory,
+    }
+}
+
+fn input_status(fault: &InputFault) -> u8
+    ensures { result ≡ input_status fault.now }
+{
+    match fault {
+        InputFault::PollUnreadable | InputFault::PollTooLong => 3,
+        InputFault::BallotsUnreadable | InputFault::BallotsTooLong => 4,
+    }
+}
+
 fn vote_status(fault: &VoteFault) -> u8
     ensures { result ≡ vote_status fault.now }
 {
@@ -78,11 +131,12 @@ fn vote_status(fault: &VoteFault) -> u8
     }
 }
 
-/// The exit status of a run that did not end.
+/// The exit status of a run that did not come to its end.
 pub fn fault_status(fault: &RunFault) -> u8
     ensures { result ≡ fault_status fault.now }
 {
     match fault {
+        RunFault::Input(fault) => input_status(fault),
         RunFault::Poll(PollFault::Memory) | RunFault::Lines(LinesFault::Memory) => 5,
         RunFault::Poll(_) => 3,
         RunFault::NoSuchOption => 8,
@@ -98,7 +152,7 @@ pub fn status(outcome: &Result<Ended, RunFault>) -> u8
     ensures { result ≡ status outcome.now }
 {
     match outcome {
-        Ok(Ended::Decided(_)) => 0,
+        Ok(Ended::Decided(_) | Ended::Done) => 0,
         Ok(Ended::Tie) => 1,
         Ok(Ended::CastingOutside(_)) => 8,
         Err(fault) => fault_status(fault),

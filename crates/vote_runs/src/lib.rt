@@ -4,29 +4,34 @@
 //! - [`run`] counts the ballots of a file by a poll file and writes the result sheet.
 //! - [`print_steps`] writes the reply of the ballot box to each line, and [`steps_joined`] does so for a poll and its ballots in
 //!   one input. [`check_poll`] reads a poll file and writes how many options and electors it has.
+//! - [`perform`] does whichever of them a [`Job`] asks for, and [`perform_on`] does so on a writer of std: it is the one call
+//!   that the program makes once its inputs are read.
 //! - [`sheet`] and [`sheet_and_decision`] give the result sheet of an audited box as a text.
 //! - [`status`] and [`fault_status`] are the exit status of a run, by how it ended ([`Ended`]) or why it did not ([`RunFault`],
-//!   whose `Display` is the program's fault line).
+//!   whose `Display` is the program's fault line). [`poll_unread`] and [`ballots_unread`] name the fault of an input that was
+//!   not read.
 //!
 //! **What is promised.** A run writes the text that is meant, once, and nothing else; where its output fails, a front of that
 //! text; and after any other fault nothing. It answers each fault just where it is so, in the order of the inputs, but that want
 //! of memory can come at any growth and want of a thread at any start. Where it answers that all is well, its sink was flushed.
 //! The clauses hold over every [`Sink`](vote_files::Sink), whatever it answers and whenever it fails.
 //!
-//! The modules: `joined` parts a joined input, `steps` and `counting` are the runs, `audited` the sheet of an audited box, `output`
-//! writes the text of a run, and `fault` says how a run ends.
+//! The modules: `joined` parts a joined input, `steps` and `counting` are the runs, `jobs` does whichever is asked for,
+//! `audited` is the sheet of an audited box, `output` writes the text of a run, and `fault` says how a run ends.
 #![tactic(auto)]
 
 mod audited;
 mod counting;
 mod fault;
+mod jobs;
 mod joined;
 mod output;
 mod steps;
 
 pub use audited::{sheet, sheet_and_decision};
 pub use counting::run;
-pub use fault::{Ended, RunFault, fault_status, status};
+pub use fault::{Ended, InputFault, RunFault, ballots_unread, fault_status, poll_unread, status};
+pub use jobs::{Job, perform, perform_on};
 pub use joined::split_joined;
 pub use steps::{check_poll, print_steps, steps_joined};
 

@@ -5,10 +5,11 @@ ghost use Rattle.clap.specs.Faults.{fault_of};
 ghost use Rattle.clap.specs.Values.{kind_of};
 ghost use Rattle.clap.specs.declared.builder.command.Command.TheViews.{out-Command as fields_of};
 ghost use Rattle.clap.specs.Words.{app_of, first_of, found_of, rows_of, rule_of, subcommand_of, subcommand_rows_of};
-ghost use Rattle.debvote.specs.CommandLine.{bare_command, check_command, count_command, debvote_command, desks_flag, flag, required_flag, steps_command};
-ghost use Rattle.debvote.specs.Order.{AsksFor, HasDesks, HasValues, HelpsIfAsked, IsFaultOfKind, RefusesIfAtFault, order_status, subcommand_name};
-ghost use Rattle.debvote.specs.declared.command_line.Task.{Task};
+ghost use Rattle.vote_command.specs.CommandLine.{bare_command, check_command, count_command, debvote_command, desks_flag, flag, required_flag, steps_command};
+ghost use Rattle.vote_command.specs.Order.{AsksFor, DesksFit, HasDesks, HasValues, HelpsIfAsked, IsFaultOfKind, RefusesIfAtFault, order_status, subcommand_name};
+ghost use Rattle.vote_command.specs.declared.command_line.Task.{Task};
 
+use crate::MAX_DESKS;
 use clap::error::ErrorKind;
 use clap::{Arg, ArgAction, ArgMatches, Command, Error};
 use std::alloc::{AllocError, Global};
@@ -47,7 +48,7 @@ pub enum OrderFault {
 
 impl From<AllocError> for OrderFault {
     ghost use Rattle.std.specs.Prelude.{◌≡◌};
-    ghost use Rattle.debvote.specs.declared.command_line.OrderFault.TheVariants.{Memory};
+    ghost use Rattle.vote_command.specs.declared.command_line.OrderFault.TheVariants.{Memory};
 
     ghost from_gives = { λ _ e. e ≡ Memory };
 
@@ -125,7 +126,7 @@ fn desks_arg<'a>(alloc: Global) -> Arg<'a>
     ensures local { result.global ≡ false }
 {
     value_arg(alloc, "desks", "K", "How many desks enter the ballots")
-        .value_parser(clap::value_parser!(u8).range(1..=8))
+        .value_parser(clap::value_parser!(u8).range(1..=i64::from(MAX_DESKS)))
         .default_value("1")
 }
 
@@ -168,7 +169,7 @@ fn desks(given: &ArgMatches<'_>) -> Option<u8>
     ensures none { IfNone result ((desks : ℕ) → HasDesks (rows_of (found_of given.now)) desks → ⊥) }
 {
     let desks = given.get_one::<u8>("desks")?;
-    if 1 <= desks && desks <= 8 {
+    if 1 <= desks && desks <= MAX_DESKS {
         Some(desks)
     } else {
         None
@@ -244,6 +245,7 @@ fn fault(alloc: Global, error: &Error) -> Result<OrderFault, AllocError>
 
 /// What the words after the program's name ask for.
 pub fn order<'a>(alloc: Global, words: &'a [&'a str]) -> Result<Task<'a>, OrderFault>
+    ensures desks { IfOk result DesksFit }
     ensures ok { IfOk result (AsksFor (subcommand_of debvote_command (map (λ word. word.now) words.entry.now))) }
     ensures help { IfErr result (HelpsIfAsked (fault_of debvote_command (map (λ word. word.now) words.entry.now))) }
     ensures refused { IfErr result (RefusesIfAtFault (fault_of debvote_command (map (λ word. word.now) words.entry.now)) (subcommand_of debvote_command (map (λ word. word.now) words.entry.now))) }

@@ -5,10 +5,11 @@ use Rattle.clap.specs.Words.{Row, Text, first_of, one_of}
 use Rattle.clap.specs.Kinds.{IsAmong, Kinds}
 use Rattle.clap.specs.declared.error.kind.ErrorKind.{ErrorKind}
 use Rattle.clap.specs.declared.error.kind.ErrorKind.TheVariants as kind
-use Rattle.debvote.specs.declared.command_line.OrderFault.{OrderFault}
-use Rattle.debvote.specs.declared.command_line.OrderFault.TheVariants.{Help, Refused, Memory}
-use Rattle.debvote.specs.declared.command_line.Task.{Task}
-use Rattle.debvote.specs.declared.command_line.Task.TheVariants.{Count, Steps, Check}
+use Rattle.vote_command.specs.declared.TheConstants.{MAX_DESKS}
+use Rattle.vote_command.specs.declared.command_line.OrderFault.{OrderFault}
+use Rattle.vote_command.specs.declared.command_line.OrderFault.TheVariants.{Help, Refused, Memory}
+use Rattle.vote_command.specs.declared.command_line.Task.{Task}
+use Rattle.vote_command.specs.declared.command_line.Task.TheVariants.{Count, Steps, Check}
 
 -- the value of a subcommand's option
 abbrev pub HasText : List Row → Text → Text → Type 0
@@ -19,7 +20,13 @@ abbrev pub HasNumber : List Row → Text → ℕ → Type 0
 HasNumber rows name n = (text : Text) × (one_of name rows ≡ Some text) × IsNumeral 10 (without_leading_plus text) × (n ≡ digits_value 10 (without_leading_plus text))
 
 abbrev pub HasDesks : List Row → ℕ → Type 0
-HasDesks rows desks = (1 ≤ desks) × (desks ≤ 8) × HasNumber rows (codes "desks") desks
+HasDesks rows desks = (1 ≤ desks) × (desks ≤ MAX_DESKS) × HasNumber rows (codes "desks") desks
+
+-- a count has a number of desks that may be asked for
+abbrev pub DesksFit : Task → Type 0
+DesksFit (Count poll ballots desks casting) = (1 ≤ desks) × (desks ≤ MAX_DESKS)
+DesksFit (Steps poll ballots) = Unit {0}
+DesksFit (Check poll) = Unit {0}
 
 -- the subcommand that asks for the task
 abbrev pub subcommand_name : Task → Text

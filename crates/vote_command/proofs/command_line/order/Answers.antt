@@ -5,11 +5,11 @@ use Rattle.clap.specs.Kinds.{HasKind, Kinds}
 use Rattle.clap.specs.Values.{kind_of}
 use Rattle.clap.specs.Words.{App, Row, Text, is_simple, subcommand_of}
 use Rattle.clap.specs.declared.error.Error.{Error}
-use Rattle.debvote.specs.CommandLine.{debvote_command}
-use Rattle.debvote.specs.Order.{HelpsIfAsked, IsFaultOfKind, RefusesIfAtFault}
-use Rattle.debvote.specs.declared.command_line.OrderFault.{OrderFault}
-use Rattle.debvote.specs.declared.command_line.OrderFault.TheVariants.{Help, Refused, Memory}
-use Rattle.debvote.proofs.command_line.order.Goals as goal
+use Rattle.vote_command.specs.CommandLine.{debvote_command}
+use Rattle.vote_command.specs.Order.{HelpsIfAsked, IsFaultOfKind, RefusesIfAtFault}
+use Rattle.vote_command.specs.declared.command_line.OrderFault.{OrderFault}
+use Rattle.vote_command.specs.declared.command_line.OrderFault.TheVariants.{Help, Refused, Memory}
+use Rattle.vote_command.proofs.command_line.order.Goals as goal
 
 free : is_simple_and_free debvote_command ≡ true
 unfolding clap_on_literals

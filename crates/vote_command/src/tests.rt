@@ -4,7 +4,7 @@
 //! the call answered its want of memory. So whoever runs it with one growth refused after another sees whether any other
 //! answer comes.
 
-use crate::command_line::{OrderFault, Task, order, order_status};
+use crate::{OrderFault, Task, order, order_status};
 use std::alloc::Global;
 use std::test::Fail;
 

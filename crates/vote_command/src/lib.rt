@@ -1,0 +1,23 @@
+//! The command line of debvote: what its words ask for.
+//!
+//! - [`order`] reads the words after the program's name by `clap`, and gives the [`Task`] that they ask for, or says why they
+//!   are none ([`OrderFault`]): they ask for help, they are refused, or memory ran out.
+//! - [`order_status`] is the exit status of words that are no task.
+//!
+//! **What is promised.** The contracts of `clap` say which faults words have and which values it finds in them. By them a task
+//! is answered only where the words have no fault, and it has the values of the words; help comes only where the words ask for
+//! it; and a refusal only where `clap` finds a fault in the words, or no task has the values that it finds. The texts of help
+//! and refusals are `clap`'s, and no clause speaks of them.
+//!
+//! Nothing of votes is known here, so this crate is proved beside all others.
+#![tactic(auto)]
+
+mod command_line;
+
+pub use command_line::{OrderFault, Task, order, order_status};
+
+/// The most desks that the words can ask for.
+pub const MAX_DESKS: u8 = 8;
+
+#[cfg(test)]
+mod tests;

@@ -1,0 +1,53 @@
+-- What the program does with the bytes of its inputs, job by job.
+use Rattle.std.specs.Prelude.{◌≡◌, ◌≢◌, ◌≤◌, Option, Some, option_map, Result, IfOk}
+use Rattle.std.specs.Result.{result_err}
+use Rattle.vote_poll.specs.Lines.{lines_of}
+use Rattle.vote_poll.specs.declared.lines.LinesFault.{LinesFault}
+use Rattle.vote_steps.specs.declared.TheConstants.{MAX_DESKS}
+use Rattle.vote_sheet.specs.Texts.{Text}
+use Rattle.vote_runs.specs.Counting.{AnswersCasting, IsCount}
+use Rattle.vote_runs.specs.Joined.{joined_parts}
+use Rattle.vote_runs.specs.Runs.{AnswersLines, AnswersPoll, AreSteps, IsCheck, Writes}
+use Rattle.vote_runs.specs.declared.fault.Ended.{Ended}
+use Rattle.vote_runs.specs.declared.fault.Ended.TheVariants as ended
+use Rattle.vote_runs.specs.declared.fault.RunFault.{RunFault}
+use Rattle.vote_runs.specs.declared.fault.RunFault.TheVariants as run
+use Rattle.vote_runs.specs.declared.jobs.Job.{Job}
+use Rattle.vote_runs.specs.declared.jobs.Job.TheVariants.{Count, Steps, Check, Joined}
+
+-- a count has a number of desks that a box can have
+abbrev pub HasDesks : Job → Type 0
+HasDesks (Count poll ballots desks casting) = (1 ≤ desks) × (desks ≤ MAX_DESKS)
+HasDesks (Steps poll ballots) = Unit {0}
+HasDesks (Check poll) = Unit {0}
+HasDesks (Joined input) = Unit {0}
+
+-- the sheet of these bytes and this casting vote is written, and the run ends by what it decides
+pub record Counts (poll_text ballots : Text) (named : Option Text) (old new : Option Text) (result : Result Ended RunFault) : Type 0 where
+  pub poll : AnswersPoll poll_text (result_err result)
+  pub casting : AnswersCasting poll_text named (result_err result)
+  pub lines : AnswersLines (lines_of ballots) (result_err result)
+  pub writes : Writes (IsCount poll_text ballots named result) old new (result_err result)
+
+-- the replies to the lines of these bytes are written
+pub record PrintsSteps (poll_text ballots : Text) (old new : Option Text) (result : Result Ended RunFault) : Type 0 where
+  pub poll : AnswersPoll poll_text (result_err result)
+  pub lines : AnswersLines (lines_of ballots) (result_err result)
+  pub option : result_err result ≢ Some run.NoSuchOption
+  pub writes : Writes (AreSteps poll_text ballots) old new (result_err result)
+  pub end : IfOk result (λ end. end ≡ ended.Done)
+
+-- the sizes of the poll of these bytes are written
+pub record Checks (poll_text : Text) (old new : Option Text) (result : Result Ended RunFault) : Type 0 where
+  pub poll : AnswersPoll poll_text (result_err result)
+  pub lines : (fault : LinesFault) → result_err result ≢ Some (run.Lines fault)
+  pub option : result_err result ≢ Some run.NoSuchOption
+  pub writes : Writes (IsCheck poll_text) old new (result_err result)
+  pub end : IfOk result (λ end. end ≡ ended.Done)
+
+-- what a sink holds before and after a job, and how the job ends
+abbrev pub Performs : Job → Option Text → Option Text → Result Ended RunFault → Type 0
+Performs (Count poll ballots desks casting) old new result = Counts poll.now ballots.now (option_map (λ name. name.now) casting) old new result
+Performs (Steps poll ballots) old new result = PrintsSteps poll.now ballots.now old new result
+Performs (Check poll) old new result = Checks poll.now old new result
+Performs (Joined input) old new result = PrintsSteps (joined_parts input.now).0 (joined_parts input.now).1 old new result

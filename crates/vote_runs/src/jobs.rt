@@ -1,0 +1,122 @@
+//! What the program does with the bytes of its inputs.
+
+ghost use Rattle.std.specs.Prelude.{◌≡◌, ◌≢◌, ◌<◌, ◌↔◌, true, Err, IfOk, IsErrOf, OnOk};
+ghost use Rattle.std.specs.Result.{result_err};
+ghost use Rattle.vote_desks.specs.Faults.{CanStopVotes};
+ghost use Rattle.vote_runs.specs.Performing.{HasDesks, Performs};
+ghost use Rattle.vote_runs.specs.declared.fault.InputFault.{InputFault};
+
+use crate::counting::run;
+use crate::fault::{Ended, RunFault};
+use crate::steps::{check_poll, print_steps, steps_joined};
+use std::alloc::Global;
+use std::io::Write;
+use std::marker::Brand;
+use std::sync::Wait;
+use std::sync::ledger::{Blank, Ledger};
+use std::thread::Threads;
+use vote_desks::{Gate, VoteFault};
+use vote_files::{Meter, Sink, WriterSink};
+
+/// A run of the program, with the bytes of its inputs.
+#[derive(Clone, Copy, Debug)]
+pub enum Job<'a> {
+    /// Count the ballots, and write the sheet.
+    Count {
+        poll: &'a [u8],
+        ballots: &'a [u8],
+        /// From 1 to [`MAX_DESKS`](vote_steps::MAX_DESKS).
+        desks: u8,
+        /// The name of the option that the casting vote chooses in a tie.
+        casting: Option<&'a [u8]>,
+    },
+    /// Write the reply to each ballot.
+    Steps {
+        poll: &'a [u8],
+        ballots: &'a [u8],
+    },
+    /// Check the poll file.
+    Check {
+        poll: &'a [u8],
+    },
+    /// Write the reply to each ballot of a poll and its ballots in one input.
+    Joined {
+        input: &'a [u8],
+    },
+}
+
+/// How a run ends that decides nothing.
+fn done(outcome: Result<(), RunFault>) -> Result<Ended, RunFault>
+    ensures stop { result_err result ≡ result_err outcome }
+    ensures end { IfOk result (λ end. end ≡ Ended.Done) }
+{
+    match outcome {
+        Ok(()) => Ok(Ended::Done),
+        Err(fault) => Err(fault),
+    }
+}
+
+/// Does a job: writes what is meant by just these bytes, this casting vote and this number of desks, and says how the run ended.
+pub fn perform<G: Gate + Sync, W: Sink, R: Threads + Wait + Sync>(
+    rt: &R,
+    alloc: Global,
+    job: &Job<'_>,
+    gate: &G,
+    sink: &mut W,
+) -> Result<Ended, RunFault>
+    requires { HasDesks job.now }
+    ensures performs { Performs job.now (W.contents sink.old) (W.contents sink.new) result }
+    ensures input { (fault : InputFault) → result ≢ Err (RunFault.Input fault) }
+    ensures votes { (fault : VoteFault) → result ≡ Err (RunFault.Vote fault) → CanStopVotes fault }
+    ensures output { IsErrOf result RunFault.Output ↔ (W.faults sink.old < W.faults sink.new) }
+    ensures flushed { OnOk result (W.flushed sink.new ≡ true) }
+{
+    match job {
+        Job::Count {
+            poll,
+            ballots,
+            desks,
+            casting,
+        } => run(rt, alloc, poll, ballots, *desks, *casting, gate, sink),
+        Job::Steps { poll, ballots } => done(print_steps(alloc, poll, ballots, sink)),
+        Job::Check { poll } => done(check_poll(alloc, poll, sink)),
+        Job::Joined { input } => done(steps_joined(alloc, input, sink)),
+    }
+}
+
+fn perform_metered<G: Gate + Sync, W: Write, L: Ledger, R: Threads + Wait + Sync>(
+    rt: &R,
+    alloc: Global,
+    job: &Job<'_>,
+    gate: &G,
+    writer: W,
+    blank: Blank,
+) -> (W, Result<Ended, RunFault>)
+    requires desks { HasDesks job.now }
+    requires name { blank.name ≡ L.name }
+    requires parts { blank.parts ≡ L.parts }
+    requires two { blank.parts ≡ 2 }
+    ensures performs { Performs job.now (W.contents writer) (W.contents result.0) result.1 }
+    ensures input { (fault : InputFault) → result.1 ≢ Err (RunFault.Input fault) }
+    ensures votes { (fault : VoteFault) → result.1 ≡ Err (RunFault.Vote fault) → CanStopVotes fault }
+{
+    let mut sink = WriterSink::new(writer, Meter::<L>::new(blank));
+    let outcome = perform(rt, alloc, job, gate, &mut sink);
+    (sink.into_writer(), outcome)
+}
+
+/// Does a job as [`perform`] does, on a writer of std, which it gives back.
+pub fn perform_on<G: Gate + Sync, W: Write, R: Threads + Wait + Sync>(
+    rt: &R,
+    alloc: Global,
+    job: &Job<'_>,
+    gate: &G,
+    writer: W,
+) -> (W, Result<Ended, RunFault>)
+    requires { HasDesks job.now }
+    ensures performs { Performs job.now (W.contents writer) (W.contents result.0) result.1 }
+    ensures input { (fault : InputFault) → result.1 ≢ Err (RunFault.Input fault) }
+    ensures votes { (fault : VoteFault) → result.1 ≡ Err (RunFault.Vote fault) → CanStopVotes fault }
+{
+    perform_metered::<G, W, Brand, R>(rt, alloc, job, gate, writer, Blank::new(2))
+}
