@@ -1,18 +1,20 @@
 //! Writing a text whole.
 
-ghost use Rattle.std.specs.Prelude.{◌≡◌, ◌+◌, ◌<◌, ◌↔◌, true, IsErr, OnErr, OnOk};
+ghost use Rattle.std.specs.Prelude.{◌≡◌, ◌+◌, ◌<◌, ◌≤◌, ◌↔◌, true, IsErr, OnErr, OnOk, length};
 ghost use Rattle.std.specs.Io.KnownBytes.{Appends};
 ghost use Rattle.vote_files.specs.Device.{AppendsPrefix};
 
 use crate::device::{DeviceFault, Sink};
 
-/// Writes the text, all of it and nothing else, and flushes the sink. An error comes exactly where a `put` or the flush
-/// failed or a `put` took no bytes, and a front of the text was written then.
+/// Writes the text, all of it and nothing else, and flushes the sink once. An error comes exactly where a `put` or the flush
+/// failed or a `put` took no bytes, and a front of the text was written then. The sink is called at most once for each byte of
+/// the text and once for the flush.
 pub fn write_text<W: Sink>(sink: &mut W, text: &[u8]) -> Result<(), DeviceFault>
     ensures ok { OnOk result (Appends (W.contents sink.old) (W.contents sink.new) text.now) }
     ensures err { OnErr result (AppendsPrefix (W.contents sink.old) (W.contents sink.new) text.now) }
     ensures fault { IsErr result ↔ (W.faults sink.old < W.faults sink.new) }
     ensures flushed { OnOk result (W.flushed sink.new ≡ true) }
+    ensures calls { W.calls sink.new ≤ W.calls sink.old + length text.now + 1 }
 {
     let mut rest = text;
     while !rest.is_empty() {

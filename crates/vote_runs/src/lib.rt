@@ -36,10 +36,6 @@ pub use joined::split_joined;
 pub use steps::{check_poll, print_steps, steps_joined};
 
 #[cfg(test)]
-mod counting_tests;
-#[cfg(test)]
-mod hostile_tests;
-#[cfg(test)]
-mod sheet_tests;
+mod fault_tests;
 #[cfg(test)]
 mod tests;

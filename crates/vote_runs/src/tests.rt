@@ -1,321 +1,296 @@
-//! What no clause says: that calls succeed, and printed text.
+//! What no clause says: that runs succeed. And writers that fail, gates that stop a desk, and memory and threads that may be
+//! refused.
+//!
+//! Each test `memory_of_..` and `threads_of_..` makes its call once, on a writer with room. It ends well where the call gave its
+//! whole right answer, and says `refused` where the call answered its want of memory or of a thread, with nothing written. So
+//! whoever runs it with one growth or one start refused after another sees whether any other answer comes.
 
-ghost use Rattle.std.specs.Prelude.{◌≡◌};
+ghost use Rattle.std.specs.Prelude.{◌≤◌};
+ghost use Rattle.vote_runs.specs.Performing.{HasDesks};
 
+use crate::audited::sheet;
 use crate::fault::{Ended, RunFault, status};
-use crate::steps::{check_poll, print_steps, steps_joined};
+use crate::jobs::{Job, perform_on};
 use std::alloc::{AllocError, Global};
-use std::marker::Brand;
-use std::snapshot::Snapshot;
-use std::sync::ledger::{Blank, Ledger};
+use std::io::{self, ErrorKind, Write};
+use std::process::Abort;
+use std::sync::Wait;
 use std::test::Fail;
-use vote_desks::{AuditFault, DeskFault, EnterFault, VoteFault};
-use vote_files::{DeviceFault, Meter, Sink};
-use vote_poll::{LinesFault, PollFault, PollKey};
+use std::thread::Threads;
+use vote_desks::{Gate, NoGate, Slip, VoteFault, take_votes};
+use vote_poll::{Lines, LinesFault, Poll, PollFault};
 
-/// A sink in memory that takes so many bytes at once, and fails once it holds as many as its limit.
+/// A writer in memory that takes so many bytes at once, fails once it holds as many as its limit, and counts its flushes.
 #[derive(Drop)]
-pub(crate) struct Paper<L: Ledger> {
+struct Paper {
     written: Vec<u8>,
     at_once: usize,
     limit: usize,
-    flushes: bool,
-    flushed: Snapshot<bool>,
-    meter: Meter<L>,
+    can_flush: bool,
+    flushes: u32,
+    /// Whether it was flushed after the last write.
+    is_flushed: bool,
 }
 
-impl<L: Ledger> Paper<L> {
-    /// A paper with what is written on it already.
-    pub(crate) fn new(
-        written: Vec<u8>,
-        at_once: usize,
-        limit: usize,
-        flushes: bool,
-        blank: Blank,
-    ) -> Paper<L>
-        requires name { blank.name ≡ L.name }
-        requires parts { blank.parts ≡ L.parts }
-        requires two { blank.parts ≡ 2 }
-    {
-        Paper {
-            written,
-            at_once,
-            limit,
-            flushes,
-            flushed: Snapshot::of(&false),
-            meter: Meter::<L>::new(blank),
-        }
-    }
-
-    /// The bytes that it holds.
-    pub(crate) fn into_written(self) -> Vec<u8> {
-        let Paper {
-            written,
-            at_once: _,
-            limit: _,
-            flushes: _,
-            flushed: _,
-            meter: _,
-        } = self;
-        written
-    }
-}
-
-impl<L: Ledger> Sink for Paper<L> {
-    ghost use Rattle.std.specs.Prelude.{Some};
-
-    ghost calls = { λ s. s.meter.calls };
-
-    ghost faults = { λ s. s.meter.faults };
-
-    ghost contents = { λ s. Some s.written.items };
-
-    ghost flushed = { λ s. s.flushed.value };
-
-    fn put(&mut self, text: &[u8]) -> Result<usize, DeviceFault> {
-        self.meter.count_call();
-        self.flushed = Snapshot::of(&false);
+impl Write for Paper {
+    fn write(&mut self, text: &[u8]) -> io::Result<usize> {
+        self.is_flushed = false;
         let count = text.len().min(self.at_once);
         if self.written.len() >= self.limit
             || self.written.extend_from_slice(&text[..count]).is_err()
         {
-            self.meter.count_fault();
-            return Err(DeviceFault);
-        }
-        if count == 0 && !text.is_empty() {
-            self.meter.count_fault();
+            return Err(io::Error::from(ErrorKind::Other));
         }
         Ok(count)
     }
 
-    fn flush(&mut self) -> Result<(), DeviceFault> {
-        self.meter.count_call();
-        if !self.flushes {
-            self.meter.count_fault();
-            return Err(DeviceFault);
+    fn flush(&mut self) -> io::Result<()> {
+        if !self.can_flush {
+            return Err(io::Error::from(ErrorKind::Other));
         }
-        self.flushed = Snapshot::of(&true);
+        self.flushes = self.flushes.saturating_add(1);
+        self.is_flushed = true;
         Ok(())
     }
 }
 
-/// What is run on a paper.
-#[derive(Clone, Copy)]
-pub(crate) enum Job<'a> {
-    Steps { poll: &'a str, ballots: &'a str },
-    Joined(&'a str),
-    Check(&'a str),
+/// A paper that takes everything, with room for every text of these tests.
+fn endless(alloc: Global) -> Result<Paper, AllocError> {
+    Ok(Paper {
+        written: Vec::with_capacity(alloc, 4096)?,
+        at_once: usize::MAX,
+        limit: usize::MAX,
+        can_flush: true,
+        flushes: 0,
+        is_flushed: false,
+    })
 }
 
-fn run_metered<L: Ledger>(
+/// A cycle among three options.
+const CYCLE: &[u8] =
+    b"title = \"A cycle\"\noptions = [\"A\", \"B\", \"C\"]\nratios = [1, 1, 1]\ndefault = \"None\"\nquorum = 3\nroll = [\"v0\", \"v1\", \"v2\", \"v3\", \"v4\", \"v5\", \"v6\", \"v7\", \"v8\"]\n";
+
+const BALLOTS: &[u8] =
+    b"v0 1,2,3,4\nv1 1,2,3,4\nv2 1,2,3,4\nv3 1,2,3,4\nv4 3,1,2,4\nv5 3,1,2,4\nv6 3,1,2,4\nv7 2,3,1,4\nv8 2,3,1,4\n";
+
+const SHEET: &str =
+    "Poll: A cycle\nElectors: 9\nQuorum: 3Q, 5 votes\nLines: 9\nValid: 9\nRefused: 0\nVoters: 9\nOptions:\n  1 ratio 1 A\n  2 ratio 1 B\n  3 ratio 1 C\n  4 default None\nVotes:\n        1     2     3     4\n  1     -     6     4     9\n  2     3     -     7     9\n  3     5     2     -     9\n  4     0     0     0     -\nDropped:\n  none\nDefeats:\n  1 over 2 by 6 to 3\n  1 over 4 by 9 to 0\n  2 over 3 by 7 to 2\n  2 over 4 by 9 to 0\n  3 over 1 by 5 to 4\n  3 over 4 by 9 to 0\nRound 1: 1 2 3\n  drop 3 over 1\nRound 2: 1\nWinner: 1 A\n";
+
+/// A count of the cycle at one desk on such a paper: whether what is written is a front of the sheet, how long it is, how often the
+/// paper was flushed, whether it was flushed at last, and how the count ends.
+fn written_of_cycle<R: Threads + Wait + Sync>(
+    rt: &R,
     alloc: Global,
-    written: Vec<u8>,
-    job: &Job<'_>,
-    blank: Blank,
-) -> (Vec<u8>, Result<(), RunFault>)
-    requires name { blank.name ≡ L.name }
-    requires parts { blank.parts ≡ L.parts }
-    requires two { blank.parts ≡ 2 }
-{
-    let mut paper = Paper::<L>::new(written, usize::MAX, usize::MAX, true, blank);
-    let ended = match job {
-        Job::Steps { poll, ballots } => {
-            print_steps(alloc, poll.as_bytes(), ballots.as_bytes(), &mut paper)
-        }
-        Job::Joined(input) => steps_joined(alloc, input.as_bytes(), &mut paper),
-        Job::Check(poll) => check_poll(alloc, poll.as_bytes(), &mut paper),
+    at_once: usize,
+    limit: usize,
+    can_flush: bool,
+) -> Result<(bool, usize, (u32, bool), Result<Ended, RunFault>), AllocError> {
+    let paper = Paper {
+        at_once,
+        limit,
+        can_flush,
+        ..endless(alloc)?
     };
-    (paper.into_written(), ended)
-}
-
-/// Runs the job on a paper with what is written on it already.
-pub(crate) fn run_job(
-    alloc: Global,
-    written: Vec<u8>,
-    job: &Job<'_>,
-) -> (Vec<u8>, Result<(), RunFault>) {
-    run_metered::<Brand>(alloc, written, job, Blank::new(2))
-}
-
-pub(crate) const TWO_ELECTORS: &str =
-    "title = \"Two electors\"\noptions = [\"A\", \"B\"]\nratios = [1, 1]\ndefault = \"None\"\nquorum = 0\nroll = [\"v0\", \"v1\"]\n";
-
-pub(crate) const ELEVEN_LINES: &str =
-    "v1\nv1  1,2,3\nv1 1,2\nv1 0,1,2\nv1 01,2,3\nv1 100,1,2\n\nzz 1,2,3\nzz 1,2\nv1 1,2,3\r\nv1 1,2,3";
-
-pub(crate) const JOINED: &str =
-    "title = \"Two electors\"\noptions = [\"A\", \"B\"]\nratios = [1, 1]\ndefault = \"None\"\nquorum = 0\nroll = [\"ann\", \"bob\"]\n%%\nann 1,2,3\nbob 2,1,3\nann 3,2,1\n";
-
-const THREE_IN_TIME: &str =
-    "title = \"Two electors\"\noptions = [\"A\", \"B\"]\nratios = [1, 1]\ndefault = \"None\"\nquorum = 0\nroll = [\"v0\", \"v1\"]\nlast_envelope = 3\n";
-
-const JOINED_TWO_IN_TIME: &str =
-    "title = \"Two electors\"\noptions = [\"A\", \"B\"]\nratios = [1, 1]\ndefault = \"None\"\nquorum = 0\nroll = [\"ann\", \"bob\"]\nlast_envelope = 2\n%%\nann 1,2,3\nbob 2,1,3\nann 3,2,1\n";
-
-pub(crate) const ELEVEN_REPLIES: &str =
-    "1 bad shape\n2 bad shape\n3 bad rank count\n4 bad shape\n5 bad shape\n6 bad shape\n7 bad shape\n8 bad not on roll\n9 bad rank count\n10 bad shape\n11 counted\n";
-
-pub(crate) const JOINED_REPLIES: &str = "1 counted\n2 counted\n3 replaced\n";
-
-pub(crate) const TWO_ELECTORS_OK: &str = "poll ok: 3 options, 2 electors\n";
-
-/// Whether a job writes this text, and how it ends.
-fn writes(alloc: Global, job: &Job<'_>, text: &str) -> (bool, Result<(), RunFault>) {
-    let (written, ended) = run_job(alloc, Vec::new(alloc), job);
-    (written.as_slice() == text.as_bytes(), ended)
-}
-
-/// Jobs and what they write.
-const TEXTS: &[(Job<'static>, &str)] = &[
-    (
-        Job::Steps {
-            poll: TWO_ELECTORS,
-            ballots: ELEVEN_LINES,
-        },
-        ELEVEN_REPLIES,
-    ),
-    (
-        Job::Steps {
-            poll: THREE_IN_TIME,
-            ballots: ELEVEN_LINES,
-        },
-        "1 bad shape\n2 bad shape\n3 bad rank count\n4 late\n5 late\n6 late\n7 late\n8 late\n9 late\n10 late\n11 late\n",
-    ),
-    (Job::Joined(JOINED), JOINED_REPLIES),
-    (
-        Job::Joined(JOINED_TWO_IN_TIME),
-        "1 counted\n2 counted\n3 late\n",
-    ),
-    (Job::Joined(TWO_ELECTORS), ""),
-    (Job::Check(TWO_ELECTORS), TWO_ELECTORS_OK),
-];
-
-#[test]
-fn runs_write_their_texts(rt: HostRuntime) {
-    for (job, text) in TEXTS {
-        assert_eq!(rt; writes(rt.alloc(), job, text), (true, Ok(())));
-    }
+    let job = Job::Count {
+        poll: CYCLE,
+        ballots: BALLOTS,
+        desks: 1,
+        casting: None,
+    };
+    let (paper, ended) = perform_on(rt, alloc, &job, &NoGate, paper);
+    let is_front = SHEET.as_bytes().starts_with(paper.written.as_slice());
+    let flushed = (paper.flushes, paper.is_flushed);
+    Ok((is_front, paper.written.len(), flushed, ended))
 }
 
 #[test]
-fn a_refused_run_writes_nothing(rt: HostRuntime) {
-    for (job, fault) in [
-        (Job::Check("title ="), PollFault::Syntax),
+fn a_sheet_is_written_up_to_the_fault_and_flushed_once(rt: HostRuntime) -> Result<(), Fail> {
+    let whole = SHEET.len();
+    let output = Err(RunFault::Output);
+    for (at_once, limit, can_flush, len, flushed, end) in [
         (
-            Job::Joined("%%\nann 1,2,3\n"),
-            PollFault::Key(PollKey::Title),
+            usize::MAX,
+            usize::MAX,
+            true,
+            whole,
+            (1, true),
+            Ok(Ended::Decided(1)),
         ),
+        (1, usize::MAX, true, whole, (1, true), Ok(Ended::Decided(1))),
+        (10, 10, true, 10, (0, false), output),
+        (0, usize::MAX, true, 0, (0, false), output),
+        (1, usize::MAX, false, whole, (0, false), output),
     ] {
-        let found = writes(rt.alloc(), &job, "");
-        assert_eq!(rt; found, (true, Err(RunFault::Poll(fault))));
+        let found = written_of_cycle(&rt, rt.alloc(), at_once, limit, can_flush)?;
+        assert_eq!(rt; found, (true, len, flushed, end));
     }
+    Ok(())
 }
 
+/// A byte a write, and each write the first that fails.
 #[test]
-fn too_many_lines_are_refused(rt: HostRuntime) -> Result<(), Fail> {
-    let many = "\n".repeat(rt.alloc(), 100_001)?;
-    let job = Job::Steps {
-        poll: TWO_ELECTORS,
-        ballots: many.as_str(),
+fn any_write_of_a_sheet_may_fail(rt: HostRuntime) -> Result<(), Fail> {
+    let output = Err(RunFault::Output);
+    for limit in 0..SHEET.len() {
+        let found = written_of_cycle(&rt, rt.alloc(), 1, limit, true)?;
+        assert_eq!(rt; found, (true, limit, (0, false), output));
+    }
+    Ok(())
+}
+
+/// A gate that stops at this envelope alone, or at each where there is none.
+#[derive(Drop)]
+struct StopsAt(Option<u32>);
+
+impl Gate for StopsAt {
+    fn before(&self, _desk: u8, stamp: u32) -> bool {
+        match self.0 {
+            Some(one) => stamp != one,
+            None => false,
+        }
+    }
+
+    fn after(&self, _desk: u8, _slip: &Slip) {}
+}
+
+/// How a count of the cycle at so many desks ends through a gate, and how much is written.
+fn ended_through<R: Threads + Wait + Sync>(
+    rt: &R,
+    alloc: Global,
+    gate: &StopsAt,
+    desks: u8,
+) -> Result<(usize, Result<Ended, RunFault>), AllocError>
+    requires { (1 ≤ desks) × (desks ≤ 8) }
+{
+    let job = Job::Count {
+        poll: CYCLE,
+        ballots: BALLOTS,
+        desks,
+        casting: None,
     };
-    let found = writes(rt.alloc(), &job, "");
-    let fault = RunFault::Lines(LinesFault::TooMany);
-    assert_eq!(rt; found, (true, Err(fault)));
+    let (paper, ended) = perform_on(rt, alloc, &job, gate, endless(alloc)?);
+    Ok((paper.written.len(), ended))
+}
+
+#[test]
+fn a_gate_stops_a_count(rt: HostRuntime) -> Result<(), Fail> {
+    let stopped = Err(RunFault::Vote(VoteFault::Gate(1)));
+    let one = ended_through(&rt, rt.alloc(), &StopsAt(Some(5)), 1)?;
+    let all = ended_through(&rt, rt.alloc(), &StopsAt(None), 8)?;
+    assert_eq!(rt; (one, all), ((0, stopped), (0, stopped)));
     Ok(())
 }
 
-/// How runs end, and their exit statuses.
-const STATUSES: &[(Result<Ended, RunFault>, u8)] = &[
-    (Ok(Ended::Decided(1)), 0),
-    (Ok(Ended::Tie), 1),
-    (Ok(Ended::CastingOutside(4)), 8),
-    (Err(RunFault::Poll(PollFault::Title)), 3),
-    (Err(RunFault::Poll(PollFault::Memory)), 5),
-    (Err(RunFault::NoSuchOption), 8),
-    (Err(RunFault::Lines(LinesFault::TooMany)), 4),
-    (Err(RunFault::Lines(LinesFault::Memory)), 5),
-    (Err(RunFault::Vote(VoteFault::Thread)), 5),
-    (Err(RunFault::Vote(VoteFault::Desk(DeskFault::Memory))), 5),
-    (Err(RunFault::Vote(VoteFault::Gate(1))), 6),
-    (
-        Err(RunFault::Vote(VoteFault::Audit(AuditFault::CountDiffers))),
-        6,
-    ),
-    (Err(RunFault::Memory), 5),
-    (Err(RunFault::Output), 7),
-];
-
-#[test]
-fn statuses_of_runs(rt: HostRuntime) {
-    for (outcome, number) in STATUSES {
-        assert_eq!(rt; status(outcome), *number);
+fn is_of_memory(fault: RunFault) -> bool {
+    match fault {
+        RunFault::Poll(fault) => fault == PollFault::Memory,
+        RunFault::Lines(fault) => fault == LinesFault::Memory,
+        RunFault::Vote(fault) => fault == VoteFault::Memory,
+        RunFault::Memory => true,
+        _ => false,
     }
 }
 
-fn reads_as(alloc: Global, fault: RunFault, words: &str) -> Result<bool, AllocError> {
-    let text = fault.to_string(alloc)?;
-    Ok(text.as_str() == words)
+/// The fault by which a job is refused, with nothing written and status 5, or none where it is done right.
+fn fault_of<R: Threads + Wait + Sync>(
+    rt: &R,
+    alloc: Global,
+    job: &Job<'_>,
+    text: &str,
+    end: Ended,
+) -> Result<Option<RunFault>, Fail>
+    requires { HasDesks job.now }
+{
+    let (paper, ended) = perform_on(rt, alloc, job, &NoGate, endless(alloc)?);
+    match ended {
+        Ok(found) if found == end && paper.written.as_slice() == text.as_bytes() => Ok(None),
+        Err(fault) if paper.written.is_empty() && status(&ended) == 5 => Ok(Some(fault)),
+        _ => Err(Fail::from("another answer")),
+    }
 }
 
-/// Faults, and the words of their lines.
-const FAULT_LINES: &[(RunFault, &str)] = &[
-    (
-        RunFault::Poll(PollFault::Key(PollKey::DefaultOption)),
-        "poll refused: key default",
-    ),
-    (
-        RunFault::Poll(PollFault::OptionName(3)),
-        "poll refused: name of option 3",
-    ),
-    (
-        RunFault::Poll(PollFault::Key(PollKey::LastEnvelope)),
-        "poll refused: key last_envelope",
-    ),
-    (
-        RunFault::Poll(PollFault::LastEnvelope),
-        "poll refused: last envelope",
-    ),
-    (
-        RunFault::Poll(PollFault::Key(PollKey::Wording)),
-        "poll refused: key wording",
-    ),
-    (RunFault::Poll(PollFault::Wording), "poll refused: wording"),
-    (RunFault::Poll(PollFault::Memory), "out of memory"),
-    (
-        RunFault::Lines(LinesFault::TooMany),
-        "ballots refused: too many lines",
-    ),
-    (RunFault::Lines(LinesFault::Memory), "out of memory"),
-    (RunFault::NoSuchOption, "casting option is not in the poll"),
-    (RunFault::Vote(VoteFault::Memory), "out of memory"),
-    (
-        RunFault::Vote(VoteFault::Thread),
-        "a desk could not be started",
-    ),
-    (
-        RunFault::Vote(VoteFault::Gate(2)),
-        "desk 2 stopped at its gate",
-    ),
-    (
-        RunFault::Vote(VoteFault::Enter(3, EnterFault::StampUsed)),
-        "desk 3 was refused by the box",
-    ),
-    (
-        RunFault::Vote(VoteFault::Desk(DeskFault::MissingDesk)),
-        "the desks could not be gathered",
-    ),
-    (
-        RunFault::Vote(VoteFault::Audit(AuditFault::StepDiffers(1))),
-        "audit failed",
-    ),
-    (RunFault::Memory, "out of memory"),
-    (RunFault::Output, "output failed"),
-];
+/// Ends well where the job is done right, and says `refused` where memory was, and of what.
+fn walk<R: Threads + Wait + Abort + Sync>(
+    rt: &R,
+    alloc: Global,
+    job: &Job<'_>,
+    text: &str,
+    end: Ended,
+) -> Result<(), Fail>
+    requires { HasDesks job.now }
+{
+    match fault_of(rt, alloc, job, text, end)? {
+        None => Ok(()),
+        Some(RunFault::Memory) => Err(Fail::from("refused")),
+        Some(RunFault::Vote(VoteFault::Memory)) => Err(Fail::from("refused the votes")),
+        Some(RunFault::Vote(VoteFault::Thread)) => Err(Fail::from("refused a thread")),
+        Some(fault) => {
+            assert!(rt; is_of_memory(fault), "{}", fault);
+            Err(Fail::from("refused"))
+        }
+    }
+}
+
+/// The count of the cycle at two desks.
+fn walk_count<R: Threads + Wait + Abort + Sync>(rt: &R, alloc: Global) -> Result<(), Fail> {
+    let job = Job::Count {
+        poll: CYCLE,
+        ballots: BALLOTS,
+        desks: 2,
+        casting: None,
+    };
+    walk(rt, alloc, &job, SHEET, Ended::Decided(1))
+}
 
 #[test]
-fn fault_lines(rt: HostRuntime) -> Result<(), Fail> {
-    for (fault, words) in FAULT_LINES {
-        assert!(rt; reads_as(rt.alloc(), *fault, words)?, "{words}");
+fn memory_of_run(rt: HostRuntime) -> Result<(), Fail> {
+    walk_count(&rt, rt.alloc())
+}
+
+#[test]
+fn threads_of_run(rt: HostRuntime) -> Result<(), Fail> {
+    walk_count(&rt, rt.alloc())
+}
+
+#[test]
+fn memory_of_print_steps(rt: HostRuntime) -> Result<(), Fail> {
+    let job = Job::Steps {
+        poll: CYCLE,
+        ballots: b"v0 1,2\nv1 1,2,3,4\nv1 4,3,2,1",
+    };
+    let replies = "1 bad rank count\n2 counted\n3 replaced\n";
+    walk(&rt, rt.alloc(), &job, replies, Ended::Done)
+}
+
+#[test]
+fn memory_of_check_poll(rt: HostRuntime) -> Result<(), Fail> {
+    let job = Job::Check { poll: CYCLE };
+    let sizes = "poll ok: 4 options, 9 electors\n";
+    walk(&rt, rt.alloc(), &job, sizes, Ended::Done)
+}
+
+/// A poll and its ballots in one input.
+const JOINED: &[u8] =
+    b"title = \"Two electors\"\noptions = [\"A\", \"B\"]\nratios = [1, 1]\ndefault = \"None\"\nquorum = 0\nroll = [\"ann\", \"bob\"]\n%%\nann 1,2,3\nbob 2,1,3\nann 3,2,1\n";
+
+#[test]
+fn memory_of_steps_joined(rt: HostRuntime) -> Result<(), Fail> {
+    let job = Job::Joined { input: JOINED };
+    let replies = "1 counted\n2 counted\n3 replaced\n";
+    walk(&rt, rt.alloc(), &job, replies, Ended::Done)
+}
+
+#[test]
+fn memory_of_sheet(rt: HostRuntime) -> Result<(), Fail> {
+    let alloc = rt.alloc();
+    let poll = Poll::from_text(alloc, CYCLE)?;
+    let lines = Lines::split(alloc, BALLOTS)?;
+    let audited = take_votes(&rt, alloc, &poll, &lines, 2, &NoGate)?;
+    match sheet(alloc, &poll, &lines, &audited, None) {
+        Ok(text) => {
+            assert!(rt; text.as_str() == SHEET, "{}", text);
+            Ok(())
+        }
+        Err(AllocError) => Err(Fail::from("refused")),
     }
-    Ok(())
 }
