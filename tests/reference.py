@@ -1,9 +1,10 @@
 #!/usr/bin/env python3
 """The count of debvote a second time, written from docs/DEFINITIONS.md and docs/FORMATS.md alone.
 
-It is made to be read, and not to be fast. Each function says which definition or which section of the Constitution it is.
-It runs as debvote does, in one thread: `tests/reference.py count --poll FILE --ballots FILE [--casting NAME]`, and so on.
-Options are numbered from 1 and the default option is the last, electors from 0, envelopes (lines) and rounds from 1.
+It is made to be read, not to be fast. Each function says what it stands for: 4.2 and A.5.1 to A.5.8 are sections of the
+Constitution of the Debian project, and a name such as "Ballot file" is a section of docs/FORMATS.md.
+It runs as debvote does at one desk: `tests/reference.py count --poll FILE --ballots FILE [--casting NAME]`, and so on.
+Options are numbered from 1, the default option as the last; electors from 0; envelopes (lines) and rounds from 1.
 """
 
 import argparse
@@ -12,9 +13,8 @@ import re
 import sys
 import tomllib
 
-POLL_LIMIT = 1_048_576
-BALLOTS_LIMIT = 33_554_432
-JOINED_LIMIT = 34_603_011
+# in bytes
+POLL_LIMIT, BALLOTS_LIMIT, JOINED_LIMIT = 1_048_576, 33_554_432, 34_603_011
 MOST_LINES = 100_000
 
 
@@ -23,13 +23,13 @@ class Fault(Exception):
 
 
 # ---------------------------------------------------------------- the poll file
-# the keys and their kinds, in the order in which a missing or wrong one is found
+# the keys and their kinds; of several that are missing or of another kind, the first here is told
 REQUIRED = {"title": str, "options": [str], "ratios": [int], "default": str, "quorum": int, "roll": [str]}
 OPTIONAL = {"last_envelope": int, "wording": str}
 
 
 class Poll:
-    """A poll whose table has no fault."""
+    """Poll file: what a poll without fault says."""
 
     def __init__(self, table):
         self.title = table["title"]
@@ -51,14 +51,14 @@ def is_of_kind(value, kind):
 
 
 def has_a_number_too_large(value):
-    """A whole number of TOML has 64 bits; tomllib would read any."""
+    """Whether a whole number has more than the 64 bits that TOML allows. (Python reads a number of any size.)"""
     if isinstance(value, (dict, list)):
         return any(map(has_a_number_too_large, value.values() if isinstance(value, dict) else value))
     return is_of_kind(value, int) and not -(2**63) <= value < 2**63
 
 
 def toml_of(data):
-    """The table of a TOML file. (Python reads TOML 1.0, and the program 1.1, which allows a little more.)"""
+    """Poll file: its table. (Python reads TOML 1.0. The program reads 1.1, which allows a little more.)"""
     try:
         table = tomllib.loads(data.decode("utf-8"))
     except (ValueError, RecursionError):
@@ -75,18 +75,19 @@ VOTER_NAME = r"[a-z0-9.-]{1,32}"
 
 
 def bad_places(names, shape):
-    """The places, from 0, of the names that are misshapen or an earlier one."""
+    """The positions, from 0, of the names that have another shape or repeat an earlier name."""
     for place, name in enumerate(names):
         if not re.fullmatch(shape, name) or name in names[:place]:
             yield place
 
 
 def refused(words):
+    """Fault lines: a fault of the poll."""
     return Fault(f"poll refused: {words}", 3)
 
 
 def faults_of(table):
-    """The faults of the table of a poll file, in their order. Only the first is asked for: behind it nothing is sure."""
+    """Fault lines: the faults of a poll file's table, in their order. Only the first counts: a check relies on those above."""
     for key, kind in (REQUIRED | OPTIONAL).items():
         if (key in REQUIRED or key in table) and not is_of_kind(table.get(key), kind):
             yield f"key {key}"
@@ -112,9 +113,10 @@ def faults_of(table):
 
 
 def poll_in(data):
-    """What the text of a poll file means: the poll, or the first of its faults."""
+    """Poll file: the poll that its bytes mean, or the first of its faults."""
     table = toml_of(data)
-    for words in faults_of(table):
+    words = next(faults_of(table), None)
+    if words is not None:
         raise refused(words)
     return Poll(table)
 
@@ -124,7 +126,7 @@ LINE = re.compile(rb"([a-z0-9.-]{1,32}) ((?:-|[1-9][0-9]?)(?:,(?:-|[1-9][0-9]?))
 
 
 def lines_of(text):
-    """The lines of a ballot file; the last may lack its line feed."""
+    """Ballot file: its lines, of which the last may lack its line feed."""
     lines = text.split(b"\n")
     if lines[-1] == b"":
         lines.pop()
@@ -134,7 +136,7 @@ def lines_of(text):
 
 
 def reading(poll, line):
-    """What a line is: the number of its voter and its ranks (None for a hyphen), or the words of what is bad."""
+    """Ballot file: a line's voter, by number, and ranks (None for a hyphen), or the words for what is bad about the line."""
     shape = LINE.fullmatch(line)
     if shape is None or len(line) > 200:
         return "bad shape"
@@ -148,9 +150,8 @@ def reading(poll, line):
 
 
 def replies_and_last_ballots(poll, lines):
-    """The reply to each line, where one desk casts them in order; and the ranks of the last valid ballot of each voter."""
-    replies = []
-    last_ballots = {}
+    """Lines of `steps`: the reply to each line, cast in order by one desk; and the last valid ballot of each voter."""
+    replies, last_ballots = [], {}
     for envelope, line in enumerate(lines, start=1):
         read = reading(poll, line)
         if poll.last_envelope is not None and envelope > poll.last_envelope:
@@ -171,26 +172,24 @@ def prefers(ranks, a, b):
 
 
 def votes_of(poll, last_ballots):
-    """A.5.3: V(A,B), for each two options the number of voters who prefer A to B."""
-    ballots = last_ballots.values()
-    return {
-        (a, b): sum(prefers(ranks, a, b) for ranks in ballots) for a in poll.options for b in poll.options if a != b
-    }
+    """A.5.3: V(A,B), the number of voters who prefer A to B, for each two options."""
+    pairs = itertools.permutations(poll.options, 2)
+    return {(a, b): sum(prefers(ranks, a, b) for ranks in last_ballots.values()) for a, b in pairs}
 
 
 # ---------------------------------------------------------------- the count
 def meets_quorum(poll, number):
-    """4.2, A.5.2: at least `quorum` times Q, where Q is half of the square root of the number of electors."""
+    """4.2, A.5.2: so many votes are at least `quorum` times Q, which is half of the square root of the number of electors."""
     return (2 * number) ** 2 >= poll.quorum**2 * len(poll.roll)
 
 
 def quorum_votes(poll):
-    """The least number of votes that meets the quorum."""
+    """Result sheet: the least number of votes that meets the quorum."""
     return next(number for number in itertools.count() if meets_quorum(poll, number))
 
 
 def meets_majority(poll, votes, option):
-    """A.5.3: how many prefer the option to the default, beside how many the default to the option."""
+    """A.5.3: the votes over the default are at least `ratio` times those under it, and more; or more than `ratio` times."""
     over, under = votes[option, poll.default], votes[poll.default, option]
     if poll.is_more_than:
         return over > poll.ratios[option] * under
@@ -198,7 +197,7 @@ def meets_majority(poll, votes, option):
 
 
 def dropped_options(poll, votes):
-    """A.5.2, A.5.3: the options that are dropped, each with its cause. The default option never is."""
+    """A.5.2, A.5.3: the options that are dropped, each with its cause. The default option is never dropped."""
     dropped = {}
     for option in poll.options[:-1]:
         if not meets_quorum(poll, votes[option, poll.default]):
@@ -209,12 +208,12 @@ def dropped_options(poll, votes):
 
 
 def defeats_among(kept, votes):
-    """A.5.4: A defeats B where more voters prefer A to B than B to A."""
+    """A.5.4: A defeats B if more voters prefer A to B than B to A."""
     return {(a, b) for a in kept for b in kept if a != b and votes[a, b] > votes[b, a]}
 
 
 def transitive_defeats(kept, defeats):
-    """A.5.5: A transitively defeats C where a list of options goes from A to C, each of which defeats the next."""
+    """A.5.5: A transitively defeats C if there is a list of options from A to C, each of which defeats the next."""
     chains = set(defeats)
     while True:
         longer = {(a, c) for a, b in chains for c in kept if (b, c) in defeats}
@@ -224,24 +223,24 @@ def transitive_defeats(kept, defeats):
 
 
 def schwartz_set(kept, defeats):
-    """A.5.6: A is in it where, for every option B, A transitively defeats B, or B does not transitively defeat A."""
+    """A.5.6: A is in it if, for every option B, A transitively defeats B, or B does not transitively defeat A."""
     chains = transitive_defeats(kept, defeats)
     return [a for a in kept if all((a, b) in chains or (b, a) not in chains for b in kept)]
 
 
 def is_weaker(votes, one, other):
-    """A.5.7: (A,X) is weaker than (B,Y) where V(A,X) is less; or they are equal, and V(X,A) is greater."""
+    """A.5.7: (A,X) is weaker than (B,Y) if V(A,X) is less than V(B,Y), or both are equal and V(X,A) is greater than V(Y,B)."""
     (a, x), (b, y) = one, other
     return votes[a, x] < votes[b, y] or (votes[a, x] == votes[b, y] and votes[x, a] > votes[y, b])
 
 
 def weakest_defeats(defeats, votes):
-    """A.5.7: those than which none is weaker."""
+    """A.5.7: the defeats for which no other is weaker; there may be several."""
     return {one for one in defeats if not any(is_weaker(votes, other, one) for other in defeats)}
 
 
 def rounds_of(kept, votes):
-    """A.5.6, A.5.7: each round's Schwartz set, and the defeats within it that are removed, until there are none."""
+    """A.5.6, A.5.7: each round's Schwartz set, and the weakest defeats within it, which are removed. The last has none."""
     defeats = defeats_among(kept, votes)
     rounds = []
     while True:
@@ -256,7 +255,7 @@ def rounds_of(kept, votes):
 
 # ---------------------------------------------------------------- the texts
 def decision_of(poll, final, casting):
-    """A.5.8: the last line of the sheet, and the exit status."""
+    """A.5.8; Result sheet, 13: the last line, and the exit status."""
     numbers = " ".join(map(str, final))
     if len(final) == 1:
         return f"Winner: {final[0]} {poll.names[final[0]]}", 0
@@ -268,7 +267,7 @@ def decision_of(poll, final, casting):
 
 
 def heading(poll, replies, last_ballots):
-    """What stands above the options."""
+    """Result sheet, 1 to 7: what stands above the options."""
     valid = sum(reply in ("counted", "replaced") for reply in replies)
     yield f"Poll: {poll.title}"
     yield f"Electors: {len(poll.roll)}"
@@ -284,7 +283,7 @@ def heading(poll, replies, last_ballots):
 
 
 def tables(poll, votes):
-    """The options, and the votes of each over each."""
+    """Result sheet, 8 and 9: the options, and V(A,B) for each two."""
     yield "Options:"
     for option in poll.options:
         kind = "default" if option == poll.default else f"ratio {poll.ratios[option]}"
@@ -296,7 +295,7 @@ def tables(poll, votes):
 
 
 def outcome(votes, dropped, defeats, rounds):
-    """What stands below the tables, but for the last line."""
+    """Result sheet, 10 to 12: what is dropped, the defeats, and the rounds."""
     yield "Dropped:"
     yield from (f"{option:3} {cause}" for option, cause in dropped.items()) if dropped else ["  none"]
     yield "Defeats:"
@@ -307,11 +306,12 @@ def outcome(votes, dropped, defeats, rounds):
 
 
 def text_of(lines):
+    """The lines, each with its line feed."""
     return "".join(f"{line}\n" for line in lines)
 
 
 def count(poll_data, ballots, casting_name=None):
-    """The sheet, and the exit status."""
+    """Result sheet: the whole of it, and the exit status."""
     poll = poll_in(poll_data)
     if casting_name is not None and casting_name not in poll.names.values():
         raise Fault("casting option is not in the poll", 8)
@@ -328,26 +328,27 @@ def count(poll_data, ballots, casting_name=None):
 
 
 def steps(poll_data, ballots):
-    """The replies, a line each."""
+    """Lines of `steps`: the number of each envelope, and its reply."""
     poll = poll_in(poll_data)
     replies, _ = replies_and_last_ballots(poll, lines_of(ballots))
     return text_of(f"{envelope} {reply}" for envelope, reply in enumerate(replies, start=1))
 
 
 def check(poll_data):
+    """Lines of `check`: its one line."""
     poll = poll_in(poll_data)
     return f"poll ok: {len(poll.names)} options, {len(poll.roll)} electors\n"
 
 
 def joined_parts(data):
-    """The bytes before and after the first line that is exactly %%; without one all of them, and nothing."""
+    """Joined input: the bytes before and behind the first line that is exactly %%. Without one, all bytes are the poll's."""
     separator = re.search(rb"^%%(\n|\Z)", data, re.MULTILINE)
     return (data[: separator.start()], data[separator.end() :]) if separator else (data, b"")
 
 
 # ---------------------------------------------------------------- the command line
 def read_file(name, limit, kind):
-    """The bytes of a file; `kind` is poll or ballots."""
+    """Fault lines: the bytes of a file, of kind poll or ballots, or why they can't be had."""
     status = 3 if kind == "poll" else 4
     try:
         with open(name, "rb") as file:
@@ -360,7 +361,7 @@ def read_file(name, limit, kind):
 
 
 def command_line(words):
-    """The command and its values; without words the joined input is read. A fault of the words ends with status 2."""
+    """Command line: the command and its values, if there are words. A fault of the words ends with status 2."""
     parser = argparse.ArgumentParser(allow_abbrev=False)
     commands = parser.add_subparsers(dest="command")
     for command, options in [("count", "poll ballots desks casting"), ("steps", "poll ballots"), ("check", "poll")]:
@@ -372,7 +373,7 @@ def command_line(words):
 
 
 def answer(words):
-    """What is written for the words of a command line, and the exit status."""
+    """What the program writes for these words, and its exit status."""
     asked = command_line(words)
     if asked.command is None:
         return steps(*joined_parts(read_file(0, JOINED_LIMIT, "ballots"))), 0
@@ -388,11 +389,10 @@ def answer(words):
 def main():
     try:
         text, status = answer(sys.argv[1:])
+        sys.stdout.write(text)
     except Fault as fault:
         words, status = fault.args
         sys.stderr.write(f"debvote: {words}\n")
-        sys.exit(status)
-    sys.stdout.write(text)
     sys.exit(status)
 
 
