@@ -221,7 +221,7 @@ fn walk<R: Threads + Wait + Abort + Sync>(
 {
     match fault_of(rt, alloc, job, text, end)? {
         None => Ok(()),
-        Some(RunFault::Memory) => Err(Fail::from("refused")),
+        Some(RunFault::Memory) => Err(Fail::from("refused the text")),
         Some(RunFault::Vote(VoteFault::Memory)) => Err(Fail::from("refused the votes")),
         Some(RunFault::Vote(VoteFault::Thread)) => Err(Fail::from("refused a thread")),
         Some(fault) => {
