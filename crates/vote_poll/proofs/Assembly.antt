@@ -1,7 +1,9 @@
--- The poll that the required keys give, where each part was found good.
-use Rattle.std.proofs.Common.{◌≡◌, ◌+◌, ◌≤◌, ◌==◌, ◌∷◌, [], ℕ, ℤ, Bool, true, false, cond, map, length, Option, Some, None, Ok, Err, refl, ap, arith, nat_abs, length-append, pos, ◌≤ℤ◌}
+-- The poll that the keys of a file give keeps the limits of a poll.
+use Rattle.std.proofs.Common.{◌≡◌, ◌+◌, ◌≤◌, ◌==◌, ◌&&◌, ◌∷◌, ◌++◌, [], ℕ, ℤ, List, Bool, true, false, cond, map, length, Option, Some, None, IfSome, Ok, Err, Result, refl, ap, subst, sym, arith, nat_abs, length-append, pos}
 use Rattle.std.specs.Option.{option_map}
+use Rattle.std.specs.Result.{IsErrAnd}
 use Rattle.std.specs.List.{list_all}
+use Rattle.std.proofs.lemmas.Bool.{and_parts}
 use Rattle.std.proofs.lemmas.Bool.Decides.{nat_tests}
 use Rattle.std.proofs.lemmas.Int.{ints}
 use Rattle.std.proofs.lemmas.List.{length-map}
@@ -9,80 +11,87 @@ use Rattle.std.proofs.lemmas.List.Elements.{All-map, All-weaker}
 use Rattle.std.proofs.lemmas.List.Sums.{AllPass-from_list_all}
 use Rattle.vote_poll.specs.Names.{is_within, is_voter_name, is_option_name, is_title, first_bad}
 use Rattle.vote_poll.specs.PollContent.{PollContent, IsPoll}
-use Rattle.vote_poll.specs.PollFile.{Fields, all_options, first_fault, required_poll, err_or, is_integer_within}
+use Rattle.vote_poll.specs.PollFile.{Fields, Fails, Gives, ◌>>=◌, err_or, is_integer_within, title_in, option_names_in, ratios_in, quorum_in, roll_in, last_envelope_in, wording_in, poll_of}
 use Rattle.vote_poll.specs.declared.TheConstants.{MAX_OPTIONS, MAX_ELECTORS, MAX_RATIO, MAX_QUORUM_MULTIPLE}
-use Rattle.vote_poll.specs.declared.wording.Wording.TheVariants.{AtLeast}
+use Rattle.vote_poll.specs.declared.lines.TheConstants.{MAX_LINES}
 use Rattle.vote_poll.specs.declared.fault.PollFault.{PollFault}
 use Rattle.vote_poll.specs.declared.fault.PollFault.TheVariants as fault
 
-pub record Checked (f : Fields) (p : PollContent) : Type 0 where
-  pub title : is_title f.title ≡ true
-  pub same_title : p.title ≡ f.title
-  pub none_late : p.last_envelope ≡ None
-  pub same_wording : p.wording ≡ AtLeast
-  pub count : is_within 2 MAX_OPTIONS (length (all_options f)) ≡ true
-  pub options : err_or (option_map (λ place. fault.OptionName (place + 1)) (first_bad is_option_name (all_options f))) (all_options f) ≡ Ok p.options
-  pub ratio_count : length f.ratios ≡ length f.options
-  pub ratios : cond (list_all (is_integer_within 1 MAX_RATIO) f.ratios) (Ok (map nat_abs f.ratios)) (Err fault.Ratio) ≡ Ok p.ratios
-  pub quorum : is_integer_within 0 MAX_QUORUM_MULTIPLE f.quorum ≡ true
-  pub multiple : p.quorum_multiple ≡ nat_abs f.quorum
-  pub size : is_within 1 MAX_ELECTORS (length f.roll) ≡ true
-  pub roll : err_or (option_map fault.VoterName (first_bad is_voter_name f.roll)) f.roll ≡ Ok p.roll
+-- each key gives its part of the poll
+pub record Parsed (f : Fields) (p : PollContent) : Type 0 where
+  pub title : title_in f.title ≡ Ok p.title
+  pub options : option_names_in (f.options ++ f.default_option ∷ []) ≡ Ok p.options
+  pub ratios : ratios_in (length f.options) f.ratios ≡ Ok p.ratios
+  pub quorum : quorum_in f.quorum ≡ Ok p.quorum_multiple
+  pub roll : roll_in f.roll ≡ Ok p.roll
+  pub last_envelope : last_envelope_in f.last_envelope ≡ Ok p.last_envelope
 
-err_or-ok : {X : Type 0} (o : Option PollFault) (x y : X) → err_or o x ≡ Ok y → (o ≡ None) × (x ≡ y)
-err_or-ok None x y h = (refl, cc)
-err_or-ok (Some e) x y h = cc
+-- a fault of one key is what is answered, where the keys before it are right
+fails-then : {A B : Type 0} (e : PollFault) (m : Result A PollFault) (next : A → Result B PollFault) → Fails e m → Fails e (m >>= next)
+fails-then fault.Memory m next h = tt
+fails-then e m next h = rw h
 
-none_mapped : {A B : Type 0} (f : A → B) (o : Option A) → option_map f o ≡ None → o ≡ None
-none_mapped f None h = refl
-none_mapped f (Some x) h = cc
+pub refused-then : {A B X : Type 0} (view : X → B) (r : Result X PollFault) (e : PollFault) (m : Result A PollFault) (next : A → Result B PollFault)
+    → IsErrAnd r (λ x. x ≡ e) → Fails e m → Gives view r (m >>= next)
+refused-then view (Ok x) e m next is h = absurd is
+refused-then view (Err x) e m next is h = subst (λ (y : PollFault). Fails y (m >>= next)) (sym is) (fails-then e m next h)
 
-chosen_ok : {X : Type 0} (b : Bool) (x y : X) (e : PollFault) → cond b (Ok x) (Err e) ≡ Ok y → (b ≡ true) × (x ≡ y)
-chosen_ok true x y e h = (refl, cc)
+-- so the poll is what they give
+pub parsed_meaning : (f : Fields) (p : PollContent) → Parsed f p → wording_in f.wording ≡ Ok p.wording → poll_of f ≡ Ok p
+unfolding poll_of
+parsed_meaning f p h wording = rw (h.title, h.options, h.ratios, h.quorum, h.roll, h.last_envelope, wording)
+
+chosen_ok : {X : Type 0} (b : Bool) (x : Result X PollFault) (y : X) (e : PollFault) → cond b x (Err e) ≡ Ok y → (b ≡ true) × (x ≡ Ok y)
+chosen_ok true x y e h = (refl, h)
 chosen_ok false x y e h = cc
 
-pub checked_meaning : (f : Fields) (p : PollContent) → Checked f p → err_or (first_fault f) (required_poll f) ≡ Ok p
-checked_meaning f p h =
-    let options = err_or-ok (option_map (λ place. fault.OptionName (place + 1)) (first_bad is_option_name (all_options f))) (all_options f) p.options h.options in
-    let roll = err_or-ok (option_map fault.VoterName (first_bad is_voter_name f.roll)) f.roll p.roll h.roll in
-    let ratios = chosen_ok (list_all (is_integer_within 1 MAX_RATIO) f.ratios) (map nat_abs f.ratios) p.ratios fault.Ratio h.ratios in
-    let counted : (length f.ratios == length f.options) ≡ true = let same : length f.ratios ≡ length f.options = h.ratio_count in grind (arith, nat_tests) in
-    rw (h.title, h.count, options.0, counted, ratios.0, h.quorum, h.size, roll.0, ← h.same_title, options.1, ratios.1, ← h.multiple, roll.1, ← h.none_late, ← h.same_wording)
+same_ok : {X : Type 0} (x y : X) → ◌≡◌ {A = Result X PollFault} (Ok x) (Ok y) → x ≡ y
+same_ok x y h = cc
+
+no_fault : {X Y : Type 0} (f : Y → PollFault) (o : Option Y) (x y : X) → err_or (option_map f o) x ≡ Ok y → (o ≡ None) × (x ≡ y)
+no_fault f None x y h = (refl, cc)
+no_fault f (Some e) x y h = cc
+
+bounds : (low high n : ℕ) → is_within low high n ≡ true → (low ≤ n) × (n ≤ high)
+bounds low high n h = (grind (arith, nat_tests), grind (arith, nat_tests))
 
 integer_bounds : (low high : ℕ) (z : ℤ) → is_integer_within low high z ≡ true → (low ≤ nat_abs z) × (nat_abs z ≤ high)
 integer_bounds low high (pos n) h = (grind (arith, ints, nat_tests), grind (arith, ints, nat_tests))
 integer_bounds low high z h = (grind (arith, ints, nat_tests), grind (arith, ints, nat_tests))
 
-bounds : (low high n : ℕ) → is_within low high n ≡ true → (low ≤ n) × (n ≤ high)
-bounds low high n h = (grind (arith, nat_tests), grind (arith, nat_tests))
+last_within : (o : Option ℤ) (last : Option ℕ) → last_envelope_in o ≡ Ok last → IfSome last (λ n. n ≤ MAX_LINES)
+last_within None last h = subst (λ (l : Option ℕ). IfSome l (λ n. n ≤ MAX_LINES)) (same_ok None last h) tt
+last_within (Some z) last h =
+    let chosen = chosen_ok (is_integer_within 0 MAX_LINES z) (Ok (Some (nat_abs z))) last fault.LastEnvelope h in
+    subst (λ (l : Option ℕ). IfSome l (λ n. n ≤ MAX_LINES)) (same_ok (Some (nat_abs z)) last chosen.1) (integer_bounds 0 MAX_LINES z chosen.0).1
 
-pub checked_poll : (f : Fields) (p : PollContent) → Checked f p → IsPoll p
-checked_poll f p h =
-    let options = err_or-ok (option_map (λ place. fault.OptionName (place + 1)) (first_bad is_option_name (all_options f))) (all_options f) p.options h.options in
-    let roll = err_or-ok (option_map fault.VoterName (first_bad is_voter_name f.roll)) f.roll p.roll h.roll in
-    let ratios = chosen_ok (list_all (is_integer_within 1 MAX_RATIO) f.ratios) (map nat_abs f.ratios) p.ratios fault.Ratio h.ratios in
-    let option_count = bounds 2 MAX_OPTIONS (length (all_options f)) h.count in
-    let roll_size = bounds 1 MAX_ELECTORS (length f.roll) h.size in
-    let quorum = integer_bounds 0 MAX_QUORUM_MULTIPLE f.quorum h.quorum in
+pub parsed_poll : (f : Fields) (p : PollContent) → Parsed f p → IsPoll p
+parsed_poll f p h =
+    let names : List (List ℕ) = f.options ++ f.default_option ∷ [] in
+    let title = chosen_ok (is_title f.title) (Ok f.title) p.title fault.Title h.title in
+    let many = chosen_ok (is_within 2 MAX_OPTIONS (length names)) (err_or (option_map (λ place. fault.OptionName (place + 1)) (first_bad is_option_name names)) names) p.options fault.OptionCount h.options in
+    let options = no_fault (λ place. fault.OptionName (place + 1)) (first_bad is_option_name names) names p.options many.1 in
+    let ratios = chosen_ok ((length f.ratios == length f.options) && list_all (is_integer_within 1 MAX_RATIO) f.ratios) (Ok (map nat_abs f.ratios)) p.ratios fault.Ratio h.ratios in
+    let (counted, ranged) = and_parts (length f.ratios == length f.options) (list_all (is_integer_within 1 MAX_RATIO) f.ratios) ratios.0 in
+    let same_ratios : map nat_abs f.ratios ≡ p.ratios = same_ok _ _ ratios.1 in
+    let quorum = chosen_ok (is_integer_within 0 MAX_QUORUM_MULTIPLE f.quorum) (Ok (nat_abs f.quorum)) p.quorum_multiple fault.Quorum h.quorum in
+    let same_quorum : nat_abs f.quorum ≡ p.quorum_multiple = same_ok _ _ quorum.1 in
+    let electors = chosen_ok (is_within 1 MAX_ELECTORS (length f.roll)) (err_or (option_map fault.VoterName (first_bad is_voter_name f.roll)) f.roll) p.roll fault.RollSize h.roll in
+    let roll = no_fault fault.VoterName (first_bad is_voter_name f.roll) f.roll p.roll electors.1 in
+    let option_count = bounds 2 MAX_OPTIONS (length names) many.0 in
+    let roll_size = bounds 1 MAX_ELECTORS (length f.roll) electors.0 in
+    let same_title : f.title ≡ p.title = same_ok _ _ title.1 in
     record {
-      title = rw (h.same_title) h.title;
+      title = rw (← same_title) title.0;
       options_min = omega (arith, option_count.0, ap length options.1);
       options_max = omega (arith, option_count.1, ap length options.1);
-      option_names = rw (← options.1) (none_mapped (λ place. fault.OptionName (place + 1)) (first_bad is_option_name (all_options f)) options.0);
-      ratio_count = omega (arith, ap length ratios.1, length-map f.ratios nat_abs, ap length options.1, length-append f.options (f.default_option ∷ []), h.ratio_count);
-      ratio_range = rw (← ratios.1) (All-map (λ r. (1 ≤ r) × (r ≤ MAX_RATIO)) nat_abs f.ratios (All-weaker (λ z. is_integer_within 1 MAX_RATIO z ≡ true) (λ z. (1 ≤ nat_abs z) × (nat_abs z ≤ MAX_RATIO)) (integer_bounds 1 MAX_RATIO) f.ratios (AllPass-from_list_all (is_integer_within 1 MAX_RATIO) f.ratios ratios.0)));
-      quorum_range = omega (arith, h.multiple, quorum.1);
+      option_names = rw (← options.1) options.0;
+      ratio_count = let same : length f.ratios ≡ length f.options = grind (arith, nat_tests) in
+          omega (arith, same, ap length same_ratios, length-map f.ratios nat_abs, ap length options.1, length-append f.options (f.default_option ∷ []));
+      ratio_range = rw (← same_ratios) (All-map (λ r. (1 ≤ r) × (r ≤ MAX_RATIO)) nat_abs f.ratios (All-weaker (λ z. is_integer_within 1 MAX_RATIO z ≡ true) (λ z. (1 ≤ nat_abs z) × (nat_abs z ≤ MAX_RATIO)) (integer_bounds 1 MAX_RATIO) f.ratios (AllPass-from_list_all (is_integer_within 1 MAX_RATIO) f.ratios ranged)));
+      quorum_range = omega (arith, same_quorum, (integer_bounds 0 MAX_QUORUM_MULTIPLE f.quorum quorum.0).1);
       electors_min = omega (arith, roll_size.0, ap length roll.1);
       electors_max = omega (arith, roll_size.1, ap length roll.1);
-      voter_names = rw (← roll.1) (none_mapped fault.VoterName (first_bad is_voter_name f.roll) roll.0);
-      last_range = rw (h.none_late) tt;
+      voter_names = rw (← roll.1) roll.0;
+      last_range = last_within f.last_envelope p.last_envelope h.last_envelope;
     }
-
-pub is_within_from : (low high n : ℕ) → low ≤ n → n ≤ high → is_within low high n ≡ true
-is_within_from low high n above below = grind (arith, nat_tests)
-
-pub integer_within_from : (low high : ℕ) (z : ℤ) → pos low ≤ℤ z → z ≤ℤ pos high → is_integer_within low high z ≡ true
-integer_within_from low high z above below = grind (arith, ints, nat_tests)
-
-pub not_zero : (n : ℕ) → (n == 0) ≡ false → 1 ≤ n
-not_zero n h = grind (arith, nat_tests)

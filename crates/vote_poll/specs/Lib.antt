@@ -12,6 +12,5 @@ pub mod Lists
 pub mod SortKeys
 -- what types stand for, and what private functions say of their parts
 pub mod PollView
-pub mod PollParts
 pub mod FieldsView
 pub mod Parsing

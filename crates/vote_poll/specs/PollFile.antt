@@ -1,5 +1,5 @@
 -- What a poll file means: a poll, or the first of its faults.
-use Rattle.std.specs.Prelude.{◌≡◌, ℕ, ◌+◌, List, [], ◌∷◌, ◌++◌, map, length, Bool, true, false, ◌&&◌, ◌==◌, if◌then◌else◌, ℤ, nat_abs, pos, int_le, Option, Some, None, option_map, option_and_then, Result, Ok, Err, codes}
+use Rattle.std.specs.Prelude.{◌≡◌, ℕ, ◌+◌, List, [], ◌∷◌, ◌++◌, map, length, Bool, ◌&&◌, ◌==◌, if◌then◌else◌, ℤ, nat_abs, pos, int_le, Option, Some, None, option_map, option_and_then, Result, Ok, Err, codes}
 use Rattle.std.specs.Option.{ok_or}
 use Rattle.std.specs.List.{list_all}
 use Rattle.std.specs.Str.{is_utf8, bytes_eq}
@@ -72,73 +72,56 @@ fields_of table = do
   wording ← optional_field key.Wording (codes "wording") as_str table
   Ok (record { title = title; options = options; ratios = ratios; default_option = default_option; quorum = quorum; roll = roll; last_envelope = last_envelope; wording = wording })
 
--- ---- the limits
--- the number is one from low to high
-abbrev pub is_integer_within : ℕ → ℕ → ℤ → Bool
-is_integer_within low high z = int_le (pos low) z && int_le z (pos high)
-
--- the default option is the last
-abbrev pub all_options : Fields → List (List ℕ)
-all_options f = f.options ++ f.default_option ∷ []
-
--- ---- the first fault
--- the fault, where the test fails
-abbrev pub unless : Bool → PollFault → Option PollFault
-unless true fault = None
-unless false fault = Some fault
-
--- the first of the values that are there
-abbrev pub first_some : {X : Type 0} → List (Option X) → Option X
-first_some [] = None
-first_some (None ∷ values) = first_some values
-first_some (Some x ∷ values) = Some x
-
--- of the keys that have to be there
-abbrev pub first_fault : Fields → Option PollFault
-first_fault f = first_some (
-    unless (is_title f.title) fault.Title
-    ∷ unless (is_within 2 MAX_OPTIONS (length (all_options f))) fault.OptionCount
-    ∷ option_map (λ place. fault.OptionName (place + 1)) (first_bad is_option_name (all_options f))
-    ∷ unless ((length f.ratios == length f.options) && list_all (is_integer_within 1 MAX_RATIO) f.ratios) fault.Ratio
-    ∷ unless (is_integer_within 0 MAX_QUORUM_MULTIPLE f.quorum) fault.Quorum
-    ∷ unless (is_within 1 MAX_ELECTORS (length f.roll)) fault.RollSize
-    ∷ option_map fault.VoterName (first_bad is_voter_name f.roll)
-    ∷ [])
-
--- the poll that they give, in which no envelope is late and the wording is the Constitution's
-abbrev pub required_poll : Fields → PollContent
-required_poll f = record {
-  title = f.title;
-  options = all_options f;
-  ratios = map nat_abs f.ratios;
-  quorum_multiple = nat_abs f.quorum;
-  roll = f.roll;
-  last_envelope = None;
-  wording = AtLeast;
-}
-
+-- ---- what each key gives, or its fault
 -- the value, where there is no fault
 abbrev pub err_or : {X : Type 0} → Option PollFault → X → Result X PollFault
 err_or None x = Ok x
 err_or (Some e) x = Err e
 
--- the last envelope that a number gives
+abbrev pub title_in : List ℕ → Result (List ℕ) PollFault
+title_in text = if is_title text then Ok text else Err fault.Title
+
+-- the names of the options, the default among them
+abbrev pub option_names_in : List (List ℕ) → Result (List (List ℕ)) PollFault
+option_names_in names =
+    if is_within 2 MAX_OPTIONS (length names)
+    then err_or (option_map (λ place. fault.OptionName (place + 1)) (first_bad is_option_name names)) names else Err fault.OptionCount
+
+-- the number is one from low to high
+abbrev pub is_integer_within : ℕ → ℕ → ℤ → Bool
+is_integer_within low high z = int_le (pos low) z && int_le z (pos high)
+
+-- the ratios of so many options
+abbrev pub ratios_in : ℕ → List ℤ → Result (List ℕ) PollFault
+ratios_in count numbers = if (length numbers == count) && list_all (is_integer_within 1 MAX_RATIO) numbers then Ok (map nat_abs numbers) else Err fault.Ratio
+
+abbrev pub quorum_in : ℤ → Result ℕ PollFault
+quorum_in z = if is_integer_within 0 MAX_QUORUM_MULTIPLE z then Ok (nat_abs z) else Err fault.Quorum
+
+abbrev pub roll_in : List (List ℕ) → Result (List (List ℕ)) PollFault
+roll_in names = if is_within 1 MAX_ELECTORS (length names) then err_or (option_map fault.VoterName (first_bad is_voter_name names)) names else Err fault.RollSize
+
+-- without a number there is no last envelope
 abbrev pub last_envelope_in : Option ℤ → Result (Option ℕ) PollFault
 last_envelope_in None = Ok None
 last_envelope_in (Some z) = if is_integer_within 0 MAX_LINES z then Ok (Some (nat_abs z)) else Err fault.LastEnvelope
 
--- the wording that a text names; without a text it is the Constitution's
+-- without a text the wording is the Constitution's
 abbrev pub wording_in : Option (List ℕ) → Result Wording PollFault
 wording_in None = Ok AtLeast
 wording_in (Some text) = if bytes_eq text (codes "at_least") then Ok AtLeast else (if bytes_eq text (codes "more_than") then Ok MoreThan else Err fault.Wording)
 
--- the poll that the keys give
+-- the poll that the keys give, or the first fault; the default option is the last
 unfoldable pub poll_of : Fields → Result PollContent PollFault
 poll_of f = do
-  poll ← err_or (first_fault f) (required_poll f)
+  title ← title_in f.title
+  options ← option_names_in (f.options ++ f.default_option ∷ [])
+  ratios ← ratios_in (length f.options) f.ratios
+  quorum_multiple ← quorum_in f.quorum
+  roll ← roll_in f.roll
   last_envelope ← last_envelope_in f.last_envelope
   wording ← wording_in f.wording
-  Ok (record poll { last_envelope = last_envelope; wording = wording })
+  Ok (record { title = title; options = options; ratios = ratios; quorum_multiple = quorum_multiple; roll = roll; last_envelope = last_envelope; wording = wording })
 
 -- ---- the file
 -- the table of a text

@@ -99,8 +99,11 @@ pub(crate) fn parse_option_names(alloc: Global, texts: &[&str]) -> Result<Vec<St
     Ok(names)
 }
 
-/// The roll, in which the number of a voter is the place of the name.
-pub(crate) fn parse_roll(alloc: Global, texts: &[&str]) -> Result<IndexSet<String>, PollFault>
+/// The names of the voters. The number of a voter is the place of the name.
+pub(crate) fn parse_voter_names(
+    alloc: Global,
+    texts: &[&str],
+) -> Result<IndexSet<String>, PollFault>
     ensures { Gives (λ roll. map string_bytes roll.keys) result (err_or (option_map fault.VoterName (first_bad is_voter_name (map (λ text. text.now) texts.now))) (map (λ text. text.now) texts.now)) }
 {
     let mut roll = IndexSet::new(alloc);

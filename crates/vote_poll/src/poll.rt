@@ -3,8 +3,7 @@ ghost use Rattle.std.specs.Prelude.{◌≡◌, ◌≤◌, ◌<◌, ◌+◌, ◌-
 ghost use Rattle.std.specs.Str.{bytes_eq};
 ghost use Rattle.vote_poll.specs.Names.{is_voter_name, place_of};
 ghost use Rattle.vote_poll.specs.Options.{IsOption};
-ghost use Rattle.vote_poll.specs.PollContent.{IsPoll, option_count, elector_count, last_in_time, ratio_of};
-ghost use Rattle.vote_poll.specs.PollParts.{content_of};
+ghost use Rattle.vote_poll.specs.PollContent.{option_count, elector_count, last_in_time, ratio_of};
 ghost use Rattle.vote_poll.specs.declared.lines.TheConstants.{MAX_LINES};
 
 use crate::names::place_of;
@@ -18,13 +17,13 @@ use std::marker::Model;
 /// options and no two voters have the same name.
 #[derive(Drop)]
 pub struct Poll {
-    title: String,
-    options: Vec<String>,
-    ratios: Vec<u8>,
-    quorum_multiple: u8,
-    roll: IndexSet<String>,
-    last_envelope: Option<u32>,
-    wording: Wording,
+    pub(crate) title: String,
+    pub(crate) options: Vec<String>,
+    pub(crate) ratios: Vec<u8>,
+    pub(crate) quorum_multiple: u8,
+    pub(crate) roll: IndexSet<String>,
+    pub(crate) last_envelope: Option<u32>,
+    pub(crate) wording: Wording,
 }
 
 impl Model for Poll {
@@ -41,47 +40,6 @@ impl Model for Poll {
 }
 
 impl Poll {
-    /// A poll of these parts, where the last option is the default, no envelope is late and the wording
-    /// is the Constitution's.
-    pub(crate) fn new(
-        title: String,
-        options: Vec<String>,
-        ratios: Vec<u8>,
-        quorum_multiple: u8,
-        roll: IndexSet<String>,
-    ) -> Poll
-        requires { IsPoll (content_of title options ratios quorum_multiple roll) }
-        ensures { result ≡ content_of title options ratios quorum_multiple roll }
-    {
-        Poll {
-            title,
-            options,
-            ratios,
-            quorum_multiple,
-            roll,
-            last_envelope: None,
-            wording: Wording::AtLeast,
-        }
-    }
-
-    /// The same poll with this last envelope.
-    pub(crate) fn with_last_envelope(self, last_envelope: Option<u32>) -> Poll
-        requires { IfSome last_envelope (λ last. last ≤ MAX_LINES) }
-        ensures { result ≡ record self { last_envelope = last_envelope } }
-    {
-        Poll {
-            last_envelope,
-            ..self
-        }
-    }
-
-    /// The same poll in this wording.
-    pub(crate) fn with_wording(self, wording: Wording) -> Poll
-        ensures { result ≡ record self { wording = wording } }
-    {
-        Poll { wording, ..self }
-    }
-
     /// How many options there are, the default among them; so this is the number of the default option, too.
     pub fn options(&self) -> u8
         ensures number { result ≡ option_count self.now }

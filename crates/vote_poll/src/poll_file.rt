@@ -1,19 +1,19 @@
 //! Reading a poll file.
-ghost use Rattle.std.specs.Prelude.{◌≡◌, map, nat_abs, option_map, Ok, Err, if◌then◌else◌};
-ghost use Rattle.std.specs.List.{list_all};
+ghost use Rattle.std.specs.Prelude.{◌≡◌, [], ◌∷◌, ◌++◌, map, option_map, string_bytes};
 ghost use Rattle.std.specs.Option.{ok_or, option_copied};
 ghost use Rattle.vote_poll.specs.FieldsView.{fields_view};
 ghost use Rattle.vote_poll.specs.declared.fault.PollFault.TheVariants as fault;
 ghost use Rattle.toml.specs.Data.{get_member, as_array, as_str, as_integer};
 ghost use Rattle.toml.specs.View.{items_view, view, table_view};
-ghost use Rattle.vote_poll.specs.PollFile.{Gives, document, each_of, err_or, field, fields_of, first_fault, is_integer_within, last_envelope_in, list_of, optional_field, poll_in, poll_of, required_poll};
+ghost use Rattle.vote_poll.specs.PollFile.{Gives, document, each_of, field, fields_of, last_envelope_in, list_of, option_names_in, optional_field, poll_in, poll_of, quorum_in, ratios_in, roll_in, title_in};
 
 use crate::fault::{PollFault, PollKey};
 use crate::lines::MAX_LINES;
-use crate::names::{is_title, parse_option_names, parse_roll};
+use crate::names::{is_title, parse_option_names, parse_voter_names};
 use crate::poll::Poll;
 use crate::wording::parse_wording;
 use crate::{MAX_ELECTORS, MAX_OPTIONS, MAX_QUORUM_MULTIPLE, MAX_RATIO};
+use indexmap::IndexSet;
 use std::alloc::Global;
 use toml::{Table, Value};
 
@@ -187,18 +187,67 @@ fn fields_of(alloc: Global, table: &Table) -> Result<Fields<'_>, PollFault>
     })
 }
 
-/// The majority ratios, each from 1 to [`MAX_RATIO`].
-fn parse_ratios(alloc: Global, numbers: &[i64]) -> Result<Vec<u8>, PollFault>
-    ensures { Gives (λ ratios. ratios.items) result (if list_all (is_integer_within 1 MAX_RATIO) numbers.now then Ok (map nat_abs numbers.now) else Err fault.Ratio) }
+/// The title.
+fn parse_title(alloc: Global, text: &str) -> Result<String, PollFault>
+    ensures { Gives string_bytes result (title_in text.now) }
 {
+    if !is_title(text.as_bytes()) {
+        return Err(PollFault::Title);
+    }
+    let title = String::from_str(alloc, text)?;
+    Ok(title)
+}
+
+/// The names of the options, the default behind the others.
+fn parse_options<'t>(
+    alloc: Global,
+    mut names: Vec<&'t str>,
+    default_option: &'t str,
+) -> Result<Vec<String>, PollFault>
+    ensures { Gives (λ options. map string_bytes options.items) result (option_names_in (map (λ name. name.now) names.entry.items ++ default_option.now ∷ [])) }
+{
+    names.push(default_option)?;
+    if names.len() < 2 || names.len() > MAX_OPTIONS {
+        return Err(PollFault::OptionCount);
+    }
+    parse_option_names(alloc, &names)
+}
+
+/// The majority ratios of so many options.
+fn parse_ratios(alloc: Global, numbers: Vec<i64>, count: usize) -> Result<Vec<u8>, PollFault>
+    ensures { Gives (λ ratios. ratios.items) result (ratios_in count numbers.items) }
+{
+    if numbers.len() != count {
+        return Err(PollFault::Ratio);
+    }
     let mut ratios = Vec::new(alloc);
-    for number in numbers {
+    for number in &numbers {
         if *number < 1 || *number > i64::from(MAX_RATIO) {
             return Err(PollFault::Ratio);
         }
         ratios.push(*number as u8)?;
     }
     Ok(ratios)
+}
+
+/// The multiple of Q that is the quorum.
+fn parse_quorum(number: i64) -> Result<u8, PollFault>
+    ensures { Gives (λ multiple. multiple) result (quorum_in number) }
+{
+    if number < 0 || number > i64::from(MAX_QUORUM_MULTIPLE) {
+        return Err(PollFault::Quorum);
+    }
+    Ok(number as u8)
+}
+
+/// The roll of voters.
+fn parse_roll(alloc: Global, names: Vec<&str>) -> Result<IndexSet<String>, PollFault>
+    ensures { Gives (λ roll. map string_bytes roll.keys) result (roll_in (map (λ name. name.now) names.entry.items)) }
+{
+    if names.is_empty() || names.len() > MAX_ELECTORS {
+        return Err(PollFault::RollSize);
+    }
+    parse_voter_names(alloc, &names)
 }
 
 /// The last envelope that is not late, where there is one.
@@ -214,54 +263,38 @@ fn parse_last_envelope(number: Option<i64>) -> Result<Option<u32>, PollFault>
     Ok(Some(number as u32))
 }
 
-/// The poll that the required keys give, or its first fault.
-fn required_poll(alloc: Global, fields: Fields<'_>) -> Result<Poll, PollFault>
-    ensures { Gives (λ poll. poll) result (err_or (first_fault (fields_view fields.entry)) (required_poll (fields_view fields.entry))) }
-{
-    let Fields {
-        title,
-        mut options,
-        ratios,
-        default_option,
-        quorum,
-        roll,
-        ..
-    } = fields;
-    if !is_title(title.as_bytes()) {
-        return Err(PollFault::Title);
-    }
-    let ratio_count = options.len();
-    options.push(default_option)?;
-    if options.len() < 2 || options.len() > MAX_OPTIONS {
-        return Err(PollFault::OptionCount);
-    }
-    let options = parse_option_names(alloc, &options)?;
-    if ratios.len() != ratio_count {
-        return Err(PollFault::Ratio);
-    }
-    let ratios = parse_ratios(alloc, &ratios)?;
-    if quorum < 0 || quorum > i64::from(MAX_QUORUM_MULTIPLE) {
-        return Err(PollFault::Quorum);
-    }
-    if roll.is_empty() || roll.len() > MAX_ELECTORS {
-        return Err(PollFault::RollSize);
-    }
-    let roll = parse_roll(alloc, &roll)?;
-    let title = String::from_str(alloc, title)?;
-    Ok(Poll::new(title, options, ratios, quorum as u8, roll))
-}
-
 /// The poll that the keys give, or its first fault.
 #[tactic(auto, unfolding(crate::specs::PollFile::poll_of))]
 fn poll_of(alloc: Global, fields: Fields<'_>) -> Result<Poll, PollFault>
     ensures { Gives (λ poll. poll) result (poll_of (fields_view fields.entry)) }
 {
-    let last_envelope = fields.last_envelope;
-    let wording = fields.wording;
-    let poll = required_poll(alloc, fields)?;
+    let Fields {
+        title,
+        options,
+        ratios,
+        default_option,
+        quorum,
+        roll,
+        last_envelope,
+        wording,
+    } = fields;
+    let title = parse_title(alloc, title)?;
+    let ratio_count = options.len();
+    let options = parse_options(alloc, options, default_option)?;
+    let ratios = parse_ratios(alloc, ratios, ratio_count)?;
+    let quorum_multiple = parse_quorum(quorum)?;
+    let roll = parse_roll(alloc, roll)?;
     let last_envelope = parse_last_envelope(last_envelope)?;
     let wording = parse_wording(wording)?;
-    Ok(poll.with_last_envelope(last_envelope).with_wording(wording))
+    Ok(Poll {
+        title,
+        options,
+        ratios,
+        quorum_multiple,
+        roll,
+        last_envelope,
+        wording,
+    })
 }
 
 impl Poll {

@@ -1,0 +1,56 @@
+use Rattle.std.proofs.Common.{◌≡◌, arith, rules, Bor, ℕ, ℤ, List, Ok, length, map}
+use Rattle.std.proofs.lemmas.Int.{to_z-of_z}
+use Rattle.std.proofs.lemmas.List.{length-map}
+use mir.Val.{SFits}
+use mir.Syntax.{w64}
+use Rattle.vote_poll.specs.FieldsView.{fields_view}
+use Rattle.vote_poll.specs.PollFile.{poll_of, ratios_in}
+use Rattle.vote_poll.proofs.FirstBad.{now}
+use Rattle.vote_poll.proofs.Assembly.{parsed_meaning, parsed_poll, refused-then}
+use Rattle.vote_poll.proofs.poll_file.poll_of.Goals as goal
+
+-- as many ratios as there are texts
+ratios_read : (texts : List (Bor (List ℕ))) (count : ℕ) (numbers : List ℤ) (ratios : List ℕ) → count ≡ length texts → ratios_in count numbers ≡ Ok ratios → ratios_in (length (map now texts)) numbers ≡ Ok ratios
+ratios_read texts count numbers ratios counted h = rw (length-map texts now, ← counted) h
+
+pub returns-in_err-last_envelope : goal.returns-in_err-last_envelope
+unfolding poll_of
+returns-in_err-last_envelope c =
+    let fits : SFits w64 c.args.fields.quorum = search rules in
+    let ratios = ratios_read c.args.fields.options.items c.len-ratio_count.result _ _ (omega arith) c.in_ok-ratios.ensures in
+    let quorum = rw (to_z-of_z w64 c.args.fields.quorum fits) at c.in_ok-quorum_multiple.ensures in
+    rw (c.in_ok-title.ensures, c.in_ok-options.ensures, ratios, quorum, c.in_ok-roll.ensures)
+    (refused-then (λ poll. poll) _ c.in_err-last_envelope.field-0.0 _ _ c.from_residual-in_err-last_envelope.ensures.1 c.in_err-last_envelope.ensures)
+
+pub returns-in_err-wording : goal.returns-in_err-wording
+unfolding poll_of
+returns-in_err-wording c =
+    let fits : SFits w64 c.args.fields.quorum = search rules in
+    let ratios = ratios_read c.args.fields.options.items c.len-ratio_count.result _ _ (omega arith) c.in_ok-ratios.ensures in
+    let quorum = rw (to_z-of_z w64 c.args.fields.quorum fits) at c.in_ok-quorum_multiple.ensures in
+    rw (c.in_ok-title.ensures, c.in_ok-options.ensures, ratios, quorum, c.in_ok-roll.ensures, c.in_ok-last_envelope.ensures)
+    (refused-then (λ poll. poll) _ c.in_err-wording.field-0.0 _ _ c.from_residual-in_err-wording.ensures.1 c.in_err-wording.ensures)
+
+pub invariant_of-result : goal.invariant_of-result
+invariant_of-result c =
+    let fits : SFits w64 c.args.fields.quorum = search rules in
+    parsed_poll (fields_view c.args.fields) _ (record {
+      title = c.in_ok-title.ensures;
+      options = c.in_ok-options.ensures;
+      ratios = ratios_read c.args.fields.options.items _ _ _ (omega arith) c.in_ok-ratios.ensures;
+      quorum = rw (to_z-of_z w64 c.args.fields.quorum fits) at c.in_ok-quorum_multiple.ensures;
+      roll = c.in_ok-roll.ensures;
+      last_envelope = c.in_ok-last_envelope.ensures;
+    })
+
+pub returns : goal.returns
+returns c =
+    let fits : SFits w64 c.args.fields.quorum = search rules in
+    parsed_meaning (fields_view c.args.fields) _ (record {
+      title = c.in_ok-title.ensures;
+      options = c.in_ok-options.ensures;
+      ratios = ratios_read c.args.fields.options.items _ _ _ (omega arith) c.in_ok-ratios.ensures;
+      quorum = rw (to_z-of_z w64 c.args.fields.quorum fits) at c.in_ok-quorum_multiple.ensures;
+      roll = c.in_ok-roll.ensures;
+      last_envelope = c.in_ok-last_envelope.ensures;
+    }) c.in_ok-wording.ensures
