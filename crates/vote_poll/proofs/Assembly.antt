@@ -12,6 +12,7 @@ use Rattle.std.proofs.lemmas.List.Sums.{AllPass-from_list_all}
 use Rattle.vote_poll.specs.Names.{is_within, is_voter_name, is_option_name, is_title, first_bad}
 use Rattle.vote_poll.specs.PollContent.{PollContent, IsPoll}
 use Rattle.vote_poll.specs.PollFile.{Fields, Fails, Gives, ◌>>=◌, err_or, is_integer_within, title_in, option_names_in, ratios_in, quorum_in, roll_in, last_envelope_in, wording_in, poll_of}
+use Rattle.vote_poll.proofs.NamesLaws.{within_bounds}
 use Rattle.vote_poll.specs.declared.TheConstants.{MAX_OPTIONS, MAX_ELECTORS, MAX_RATIO, MAX_QUORUM_MULTIPLE}
 use Rattle.vote_poll.specs.declared.lines.TheConstants.{MAX_LINES}
 use Rattle.vote_poll.specs.declared.fault.PollFault.{PollFault}
@@ -52,9 +53,6 @@ no_fault : {X Y : Type 0} (f : Y → PollFault) (o : Option Y) (x y : X) → err
 no_fault f None x y h = (refl, cc)
 no_fault f (Some e) x y h = cc
 
-bounds : (low high n : ℕ) → is_within low high n ≡ true → (low ≤ n) × (n ≤ high)
-bounds low high n h = (grind (arith, nat_tests), grind (arith, nat_tests))
-
 integer_bounds : (low high : ℕ) (z : ℤ) → is_integer_within low high z ≡ true → (low ≤ nat_abs z) × (nat_abs z ≤ high)
 integer_bounds low high (pos n) h = (grind (arith, ints, nat_tests), grind (arith, ints, nat_tests))
 integer_bounds low high z h = (grind (arith, ints, nat_tests), grind (arith, ints, nat_tests))
@@ -78,8 +76,8 @@ parsed_poll f p h =
     let same_quorum : nat_abs f.quorum ≡ p.quorum_multiple = same_ok _ _ quorum.1 in
     let electors = chosen_ok (is_within 1 MAX_ELECTORS (length f.roll)) (err_or (option_map fault.VoterName (first_bad is_voter_name f.roll)) f.roll) p.roll fault.RollSize h.roll in
     let roll = no_fault fault.VoterName (first_bad is_voter_name f.roll) f.roll p.roll electors.1 in
-    let option_count = bounds 2 MAX_OPTIONS (length names) many.0 in
-    let roll_size = bounds 1 MAX_ELECTORS (length f.roll) electors.0 in
+    let option_count = within_bounds 2 MAX_OPTIONS (length names) many.0 in
+    let roll_size = within_bounds 1 MAX_ELECTORS (length f.roll) electors.0 in
     let same_title : f.title ≡ p.title = same_ok _ _ title.1 in
     record {
       title = rw (← same_title) title.0;

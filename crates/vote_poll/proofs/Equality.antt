@@ -43,6 +43,3 @@ same_reading (Bad RankCount) (Bad Shape) = (λ h. cc, λ h. cc)
 same_reading (Bad RankCount) (Bad Roll) = (λ h. cc, λ h. cc)
 same_reading (Bad Roll) (Bad Shape) = (λ h. cc, λ h. cc)
 same_reading (Bad Roll) (Bad RankCount) = (λ h. cc, λ h. cc)
-
--- for callers of `==` behind references, or of `!=`
-pub ruleset sameness = (same_ranks, same_reading)

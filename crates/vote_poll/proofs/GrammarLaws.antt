@@ -2,12 +2,13 @@
 use Rattle.std.proofs.Common.{◌≡◌, ◌+◌, ◌-◌, ◌*◌, ◌/◌, ◌%◌, ◌^◌, ◌<◌, ◌≤◌, ◌++◌, ℕ, List, [], ◌∷◌, map, refl, ap, sym, subst, ◌∙◌, length, take, drop, get_or, Option, Some, None, arith, Bool, true, false, cond, ◌==◌, ◌&&◌, ◌⊎◌, inl, inr, nat_le, nat_lt, append_assoc, length-append}
 use Rattle.std.specs.Option.{option_map}
 use Rattle.std.specs.Fmt.{decimal}
-use Rattle.std.specs.List.{All, list_all, slice_split, join_with_byte, before_first, after_first, position_or_len}
+use Rattle.std.specs.List.{All, slice_split, join_with_byte, before_first, after_first, position_or_len}
 use Rattle.std.proofs.lemmas.Fmt.{decimal_digit, decimal_step}
 use Rattle.std.proofs.lemmas.Bool.{cases_Bool, and_parts}
+use Rattle.std.proofs.lemmas.Option.{cond_some, same_Some}
 use Rattle.std.proofs.lemmas.Bool.Decides.{nat_tests}
 use Rattle.std.proofs.lemmas.List.{length-map, drop_all, take_at, drop_at}
-use Rattle.std.proofs.lemmas.List.Sums.{split_at_first, passes_at_first, AllPass-from_list_all}
+use Rattle.std.proofs.lemmas.List.Sums.{split_at_first, passes_at_first}
 use Rattle.vote_poll.specs.PollContent.{PollContent, elector_count, option_count}
 use Rattle.vote_poll.specs.declared.reading.Reading.{Reading}
 use Rattle.vote_poll.specs.declared.reading.Reading.TheVariants.{Bad, Ballot}
@@ -17,10 +18,11 @@ use Rattle.vote_poll.specs.declared.reading.LineFault.TheVariants.{RankCount}
 use Rattle.std.proofs.lemmas.List.Elements.{All-nil, All-cons, All-head, All-tail, All-weaker}
 use Rattle.std.proofs.lemmas.List.Splits.{length-slice_split, join_with_byte-slice_split, slice_split_none, slice_split_at}
 use Rattle.vote_poll.specs.Names.{is_within, is_voter_byte, is_voter_name, place_of}
+use Rattle.vote_poll.proofs.NamesLaws.{voter_bytes, within_bounds}
 use Rattle.vote_poll.specs.BallotLine.{IsRank, rank_text, line_text, IsBallotLine}
 use Rattle.vote_poll.specs.Lists.{all_some}
 use Rattle.vote_poll.specs.Readings.{rank_in, ranks_in, ballot_in, reading, reading_of, reading_at, IsReading, ReadingFits, is_space, named, NamedRanks}
-use Rattle.vote_poll.specs.declared.TheConstants.{MAX_LINE, MAX_VOTER_NAME}
+use Rattle.vote_poll.specs.declared.TheConstants.{MAX_LINE}
 
 -- ---- a rank
 one_digit : (d : ℕ) → 1 ≤ d → d ≤ 9 → rank_in ((48 + d) ∷ []) ≡ Some (Some d)
@@ -56,12 +58,6 @@ chosen : {X : Type 0} (b : Bool) (x y z : X) → cond b x y ≡ z → ((b ≡ tr
 chosen true x y z h = inl (refl, h)
 chosen false x y z h = inr (refl, h)
 
-same_Some : {X : Type 0} (x y : X) → Some x ≡ Some y → x ≡ y
-same_Some x y h = cc
-
-within_bounds : (low high b : ℕ) → is_within low high b ≡ true → (low ≤ b) × (b ≤ high)
-within_bounds low high b h = (grind (arith, nat_tests), grind (arith, nat_tests))
-
 -- the text spells the rank
 abbrev Spells : List ℕ → Option ℕ → Type 0
 Spells text r = IsRank r × (text ≡ rank_text r)
@@ -77,10 +73,8 @@ from_one a r h =
     elim (chosen (a == 45) _ _ _ h) [
       | inl hyphen ↦ let same : a ≡ 45 = grind (arith, nat_tests, hyphen.0) in
           subst (Spells (a ∷ [])) (same_Some None r hyphen.1) (tt, ap (λ x. x ∷ []) same)
-      | inr digit ↦ elim (chosen (is_within 49 57 a) _ _ _ digit.1) [
-        | inl within ↦ subst (Spells (a ∷ [])) (same_Some (Some (a - 48)) r within.1) (spells_digit a within.0)
-        | inr out ↦ let impossible : None ≡ Some r = out.1 in cc
-      ]
+      | inr digit ↦ let within = cond_some (is_within 49 57 a) (Some (a - 48)) r digit.1 in
+          subst (Spells (a ∷ [])) within.1 (spells_digit a within.0)
     ]
 
 spells_number : (a b n : ℕ) → is_within 49 57 a ≡ true → is_within 48 57 b ≡ true → n ≡ 10 * (a - 48) + (b - 48) → Spells (a ∷ b ∷ []) (Some n)
@@ -100,11 +94,9 @@ spells_number a b n first second same =
 
 from_two : (a b : ℕ) (r : Option ℕ) → rank_in (a ∷ b ∷ []) ≡ Some r → Spells (a ∷ b ∷ []) r
 from_two a b r h =
-    elim (chosen (is_within 49 57 a && is_within 48 57 b) _ _ _ h) [
-      | inl digits ↦ let (first, second) = and_parts (is_within 49 57 a) (is_within 48 57 b) digits.0 in
-          subst (Spells (a ∷ b ∷ [])) (same_Some (Some (10 * (a - 48) + (b - 48))) r digits.1) (spells_number a b (10 * (a - 48) + (b - 48)) first second refl)
-      | inr out ↦ let impossible : None ≡ Some r = out.1 in cc
-    ]
+    let digits = cond_some (is_within 49 57 a && is_within 48 57 b) (Some (10 * (a - 48) + (b - 48))) r h in
+    let (first, second) = and_parts (is_within 49 57 a) (is_within 48 57 b) digits.0 in
+    subst (Spells (a ∷ b ∷ [])) digits.1 (spells_number a b (10 * (a - 48) + (b - 48)) first second refl)
 
 pub rank_text-rank_in : (text : List ℕ) (r : Option ℕ) → rank_in text ≡ Some r → IsRank r × (text ≡ rank_text r)
 rank_text-rank_in [] r h = cc
@@ -242,9 +234,7 @@ voter_byte_is_no_space : (b : ℕ) → is_voter_byte b ≡ true → is_space b �
 voter_byte_is_no_space b h = grind (arith, nat_tests)
 
 voter_name_has_no_space : (name : List ℕ) → is_voter_name name ≡ true → HasNoSpace name
-voter_name_has_no_space name h =
-    let (long, letters) = and_parts (is_within 1 MAX_VOTER_NAME (length name)) (list_all is_voter_byte name) h in
-    All-weaker (λ b. is_voter_byte b ≡ true) (λ b. is_space b ≡ false) voter_byte_is_no_space name (AllPass-from_list_all is_voter_byte name letters)
+voter_name_has_no_space name h = All-weaker (λ b. is_voter_byte b ≡ true) (λ b. is_space b ≡ false) voter_byte_is_no_space name (voter_bytes name h)
 
 first_space : (name rest : List ℕ) → HasNoSpace name → position_or_len is_space (name ++ 32 ∷ rest) ≡ length name
 first_space [] rest h = refl

@@ -1,7 +1,7 @@
--- Look-ups of a name.
-use Rattle.std.proofs.Common.{◌≡◌, ◌<◌, ℕ, Bool, true, not, List, [], ◌∷◌, map, refl, sym, length, get_or, Option, Some, None, IfSome, nat_lt, false, arith}
+-- Names, and look-ups of a name.
+use Rattle.std.proofs.Common.{◌≡◌, ◌<◌, ◌≤◌, ℕ, Bool, true, not, List, [], ◌∷◌, map, refl, sym, length, get_or, Option, Some, None, IfSome, nat_lt, false, arith}
 use Rattle.std.specs.Prelude.{IsTrue}
-use Rattle.std.specs.List.{position, position_or_len, prefix_len, AllPass, list_all}
+use Rattle.std.specs.List.{position, position_or_len, prefix_len, All, AllPass, list_all}
 use Rattle.std.proofs.lemmas.List.Sums.{position_or_len_is}
 use Rattle.vote_poll.specs.Names.{first_bad}
 use Rattle.vote_poll.proofs.FirstBad.{first_bad_apart, first_bad_shapes}
@@ -18,6 +18,9 @@ use Rattle.std.proofs.lemmas.Str.Ascii.{IsAscii-from_all}
 use Rattle.vote_poll.specs.Names.{is_within, is_voter_byte, is_voter_name, place_of}
 use Rattle.vote_poll.specs.declared.TheConstants.{MAX_VOTER_NAME}
 
+pub within_bounds : (low high n : ℕ) → is_within low high n ≡ true → (low ≤ n) × (n ≤ high)
+within_bounds low high n h = (grind (arith, nat_tests), grind (arith, nat_tests))
+
 prefix_len-map : {X Y : Type 0} (p : Y → Bool) (f : X → Y) (xs : List X) → prefix_len p (map f xs) ≡ prefix_len (λ x. p (f x)) xs
 prefix_len-map p f [] = refl
 prefix_len-map p f (x ∷ xs) = rw (prefix_len-map p f xs)
@@ -29,10 +32,11 @@ position-map p f xs = rw (prefix_len-map (λ y. not (p y)) f xs, length-map)
 voter_byte_is_ascii : (b : ℕ) → is_voter_byte b ≡ true → b < 128
 voter_byte_is_ascii b h = grind (arith, nat_tests)
 
+pub voter_bytes : (name : List ℕ) → is_voter_name name ≡ true → All (λ b. is_voter_byte b ≡ true) name
+voter_bytes name h = AllPass-from_list_all is_voter_byte name (and_parts (is_within 1 MAX_VOTER_NAME (length name)) (list_all is_voter_byte name) h).1
+
 voter_name_is_text : (name : List ℕ) → is_voter_name name ≡ true → IsUtf8 name
-voter_name_is_text name h =
-    let (long, letters) = and_parts (is_within 1 MAX_VOTER_NAME (length name)) (list_all is_voter_byte name) h in
-    IsUtf8-from_ascii name (IsAscii-from_all name (All-weaker (λ b. is_voter_byte b ≡ true) (λ b. b < 128) voter_byte_is_ascii name (AllPass-from_list_all is_voter_byte name letters)))
+voter_name_is_text name h = IsUtf8-from_ascii name (IsAscii-from_all name (All-weaker (λ b. is_voter_byte b ≡ true) (λ b. b < 128) voter_byte_is_ascii name (voter_bytes name h)))
 
 none_if_not_some : {X : Type 0} (o : Option X) → ((x : X) → o ≡ Some x → ⊥) → o ≡ None
 none_if_not_some None h = refl

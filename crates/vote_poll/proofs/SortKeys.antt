@@ -1,9 +1,9 @@
 -- Where options stand in the order of a ballot, and their ranks; a row of keys of which the first are taken and the others empty.
-use Rattle.std.proofs.Common.{◌≡◌, ◌≢◌, ℕ, ◌<◌, ◌≤◌, ◌-◌, nat_eq, if◌then◌else◌, Bool, true, false, List, ◌++◌, map, length, get_or, take, replicate, length-take-le, Option, Some, None, IfSome, refl, sym, ap, ◌∙◌, inl, inr, arith}
+use Rattle.std.proofs.Common.{◌≡◌, ◌≢◌, ℕ, ◌<◌, ◌≤◌, ◌-◌, nat_eq, List, ◌++◌, map, length, get_or, take, replicate, length-take-le, Option, Some, None, refl, sym, ap, ◌∙◌, inl, inr, arith}
 use Rattle.std.specs.Bool.{Decides}
 use Rattle.std.specs.Cmp.{unsigned_Decides}
 use Rattle.std.specs.Cmp.Lexicographic.{pointwise, pointwise_decides}
-use Rattle.std.proofs.lemmas.Bool.{cases_lt}
+use Rattle.std.proofs.lemmas.Bool.{cases_lt, eq-eqb, ne_eqb}
 use Rattle.std.proofs.lemmas.Bool.Decides.{same_from_decides}
 use Rattle.std.proofs.lemmas.List.{get_or-map, get_or-take, get_or-append_right, length-map}
 use Rattle.vote_poll.specs.declared.TheConstants.{MAX_OPTIONS, UNRANKED}
@@ -14,20 +14,11 @@ use Rattle.vote_poll.proofs.Equality.{same_ranks}
 
 -- what stands behind all ranks has none
 pub rank_of_key-unranked : (key : ℕ) → key ≡ UNRANKED → rank_of_key key ≡ None
-rank_of_key-unranked key h = rw ((unsigned_Decides key UNRANKED).1 h) refl
+rank_of_key-unranked key h = rw (eq-eqb key UNRANKED h)
 
 -- what stands elsewhere stands at its rank
 pub rank_of_key-ranked : (key : ℕ) → key ≢ UNRANKED → rank_of_key key ≡ Some key
-rank_of_key-ranked key h = by_test (nat_eq key UNRANKED) refl
-  where
-    by_test : (b : Bool) → nat_eq key UNRANKED ≡ b → (if b then None else Some key) ≡ Some key
-    by_test true e = absurd (h ((unsigned_Decides key UNRANKED).0 e))
-    by_test false e = refl
-
--- a rank is that of its key
-pub rank_again : (rank : Option ℕ) → IfSome rank (λ r. r < UNRANKED) → rank_of_key (key_of rank) ≡ rank
-rank_again None few = rank_of_key-unranked UNRANKED refl
-rank_again (Some rank) few = rank_of_key-ranked rank (λ e. absurd (omega arith))
+rank_of_key-ranked key h = rw (ne_eqb key UNRANKED h)
 
 pub is_sort_key : (key : ℕ) → key ≤ UNRANKED → IsSortKey (rank_of_key key) key
 is_sort_key key byte =

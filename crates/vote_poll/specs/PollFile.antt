@@ -5,8 +5,7 @@ use Rattle.std.specs.List.{list_all}
 use Rattle.std.specs.Str.{is_utf8, bytes_eq}
 use Rattle.toml.specs.Data.{Data, Items, no_items, item, Members, get_member, as_str, as_integer, as_array}
 use Rattle.toml.specs.Parse.{parse_document}
-pub use Rattle.vote_poll.specs.Names.{is_printable, is_title, has_outer_space, is_option_name, is_bad_after, is_bad_at, first_bad}
-use Rattle.vote_poll.specs.Names.{is_within, is_voter_name}
+use Rattle.vote_poll.specs.Names.{first_bad, is_option_name, is_title, is_voter_name, is_within}
 use Rattle.vote_poll.specs.PollContent.{PollContent}
 use Rattle.vote_poll.specs.Lists.{all_some}
 use Rattle.vote_poll.specs.declared.TheConstants.{MAX_OPTIONS, MAX_ELECTORS, MAX_RATIO, MAX_QUORUM_MULTIPLE}
