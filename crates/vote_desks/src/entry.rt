@@ -51,7 +51,7 @@ pub fn enter<VL: Tally, RL: Tally>(
         stamp,
         reply,
     };
-    let _ = desk.sheet.push(slip);
+    desk.sheet.push_reserved(slip);
     Ok(slip)
 }
 

@@ -1,7 +1,6 @@
 //! The box behind its lock, and the opening of its desks.
 ghost use Rattle.std.specs.Prelude.{◌≡◌, ◌≤◌, ◌<◌, ◌↔◌, ◌∷◌, ◌++◌, [], Err, length, map, IsTrue, IfOk, OnOk, IfErr, OnErr, vec_len};
 ghost use Rattle.std.specs.List.{range_with_len};
-ghost use Rattle.vote_poll.specs.PollContent.{option_count, elector_count, last_in_time};
 ghost use Rattle.vote_steps.specs.History.{is_closed, standing_ranks};
 ghost use Rattle.vote_steps.specs.declared.Step.TheVariants.{Close};
 ghost use Rattle.vote_desks.specs.Slips.{CanReply};
@@ -11,7 +10,7 @@ use crate::desk::{Desk, Held, Tally};
 use crate::entry::enter;
 use crate::fault::{DeskFault, EnterFault, NoVoter};
 use crate::slip::Slip;
-use std::alloc::{AllocError, Global};
+use std::alloc::Global;
 use std::marker::Model;
 use std::sync::ledger::Blank;
 use std::sync::{Mutex, Wait};
@@ -36,15 +35,6 @@ impl<VL: Tally, RL: Tally> Model for SharedBox<VL, RL> {
     ghost invariant = { λ s. (1 ≤ s.desks) × (s.desks ≤ MAX_DESKS) × (s.desks ≡ VL.desks) × (s.desks ≡ RL.desks) };
 }
 
-/// An empty box for a poll, with its last envelope, that takes the stamps 1 to `limit`.
-fn empty_box(alloc: Global, poll: &Poll, limit: u32) -> Result<BallotBox, AllocError>
-    requires { limit ≤ MAX_LINES }
-    ensures { IfOk result (λ b. b ≡ record { options = option_count poll.now; electors = elector_count poll.now; limit = limit; last_in_time = last_in_time poll.now; steps = [] }) }
-{
-    let last = poll.last_in_time();
-    BallotBox::new(alloc, poll.options(), poll.electors(), limit, last)
-}
-
 /// Opens an empty box for a poll, with desks 1 to `desks` that share it.
 ///
 /// A desk's sheet has room for `limit` slips, which is also the greatest stamp that the box takes. The box and all sheets take
@@ -66,14 +56,14 @@ pub fn open_desks<VL: Tally, RL: Tally>(
     ensures desks { IfOk result (λ r. r.1.items ≡ map (fresh_desk limit) (range_with_len 1 desks)) }
     ensures err { IfErr result (λ fault. fault ≡ DeskFault.Memory) }
 {
-    let ballot_box = empty_box(alloc, poll, limit)?;
+    let ballot_box = BallotBox::for_poll(alloc, poll, limit)?;
     let (valid_book, mut valid_rest) = valid.open::<VL>();
     let (refused_book, mut refused_rest) = refused.open::<RL>();
     let mut opened = Vec::new(alloc);
-    for place in 0..desks {
+    for index in 0..desks {
         let sheet = Vec::with_capacity(alloc, limit as usize)?;
         opened.push(Desk {
-            number: place + 1,
+            number: index + 1,
             limit,
             sheet,
             valid_share: valid_rest.split_off(1, 0),

@@ -7,8 +7,8 @@ ghost use Rattle.vote_desks.specs.Comparing.{AgreesWith, AgreeWith, AreWithin, H
 use crate::slip::Slip;
 use vote_steps::{MAX_DESKS, Step};
 
-/// A place for each desk that a box can have.
-const PLACES: usize = MAX_DESKS as usize;
+/// How many desks a box can have, as the length of an array.
+const ALL_DESKS: usize = MAX_DESKS as usize;
 
 /// How far the sheet of a desk was compared with the slips of its casts.
 #[derive(Clone, Copy)]
@@ -98,14 +98,14 @@ fn compare_step(compared: &mut [Compared], sheets: &[Vec<Slip>], number: u64, st
 }
 
 /// Compares the slips that the steps give with the sheets of all desks.
-fn compare_steps(steps: &[Step], sheets: &[Vec<Slip>]) -> [Compared; PLACES]
+fn compare_steps(steps: &[Step], sheets: &[Vec<Slip>]) -> [Compared; ALL_DESKS]
     requires { All HasDesk steps.now }
     ensures { AgreeWith (map vec_items sheets.now) steps.now result }
 {
     let mut compared = [Compared {
         alike: 0,
         differs: false,
-    }; PLACES];
+    }; ALL_DESKS];
     for (place, step) in steps.iter().enumerate() {
         compare_step(&mut compared, sheets, place as u64 + 1, step);
     }

@@ -51,7 +51,7 @@ pub(crate) struct Workplace<'h, 't, VL: Tally, RL: Tally, G> {
     ghost places: { tray.now.size ≡ length lines.now },
 }
 
-/// The desk and the pass that a worker was promise.
+/// What a worker promises: to give back this desk, and a pass of the same tray with the same parts.
 #[derive(Drop)]
 pub(crate) struct WorkerPromise {
     number: u8,

@@ -11,9 +11,9 @@ is_fresh : (limit number : ℕ) (slips : List Slip) (valid refused : ℕ) → sl
 is_fresh limit number slips valid refused none no_valid no_refused =
     ap (λ s. desk_of limit number s valid refused) none ∙ ap (λ v. desk_of limit number [] v refused) no_valid ∙ ap (λ r. desk_of limit number [] 0 r) no_refused
 
-pub loop-place-preserved : goal.loop-place-preserved
-loop-place-preserved g c =
-    let n = c.loop-place.place in
+pub loop-index-preserved : goal.loop-index-preserved
+loop-index-preserved g c =
+    let n = c.loop-index.index in
     let more = map-range_with_len_more (fresh_desk c.args.limit) 1 n (n + 1) (omega arith) in
     record {
       valid_left = search rules;
@@ -22,8 +22,8 @@ loop-place-preserved g c =
       refused_none = search rules;
       len = search rules;
       fresh = c.in_ok-push.ensures.items
-          ∙ ap (λ (d : DeskState). c.loop-place.opened.items ++ d ∷ [])
-          (is_fresh c.args.limit (n + 1) c.in_ok-sheet.sheet.items c.split_off.result.amount c.split_off-in-loop-place.result.amount
-          c.in_ok-sheet.ensures.items c.split_off.ensures.amount c.split_off-in-loop-place.ensures.amount)
-          ∙ ap (λ xs. xs ++ fresh_desk c.args.limit (n + 1) ∷ []) c.loop-place.invariant.fresh ∙ sym more;
+          ∙ ap (λ (d : DeskState). c.loop-index.opened.items ++ d ∷ [])
+          (is_fresh c.args.limit (n + 1) c.in_ok-sheet.sheet.items c.split_off.result.amount c.split_off-in-loop-index.result.amount
+          c.in_ok-sheet.ensures.items c.split_off.ensures.amount c.split_off-in-loop-index.ensures.amount)
+          ∙ ap (λ xs. xs ++ fresh_desk c.args.limit (n + 1) ∷ []) c.loop-index.invariant.fresh ∙ sym more;
     }
