@@ -1,7 +1,8 @@
 -- What the workers give back, one after the other.
 use Rattle.std.proofs.Common.{◌≡◌, ℕ, ◌+◌, ◌<◌, zero, suc, Bool, true, false, not, cond, List, [], ◌∷◌, ◌++◌, max, length, map, sum_by, Contains, refl, sym, ap, ◌∙◌, subst, arith, length-append}
 use Rattle.std.specs.List.{All, AllByRecursion, range_with_len, enumerate_from}
-use Rattle.std.proofs.lemmas.List.Elements.{All-from_recursion, recursion_from_All}
+use Rattle.std.proofs.lemmas.List.{length-map, map-append}
+use Rattle.std.proofs.lemmas.List.Elements.{All-from_recursion, All-push, recursion_from_All}
 use Rattle.std.proofs.lemmas.List.Sums.{sum_by_push, sum_by-cons}
 use Rattle.std.proofs.lemmas.List.FromFn.{length-range_with_len, get_or-range_with_len}
 use Rattle.std.specs.List.Sorted.{IsPermutation}
@@ -21,22 +22,10 @@ range-more n (suc m) = let at : n + 1 + m ≡ n + suc m = omega arith in ap (λ 
 pub Contains-range : (n x : ℕ) → x < n → Contains (range_with_len 0 n) x
 Contains-range n x low = (x, (let a = length-range_with_len 0 n in omega arith), get_or-range_with_len 0 n x x low ∙ omega arith)
 
-map-push : {X Y : Type 0} (f : X → Y) (xs : List X) (x : X) → map f (xs ++ x ∷ []) ≡ map f xs ++ f x ∷ []
-map-push f [] x = refl
-map-push f (y ∷ ys) x = ap (λ zs. f y ∷ zs) (map-push f ys x)
-
-ByRecursion-push : {X : Type 0} (P : X → Type 0) (xs : List X) (x : X) → AllByRecursion P xs → P x → AllByRecursion P (xs ++ x ∷ [])
-ByRecursion-push P [] x all one = (one, tt)
-ByRecursion-push P (y ∷ ys) x all one = (all.0, ByRecursion-push P ys x all.1 one)
-
-pub length_map : {X Y : Type 0} (f : X → Y) (xs : List X) → length (map f xs) ≡ length xs
-length_map f [] = refl
-length_map f (x ∷ xs) = omega (arith, length_map f xs)
-
 -- a desk has as many slips as its pass has places
 as_many : (desk : DeskState) (pass : PassState) → HasCastAll desk pass → length desk.slips ≡ length pass.places
 as_many desk pass h =
-    sym (length_map (λ (s : Slip). s.stamp) desk.slips) ∙ ap length h.stamps ∙ length_map (λ (place : ℕ). place + 1) pass.places
+    sym (length-map desk.slips (λ (s : Slip). s.stamp)) ∙ ap length h.stamps ∙ length-map pass.places (λ (place : ℕ). place + 1)
 
 pub handed_first : (tray : TrayId) (desk : DeskState) (pass : PassState) → desk.number ≡ 1 → pass.tray ≡ tray → pass.parts ≡ 0 ∷ [] → HasCastAll desk pass
     → AreHandedIn tray 1 (desk ∷ []) pass
@@ -59,10 +48,9 @@ handed_more tray n desks pass all desk more h number its_tray parts done is =
     let size : more.tray.size ≡ tray.size = ap (λ (t : TrayId). t.size) its_tray in
     let places : length all.places ≡ length pass.places + length more.places = ap (λ (p : PassState). length p.places) is ∙ length-append pass.places more.places in
     record {
-      numbers = map-push (λ (d : DeskState). d.number) desks desk ∙ ap (λ ks. ks ++ desk.number ∷ []) h.numbers ∙ ap (λ k. range_with_len 1 n ++ k ∷ []) (number ∙ sym one)
+      numbers = map-append (λ (d : DeskState). d.number) desks (desk ∷ []) ∙ ap (λ ks. ks ++ desk.number ∷ []) h.numbers ∙ ap (λ k. range_with_len 1 n ++ k ∷ []) (number ∙ sym one)
           ∙ sym (range-more 1 n) ∙ ap (range_with_len 1) next;
-      rising = All-from_recursion (λ (d : DeskState). Rises d.slips) (desks ++ desk ∷ [])
-          (ByRecursion-push (λ (d : DeskState). Rises d.slips) desks desk (recursion_from_All (λ (d : DeskState). Rises d.slips) desks h.rising) done.rising);
+      rising = All-push (λ (d : DeskState). Rises d.slips) desks desk h.rising done.rising;
       its_tray = ap (λ (p : PassState). p.tray) is ∙ h.its_tray;
       parts = ap (λ (p : PassState). p.parts) is ∙ ap (λ ks. ks ++ more.parts) h.parts ∙ ap (λ ks. range_with_len 0 n ++ ks) parts ∙ sym (range-more 0 n ∙ ap (λ k. range_with_len 0 n ++ k ∷ []) (let z : 0 + n ≡ n = omega arith in z)) ∙ ap (range_with_len 0) next;
       emptied = omega (arith, seen, h.emptied, done.emptied, size);

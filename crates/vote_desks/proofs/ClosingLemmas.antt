@@ -1,11 +1,7 @@
--- What a close leaves as it is, and what is gathered after it.
-use Rattle.std.proofs.Common.{◌≡◌, ℕ, List, [], ◌∷◌, map, sum_by, Result, Ok, Err, OnOk, OnErr, refl, ap, ◌∙◌, arith}
-use Rattle.std.proofs.lemmas.List.Sums.{sum_by-cons}
+-- What a close leaves as it is.
+use Rattle.std.proofs.Common.{◌≡◌, Result, Ok, Err, OnOk, OnErr, ap}
 use Rattle.vote_steps.specs.History.{valid, refused}
 use Rattle.vote_steps.specs.Boxes.{BoxState}
-use Rattle.vote_desks.specs.declared.slip.Slip.{Slip}
-use Rattle.vote_desks.specs.Slips.{refused_slips}
-use Rattle.vote_desks.specs.Desks.{DeskState}
 
 -- a count that stays where the box is closed stays too where the box was closed before
 pub valid_kept : {A E : Type 0} (r : Result A E) (old new : BoxState) → OnOk r (valid new.last_in_time new.steps ≡ valid old.last_in_time old.steps) → OnErr r (new ≡ old)
@@ -17,13 +13,3 @@ pub refused_kept : {A E : Type 0} (r : Result A E) (old new : BoxState) → OnOk
     → refused new.last_in_time new.steps ≡ refused old.last_in_time old.steps
 refused_kept (Ok x) old new ok err = ok
 refused_kept (Err e) old new ok err = ap (λ (b : BoxState). refused b.last_in_time b.steps) err
-
--- what was refused at all desks is what their sheets say
-pub refused_gathered : (sheets : List (List Slip)) (desks : List DeskState) (n : ℕ) → sheets ≡ map (λ desk. desk.slips) desks → sum_by (λ desk. refused_slips desk.slips) desks ≡ n
-    → sum_by refused_slips sheets ≡ n
-refused_gathered sheets desks n same all = ap (sum_by refused_slips) same ∙ of_desks desks ∙ all
-  where
-    of_desks : (ds : List DeskState) → sum_by refused_slips (map (λ desk. desk.slips) ds) ≡ sum_by (λ desk. refused_slips desk.slips) ds
-    of_desks [] = refl
-    of_desks (d ∷ ds) =
-        omega (arith, sum_by-cons refused_slips d.slips (map (λ desk. desk.slips) ds), sum_by-cons (λ (desk : DeskState). refused_slips desk.slips) d ds, of_desks ds)

@@ -2,9 +2,9 @@
 ghost use Rattle.std.specs.Prelude.{◌≡◌, ◌≤◌, ◌<◌, ◌↔◌, Err, length, map, sum_by, count_by, IsTrue, IfOk, vec_len, vec_items, IsPermutation};
 ghost use Rattle.std.specs.List.{range_with_len, enumerate_from};
 ghost use Rattle.vote_steps.specs.Boxes.{IsLegal};
-ghost use Rattle.vote_steps.specs.History.{is_cast, is_closed, valid, refused};
-ghost use Rattle.vote_desks.specs.Slips.{valid_slips, refused_slips};
+ghost use Rattle.vote_steps.specs.History.{is_cast, is_closed};
 ghost use Rattle.vote_desks.specs.Desks.{sheet_at};
+ghost use Rattle.vote_desks.specs.Books.{MeetsBooks};
 
 use crate::desk::{Desk, Held, Tally};
 use crate::fault::DeskFault;
@@ -12,6 +12,7 @@ use crate::shared::SharedBox;
 use crate::slip::Slip;
 use std::alloc::{AllocError, Global};
 use std::marker::Model;
+use vote_steps::laws::each_cast_is_counted;
 use vote_steps::{BallotBox, MAX_DESKS};
 
 /// A closed box, with the sheets of its desks.
@@ -68,10 +69,7 @@ fn meet<VL: Tally, RL: Tally>(
     requires valid { vec_len desks ≡ VL.parts }
     requires refused { vec_len desks ≡ RL.parts }
     ensures sheets { IfOk result (λ sheets. map vec_items sheets.items ≡ map (λ desk. desk.slips) desks.items) }
-    ensures valid { IfOk result (λ _. sum_by (λ desk. desk.valid_share) desks.items ≡ valid held.old.ballot_box.last_in_time held.old.ballot_box.steps) }
-    ensures refused { IfOk result (λ _. sum_by (λ desk. desk.refused_share) desks.items ≡ refused held.old.ballot_box.last_in_time held.old.ballot_box.steps) }
-    ensures valid_slips { IfOk result (λ _. sum_by (λ desk. valid_slips desk.slips) desks.items ≡ valid held.old.ballot_box.last_in_time held.old.ballot_box.steps) }
-    ensures refused_slips { IfOk result (λ _. sum_by (λ desk. refused_slips desk.slips) desks.items ≡ refused held.old.ballot_box.last_in_time held.old.ballot_box.steps) }
+    ensures books { IfOk result (λ sheets. MeetsBooks desks.items (record { ballot_box = held.old.ballot_box; sheets = map vec_items sheets.items })) }
     ensures held { held.new ≡ held.old }
 {
     let mut desks = desks;
@@ -96,7 +94,7 @@ fn meet<VL: Tally, RL: Tally>(
 }
 
 /// Closes the box, if it is open, and meets the shares of all desks with the books.
-#[tactic(auto, using(crate::proofs::ClosingLemmas::valid_kept, crate::proofs::ClosingLemmas::refused_kept, crate::proofs::ClosingLemmas::refused_gathered))]
+#[tactic(auto, using(crate::proofs::ClosingLemmas::valid_kept, crate::proofs::ClosingLemmas::refused_kept))]
 fn seal<VL: Tally, RL: Tally>(
     alloc: Global,
     held: Held<VL, RL>,
@@ -108,10 +106,7 @@ fn seal<VL: Tally, RL: Tally>(
     ensures legal { IfOk result (λ s. IsLegal s.ballot_box) }
     ensures closed { IfOk result (λ s. IsTrue (is_closed s.ballot_box.steps)) }
     ensures sheets { IfOk result (λ s. s.sheets ≡ map (λ desk. desk.slips) desks.items) }
-    ensures valid { IfOk result (λ s. sum_by (λ desk. desk.valid_share) desks.items ≡ valid s.ballot_box.last_in_time s.ballot_box.steps) }
-    ensures refused { IfOk result (λ s. sum_by (λ desk. desk.refused_share) desks.items ≡ refused s.ballot_box.last_in_time s.ballot_box.steps) }
-    ensures valid_slips { IfOk result (λ s. sum_by valid_slips s.sheets ≡ valid s.ballot_box.last_in_time s.ballot_box.steps) }
-    ensures refused_slips { IfOk result (λ s. sum_by refused_slips s.sheets ≡ refused s.ballot_box.last_in_time s.ballot_box.steps) }
+    ensures books { IfOk result (MeetsBooks desks.items) }
 {
     let mut held = held;
     let _ = held.ballot_box.close();
@@ -153,10 +148,7 @@ pub fn gather<VL: Tally, RL: Tally>(
     ensures closed { IfOk result (λ s. IsTrue (is_closed s.ballot_box.steps)) }
     ensures sheets { IfOk result (λ s. IsPermutation (map (λ desk. (desk.number, desk.slips)) desks.items) (enumerate_from 1 s.sheets)) }
     ensures desks { IfOk result (λ s. length s.sheets ≡ shared) }
-    ensures valid { IfOk result (λ s. sum_by (λ desk. desk.valid_share) desks.items ≡ valid s.ballot_box.last_in_time s.ballot_box.steps) }
-    ensures refused { IfOk result (λ s. sum_by (λ desk. desk.refused_share) desks.items ≡ refused s.ballot_box.last_in_time s.ballot_box.steps) }
-    ensures valid_slips { IfOk result (λ s. sum_by valid_slips s.sheets ≡ valid s.ballot_box.last_in_time s.ballot_box.steps) }
-    ensures refused_slips { IfOk result (λ s. sum_by refused_slips s.sheets ≡ refused s.ballot_box.last_in_time s.ballot_box.steps) }
+    ensures books { IfOk result (MeetsBooks desks.items) }
     ensures casts { IfOk result (λ s. sum_by length s.sheets ≡ count_by is_cast s.ballot_box.steps) }
     ensures missing { (result ≡ Err DeskFault.MissingDesk) ↔ ¬ IsPermutation (map (λ desk. desk.number) desks.items) (range_with_len 1 shared) }
 {
@@ -170,7 +162,10 @@ pub fn gather<VL: Tally, RL: Tally>(
         return Err(DeskFault::MissingDesk);
     }
     match seal(alloc, held.into_inner(), desks) {
-        Ok(sealed) => Ok(sealed),
+        Ok(sealed) => {
+            each_cast_is_counted();
+            Ok(sealed)
+        }
         Err(_) => Err(DeskFault::Memory),
     }
 }

@@ -1,12 +1,12 @@
 use Rattle.std.proofs.Common.{◌≡◌, ℕ, List, map, length, refl, sym, ap, ◌∙◌, subst, arith, rules}
 use Rattle.std.specs.Prelude.{IsPermutation}
 use Rattle.std.specs.List.{enumerate_from, range_with_len}
+use Rattle.std.proofs.lemmas.List.{length-map}
 use Rattle.std.proofs.lemmas.List.Sorted.{IsPermutation-map, IsPermutation-trans, IsPermutation-sym, IsNonDecreasingBy-from_sort_by_key}
 use Rattle.vote_desks.specs.declared.slip.Slip.{Slip}
 use Rattle.vote_desks.specs.Desks.{DeskState}
 use Rattle.vote_desks.proofs.Joined.{numbered, length_range}
-use Rattle.vote_desks.proofs.BackLemmas.{all_slips, length_map}
-use Rattle.vote_steps.proofs.HistoryLemmas.{valid-refused}
+use Rattle.vote_desks.proofs.BackLemmas.{all_slips}
 use Rattle.vote_desks.proofs.Numbered.{numbers_of_sorted}
 use Rattle.vote_desks.proofs.sealed.gather.Goals as goal
 
@@ -60,11 +60,11 @@ pub returns-in-Ok-clause-desks : goal.returns-in-Ok-clause-desks
 returns-in-Ok-clause-desks g c =
     let sorted : List DeskState = c.sort_unstable_by_key.new.self.items in
     let numbers : map (λ (d : DeskState). d.number) sorted ≡ range_with_len 1 c.shared.inside.desks = ap (map (λ (d : DeskState). d.number)) (sym c.deref.ensures.value) ∙ c.are_complete.ensures.0 c.if-not-are_complete.false in
-    ap length c.in-Ok.ensures.sheets ∙ length_map (λ (d : DeskState). d.slips) sorted ∙ length_range (λ (d : DeskState). d.number) 1 c.shared.inside.desks sorted numbers ∙ c.shared.view_is
+    ap length c.in-Ok.ensures.sheets ∙ length-map sorted (λ (d : DeskState). d.slips) ∙ length_range (λ (d : DeskState). d.number) 1 c.shared.inside.desks sorted numbers ∙ c.shared.view_is
 
 pub returns-in-Ok-clause-casts : goal.returns-in-Ok-clause-casts
 returns-in-Ok-clause-casts g c =
-    omega (arith, all_slips c.in-Ok.sealed.sheets, valid-refused c.in-Ok.sealed.ballot_box.last_in_time c.in-Ok.sealed.ballot_box.steps, c.in-Ok.ensures.valid_slips, c.in-Ok.ensures.refused_slips)
+    omega (arith, all_slips c.in-Ok.sealed.sheets, c.each_cast_is_counted.ensures c.in-Ok.sealed.ballot_box.last_in_time c.in-Ok.sealed.ballot_box.steps, c.in-Ok.ensures.books.valid_on_sheets, c.in-Ok.ensures.books.refused_on_sheets)
 
 pub returns-in-Ok-clause-missing : goal.returns-in-Ok-clause-missing
 returns-in-Ok-clause-missing g c =

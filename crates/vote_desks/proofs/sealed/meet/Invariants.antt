@@ -9,8 +9,8 @@ invariant-loop-desks g l = record {
   refused_parts : l.refused_share.parts + vec_len l.desks ≡ vec_len l.fn.desks;
   valid : l.valid_share.amount + sum_by (λ (d : DeskState). d.valid_share) l.desks.items ≡ sum_by (λ (d : DeskState). d.valid_share) l.fn.desks.items;
   refused : l.refused_share.amount + sum_by (λ (d : DeskState). d.refused_share) l.desks.items ≡ sum_by (λ (d : DeskState). d.refused_share) l.fn.desks.items;
-  valid_slips : l.valid_share.amount + sum_by (λ (d : DeskState). valid_slips d.slips) l.desks.items ≡ sum_by (λ (d : DeskState). valid_slips d.slips) l.fn.desks.items;
-  refused_slips : l.refused_share.amount + sum_by (λ (d : DeskState). refused_slips d.slips) l.desks.items ≡ sum_by (λ (d : DeskState). refused_slips d.slips) l.fn.desks.items;
+  valid_slips : l.valid_share.amount ≡ sum_by valid_slips (map vec_items l.sheets.items);
+  refused_slips : l.refused_share.amount ≡ sum_by refused_slips (map vec_items l.sheets.items);
   sheets : map vec_items l.sheets.items ++ map (λ (d : DeskState). d.slips) l.desks.items ≡ map (λ (d : DeskState). d.slips) l.fn.desks.items;
 }
 
