@@ -3,7 +3,8 @@ use Rattle.std.proofs.Common.{◌≡◌, ℕ, ◌+◌, ◌<◌, ◌≤◌, zero,
 use Rattle.std.specs.Prelude.{slice_get, position, MatchResult}
 use Rattle.std.specs.List.{All, prefix_len}
 use Rattle.std.proofs.lemmas.Bool.{cases_lt, cases_Bool, ltb-false}
-use Rattle.std.proofs.lemmas.List.{get_or-take, length-take-le}
+use Rattle.std.proofs.Math.Seq.{get_or-append_seam}
+use Rattle.std.proofs.lemmas.List.{get_or-take, get_or_append_left, length-append, length_push, length-take-le}
 use Rattle.std.proofs.lemmas.List.Quantifiers.{position-Some}
 use Rattle.vote_poll.specs.PollContent.{PollContent}
 use Rattle.vote_poll.specs.Readings.{readings}
@@ -33,19 +34,6 @@ slice_get-take zero k xs h = absurd (omega arith)
 slice_get-take (suc n) k [] h = refl
 slice_get-take (suc n) zero (x ∷ xs) h = refl
 slice_get-take (suc n) (suc k) (x ∷ xs) h = slice_get-take n k xs (omega arith)
-
-at_seam : {X : Type 0} (xs : List X) (y : X) (ys : List X) (d : X) → get_or (xs ++ y ∷ ys) (length xs) d ≡ y
-at_seam [] y ys d = refl
-at_seam (x ∷ xs) y ys d = at_seam xs y ys d
-
-before_seam : {X : Type 0} (xs ys : List X) (k : ℕ) (d : X) → k < length xs → get_or (xs ++ ys) k d ≡ get_or xs k d
-before_seam [] ys k d h = absurd (omega arith)
-before_seam (x ∷ xs) ys zero d h = refl
-before_seam (x ∷ xs) ys (suc k) d h = before_seam xs ys k d (omega arith)
-
-seam_within : {X : Type 0} (xs : List X) (y : X) (ys : List X) → length xs < length (xs ++ y ∷ ys)
-seam_within [] y ys = omega arith
-seam_within (x ∷ xs) y ys = omega (arith, seam_within xs y ys)
 
 -- the casts of a legal history are at a desk, and of an envelope
 
@@ -86,14 +74,14 @@ own_before poll lines steps n h k d lt =
     let P : Step → Type 0 = λ s. HasOwnReading (readings poll lines) s in
     let is = h.number_is in
     let inside : k < length h.before = omega arith in
-    subst P (sym (ap (λ xs. get_or xs k d) h.here ∙ before_seam h.before (h.step ∷ h.after) k d inside)) (h.so_far k d inside)
+    subst P (sym (ap (λ xs. get_or xs k d) h.here ∙ get_or_append_left h.before (h.step ∷ h.after) d k inside)) (h.so_far k d inside)
 
 other_there : (poll : PollContent) (lines : List (List ℕ)) (steps : List Step) (n : ℕ) (h : DiffersFirst poll lines steps n) (k : ℕ) (d : Step) → k + 1 ≡ n → HasOwnReading (readings poll lines) (get_or steps k d) → ⊥
 other_there poll lines steps n h k d at own =
     let P : Step → Type 0 = λ s. HasOwnReading (readings poll lines) s in
     let is = h.number_is in
     let same : k ≡ length h.before = omega arith in
-    h.differs (subst P (ap (λ i. get_or steps i d) same ∙ ap (λ xs. get_or xs (length h.before) d) h.here ∙ at_seam h.before h.step h.after d) own)
+    h.differs (subst P (ap (λ i. get_or steps i d) same ∙ ap (λ xs. get_or xs (length h.before) d) h.here ∙ get_or-append_seam h.before h.step h.after d) own)
 
 one_step : (poll : PollContent) (lines : List (List ℕ)) (steps : List Step) (n m : ℕ) → DiffersFirst poll lines steps n → DiffersFirst poll lines steps m → n ≡ m
 one_step poll lines steps n m h g =
@@ -111,7 +99,7 @@ one_step poll lines steps n m h g =
 no_step : (poll : PollContent) (lines : List (List ℕ)) (steps : List Step) (n : ℕ) → DiffersFirst poll lines steps n → HasOwnReadings poll lines steps → ⊥
 no_step poll lines steps n h own =
     let is = h.number_is in
-    let inside : length h.before < length steps = omega (arith, seam_within h.before h.step h.after, ap length h.here) in
+    let inside : length h.before < length steps = omega (arith, length-append h.before (h.step ∷ h.after), ap length h.here) in
     other_there poll lines steps n h (length h.before) h.step (omega arith) (own (length h.before) h.step inside)
 
 -- the first slip that differs
@@ -184,15 +172,11 @@ early_at steps i e more = let h = close_at steps i e in (omega arith, more)
 
 not_early : (steps : List Step) (n : ℕ) → IsEarlyClose steps n → steps ≡ before_close steps ++ Close ∷ [] → ⊥
 not_early steps n h last =
-    let len : length (before_close steps ++ Close ∷ []) ≡ length (before_close steps) + 1 = longer (before_close steps) in
+    let len = length_push (before_close steps) Close in
     let same = ap length last in
     let is = h.0 in
     let more = h.1 in
     absurd (omega arith)
-  where
-    longer : (xs : List Step) → length (xs ++ Close ∷ []) ≡ length xs + 1
-    longer [] = omega arith
-    longer (x ∷ xs) = omega (arith, longer xs)
 
 -- each answer is the only one
 

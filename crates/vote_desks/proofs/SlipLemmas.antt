@@ -3,16 +3,16 @@ use Rattle.std.proofs.Common.{◌≡◌, ◌≢◌, ℕ, ◌+◌, ◌-◌, ◌<�
 use Rattle.std.specs.Prelude.{slice_get}
 use Rattle.std.specs.List.{cons_option}
 use Rattle.std.proofs.lemmas.Bool.{cases_eq, eq-eqb, ne_eqb}
-use Rattle.std.proofs.lemmas.List.{take-append-le, take_all, length-append, get_or-set_other}
+use Rattle.std.proofs.Math.Seq.{take-suc}
+use Rattle.std.proofs.lemmas.List.{append-nil, take-append-le, take_all, length-append, get_or-set_other}
 use Rattle.std.proofs.lemmas.Grind.{get_or-set_at}
-use Rattle.std.proofs.lemmas.Option.{slice_get_within, slice_get_past}
+use Rattle.std.proofs.lemmas.Option.{slice_get_cases, slice_get_within, slice_get_past, get_or_from_slice_get}
 use Rattle.vote_poll.specs.declared.Reading.{Reading}
 use Rattle.vote_desks.specs.declared.slip.Slip.{Slip}
 use Rattle.vote_desks.specs.declared.sheets.Compared.{Compared}
 use Rattle.vote_steps.specs.declared.Reply.{Reply}
 use Rattle.vote_steps.specs.declared.Step.{Step}
 use Rattle.vote_steps.specs.declared.Step.TheVariants.{Cast, Close}
-use Rattle.vote_steps.proofs.LineLemmas.{take_next}
 use Rattle.vote_desks.specs.Slips.{slip_of, slips_from, slips}
 use Rattle.vote_desks.specs.Desks.{sheet_at}
 use Rattle.vote_desks.specs.Audit.{PartAt}
@@ -23,10 +23,6 @@ use Rattle.vote_desks.specs.Comparing.{AgreesWith, AgreeWith, compared_at}
 cons_option-append : (o : Option Slip) (xs ys : List Slip) → cons_option o (xs ++ ys) ≡ cons_option o xs ++ ys
 cons_option-append None xs ys = refl
 cons_option-append (Some x) xs ys = refl
-
-append-nil : {X : Type 0} (xs : List X) → xs ++ [] ≡ xs
-append-nil [] = refl
-append-nil (x ∷ xs) = ap (λ ys. x ∷ ys) (append-nil xs)
 
 get-append_left : {X : Type 0} (xs ys : List X) (k : ℕ) → k < length xs → slice_get (xs ++ ys) k ≡ slice_get xs k
 get-append_left [] ys k h = absurd (omega arith)
@@ -40,12 +36,12 @@ get-append_seam (x ∷ xs) y zero h = absurd (omega arith)
 get-append_seam (x ∷ xs) y (suc n) h = get-append_seam xs y n (omega arith)
 
 take-get : {X : Type 0} (xs : List X) (n : ℕ) (x : X) → slice_get xs n ≡ Some x → take (n + 1) xs ≡ take n xs ++ x ∷ []
-take-get xs n x h = let at : suc n ≡ n + 1 = omega arith in sym (ap (λ k. take k xs) at) ∙ take_next xs n x h
+take-get xs n x h =
+    let next : n + 1 ≡ suc n = omega arith in
+    ap (λ k. take k xs) next ∙ take-suc xs n x (slice_get_within xs n x h) ∙ ap (λ y. take n xs ++ y ∷ []) (get_or_from_slice_get xs n x x h)
 
-get_within : {X : Type 0} (xs : List X) (n : ℕ) → n < length xs → slice_get xs n ≡ None → ⊥
-get_within [] n h e = absurd (omega arith)
-get_within (x ∷ xs) zero h e = cc
-get_within (x ∷ xs) (suc n) h e = get_within xs n (omega arith) e
+is_there : {X : Type 0} (xs : List X) (n : ℕ) → n < length xs → slice_get xs n ≢ None
+is_there xs n h none = ⊎_elim (λ there. absurd (let f = sym there.2 ∙ none in cc)) (λ past. absurd (let le = past.0 in omega arith)) (slice_get_cases xs n).1
 
 -- the slips of one step more
 
@@ -110,7 +106,7 @@ part_found sheet casts at differs h = record { before = at.alike; place_is = ref
 pub sheet_longer : (sheet casts : List Slip) (at : Compared) → at.differs ≡ false → at.alike < length sheet → AgreesWith sheet casts at → PartAt sheet casts (at.alike + 1)
 sheet_longer sheet casts at alike more h =
     let len = h.all alike in
-    record { before = at.alike; place_is = refl; so_far = h.so_far; differ = λ e. get_within sheet at.alike more (e ∙ slice_get_past casts at.alike (omega arith)) }
+    record { before = at.alike; place_is = refl; so_far = h.so_far; differ = λ e. is_there sheet at.alike more (e ∙ slice_get_past casts at.alike (omega arith)) }
 
 pub all_alike : (sheet casts : List Slip) (at : Compared) → at.differs ≡ false → length sheet ≤ at.alike → AgreesWith sheet casts at → sheet ≡ casts
 all_alike sheet casts at alike whole h =

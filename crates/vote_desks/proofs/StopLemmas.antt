@@ -1,7 +1,8 @@
 -- The least desk that stopped early.
-use Rattle.std.proofs.Common.{◌≡◌, ◌≢◌, ℕ, ◌+◌, ◌<◌, ◌≤◌, zero, suc, List, [], ◌∷◌, Option, Some, None, length, get_or, map, refl, sym, ap, ◌∙◌, ⊎_elim, arith}
+use Rattle.std.proofs.Common.{◌≡◌, ◌≢◌, ℕ, ◌+◌, ◌<◌, ◌≤◌, List, Option, Some, None, length, get_or, map, sym, ap, ◌∙◌, ⊎_elim, arith}
 use Rattle.std.specs.List.{range_with_len}
 use Rattle.std.proofs.lemmas.Bool.{cases_lt}
+use Rattle.std.proofs.lemmas.List.{get_or-map, length-map}
 use Rattle.vote_desks.specs.declared.fault.VoteFault.{VoteFault}
 use Rattle.vote_desks.specs.declared.worked.Stop.{Stop}
 use Rattle.vote_desks.specs.declared.worked.Stop.TheVariants.{Barred, Refused}
@@ -9,12 +10,6 @@ use Rattle.vote_desks.specs.declared.fault.EnterFault.TheVariants.{SheetFull}
 use Rattle.vote_desks.specs.Faults.{CanStopVotes}
 use Rattle.vote_desks.specs.Stops.{stop_fault, IsLeastStop}
 use Rattle.vote_desks.proofs.Joined.{at_range}
-use Rattle.vote_desks.proofs.BackLemmas.{length_map}
-
-get-map : {X Y : Type 0} (f : X → Y) (xs : List X) (k : ℕ) (d : X) (e : Y) → k < length xs → get_or (map f xs) k e ≡ f (get_or xs k d)
-get-map f [] k d e h = absurd (omega arith)
-get-map f (x ∷ xs) zero d e h = refl
-get-map f (x ∷ xs) (suc k) d e h = get-map f xs k d e (omega arith)
 
 -- desks that are numbered in order, of which the first at this place stopped early
 pub least_stop : {W : Type 0} (desk : W → ℕ) (stopped : W → Option Stop) (all : List W) (k : ℕ) (w : W) (stop : Stop) (fault : VoteFault)
@@ -23,16 +18,16 @@ pub least_stop : {W : Type 0} (desk : W → ℕ) (stopped : W → Option Stop) (
     → IsLeastStop (map {B = ℕ × Option Stop} (λ v. (desk v, stopped v)) all) fault
 least_stop {W} desk stopped all k w stop fault numbers inside here stops is before =
     let pair : W → ℕ × Option Stop = λ v. (desk v, stopped v) in
-    let len = length_map pair all in
+    let len = length-map all pair in
     record {
       desk = desk w;
       stop = stop;
-      stopped = (k, omega arith, get-map pair all k w (desk w, Some stop) inside ∙ ap pair (sym here) ∙ ap (λ s. let p : ℕ × Option Stop = (desk w, s) in p) stops);
+      stopped = (k, omega arith, get_or-map pair all k w (desk w, Some stop) inside ∙ ap pair (sym here) ∙ ap (λ s. let p : ℕ × Option Stop = (desk w, s) in p) stops);
       fault_is = is;
       least = λ other why there.
           let i = there.0 in
           let within : i < length all = let lt = there.1 in omega arith in
-          let at : pair (get_or all i w) ≡ (other, Some why) = sym (get-map pair all i w (other, Some why) within) ∙ there.2 in
+          let at : pair (get_or all i w) ≡ (other, Some why) = sym (get_or-map pair all i w (other, Some why) within) ∙ there.2 in
           let mine : desk (get_or all k w) ≡ 1 + k = at_range desk 1 (length all) all k w numbers inside in
           let its : desk (get_or all i w) ≡ 1 + i = at_range desk 1 (length all) all i w numbers within in
           let same = ap desk here in

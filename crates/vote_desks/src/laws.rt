@@ -4,10 +4,14 @@ ghost use Rattle.vote_desks.specs.Standing.{LastLinesStand, LinesAreCounted};
 /// In an audited box the last line of each voter stands that is not late, whatever the order in which the lines were cast.
 pub fn last_lines_stand()
     ensures { LastLinesStand }
-{}
+{
+    vote_steps::laws::last_lines_stand();
+}
 
 /// What an audited box counts is what the lines say: how many are ballots and not late, how many voters have one, and how many
 /// voters' last such ballots prefer one option to another.
 pub fn lines_are_counted()
     ensures { LinesAreCounted }
-{}
+{
+    vote_steps::laws::lines_are_counted();
+}
