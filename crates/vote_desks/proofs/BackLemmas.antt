@@ -27,18 +27,6 @@ as_many : (desk : DeskState) (pass : PassState) → HasCastAll desk pass → len
 as_many desk pass h =
     sym (length-map desk.slips (λ (s : Slip). s.stamp)) ∙ ap length h.stamps ∙ length-map pass.places (λ (place : ℕ). place + 1)
 
-pub handed_first : (tray : TrayId) (desk : DeskState) (pass : PassState) → desk.number ≡ 1 → pass.tray ≡ tray → pass.parts ≡ 0 ∷ [] → HasCastAll desk pass
-    → AreHandedIn tray 1 (desk ∷ []) pass
-handed_first tray desk pass number its_tray parts done =
-    record {
-      numbers = ap (λ k. k ∷ []) number;
-      rising = All-from_recursion (λ (d : DeskState). Rises d.slips) (desk ∷ []) (done.rising, tt);
-      its_tray = its_tray;
-      parts = parts;
-      emptied = done.emptied ∙ ap (λ (t : TrayId). t.size) its_tray;
-      cast = omega (arith, as_many desk pass done, sum_by-cons (λ (d : DeskState). length d.slips) desk []);
-    }
-
 pub handed_more : (tray : TrayId) (n : ℕ) (desks : List DeskState) (pass all : PassState) (desk : DeskState) (more : PassState) → AreHandedIn tray n desks pass
     → desk.number ≡ n + 1 → more.tray ≡ tray → more.parts ≡ n ∷ [] → HasCastAll desk more → all ≡ joined pass more → AreHandedIn tray (n + 1) (desks ++ desk ∷ []) all
 handed_more tray n desks pass all desk more h number its_tray parts done is =

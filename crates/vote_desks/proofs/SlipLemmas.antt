@@ -6,7 +6,7 @@ use Rattle.std.proofs.lemmas.Bool.{cases_eq, eq-eqb, ne_eqb}
 use Rattle.std.proofs.Math.Seq.{take-suc}
 use Rattle.std.proofs.lemmas.List.{append-nil, take-append-le, take_all, length-append, get_or-set_other}
 use Rattle.std.proofs.lemmas.Grind.{get_or-set_at}
-use Rattle.std.proofs.lemmas.Option.{slice_get_cases, slice_get_within, slice_get_past, get_or_from_slice_get}
+use Rattle.std.proofs.lemmas.Option.{slice_get_within, get_or_from_slice_get}
 use Rattle.vote_poll.specs.declared.Reading.{Reading}
 use Rattle.vote_desks.specs.declared.slip.Slip.{Slip}
 use Rattle.vote_desks.specs.declared.sheets.Compared.{Compared}
@@ -15,7 +15,6 @@ use Rattle.vote_steps.specs.declared.Step.{Step}
 use Rattle.vote_steps.specs.declared.Step.TheVariants.{Cast, Close}
 use Rattle.vote_desks.specs.Slips.{slip_of, slips_from, slips}
 use Rattle.vote_desks.specs.Desks.{sheet_at}
-use Rattle.vote_desks.specs.Audit.{PartAt}
 use Rattle.vote_desks.specs.Comparing.{AgreesWith, AgreeWith, compared_at}
 
 -- lists
@@ -39,9 +38,6 @@ take-get : {X : Type 0} (xs : List X) (n : ℕ) (x : X) → slice_get xs n ≡ S
 take-get xs n x h =
     let next : n + 1 ≡ suc n = omega arith in
     ap (λ k. take k xs) next ∙ take-suc xs n x (slice_get_within xs n x h) ∙ ap (λ y. take n xs ++ y ∷ []) (get_or_from_slice_get xs n x x h)
-
-is_there : {X : Type 0} (xs : List X) (n : ℕ) → n < length xs → slice_get xs n ≢ None
-is_there xs n h none = ⊎_elim (λ there. absurd (let f = sym there.2 ∙ none in cc)) (λ past. absurd (let le = past.0 in omega arith)) (slice_get_cases xs n).1
 
 -- the slips of one step more
 
@@ -97,21 +93,6 @@ parts_here sheet casts slip at alike other h =
       all = λ not. absurd (let f : true ≡ false = not in cc);
       part = λ _. (omega (arith, longer, len), λ e. other (e ∙ get-append_seam casts slip n len));
     }
-
--- what is found at the end
-
-pub part_found : (sheet casts : List Slip) (at : Compared) → at.differs ≡ true → AgreesWith sheet casts at → PartAt sheet casts (at.alike + 1)
-part_found sheet casts at differs h = record { before = at.alike; place_is = refl; so_far = h.so_far; differ = (h.part differs).1 }
-
-pub sheet_longer : (sheet casts : List Slip) (at : Compared) → at.differs ≡ false → at.alike < length sheet → AgreesWith sheet casts at → PartAt sheet casts (at.alike + 1)
-sheet_longer sheet casts at alike more h =
-    let len = h.all alike in
-    record { before = at.alike; place_is = refl; so_far = h.so_far; differ = λ e. is_there sheet at.alike more (e ∙ slice_get_past casts at.alike (omega arith)) }
-
-pub all_alike : (sheet casts : List Slip) (at : Compared) → at.differs ≡ false → length sheet ≤ at.alike → AgreesWith sheet casts at → sheet ≡ casts
-all_alike sheet casts at alike whole h =
-    let len = h.all alike in
-    sym (take_all at.alike sheet whole) ∙ h.so_far ∙ take_all at.alike casts (omega arith)
 
 -- one step more beside all sheets
 

@@ -49,7 +49,7 @@ impl<T: Drop> From<AllocFailed<T>> for DeskFault {
     }
 }
 
-/// Where a box and its sheets are not what the lines give. Steps and places on a sheet are numbered from 1.
+/// Where a box and its sheets are not what the lines give. Steps, and the slips of a sheet, are counted from 1.
 #[derive(Clone, Copy, Debug, PartialEq, Eq)]
 pub enum AuditFault {
     /// The box has not the poll's numbers of options and electors or its last envelope, or its limit is not the number of lines.
@@ -58,7 +58,7 @@ pub enum AuditFault {
     CountDiffers,
     /// This step is the first cast that has not the reading of the line with its stamp.
     StepDiffers(u64),
-    /// This desk is the least whose sheet is not the slips of its casts, and this the first place where they differ.
+    /// This desk is the least whose sheet is not the slips of its casts, and this is where the two first differ.
     SlipDiffers(u8, u64),
     /// This step is the close, and it is not the last.
     ClosedEarly(u64),

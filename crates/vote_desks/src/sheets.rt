@@ -74,7 +74,7 @@ fn sheet_of(sheets: &[Vec<Slip>], desk: u8) -> &[Slip]
 
 /// Compares the slip that a step gives with the sheet of its desk.
 fn compare_step(compared: &mut [Compared], sheets: &[Vec<Slip>], number: u64, step: &Step)
-    requires places { length compared.old ≡ MAX_DESKS }
+    requires all { length compared.old ≡ MAX_DESKS }
     requires within { AreWithin (map vec_items sheets.now) compared.old }
     requires desk { HasDesk step.now }
     ensures { (before : List Step) → length before + 1 ≡ number → AgreeWith (map vec_items sheets.now) before compared.old → AgreeWith (map vec_items sheets.now) (before ++ step.now ∷ []) compared.new }
@@ -93,8 +93,8 @@ fn compare_step(compared: &mut [Compared], sheets: &[Vec<Slip>], number: u64, st
         stamp,
         reply,
     };
-    let place = usize::from(desk) - 1;
-    compared[place] = compared[place].with(sheet_of(sheets, desk), &slip);
+    let index = usize::from(desk) - 1;
+    compared[index] = compared[index].with(sheet_of(sheets, desk), &slip);
 }
 
 /// Compares the slips that the steps give with the sheets of all desks.

@@ -39,7 +39,7 @@ impl Gate for NoGate {
     fn after(&self, _desk: u8, _slip: &Slip) {}
 }
 
-/// What all workers share: the poll and its lines, the box, the gate, and the tray, which has a place for each line.
+/// What all workers share: the poll and its lines, the box, the gate, and the tray, whose places are the lines from 0.
 #[derive(Drop)]
 pub(crate) struct Workplace<'h, 't, VL: Tally, RL: Tally, G> {
     pub poll: &'h Poll,
@@ -74,8 +74,8 @@ fn work<VL: Tally, RL: Tally, G: Gate, R: Wait>(
     ensures desk { result.desk.number ≡ desk.number }
     ensures pass { (result.pass.tray ≡ pass.tray) × (result.pass.parts ≡ pass.parts) }
 {
-    while let Some(place) = workplace.tray.take(&mut pass) {
-        let stamp = place as u32 + 1;
+    while let Some(index) = workplace.tray.take(&mut pass) {
+        let stamp = index as u32 + 1;
         if !workplace.gate.before(desk.number(), stamp) {
             return WorkerResult {
                 desk,
@@ -83,7 +83,7 @@ fn work<VL: Tally, RL: Tally, G: Gate, R: Wait>(
                 stopped: Some(Stop::Barred),
             };
         }
-        let reading = read_line(workplace.poll, workplace.lines.line(place as usize));
+        let reading = read_line(workplace.poll, workplace.lines.line(index as usize));
         match workplace.shared.cast(rt, &mut desk, stamp, reading) {
             Ok(slip) => workplace.gate.after(desk.number(), &slip),
             Err(fault) => {

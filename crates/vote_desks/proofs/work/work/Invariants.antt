@@ -3,8 +3,8 @@ use Rattle.std.specs.List.{All}
 use Rattle.vote_desks.specs.Slips.{Rises, stamps_of}
 use Rattle.vote_desks.proofs.work.work.Given as goal
 
-abbrev pub invariant-loop-place : goal.invariant-loop-place
-invariant-loop-place g l = record {
+abbrev pub invariant-loop-index : goal.invariant-loop-index
+invariant-loop-index g l = record {
   number : l.desk.number ≡ l.fn.desk.number;
   limit : l.desk.limit ≡ l.workplace.tray.now.size;
   its_tray : l.pass.tray ≡ l.workplace.tray.now;
@@ -16,5 +16,5 @@ invariant-loop-place g l = record {
   few : length l.desk.slips ≤ l.pass.seen;
 }
 
-abbrev pub decreases-loop-place : goal.decreases-loop-place
-decreases-loop-place g l = l.workplace.tray.now.size - l.pass.seen
+abbrev pub decreases-loop-index : goal.decreases-loop-index
+decreases-loop-index g l = l.workplace.tray.now.size - l.pass.seen
