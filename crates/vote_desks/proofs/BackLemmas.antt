@@ -10,8 +10,11 @@ use Rattle.std.proofs.lemmas.List.Sorted.{sum_by-IsPermutation, All-permutation}
 use Rattle.vote_tray.specs.Passes.{TrayId, PassState, new_pass, joined}
 use Rattle.vote_desks.specs.declared.slip.Slip.{Slip}
 use Rattle.vote_desks.specs.Slips.{Rises, valid_slips, refused_slips}
-use Rattle.vote_desks.specs.Desks.{DeskState, fresh_desk}
+use Rattle.vote_desks.specs.Desks.{DeskState, IsLater, fresh_desk}
+use Rattle.vote_poll.specs.PollContent.{PollContent}
 use Rattle.vote_steps.specs.History.{is_valid}
+use Rattle.vote_steps.specs.Boxes.{BoxState, box_of}
+use Rattle.vote_steps.specs.Casting.{HasSizes}
 use Rattle.vote_desks.specs.Work.{IsFresh, IsUnused, HasCastAll, tray_and_parts}
 use Rattle.vote_desks.specs.Back.{AreBackFrom, AreHandedIn}
 
@@ -132,3 +135,12 @@ gathered_rise desks sheets same rising =
     let before : All P (paired desks) = All-from_recursion P (paired desks) (rise_paired desks (recursion_from_All (λ (d : DeskState). Rises d.slips) desks rising)) in
     let after : All P (enumerate_from 1 sheets) = All-permutation P (paired desks) (enumerate_from 1 sheets) same before in
     All-from_recursion Rises sheets (rise_numbered 1 sheets (recursion_from_All P (enumerate_from 1 sheets) after))
+
+-- a box that was opened for a poll and its lines has their sizes
+pub has_sizes : (poll : PollContent) (lines : List (List ℕ)) (opened b : BoxState) (limit : ℕ) → limit ≡ length lines → opened ≡ box_of poll limit [] → IsLater opened b → HasSizes poll lines b
+has_sizes poll lines opened b limit len is later = (
+  ap (λ (x : BoxState). x.options) later ∙ ap (λ (x : BoxState). x.options) is,
+  ap (λ (x : BoxState). x.electors) later ∙ ap (λ (x : BoxState). x.electors) is,
+  ap (λ (x : BoxState). x.limit) later ∙ ap (λ (x : BoxState). x.limit) is ∙ len,
+  ap (λ (x : BoxState). x.last_in_time) later ∙ ap (λ (x : BoxState). x.last_in_time) is,
+)

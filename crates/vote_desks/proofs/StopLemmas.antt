@@ -1,13 +1,14 @@
 -- The least desk that stopped early.
-use Rattle.std.proofs.Common.{◌≡◌, ◌≢◌, ℕ, ◌+◌, ◌<◌, ◌≤◌, List, Option, Some, None, length, get_or, map, sym, ap, ◌∙◌, ⊎_elim, arith}
+use Rattle.std.proofs.Common.{◌≡◌, ◌≢◌, ℕ, ◌+◌, ◌<◌, ◌≤◌, List, Option, Some, None, length, get_or, map, refl, sym, ap, ◌∙◌, ⊎_elim, arith}
 use Rattle.std.specs.List.{range_with_len}
 use Rattle.std.proofs.lemmas.Bool.{cases_lt}
 use Rattle.std.proofs.lemmas.List.{get_or-map, length-map}
 use Rattle.vote_desks.specs.declared.fault.VoteFault.{VoteFault}
 use Rattle.vote_desks.specs.declared.worked.Stop.{Stop}
 use Rattle.vote_desks.specs.declared.worked.Stop.TheVariants.{Barred, Refused}
-use Rattle.vote_desks.specs.declared.fault.EnterFault.TheVariants.{SheetFull}
-use Rattle.vote_desks.specs.Faults.{CanStopVotes}
+use Rattle.vote_desks.specs.declared.fault.EnterFault.{EnterFault}
+use Rattle.vote_desks.specs.declared.fault.EnterFault.TheVariants.{StampUsed}
+use Rattle.vote_desks.specs.Faults.{CanStopVotes, IsOfDesk}
 use Rattle.vote_desks.specs.Stops.{stop_fault, IsLeastStop}
 use Rattle.vote_desks.proofs.Joined.{at_range}
 
@@ -38,7 +39,11 @@ least_stop {W} desk stopped all k w stop fault numbers inside here stops is befo
           (cases_lt i k);
     }
 
--- a desk stopped by the gate, or by a cast that was refused for want of anything but room
-pub can_stop : (desk : ℕ) (stop : Stop) → stop ≢ Refused SheetFull → CanStopVotes (stop_fault desk stop)
+-- a desk stopped by the gate, or by a cast of a stamp that was used
+pub can_stop : (desk : ℕ) (stop : Stop) → ((fault : EnterFault) → stop ≡ Refused fault → fault ≡ StampUsed) → CanStopVotes (stop_fault desk stop)
 can_stop desk Barred h = tt
-can_stop desk (Refused fault) h = λ e. h (ap Refused e)
+can_stop desk (Refused fault) h = h fault refl
+
+pub of_desk : (desks desk : ℕ) (stop : Stop) → 1 ≤ desk → desk ≤ desks → IsOfDesk desks (stop_fault desk stop)
+of_desk desks desk Barred low high = (low, high)
+of_desk desks desk (Refused fault) low high = (low, high)

@@ -1,5 +1,5 @@
 -- What desks, a box that they share and a sealed box are to their callers.
-use Rattle.std.specs.Prelude.{ℕ, ◌+◌, ◌-◌, ◌<◌, if◌then◌else◌, List, [], ◌∷◌, ◌++◌, length, unwrap_or, slice_get}
+use Rattle.std.specs.Prelude.{◌≡◌, ℕ, ◌+◌, ◌-◌, ◌<◌, if◌then◌else◌, List, [], ◌∷◌, ◌++◌, length, unwrap_or, slice_get}
 use Rattle.vote_poll.specs.declared.Reading.{Reading}
 use Rattle.vote_poll.specs.Readings.{ReadingFits}
 use Rattle.vote_desks.specs.declared.slip.Slip.{Slip}
@@ -32,6 +32,15 @@ with_slip desk slip =
 -- the sheet has room for one more slip
 abbrev pub HasRoom : DeskState → Type 0
 HasRoom desk = length desk.slips < desk.limit
+
+-- a box that desks share: how many they are, and the box as it was opened, with no steps
+pub record SharedState : Type 0 where
+  pub desks : ℕ
+  pub opened : BoxState
+
+-- the box as it was opened, after some steps: its sizes, its limit and its last envelope never change
+abbrev pub IsLater : BoxState → BoxState → Type 0
+IsLater opened b = b ≡ record opened { steps = b.steps }
 
 -- a box with its books of valid and refused lines
 pub record HeldState : Type 0 where

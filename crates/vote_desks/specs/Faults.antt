@@ -1,18 +1,28 @@
 -- Which faults can come where.
-use Rattle.std.specs.Prelude.{◌≡◌, ◌≢◌, ◌⊎◌}
-use Rattle.vote_desks.specs.declared.fault.EnterFault.TheVariants.{SheetFull}
-use Rattle.vote_desks.specs.declared.fault.AuditFault.TheVariants.{CountDiffers}
+use Rattle.std.specs.Prelude.{◌≡◌, ◌≢◌, ◌≤◌, ◌⊎◌, ℕ}
+use Rattle.vote_desks.specs.declared.fault.EnterFault.TheVariants.{StampUsed}
+use Rattle.vote_desks.specs.declared.fault.AuditFault.TheVariants.{SizeDiffers, CountDiffers}
 use Rattle.vote_desks.specs.declared.fault.VoteFault.{VoteFault}
 use Rattle.vote_desks.specs.declared.fault.VoteFault.TheVariants.{Memory, Thread, Gate, Enter, Desk, Audit}
 
--- each envelope was taken once, so no sheet was full, no desk was missing, and there are as many casts as lines
+-- the box and the sheets have a place for each line, and each line was taken once. So a cast is refused only because its stamp
+-- was used, no desk was missing, and the box has the sizes of the poll and as many casts as lines
 abbrev pub CanStopVotes : VoteFault → Type 0
 CanStopVotes Memory = Unit {0}
 CanStopVotes Thread = Unit {0}
 CanStopVotes (Gate desk) = Unit {0}
-CanStopVotes (Enter desk fault) = fault ≢ SheetFull
+CanStopVotes (Enter desk fault) = fault ≡ StampUsed
 CanStopVotes (Desk fault) = ⊥
-CanStopVotes (Audit fault) = fault ≢ CountDiffers
+CanStopVotes (Audit fault) = (fault ≢ SizeDiffers) × (fault ≢ CountDiffers)
+
+-- a fault of one desk is of one of so many, which are numbered from 1
+abbrev pub IsOfDesk : ℕ → VoteFault → Type 0
+IsOfDesk desks Memory = Unit {0}
+IsOfDesk desks Thread = Unit {0}
+IsOfDesk desks (Gate desk) = (1 ≤ desk) × (desk ≤ desks)
+IsOfDesk desks (Enter desk fault) = (1 ≤ desk) × (desk ≤ desks)
+IsOfDesk desks (Desk fault) = Unit {0}
+IsOfDesk desks (Audit fault) = Unit {0}
 
 -- no memory, or no thread
 abbrev pub IsStartFault : VoteFault → Type 0

@@ -38,8 +38,7 @@ stamps_of sheet = map (λ slip. slip.stamp) sheet
 abbrev pub Rises : List Slip → Type 0
 Rises sheet = IsStrictlyIncreasing (stamps_of sheet)
 
--- a reply that an envelope with this stamp and this line can have: after some steps, with some last envelope
-pub record CanReply (stamp : ℕ) (reading : Reading) (reply : Reply) : Type 0 where
-  pub last_in_time : ℕ
+-- a reply that an envelope with this stamp and this line can have, after some steps of a box with this last envelope in time
+pub record CanReply (last_in_time stamp : ℕ) (reading : Reading) (reply : Reply) : Type 0 where
   pub steps : List Step
   pub answered : reply ≡ reply_to last_in_time steps stamp reading

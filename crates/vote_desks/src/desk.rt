@@ -1,5 +1,6 @@
 //! A desk, and the box with its books that stands behind the lock.
-ghost use Rattle.std.specs.Prelude.{◌≡◌, ℕ};
+ghost use Rattle.std.specs.Prelude.{◌≡◌, ℕ, []};
+ghost use Rattle.vote_steps.specs.Boxes.{BoxState};
 ghost use Rattle.vote_steps.specs.History.{valid, refused};
 ghost use Rattle.vote_desks.specs.Slips.{valid_slips, refused_slips};
 
@@ -8,14 +9,20 @@ use std::marker::{Brand, Model};
 use std::sync::ledger::{Book, Ledger, Share};
 use vote_steps::{BallotBox, MAX_DESKS};
 
-/// A ledger of what the desks of one box have done. It names the box: a desk of another box has another type.
+/// A ledger of what the desks of one box have done. It names the box: a desk of another box has another type. What a box keeps
+/// from its opening on stands in the ledger of its valid lines.
 pub trait Tally: Ledger {
     /// How many desks there are.
     ghost desks: { ℕ };
+
+    /// The box as it was opened, with no steps.
+    ghost opened: { BoxState };
 }
 
 impl Tally for Brand {
     ghost desks = { 0 };
+
+    ghost opened = { record { options = 0; electors = 0; limit = 0; last_in_time = 0; steps = [] } };
 }
 
 /// A box, with the books of what was valid and what was refused.
@@ -29,13 +36,13 @@ pub struct Held<VL: Tally, RL: Tally> {
 impl<VL: Tally, RL: Tally> Model for Held<VL, RL> {
     ghost use Rattle.std.specs.Prelude.{◌≡◌};
     ghost use Rattle.vote_steps.specs.History.{valid, refused};
-    ghost use Rattle.vote_desks.specs.Desks.{HeldState};
+    ghost use Rattle.vote_desks.specs.Desks.{HeldState, IsLater};
 
     ghost Value = { HeldState };
 
     ghost view = { λ h. record { ballot_box = h.ballot_box; valid_book = h.valid_book.total; refused_book = h.refused_book.total } };
 
-    ghost invariant = { λ h. (h.valid_book.total ≡ valid h.ballot_box.last_in_time h.ballot_box.steps) × (h.refused_book.total ≡ refused h.ballot_box.last_in_time h.ballot_box.steps) };
+    ghost invariant = { λ h. IsLater VL.opened h.ballot_box × (h.valid_book.total ≡ valid h.ballot_box.last_in_time h.ballot_box.steps) × (h.refused_book.total ≡ refused h.ballot_box.last_in_time h.ballot_box.steps) };
 }
 
 impl<VL: Tally, RL: Tally> Held<VL, RL> {

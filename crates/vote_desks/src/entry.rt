@@ -1,7 +1,7 @@
 //! Entering an envelope at a desk.
 ghost use Rattle.std.specs.Prelude.{◌≡◌, ℕ, ◌+◌, ◌<◌, ◌≤◌, ◌↔◌, ◌⊎◌, Err, length, IsTrue, IfOk, OnErr};
 ghost use Rattle.vote_steps.specs.History.{is_used, reply_to};
-ghost use Rattle.vote_desks.specs.Desks.{FitsBox, HasRoom, with_cast, with_slip};
+ghost use Rattle.vote_desks.specs.Desks.{FitsBox, HasRoom, IsLater, with_cast, with_slip};
 
 use crate::desk::{Desk, Held, Tally};
 use crate::fault::EnterFault;
@@ -16,6 +16,7 @@ pub fn enter<VL: Tally, RL: Tally>(
     stamp: u32,
     reading: Reading,
 ) -> Result<Slip, EnterFault>
+    ensures opened { IsLater VL.opened held.old.ballot_box }
     ensures step { IfOk result (λ slip. held.new ≡ with_cast held.old desk.old.number stamp reading slip.reply) }
     ensures slip { IfOk result (λ slip. slip ≡ record { number = length held.old.ballot_box.steps + 1; stamp = stamp; reply = reply_to held.old.ballot_box.last_in_time held.old.ballot_box.steps stamp reading }) }
     ensures noted { IfOk result (λ slip. desk.new ≡ with_slip desk.old slip) }

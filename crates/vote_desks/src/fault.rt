@@ -73,11 +73,11 @@ pub enum VoteFault {
     Thread,
     /// The gate stopped a worker, and this desk is the least that stopped early.
     Gate(u8),
-    /// A cast was refused, and this desk is the least that stopped early.
+    /// A cast was refused, and this desk is the least that stopped early. `take_votes` answers it with `StampUsed` alone.
     Enter(u8, EnterFault),
     /// The desks could not be gathered. `take_votes` never answers this.
     Desk(DeskFault),
-    /// The box is not what the lines give.
+    /// The box is not what the lines give. `take_votes` answers neither `SizeDiffers` nor `CountDiffers`.
     Audit(AuditFault),
 }
 

@@ -11,10 +11,12 @@
 //! time. The tray says which worker casts which line; it is no part of the lock. The poll, the lines and the gate are read
 //! by all. A worker takes no memory: `open_desks` reserves the box and every sheet.
 //!
-//! **What is promised.** Whenever the lock is free, the box is a legal history, and its books are the numbers of valid and
-//! refused lines in it. `enter` says the whole of one cast, on a box and a desk that are lent to it. Whoever only shares the
-//! box sees less, since another desk may cast between any two calls; so the shares stand for what the desks did, and `gather`
-//! shows that all shares together are the books. `compare` answers that all is right just where it is, and else the first
+//! **What is promised.** Whenever the lock is free, the box is a legal history, it has the sizes, the limit and the last
+//! envelope with which it was opened, and its books are the numbers of valid and refused lines in it. `enter` says the whole
+//! of one cast, on a box and a desk that are lent to it. A caller that only shares the box knows less, since another desk may
+//! cast between its calls: it knows when its ballot does not fit the box, its sheet is full or its stamp is out of range, and
+//! that only an envelope above the last one is late, but not which stamps were used, which ballots stand, or whether the box
+//! is open. So the shares stand for what the desks did, and `gather` shows that all shares together are the books. `compare` answers that all is right just where it is, and else the first
 //! fault that is so. Where `take_votes` answers a box, it is audited for the poll and the lines, and each sheet rises by
 //! stamp; so by `laws::last_lines_stand` the last line of each voter that is not late stands, whatever the order in which
 //! the desks came. A line is late where its number is above the poll's last envelope, whenever it was cast.

@@ -3,7 +3,7 @@ ghost use Rattle.std.specs.Prelude.{◌≡◌, ◌≤◌, ◌<◌, ◌↔◌, Er
 ghost use Rattle.std.specs.List.{range_with_len, enumerate_from};
 ghost use Rattle.vote_steps.specs.Boxes.{IsLegal};
 ghost use Rattle.vote_steps.specs.History.{is_cast, is_closed};
-ghost use Rattle.vote_desks.specs.Desks.{sheet_at};
+ghost use Rattle.vote_desks.specs.Desks.{sheet_at, IsLater};
 ghost use Rattle.vote_desks.specs.Books.{MeetsBooks};
 
 use crate::desk::{Desk, Held, Tally};
@@ -104,6 +104,7 @@ fn seal<VL: Tally, RL: Tally>(
     requires valid { vec_len desks ≡ VL.parts }
     requires refused { vec_len desks ≡ RL.parts }
     ensures legal { IfOk result (λ s. IsLegal s.ballot_box) }
+    ensures opened { IfOk result (λ s. IsLater VL.opened s.ballot_box) }
     ensures closed { IfOk result (λ s. IsTrue (is_closed s.ballot_box.steps)) }
     ensures sheets { IfOk result (λ s. s.sheets ≡ map (λ desk. desk.slips) desks.items) }
     ensures books { IfOk result (MeetsBooks desks.items) }
@@ -145,12 +146,13 @@ pub fn gather<VL: Tally, RL: Tally>(
     requires valid { VL.desks ≡ VL.parts }
     requires refused { RL.desks ≡ RL.parts }
     ensures legal { IfOk result (λ s. IsLegal s.ballot_box) }
+    ensures opened { IfOk result (λ s. IsLater shared.opened s.ballot_box) }
     ensures closed { IfOk result (λ s. IsTrue (is_closed s.ballot_box.steps)) }
     ensures sheets { IfOk result (λ s. IsPermutation (map (λ desk. (desk.number, desk.slips)) desks.items) (enumerate_from 1 s.sheets)) }
-    ensures desks { IfOk result (λ s. length s.sheets ≡ shared) }
+    ensures desks { IfOk result (λ s. length s.sheets ≡ shared.desks) }
     ensures books { IfOk result (MeetsBooks desks.items) }
     ensures casts { IfOk result (λ s. sum_by length s.sheets ≡ count_by is_cast s.ballot_box.steps) }
-    ensures missing { (result ≡ Err DeskFault.MissingDesk) ↔ ¬ IsPermutation (map (λ desk. desk.number) desks.items) (range_with_len 1 shared) }
+    ensures missing { (result ≡ Err DeskFault.MissingDesk) ↔ ¬ IsPermutation (map (λ desk. desk.number) desks.items) (range_with_len 1 shared.desks) }
 {
     let SharedBox {
         desks: opened,

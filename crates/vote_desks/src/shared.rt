@@ -1,10 +1,11 @@
 //! The box behind its lock, and the opening of its desks.
-ghost use Rattle.std.specs.Prelude.{◌≡◌, ◌≤◌, ◌<◌, ◌↔◌, ◌∷◌, ◌++◌, [], Err, length, map, IsTrue, IfOk, OnOk, IfErr, OnErr, vec_len};
+ghost use Rattle.std.specs.Prelude.{◌≡◌, ◌≤◌, ◌<◌, ◌↔◌, ◌⊎◌, ◌∷◌, ◌++◌, [], Err, length, map, IsTrue, IfOk, OnOk, IfErr, OnErr, vec_len};
 ghost use Rattle.std.specs.List.{range_with_len};
 ghost use Rattle.vote_steps.specs.History.{is_closed, standing_ranks};
 ghost use Rattle.vote_steps.specs.declared.Step.TheVariants.{Close};
 ghost use Rattle.vote_desks.specs.Slips.{CanReply};
-ghost use Rattle.vote_desks.specs.Desks.{HasRoom, fresh_desk, with_close, with_slip};
+ghost use Rattle.vote_steps.specs.Boxes.{box_of};
+ghost use Rattle.vote_desks.specs.Desks.{FitsBox, HasRoom, IsLater, fresh_desk, with_close, with_slip};
 
 use crate::desk::{Desk, Held, Tally};
 use crate::entry::enter;
@@ -17,7 +18,7 @@ use std::sync::{Mutex, Wait};
 use vote_poll::{MAX_LINES, Poll, Ranks, Reading};
 use vote_steps::{AlreadyClosed, BallotBox, MAX_DESKS};
 
-/// A box that desks share, behind one lock. Contracts see how many desks were opened.
+/// A box that desks share, behind one lock. Contracts see how many desks were opened, and the box as it was then.
 #[derive(Drop)]
 pub struct SharedBox<VL: Tally, RL: Tally> {
     pub(crate) desks: u8,
@@ -25,12 +26,13 @@ pub struct SharedBox<VL: Tally, RL: Tally> {
 }
 
 impl<VL: Tally, RL: Tally> Model for SharedBox<VL, RL> {
-    ghost use Rattle.std.specs.Prelude.{◌≡◌, ◌≤◌, ℕ};
+    ghost use Rattle.std.specs.Prelude.{◌≡◌, ◌≤◌};
     ghost use Rattle.vote_steps.specs.declared.TheConstants.{MAX_DESKS};
+    ghost use Rattle.vote_desks.specs.Desks.{SharedState};
 
-    ghost Value = { ℕ };
+    ghost Value = { SharedState };
 
-    ghost view = { λ s. s.desks };
+    ghost view = { λ s. record { desks = s.desks; opened = VL.opened } };
 
     ghost invariant = { λ s. (1 ≤ s.desks) × (s.desks ≤ MAX_DESKS) × (s.desks ≡ VL.desks) × (s.desks ≡ RL.desks) };
 }
@@ -51,7 +53,8 @@ pub fn open_desks<VL: Tally, RL: Tally>(
     requires desks { (1 ≤ desks) × (desks ≤ MAX_DESKS) }
     requires valid { (valid.name ≡ VL.name) × (valid.parts ≡ VL.parts) × (VL.parts ≡ desks) × (VL.desks ≡ desks) }
     requires refused { (refused.name ≡ RL.name) × (refused.parts ≡ RL.parts) × (RL.parts ≡ desks) × (RL.desks ≡ desks) }
-    ensures opened { IfOk result (λ r. r.0 ≡ desks) }
+    requires opened { VL.opened ≡ box_of poll.now limit [] }
+    ensures opened { IfOk result (λ r. r.0 ≡ record { desks = desks; opened = box_of poll.now limit [] }) }
     ensures len { IfOk result (λ r. vec_len r.1 ≡ desks) }
     ensures desks { IfOk result (λ r. r.1.items ≡ map (fresh_desk limit) (range_with_len 1 desks)) }
     ensures err { IfErr result (λ fault. fault ≡ DeskFault.Memory) }
@@ -93,8 +96,10 @@ impl<VL: Tally, RL: Tally> SharedBox<VL, RL> {
     ) -> Result<Slip, EnterFault>
         ensures noted { IfOk result (λ slip. desk.new ≡ with_slip desk.old slip) }
         ensures stamp { IfOk result (λ slip. slip.stamp ≡ stamp) }
-        ensures reply { IfOk result (λ slip. CanReply stamp reading slip.reply) }
-        ensures full { result ≡ Err EnterFault.SheetFull → ¬ HasRoom desk.old }
+        ensures reply { IfOk result (λ slip. CanReply self.now.opened.last_in_time stamp reading slip.reply) }
+        ensures sizes { (result ≡ Err EnterFault.Sizes) ↔ ¬ FitsBox self.now.opened reading }
+        ensures full { (result ≡ Err EnterFault.SheetFull) ↔ (FitsBox self.now.opened reading × ¬ HasRoom desk.old) }
+        ensures range { (result ≡ Err EnterFault.StampRange) ↔ (FitsBox self.now.opened reading × HasRoom desk.old × ((stamp ≡ 0) ⊎ (self.now.opened.limit < stamp))) }
         ensures err { OnErr result (desk.new ≡ desk.old) }
     {
         enter(&mut *self.held.lock(rt), desk, stamp, reading)
@@ -106,7 +111,9 @@ impl<VL: Tally, RL: Tally> SharedBox<VL, RL> {
     }
 
     /// The ranks of the ballot of a voter that stands, by the voter's number from 0.
-    pub fn standing(&self, rt: &impl Wait, voter: usize) -> Result<Option<Ranks>, NoVoter> {
+    pub fn standing(&self, rt: &impl Wait, voter: usize) -> Result<Option<Ranks>, NoVoter>
+        ensures none { (result ≡ Err record {}) ↔ (self.now.opened.electors ≤ voter) }
+    {
         standing(&*self.held.lock(rt), voter)
     }
 }
@@ -126,6 +133,7 @@ fn standing<VL: Tally, RL: Tally>(
     held: &Held<VL, RL>,
     voter: usize,
 ) -> Result<Option<Ranks>, NoVoter>
+    ensures opened { IsLater VL.opened held.now.ballot_box }
     ensures ok { IfOk result (λ ranks. ranks ≡ standing_ranks held.now.ballot_box.last_in_time held.now.ballot_box.steps voter) }
     ensures none { (result ≡ Err record {}) ↔ (held.now.ballot_box.electors ≤ voter) }
 {

@@ -1,11 +1,12 @@
 //! Taking the votes of all lines.
-ghost use Rattle.std.specs.Prelude.{◌≡◌, ◌<◌, ◌≤◌, IfOk, IfErr, IfSome, IsNone, All, None, length, map, vec_len};
+ghost use Rattle.std.specs.Prelude.{◌≡◌, ◌<◌, ◌≤◌, [], IfOk, IfErr, IfSome, IsNone, All, None, length, map, vec_len};
 ghost use Rattle.std.specs.List.{range_with_len};
+ghost use Rattle.vote_steps.specs.Boxes.{box_of};
 ghost use Rattle.vote_desks.specs.Slips.{Rises};
 ghost use Rattle.vote_desks.specs.Audit.{IsAudited};
 ghost use Rattle.vote_desks.specs.Back.{AreBackFrom, AreHandedIn};
 ghost use Rattle.vote_desks.specs.Stops.{stop_fault, IsLeastStop};
-ghost use Rattle.vote_desks.specs.Faults.{CanStopVotes};
+ghost use Rattle.vote_desks.specs.Faults.{CanStopVotes, IsOfDesk};
 
 use crate::auditing::{Audited, audit};
 use crate::desk::{Desk, Tally};
@@ -38,6 +39,7 @@ fn first_stop<VL: Tally, RL: Tally>(all: &[WorkerResult<VL, RL>]) -> Option<Vote
     requires { map (λ worked. worked.desk.number) all.now ≡ range_with_len 1 (length all.now) }
     ensures some { IfSome result (IsLeastStop (map (λ worked. (worked.desk.number, worked.stopped)) all.now)) }
     ensures can { IfSome result CanStopVotes }
+    ensures desk { IfSome result (IsOfDesk (length all.now)) }
     ensures none { IsNone result → All (λ worked. worked.stopped ≡ None) all.now }
 {
     for worked in all {
@@ -91,10 +93,12 @@ fn serve<
     requires desks { (1 ≤ desks) × (desks ≤ MAX_DESKS) }
     requires valid { (valid.name ≡ VL.name) × (valid.parts ≡ VL.parts) × (VL.parts ≡ desks) × (VL.desks ≡ desks) }
     requires refused { (refused.name ≡ RL.name) × (refused.parts ≡ RL.parts) × (RL.parts ≡ desks) × (RL.desks ≡ desks) }
+    requires opened { VL.opened ≡ box_of poll.now (length lines.now) [] }
     ensures audited { IfOk result (λ audited. IsAudited poll.now lines.now audited.ballot_box audited.sheets) }
     ensures desks { IfOk result (λ audited. length audited.sheets ≡ desks) }
     ensures rising { IfOk result (λ audited. All Rises audited.sheets) }
     ensures fault { IfErr result CanStopVotes }
+    ensures desk { IfErr result (IsOfDesk desks) }
 {
     let (tray, passes) = match Tray::new(alloc, lines.len() as u64, desks) {
         Ok(made) => made,
@@ -148,6 +152,7 @@ pub fn take_votes<G: Gate + Sync, R: Threads + Wait + Sync>(
     ensures desks { IfOk result (λ audited. length audited.sheets ≡ desks) }
     ensures rising { IfOk result (λ audited. All Rises audited.sheets) }
     ensures fault { IfErr result CanStopVotes }
+    ensures desk { IfErr result (IsOfDesk desks) }
 {
     serve::<Brand, Brand, G, R>(
         rt,

@@ -1,6 +1,7 @@
 //! Workers, each of which serves a desk in a thread of its own.
-ghost use Rattle.std.specs.Prelude.{◌≡◌, ◌<◌, ◌^◌, IsTrue, IfOk, IfErr, map, length, vec_len};
+ghost use Rattle.std.specs.Prelude.{◌≡◌, ◌<◌, ◌^◌, [], IsTrue, IfOk, IfErr, map, length, vec_len};
 ghost use Rattle.std.specs.List.{AllByRecursion};
+ghost use Rattle.vote_steps.specs.Boxes.{box_of};
 ghost use Rattle.vote_desks.specs.Work.{IsFresh, IsUnused, tray_and_parts};
 ghost use Rattle.vote_desks.specs.Faults.{IsStartFault};
 
@@ -48,6 +49,7 @@ pub(crate) struct Workplace<'h, 't, VL: Tally, RL: Tally, G> {
     pub gate: &'h G,
     pub tray: &'h Tray,
     ghost stamps: { length lines.now < 2 ^ 32 },
+    ghost opened: { shared.now.opened ≡ box_of poll.now (length lines.now) [] },
     ghost places: { tray.now.size ≡ length lines.now },
 }
 

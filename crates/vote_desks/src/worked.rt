@@ -1,6 +1,7 @@
 //! What a worker gives back.
-ghost use Rattle.std.specs.Prelude.{◌≡◌, ◌≢◌, None, Some};
-ghost use Rattle.vote_desks.specs.declared.fault.EnterFault.TheVariants.{SheetFull};
+ghost use Rattle.std.specs.Prelude.{◌≡◌, None, Some};
+ghost use Rattle.vote_desks.specs.declared.fault.EnterFault.{EnterFault};
+ghost use Rattle.vote_desks.specs.declared.fault.EnterFault.TheVariants.{StampUsed};
 ghost use Rattle.vote_desks.specs.declared.worked.Stop.TheVariants.{Refused};
 ghost use Rattle.vote_desks.specs.Work.{HasCastAll};
 
@@ -18,12 +19,12 @@ pub(crate) enum Stop {
 }
 
 /// A desk, its pass, and why its worker stopped early, if it did. Where it did not, the tray is empty, and the desk has cast the
-/// envelopes of its pass. Where a cast was refused, it was not for want of room on the sheet.
+/// envelopes of its pass. A cast is refused only because its stamp was used.
 #[derive(Drop)]
 pub(crate) struct WorkerResult<VL: Tally, RL: Tally> {
     pub desk: Desk<VL, RL>,
     pub pass: Pass,
     pub stopped: Option<Stop>,
     ghost emptied: { stopped ≡ None → HasCastAll desk pass },
-    ghost had_room: { stopped ≢ Some (Refused SheetFull) },
+    ghost refused: { (fault : EnterFault) → stopped ≡ Some (Refused fault) → fault ≡ StampUsed },
 }

@@ -4,7 +4,7 @@ use Rattle.std.specs.List.{enumerate_from, range_with_len}
 use Rattle.std.proofs.lemmas.List.{length-map}
 use Rattle.std.proofs.lemmas.List.Sorted.{IsPermutation-map, IsPermutation-trans, IsPermutation-sym, IsNonDecreasingBy-from_sort_by_key}
 use Rattle.vote_desks.specs.declared.slip.Slip.{Slip}
-use Rattle.vote_desks.specs.Desks.{DeskState}
+use Rattle.vote_desks.specs.Desks.{DeskState, SharedState}
 use Rattle.vote_desks.proofs.Joined.{numbered, length_range}
 use Rattle.vote_desks.proofs.BackLemmas.{all_slips}
 use Rattle.vote_desks.proofs.Numbered.{numbers_of_sorted}
@@ -15,11 +15,11 @@ returns-then-not-are_complete-clause-missing g c =
     let came : List DeskState = c.args.desks.items in
     let sorted : List DeskState = c.sort_unstable_by_key.new.self.items in
     let number : DeskState → ℕ = λ d. d.number in
-    let opened : c.shared.inside.desks ≡ c.args.shared = c.shared.view_is in (
+    let opened : c.shared.inside.desks ≡ c.args.shared.desks = ap (λ (s : SharedState). s.desks) c.shared.view_is in (
       λ e p.
-          let moved = IsPermutation-trans (map number sorted) (map number came) (range_with_len 1 c.args.shared) (IsPermutation-sym (map number came) (map number sorted) (IsPermutation-map number came sorted c.sort_unstable_by_key.ensures.permutation)) p in
+          let moved = IsPermutation-trans (map number sorted) (map number came) (range_with_len 1 c.args.shared.desks) (IsPermutation-sym (map number came) (map number sorted) (IsPermutation-map number came sorted c.sort_unstable_by_key.ensures.permutation)) p in
           let up = IsNonDecreasingBy-from_sort_by_key number sorted c.sort_unstable_by_key.ensures.sorted (λ a r q k. search rules) in
-          let in_order = numbers_of_sorted number 1 c.args.shared sorted up moved in
+          let in_order = numbers_of_sorted number 1 c.args.shared.desks sorted up moved in
           let yes = c.are_complete.ensures.1 (ap (map number) c.deref.ensures.value ∙ in_order ∙ ap (range_with_len 1) (sym opened)) in
           let no = c.if-not-are_complete.true in cc,
       λ other. refl,
@@ -60,7 +60,7 @@ pub returns-in-Ok-clause-desks : goal.returns-in-Ok-clause-desks
 returns-in-Ok-clause-desks g c =
     let sorted : List DeskState = c.sort_unstable_by_key.new.self.items in
     let numbers : map (λ (d : DeskState). d.number) sorted ≡ range_with_len 1 c.shared.inside.desks = ap (map (λ (d : DeskState). d.number)) (sym c.deref.ensures.value) ∙ c.are_complete.ensures.0 c.if-not-are_complete.false in
-    ap length c.in-Ok.ensures.sheets ∙ length-map sorted (λ (d : DeskState). d.slips) ∙ length_range (λ (d : DeskState). d.number) 1 c.shared.inside.desks sorted numbers ∙ c.shared.view_is
+    ap length c.in-Ok.ensures.sheets ∙ length-map sorted (λ (d : DeskState). d.slips) ∙ length_range (λ (d : DeskState). d.number) 1 c.shared.inside.desks sorted numbers ∙ ap (λ (s : SharedState). s.desks) c.shared.view_is
 
 pub returns-in-Ok-clause-casts : goal.returns-in-Ok-clause-casts
 returns-in-Ok-clause-casts g c =
@@ -71,7 +71,7 @@ returns-in-Ok-clause-missing g c =
     let came : List DeskState = c.args.desks.items in
     let sorted : List DeskState = c.sort_unstable_by_key.new.self.items in
     let number : DeskState → ℕ = λ d. d.number in
-    let numbers : map number sorted ≡ range_with_len 1 c.args.shared = ap (map number) (sym c.deref.ensures.value) ∙ c.are_complete.ensures.0 c.if-not-are_complete.false ∙ ap (range_with_len 1) c.shared.view_is in
+    let numbers : map number sorted ≡ range_with_len 1 c.args.shared.desks = ap (map number) (sym c.deref.ensures.value) ∙ c.are_complete.ensures.0 c.if-not-are_complete.false ∙ ap (range_with_len 1) (ap (λ (s : SharedState). s.desks) c.shared.view_is) in
     let P : List ℕ → Type 0 = λ xs. IsPermutation (map number came) xs in
     (λ e. absurd (cc), λ not_all. absurd (not_all (subst P numbers (IsPermutation-map number came sorted c.sort_unstable_by_key.ensures.permutation))))
 
@@ -80,6 +80,6 @@ returns-in-Err-clause-missing g c =
     let came : List DeskState = c.args.desks.items in
     let sorted : List DeskState = c.sort_unstable_by_key.new.self.items in
     let number : DeskState → ℕ = λ d. d.number in
-    let numbers : map number sorted ≡ range_with_len 1 c.args.shared = ap (map number) (sym c.deref.ensures.value) ∙ c.are_complete.ensures.0 c.if-not-are_complete.false ∙ ap (range_with_len 1) c.shared.view_is in
+    let numbers : map number sorted ≡ range_with_len 1 c.args.shared.desks = ap (map number) (sym c.deref.ensures.value) ∙ c.are_complete.ensures.0 c.if-not-are_complete.false ∙ ap (range_with_len 1) (ap (λ (s : SharedState). s.desks) c.shared.view_is) in
     let P : List ℕ → Type 0 = λ xs. IsPermutation (map number came) xs in
     (λ e. absurd (cc), λ not_all. absurd (not_all (subst P numbers (IsPermutation-map number came sorted c.sort_unstable_by_key.ensures.permutation))))

@@ -1,7 +1,8 @@
-use Rattle.std.proofs.Common.{Some, ap, ◌∙◌, subst, sym, arith}
-use Rattle.vote_desks.specs.Faults.{CanStopVotes}
+use Rattle.std.proofs.Common.{Some, length, ap, ◌∙◌, subst, sym, arith}
+use Rattle.vote_desks.specs.Faults.{CanStopVotes, IsOfDesk}
 use Rattle.vote_desks.specs.Stops.{stop_fault}
-use Rattle.vote_desks.proofs.StopLemmas.{least_stop, can_stop}
+use Rattle.vote_desks.proofs.Joined.{at_range}
+use Rattle.vote_desks.proofs.StopLemmas.{least_stop, can_stop, of_desk}
 use Rattle.vote_desks.proofs.votes.first_stop.Goals as goal
 
 pub returns-in-Some-clause-some : goal.returns-in-Some-clause-some
@@ -11,4 +12,12 @@ returns-in-Some-clause-some g c =
 
 pub returns-in-Some-clause-can : goal.returns-in-Some-clause-can
 returns-in-Some-clause-can g c =
-    subst CanStopVotes (sym c.stop_fault.ensures) (can_stop c.number.result c.in-Some.stop (λ e. c.worked-item.result.had_room (c.in-Some.is ∙ ap Some e)))
+    subst CanStopVotes (sym c.stop_fault.ensures) (can_stop c.number.result c.in-Some.stop (λ fault e. c.worked-item.result.refused fault (c.in-Some.is ∙ ap Some e)))
+
+pub returns-in-Some-clause-desk : goal.returns-in-Some-clause-desk
+returns-in-Some-clause-desk g c =
+    let all = c.args.all.now in
+    let k = c.loop-worked.worked-index in
+    let mine = at_range (λ w. w.desk.number) 1 (length all) all k c.worked-item.result c.requires (omega arith) in
+    let here = ap (λ w. w.desk.number) c.worked-item.is in
+    subst (IsOfDesk (length all)) (sym c.stop_fault.ensures) (of_desk (length all) c.number.result c.in-Some.stop (omega (arith, c.number.ensures, mine, here)) (omega (arith, c.number.ensures, mine, here)))

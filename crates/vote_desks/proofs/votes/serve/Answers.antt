@@ -2,12 +2,12 @@ use Rattle.std.proofs.Common.{◌≡◌, ℕ, List, Err, None, length, map, get_
 use Rattle.std.specs.List.{All, AllByRecursion, range_with_len}
 use Rattle.std.proofs.lemmas.List.Elements.{recursion_from_All}
 use Rattle.vote_tray.specs.Passes.{PassState, HasAllParts}
-use Rattle.vote_desks.specs.declared.fault.AuditFault.TheVariants.{CountDiffers}
+use Rattle.vote_desks.specs.declared.fault.AuditFault.TheVariants.{SizeDiffers, CountDiffers}
 use Rattle.vote_desks.specs.Slips.{Rises}
-use Rattle.vote_desks.specs.Desks.{DeskState, SealedState, fresh_desk}
+use Rattle.vote_desks.specs.Desks.{DeskState, SealedState, SharedState, fresh_desk}
 use Rattle.vote_desks.specs.Work.{IsFresh, IsUnused, HasCastAll, tray_and_parts}
 use Rattle.vote_desks.proofs.Joined.{length_range}
-use Rattle.vote_desks.proofs.BackLemmas.{Contains-range, are_fresh, are_unused, fresh_numbers, back_from, gathered_count, gathered_rise}
+use Rattle.vote_desks.proofs.BackLemmas.{Contains-range, are_fresh, are_unused, fresh_numbers, back_from, gathered_count, gathered_rise, has_sizes}
 use Rattle.vote_desks.proofs.votes.serve.Goals as goal
 
 pub work_all-requires-clause-desks : goal.work_all-requires-clause-desks
@@ -51,7 +51,7 @@ returns-in-Ok-audit-clause-rising g c =
     subst P (sym c.in-Ok-audit.ensures.same) (gathered_rise c.in_ok-back.back.items c.in-Ok-gather.sealed.sheets c.in-Ok-gather.ensures.sheets c.in_ok-back.ensures.rising)
 
 pub returns-in-Err-audit-clause-fault : goal.returns-in-Err-audit-clause-fault
-returns-in-Err-audit-clause-fault g c = λ e.
+returns-in-Err-audit-clause-fault g c =
     let handed = c.in_ok-back.ensures in
     let same_passes : c.in_ok-back.joined.tray.passes ≡ c.in-Ok.made.0.passes = ap (λ t. t.passes) handed.its_tray in
     let parts : HasAllParts c.in_ok-back.joined = λ part low. rw handed.parts (Contains-range _ part (omega arith)) in
@@ -63,4 +63,8 @@ returns-in-Err-audit-clause-fault g c = λ e.
     let casts = c.in-Ok-gather.ensures.casts in
     let len = c.len.ensures.number in
     let all = gathered_count c.in_ok-back.back.items c.in-Ok-gather.sealed.sheets c.in-Ok-gather.ensures.sheets in
-    ((c.in-Err-audit.ensures.fault CountDiffers).0 (ap Err e)).1 (omega arith)
+    let opened = ap (λ (s : SharedState). s.opened) c.in-Ok-open_desks.ensures.opened in
+    let sizes = has_sizes c.args.poll.now c.args.lines.now c.in-Ok-open_desks.made.0.opened c.in-Ok-gather.sealed.ballot_box c.len-limit.result c.len-limit.ensures.number opened c.in-Ok-gather.ensures.opened in (
+      λ e. (c.in-Err-audit.ensures.fault SizeDiffers).0 (ap Err e) sizes,
+      λ e. ((c.in-Err-audit.ensures.fault CountDiffers).0 (ap Err e)).1 (omega arith),
+    )
