@@ -1,5 +1,6 @@
 //! Desks served by hand and in threads, audits that find a difference, and what a want of memory leaves.
-ghost use Rattle.std.specs.Prelude.{◌≡◌, ◌≤◌};
+ghost use Rattle.std.specs.Prelude.{◌≡◌, ◌≤◌, []};
+ghost use Rattle.vote_steps.specs.Boxes.{box_of};
 
 use crate::{
     AuditFault, Audited, Desk, DeskFault, EnterFault, NoVoter, Sealed, SharedBox, Slip, Tally,
@@ -168,6 +169,7 @@ fn act<VL: Tally, RL: Tally, R: Wait + Abort>(
     requires desks { (1 ≤ desks) × (desks ≤ MAX_DESKS) }
     requires valid { (valid.name ≡ VL.name) × (valid.parts ≡ VL.parts) × (VL.parts ≡ desks) × (VL.desks ≡ desks) }
     requires refused { (refused.name ≡ RL.name) × (refused.parts ≡ RL.parts) × (RL.parts ≡ desks) × (RL.desks ≡ desks) }
+    requires opened { VL.opened ≡ box_of poll.now limit [] }
 {
     let (shared, mut opened) = open_desks::<VL, RL>(alloc, poll, limit, desks, valid, refused)?;
     for deed in deeds {
@@ -466,6 +468,7 @@ fn halves<VL: Tally + Send + Sync, RL: Tally + Send + Sync, R: Threads + Wait + 
 ) -> Result<Sealed, DeskFault>
     requires valid { (valid.name ≡ VL.name) × (valid.parts ≡ VL.parts) × (VL.parts ≡ 2) × (VL.desks ≡ 2) }
     requires refused { (refused.name ≡ RL.name) × (refused.parts ≡ RL.parts) × (RL.parts ≡ 2) × (RL.desks ≡ 2) }
+    requires opened { VL.opened ≡ box_of poll.now 100 [] }
 {
     let (shared, mut opened) = open_desks::<VL, RL>(alloc, poll, 100, 2, valid, refused)?;
     let other = opened.pop().expect(rt, "the second desk");
@@ -520,6 +523,7 @@ fn open_two<VL: Tally, RL: Tally, R: Wait + Abort>(
 ) -> Result<(), DeskFault>
     requires valid { (valid.name ≡ VL.name) × (valid.parts ≡ VL.parts) × (VL.parts ≡ 2) × (VL.desks ≡ 2) }
     requires refused { (refused.name ≡ RL.name) × (refused.parts ≡ RL.parts) × (RL.parts ≡ 2) × (RL.desks ≡ 2) }
+    requires opened { VL.opened ≡ box_of poll.now 2 [] }
 {
     let (shared, desks) = open_desks::<VL, RL>(alloc, poll, 2, 2, valid, refused)?;
     assert_eq!(rt; desks.len(), 2);
