@@ -15,7 +15,8 @@ use Rattle.vote_count.specs.Laws.{IsSchulzeWinner, IsMatrixOf, AreClones, AreClo
 use Rattle.vote_count.proofs.Counts.{count_same}
 use Rattle.vote_count.proofs.Closure.{transitive, to_itself}
 use Rattle.vote_count.proofs.Strengths.{Strong, as_strong, below_or_not, not_below_itself, below_transitive}
-use Rattle.vote_count.proofs.Schulze.{schulze_law, back_as_strong, all_below, final_kept, kept_option, other_kept}
+use Rattle.vote_count.proofs.RoundLemmas.{final_kept}
+use Rattle.vote_count.proofs.Schulze.{schulze_law, back_as_strong, all_below, kept_option, other_kept}
 
 -- a strict order cannot lack a greatest element among finitely many
 module _ (P : ℕ → Type 0) (B : ℕ → ℕ → Type 0) (itself : (a : ℕ) → ¬ B a a) (along : (a b c : ℕ) → B a b → B b c → B a c) where
@@ -313,10 +314,10 @@ module _ (K : ℕ → Type 0) (m : Votes) (n : ℕ) (few : (o : ℕ) → K o →
 
   pub set_law : Meet clones (final_set rs) ↔ Meet clones (final_set ss)
   set_law = (
-    λ one. meets (final_set ss) (λ a i. (final_kept (Outside K removed) m ss (PairwiseDefeats (Outside K removed) m) (λ x y defeat. defeat) fewer a i).0) (λ none.
+    λ one. meets (final_set ss) (λ a i. (final_kept (Outside K removed) m (PairwiseDefeats (Outside K removed) m) ss fewer a i).0) (λ none.
         one_left m (In clones) (is_in clones) K (Outside K removed) (λ a l. l.0) outside set_alike n few c clone (are.members c clone, left) rs ss rounds fewer one.0 one.1 one.2
         (λ found. none (found.0, found.1, found.3))),
-    λ one. meets (final_set rs) (final_kept K m rs (PairwiseDefeats K m) (λ x y defeat. defeat) rounds) (λ none.
+    λ one. meets (final_set rs) (final_kept K m (PairwiseDefeats K m) rs rounds) (λ none.
         one_before m (In clones) (is_in clones) K (Outside K removed) (λ a l. l.0) outside set_alike n few c clone (are.members c clone, left) rs ss rounds fewer one.0 one.1 one.2 none),
   )
 

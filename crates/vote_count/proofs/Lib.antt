@@ -14,3 +14,4 @@ pub mod Raising
 pub mod Clones
 pub mod Pareto
 mod PassLanes
+pub mod Determined

@@ -10,6 +10,7 @@ use Rattle.vote_count.specs.Rules.{IsKept, PairwiseDefeats, EachDefeatsNext, Tra
 use Rattle.vote_count.specs.Rounds.{IsRound, RemovesNothing, AreRounds, final_set}
 use Rattle.vote_count.specs.Laws.{ReachesBy, IsSchulzeWinner}
 use Rattle.vote_count.proofs.Closure.{transitive, monotone, first_defeat}
+use Rattle.vote_count.proofs.RoundLemmas.{final_kept}
 use Rattle.vote_count.proofs.Strengths.{Strong, as_strong, below_or_not, not_below_transitive, no_weakest, weakest_of_chain}
 
 pub kept_below : (poll : PollContent) (m : Votes) (o : ℕ) → IsKept poll m o → o < suc (option_count poll)
@@ -117,10 +118,6 @@ module _ (K : ℕ → Type 0) (m : Votes) where
       let Left = Without E (Pairs r.removed) in
       next_in K m E into r h.0 a (((first_is Left next later h.2).set a).0 (final_in_first next later Left (λ x y w. into x y w.0) h.2 a i))
 
-  pub final_kept : (rs : List Round) (E : ℕ → ℕ → Type 0) → ((a b : ℕ) → E a b → PairwiseDefeats K m a b) → AreRounds K m E rs → (a : ℕ) → In (final_set rs) a → K a
-  final_kept [] E into h a i = absurd h
-  final_kept (r ∷ later) E into h a i = (((first_is E r later h).set a).0 (final_in_first r later E into h a i)).0
-
   -- an option of the final set has a chain as strong to each option that has one to it
   reaches_back : (rs : List Round) (E : ℕ → ℕ → Type 0) → ((a b : ℕ) → E a b → PairwiseDefeats K m a b) → AreRounds K m E rs
       → (a : ℕ) → In (final_set rs) a → (b : ℕ) → K b → (x y : ℕ) → ReachesBy m E x y b a → ReachesBy m E x y a b
@@ -222,7 +219,7 @@ module _ (K : ℕ → Type 0) (m : Votes) (n : ℕ) (few : (o : ℕ) → K o →
 module _ (K : ℕ → Type 0) (m : Votes) (n : ℕ) (few : (o : ℕ) → K o → o < n) (rs : List Round) (are : AreRounds K m (PairwiseDefeats K m) rs) where
   pub schulze_law : (a : ℕ) → In (final_set rs) a ↔ IsSchulzeWinner K m (PairwiseDefeats K m) a
   schulze_law a = (
-    λ i. (final_kept K m rs (PairwiseDefeats K m) (λ x y d. d) are a i, λ b k x y defeat. reaches_back K m rs (PairwiseDefeats K m) (λ x y d. d) are a i b k x y),
+    λ i. (final_kept K m (PairwiseDefeats K m) rs are a i, λ b k x y defeat. reaches_back K m rs (PairwiseDefeats K m) (λ x y d. d) are a i b k x y),
     λ wins. winner_final K m n few a wins rs are,
   )
 

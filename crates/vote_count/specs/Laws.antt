@@ -7,10 +7,33 @@ use Rattle.vote_poll.specs.PollContent.{PollContent, IsPoll, option_count}
 use Rattle.vote_poll.specs.Ranks.{prefers}
 use Rattle.vote_count.specs.declared.rounds.Round.{Round}
 use Rattle.vote_count.specs.Ballots.{entry_prefers}
-use Rattle.vote_count.specs.Rounds.{AreRounds, final_set}
+use Rattle.vote_count.specs.declared.rounds.Decision.{Decision}
+use Rattle.vote_count.specs.Rounds.{AreRounds, AreSameRounds, IsDecision, IsOutcome, VerdictState, cause_of, final_set}
 use Rattle.vote_count.specs.Rules.{IsKept, PairwiseDefeats, TransitivelyDefeats, IsWeaker}
-use Rattle.vote_count.specs.Sets.{In, IsAlone}
+use Rattle.vote_count.specs.Sets.{In, IsAlone, Pairs, size}
 use Rattle.vote_count.specs.Votes.{Votes, votes}
+
+-- two matrices have the same votes between so many options
+abbrev pub HaveSameVotes : ℕ → Votes → Votes → Type 0
+HaveSameVotes options matrix other = (a b : ℕ) → IsOption options a → IsOption options b → votes matrix a b ≡ votes other a b
+
+-- two outcomes drop the same of so many options for the same causes, and have the same defeats and the same rounds
+pub record AreSameOutcomes (options : ℕ) (outcome other : VerdictState) : Type 0 where
+  pub causes : (o : ℕ) → IsOption options o → cause_of outcome o ≡ cause_of other o
+  pub defeats : (a b : ℕ) → Pairs outcome.defeats a b ↔ Pairs other.defeats a b
+  pub rounds : AreSameRounds outcome.rounds other.rounds
+
+-- An outcome is determined by the votes between options: matrices in which these are the same have the same outcome.
+abbrev pub OutcomesAreDetermined : Type 0
+OutcomesAreDetermined =
+    (poll : PollContent) (matrix other : Votes) (first second : VerdictState) →
+    HaveSameVotes (option_count poll) matrix other → IsOutcome poll matrix first → IsOutcome poll other second → AreSameOutcomes (option_count poll) first second
+
+-- A decision is determined by the options of the final set and the casting vote: sets with the same options have as many, and the same is decided.
+abbrev pub DecisionsAreDetermined : Type 0
+DecisionsAreDetermined =
+    (set other : List Bool) (casting : Option ℕ) (first second : Decision) → ((o : ℕ) → In set o ↔ In other o) →
+    IsDecision set casting first → IsDecision other casting second → (size set ≡ size other) × (first ≡ second)
 
 -- Anonymity: the votes do not depend on the order of the ballots.
 abbrev pub BallotsAreAnonymous : Type 0

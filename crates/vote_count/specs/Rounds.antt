@@ -6,9 +6,9 @@ use Rattle.vote_count.specs.declared.rounds.Cause.{Cause}
 use Rattle.vote_count.specs.declared.rounds.Cause.TheVariants.{Quorum, Majority}
 use Rattle.vote_count.specs.declared.rounds.Decision.{Decision}
 use Rattle.vote_count.specs.declared.rounds.Decision.TheVariants.{Winner, Tie, CastingOutside}
-use Rattle.vote_poll.specs.Options.{at_option}
+use Rattle.vote_poll.specs.Options.{IsOption, at_option}
 use Rattle.vote_count.specs.Rules.{MeetsQuorum, MeetsMajority, IsKept, PairwiseDefeats, TransitivelyDefeats, InSchwartzSet, IsWeakest, Without}
-use Rattle.vote_count.specs.Sets.{In, Pairs}
+use Rattle.vote_count.specs.Sets.{In, IsAlone, Pairs}
 use Rattle.vote_count.specs.Votes.{Votes, votes}
 
 -- One round over the defeats that are left: its set is the Schwartz set, and it removes the weakest defeats within that set.
@@ -72,3 +72,16 @@ pub record VerdictState : Type 0 where
 
 abbrev pub cause_of : VerdictState → ℕ → Option Cause
 cause_of outcome o = at_option outcome.causes o None
+
+-- what a count of the matrix comes to: who is dropped and why, the defeats between the options that are kept, and the rounds
+pub record IsOutcome (poll : PollContent) (matrix : Votes) (outcome : VerdictState) : Type 0 where
+  pub causes : (o : ℕ) → IsOption (option_count poll) o → HasCause poll matrix o (cause_of outcome o)
+  pub defeats : (a b : ℕ) → Pairs outcome.defeats a b ↔ PairwiseDefeats (IsKept poll matrix) matrix a b
+  pub rounds :
+      let kept = IsKept poll matrix in
+      AreRounds kept matrix (PairwiseDefeats kept matrix) outcome.rounds
+
+-- an option that is alone in the final set wins, and else the casting vote decides
+pub record IsDecision (set : List Bool) (casting : Option ℕ) (decision : Decision) : Type 0 where
+  pub alone : (o : ℕ) → IsAlone set o → decision ≡ Winner o
+  pub several : ((o : ℕ) → ¬ IsAlone set o) → IsByCasting set casting decision

@@ -1,10 +1,20 @@
 //! Laws of the count. Each function does nothing: its contract is the law, and that is proved.
-ghost use Rattle.vote_count.specs.Laws.{BallotsAreAnonymous, CondorcetWinnersWin, FinalSetIsInSmithSet, FinalSetIsSchulze, RaisedWinnersWin, RaisedBallotsRaise, FinalSetIsCloneproof, ClonesOnBallotsAreClones, CloneSetsAreIndependent, CloneSetsOnBallotsAreCloneSets, FinalSetIsPareto};
+ghost use Rattle.vote_count.specs.Laws.{BallotsAreAnonymous, CondorcetWinnersWin, FinalSetIsInSmithSet, FinalSetIsSchulze, RaisedWinnersWin, RaisedBallotsRaise, FinalSetIsCloneproof, ClonesOnBallotsAreClones, CloneSetsAreIndependent, CloneSetsOnBallotsAreCloneSets, FinalSetIsPareto, OutcomesAreDetermined, DecisionsAreDetermined};
 ghost use Rattle.vote_count.specs.Rounds.{RoundsAreDetermined};
 
 /// The rules leave no choice: two lists of rounds of the same poll and matrix are the same.
 pub fn rounds_are_determined()
     ensures { RoundsAreDetermined }
+{}
+
+/// The outcome of a matrix depends on the votes between the poll's options alone, and these leave no choice in it.
+pub fn outcomes_are_determined()
+    ensures { OutcomesAreDetermined }
+{}
+
+/// A decision depends on the options of the final set and on the casting vote alone, and these leave no choice in it.
+pub fn decisions_are_determined()
+    ensures { DecisionsAreDetermined }
 {}
 
 /// Anonymity: the votes of `recount` do not depend on the order of its ballots.

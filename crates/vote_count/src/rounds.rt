@@ -2,8 +2,8 @@
 ghost use Rattle.std.specs.Prelude.{◌≡◌, ℕ, ◌<◌, ◌≤◌, ◌↔◌, ◌⊎◌, IsTrue, IfOk, None, Some};
 ghost use Rattle.vote_poll.specs.Options.{IsOption};
 ghost use Rattle.vote_poll.specs.PollContent.{option_count};
-ghost use Rattle.vote_count.specs.Rounds.{AreRounds, HasCause, IsByCasting, cause_of, final_set};
-ghost use Rattle.vote_count.specs.Rules.{IsKept, IsQuorum, PairwiseDefeats};
+ghost use Rattle.vote_count.specs.Rounds.{AreRounds, HasCause, IsDecision, IsOutcome, cause_of, final_set};
+ghost use Rattle.vote_count.specs.Rules.{IsKept, IsQuorum};
 ghost use Rattle.vote_count.specs.Sets.{In, Pairs, IsAlone};
 
 use crate::rules::{has_quorum, kept_with};
@@ -109,12 +109,11 @@ fn dropped_for(poll: &Poll, matrix: &Matrix, option: u8, quorum: u64) -> Option<
 #[tactic(auto, using(vote_poll::proofs::OptionLaws::options))]
 pub fn outcome(alloc: Global, poll: &Poll, matrix: &Matrix) -> Result<Verdict, AllocError>
     requires { matrix.now.options ≡ option_count poll.now }
-    ensures causes { IfOk result (λ verdict. (o : ℕ) → IsOption (option_count poll.now) o → HasCause poll.now matrix.now o (cause_of verdict o)) }
-    ensures defeats { IfOk result (λ verdict. (a b : ℕ) → Pairs verdict.defeats a b ↔ PairwiseDefeats (IsKept poll.now matrix.now) matrix.now a b) }
-    ensures rounds { IfOk result (λ verdict. let kept = IsKept poll.now matrix.now in AreRounds kept matrix.now (PairwiseDefeats kept matrix.now) verdict.rounds) }
+    ensures outcome { IfOk result (IsOutcome poll.now matrix.now) }
 
-    // The final set is never empty. The default is in it exactly where no other option is kept, and then it is alone.
+    // The final set is never empty, and has no dropped option. The default is in it exactly where no other option is kept, and then it is alone.
     ensures some { IfOk result (λ verdict. (o : ℕ) × In (final_set verdict.rounds) o) }
+    ensures kept { IfOk result (λ verdict. (o : ℕ) → In (final_set verdict.rounds) o → IsKept poll.now matrix.now o) }
     ensures default { IfOk result (λ verdict. In (final_set verdict.rounds) (option_count poll.now) ↔ ((o : ℕ) → IsKept poll.now matrix.now o → o ≡ option_count poll.now)) }
     ensures default_alone { IfOk result (λ verdict. In (final_set verdict.rounds) (option_count poll.now) → IsAlone (final_set verdict.rounds) (option_count poll.now)) }
 {
@@ -168,8 +167,8 @@ impl Verdict {
 /// Who wins: the option that is alone in the final set, whatever the casting vote, and else the one
 /// that the casting vote chooses from the set (Appendix A, Vote Counting).
 pub fn decide(verdict: &Verdict, casting: Option<u8>) -> Decision
-    ensures alone { (o : ℕ) → IsAlone (final_set verdict.now.rounds) o → result ≡ Decision.Winner o }
-    ensures several { ((o : ℕ) → ¬ IsAlone (final_set verdict.now.rounds) o) → IsByCasting (final_set verdict.now.rounds) casting result }
+    ensures decision { IsDecision (final_set verdict.now.rounds) casting result }
+    ensures winner { (o : ℕ) → result ≡ Decision.Winner o → In (final_set verdict.now.rounds) o }
 {
     let set = verdict.final_set();
     if let Some(winner) = set.only() {

@@ -5,7 +5,7 @@ use Rattle.vote_poll.specs.Options.{at_option}
 use Rattle.vote_poll.specs.declared.wording.Wording.TheVariants.{AtLeast}
 use Rattle.vote_count.specs.declared.Cause.TheVariants.{Quorum}
 use Rattle.vote_count.specs.declared.Decision.TheVariants.{CastingOutside, Tie, Winner}
-use Rattle.vote_sheet.specs.Sheet.{Sheet, Text, casting_note, causes_text, column_text, decision_text, default_text, defeat_line, defeat_lines, defeats_by, defeats_text, drop_line, dropped_line, dropped_text, drops_of, head_text, last_text, option_text, options_text, right, round_text, row_text, sheet_text, table_head_text, table_text, tie_text, totals_text, votes_text, winner_text, wording_text}
+use Rattle.vote_sheet.specs.Sheet.{Sheet, Text, casting_note, causes_text, column_text, count_text, decision_text, default_text, defeat_line, defeat_lines, defeats_by, defeats_text, drop_line, dropped_line, dropped_text, drops_of, head_text, last_text, option_text, options_text, right, round_text, row_text, sheet_text, table_head_text, table_text, tie_text, totals_text, votes_text, winner_text, wording_text}
 
 abbrev four : List Text
 four = codes "A" ∷ codes "B" ∷ codes "C" ∷ codes "None" ∷ []
@@ -45,7 +45,7 @@ no_ballots = record {
 }
 
 pub no_ballots_text : sheet_text no_ballots ≡ codes "Poll: No ballots\nElectors: 9\nQuorum: 3Q, 5 votes\nLines: 0\nValid: 0\nRefused: 0\nVoters: 0\nOptions:\n  1 ratio 1 A\n  2 ratio 1 B\n  3 ratio 1 C\n  4 default None\nVotes:\n        1     2     3     4\n  1     -     0     0     0\n  2     0     -     0     0\n  3     0     0     -     0\n  4     0     0     0     -\nDropped:\n  1 quorum\n  2 quorum\n  3 quorum\nDefeats:\n  none\nRound 1: 4\nWinner: 4 None\n"
-unfolding no_ballots at_option digits right head_text wording_text last_text totals_text option_text default_text options_text votes_text row_text column_text table_head_text table_text dropped_line causes_text dropped_text defeat_line defeats_by defeat_lines defeats_text drop_line drops_of round_text casting_note winner_text tie_text decision_text
+unfolding no_ballots at_option digits right head_text wording_text last_text totals_text option_text default_text options_text votes_text row_text column_text table_head_text table_text dropped_line causes_text dropped_text defeat_line defeats_by defeat_lines defeats_text drop_line drops_of round_text casting_note winner_text tie_text decision_text count_text
 no_ballots_text = refl
 
 pub a_cycle : Sheet
@@ -72,7 +72,7 @@ a_cycle = record {
 }
 
 pub a_cycle_text : sheet_text a_cycle ≡ codes "Poll: A cycle\nElectors: 9\nQuorum: 3Q, 5 votes\nLines: 9\nValid: 9\nRefused: 0\nVoters: 9\nOptions:\n  1 ratio 1 A\n  2 ratio 1 B\n  3 ratio 1 C\n  4 default None\nVotes:\n        1     2     3     4\n  1     -     6     4     9\n  2     3     -     7     9\n  3     5     2     -     9\n  4     0     0     0     -\nDropped:\n  none\nDefeats:\n  1 over 2 by 6 to 3\n  1 over 4 by 9 to 0\n  2 over 3 by 7 to 2\n  2 over 4 by 9 to 0\n  3 over 1 by 5 to 4\n  3 over 4 by 9 to 0\nRound 1: 1 2 3\n  drop 3 over 1\nRound 2: 1\nWinner: 1 A\n"
-unfolding a_cycle at_option digits right head_text wording_text last_text totals_text option_text default_text options_text votes_text row_text column_text table_head_text table_text dropped_line causes_text dropped_text defeat_line defeats_by defeat_lines defeats_text drop_line drops_of round_text casting_note winner_text tie_text decision_text
+unfolding a_cycle at_option digits right head_text wording_text last_text totals_text option_text default_text options_text votes_text row_text column_text table_head_text table_text dropped_line causes_text dropped_text defeat_line defeats_by defeat_lines defeats_text drop_line drops_of round_text casting_note winner_text tie_text decision_text count_text
 a_cycle_text = refl
 
 pub a_tie : Sheet
@@ -99,7 +99,7 @@ a_tie = record {
 }
 
 pub a_tie_text : sheet_text a_tie ≡ codes "Poll: A tie\nElectors: 3\nQuorum: 1Q, 1 votes\nLines: 3\nValid: 3\nRefused: 0\nVoters: 3\nOptions:\n  1 ratio 1 A\n  2 ratio 1 B\n  3 ratio 1 C\n  4 default None\nVotes:\n        1     2     3     4\n  1     -     2     1     3\n  2     1     -     2     3\n  3     2     1     -     3\n  4     0     0     0     -\nDropped:\n  none\nDefeats:\n  1 over 2 by 2 to 1\n  1 over 4 by 3 to 0\n  2 over 3 by 2 to 1\n  2 over 4 by 3 to 0\n  3 over 1 by 2 to 1\n  3 over 4 by 3 to 0\nRound 1: 1 2 3\n  drop 1 over 2\n  drop 2 over 3\n  drop 3 over 1\nRound 2: 1 2 3\nTie: 1 2 3\n"
-unfolding a_tie at_option digits right head_text wording_text last_text totals_text option_text default_text options_text votes_text row_text column_text table_head_text table_text dropped_line causes_text dropped_text defeat_line defeats_by defeat_lines defeats_text drop_line drops_of round_text casting_note winner_text tie_text decision_text
+unfolding a_tie at_option digits right head_text wording_text last_text totals_text option_text default_text options_text votes_text row_text column_text table_head_text table_text dropped_line causes_text dropped_text defeat_line defeats_by defeat_lines defeats_text drop_line drops_of round_text casting_note winner_text tie_text decision_text count_text
 a_tie_text = refl
 
 -- the endings of the tie with a casting vote
@@ -135,7 +135,7 @@ a_hundred_envelopes = record {
 }
 
 pub a_hundred_envelopes_text : sheet_text a_hundred_envelopes ≡ codes "Poll: A hundred envelopes\nElectors: 10\nQuorum: 3Q, 5 votes\nLines: 100\nValid: 95\nRefused: 5\nVoters: 10\nOptions:\n  1 ratio 1 A\n  2 ratio 1 B\n  3 default None\nVotes:\n        1     2     3\n  1     -     5    10\n  2     5     -    10\n  3     0     0     -\nDropped:\n  none\nDefeats:\n  1 over 3 by 10 to 0\n  2 over 3 by 10 to 0\nRound 1: 1 2\nTie: 1 2\n"
-unfolding a_hundred_envelopes at_option digits right head_text wording_text last_text totals_text option_text default_text options_text votes_text row_text column_text table_head_text table_text dropped_line causes_text dropped_text defeat_line defeats_by defeat_lines defeats_text drop_line drops_of round_text casting_note winner_text tie_text decision_text
+unfolding a_hundred_envelopes at_option digits right head_text wording_text last_text totals_text option_text default_text options_text votes_text row_text column_text table_head_text table_text dropped_line causes_text dropped_text defeat_line defeats_by defeat_lines defeats_text drop_line drops_of round_text casting_note winner_text tie_text decision_text count_text
 a_hundred_envelopes_text = refl
 
 -- with a last envelope

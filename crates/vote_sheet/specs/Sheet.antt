@@ -183,16 +183,22 @@ ending names set (CastingOutside c) =
 unfoldable pub decision_text : List Text → List Bool → Decision → Text
 decision_text names set decision = line (ending names set decision ∷ [])
 
-abbrev pub sheet_text : Sheet → Text
-sheet_text s =
-    let n = length s.names in
+-- what the votes come to
+unfoldable pub count_text : List Text → Votes → VerdictState → Decision → Text
+count_text names matrix outcome decision =
+    let n = length names in
     concat (
+    table_text matrix
+    ∷ dropped_text n outcome
+    ∷ defeats_text matrix outcome.defeats
+    ∷ rounds_from n 1 outcome.rounds
+    ∷ decision_text names (final_set outcome.rounds) decision
+    ∷ [])
+
+abbrev pub sheet_text : Sheet → Text
+sheet_text s = concat (
     head_text s.title s.electors s.quorum_multiple s.quorum_votes s.wording
     ∷ totals_text s.line_count s.last_envelope s.valid s.refused s.voters
     ∷ options_text s.names s.ratios
-    ∷ table_text s.matrix
-    ∷ dropped_text n s.outcome
-    ∷ defeats_text s.matrix s.outcome.defeats
-    ∷ rounds_from n 1 s.outcome.rounds
-    ∷ decision_text s.names (final_set s.outcome.rounds) s.decision
+    ∷ count_text s.names s.matrix s.outcome s.decision
     ∷ [])

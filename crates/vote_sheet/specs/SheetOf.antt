@@ -1,28 +1,13 @@
 -- Which sheet a poll, its lines and the casting vote have. No history, desk or reply occurs in it.
-use Rattle.std.specs.Prelude.{◌≡◌, ℕ, ◌≤◌, ◌↔◌, List, Bool, Option, length}
+use Rattle.std.specs.Prelude.{◌≡◌, ℕ, ◌≤◌, List, Option, length}
 use Rattle.vote_poll.specs.Options.{IsOption}
 use Rattle.vote_poll.specs.PollContent.{PollContent, elector_count, option_count}
-use Rattle.vote_count.specs.Votes.{Votes, votes}
-use Rattle.vote_count.specs.Sets.{IsAlone, Pairs}
-use Rattle.vote_count.specs.Rules.{IsKept, MeetsQuorum, PairwiseDefeats}
-use Rattle.vote_count.specs.Rounds.{AreRounds, HasCause, IsByCasting, VerdictState, cause_of, final_set}
+use Rattle.vote_count.specs.Votes.{votes}
+use Rattle.vote_count.specs.Rules.{MeetsQuorum}
+use Rattle.vote_count.specs.Rounds.{IsDecision, IsOutcome, final_set}
 use Rattle.vote_count.specs.declared.Decision.{Decision}
-use Rattle.vote_count.specs.declared.Decision.TheVariants.{Winner}
 use Rattle.vote_sheet.specs.LastBallots.{refused_count, valid_count, voter_count, votes_for}
 use Rattle.vote_sheet.specs.Sheet.{Sheet, Text, sheet_text}
-
--- what a count of the matrix comes to: who is dropped and why, the defeats between the options that are kept, and the rounds
-pub record IsOutcome (poll : PollContent) (matrix : Votes) (outcome : VerdictState) : Type 0 where
-  pub causes : (o : ℕ) → IsOption (option_count poll) o → HasCause poll matrix o (cause_of outcome o)
-  pub defeats : (a b : ℕ) → Pairs outcome.defeats a b ↔ PairwiseDefeats (IsKept poll matrix) matrix a b
-  pub rounds :
-      let kept = IsKept poll matrix in
-      AreRounds kept matrix (PairwiseDefeats kept matrix) outcome.rounds
-
--- an option that is alone in the final set wins, and else the casting vote decides
-pub record IsDecision (set : List Bool) (casting : Option ℕ) (decision : Decision) : Type 0 where
-  pub alone : (o : ℕ) → IsAlone set o → decision ≡ Winner o
-  pub several : ((o : ℕ) → ¬ IsAlone set o) → IsByCasting set casting decision
 
 pub record IsSheetOf (poll : PollContent) (lines : List Text) (casting : Option ℕ) (s : Sheet) : Type 0 where
   -- what the poll says
@@ -46,6 +31,10 @@ pub record IsSheetOf (poll : PollContent) (lines : List Text) (casting : Option 
   pub counted : (a b : ℕ) → IsOption (option_count poll) a → IsOption (option_count poll) b → votes s.matrix a b ≡ votes_for poll lines a b
   pub outcome : IsOutcome poll s.matrix s.outcome
   pub decision : IsDecision (final_set s.outcome.rounds) casting s.decision
+
+-- the text is a sheet of the poll, the lines and the casting vote, and this is what the sheet decides
+abbrev pub IsSheetAndDecision : PollContent → List Text → Option ℕ → Text → Decision → Type 0
+IsSheetAndDecision poll lines casting text decision = (s : Sheet) × IsSheetOf poll lines casting s × (text ≡ sheet_text s) × (decision ≡ s.decision)
 
 -- the text is a sheet of the poll, the lines and the casting vote
 abbrev pub IsSheet : PollContent → List Text → Option ℕ → Text → Type 0

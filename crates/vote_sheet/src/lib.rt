@@ -8,11 +8,10 @@
 //!   [`steps_are_determined`] the poll and the lines leave no choice in it.
 //! - [`check_text`] gives the line of a poll that is in order.
 //!
-//! Nothing here knows a file, a thread or a device: what is made is a text in memory, or a want of memory. The modules:
-//! `results` is what a sheet is made of, `sheet_text` its text part by part, `sheet` and `steps` the public calls.
+//! Nothing here knows a file, a thread or a device: what is made is a text in memory, or a want of memory. The modules: `sheet`
+//! and `steps` have the public calls, and `sheet_text` the parts of a sheet.
 #![tactic(auto)]
 
-mod results;
 mod sheet;
 mod sheet_text;
 mod steps;

@@ -1,18 +1,19 @@
 //! The result sheet.
 
-ghost use Rattle.std.specs.Prelude.{◌≡◌, IfOk, IfSome, string_bytes};
+ghost use Rattle.std.specs.Prelude.{IfOk, IfSome, string_bytes};
 ghost use Rattle.vote_poll.specs.Options.{IsOption};
 ghost use Rattle.vote_poll.specs.PollContent.{option_count};
 ghost use Rattle.vote_steps.specs.Casting.{HoldsLines};
-ghost use Rattle.vote_sheet.specs.Sheet.{Sheet, sheet_text};
-ghost use Rattle.vote_sheet.specs.SheetOf.{IsSheetOf, SheetIsUnique};
+ghost use Rattle.vote_sheet.specs.SheetOf.{IsSheetAndDecision, SheetIsUnique};
 
-use crate::results::Results;
-use crate::sheet_text::sheet_text;
+use crate::sheet_text::{push_count, push_head, push_options, push_totals};
 use std::alloc::{AllocError, Global};
-use vote_count::{Decision, decide, outcome, quorum_votes};
+use vote_count::{
+    Decision, decide, decisions_are_determined, outcome, outcomes_are_determined, quorum_votes,
+};
 use vote_poll::{Lines, Poll};
 use vote_steps::BallotBox;
+use vote_steps::laws::lines_are_counted;
 
 /// The result sheet of a closed box that holds the lines of the poll, with the option of the casting vote, and what the sheet
 /// says is decided. Options are numbered from 1.
@@ -27,25 +28,24 @@ pub fn sheet_of_box(
 ) -> Result<(String, Decision), AllocError>
     requires held { HoldsLines poll.now lines.now ballot_box.now }
     requires casting { IfSome casting (IsOption (option_count poll.now)) }
-    ensures { IfOk result (λ printed. (s : Sheet) × IsSheetOf poll.now lines.now casting s × (string_bytes printed.0 ≡ sheet_text s) × (printed.1 ≡ s.decision)) }
+    ensures { IfOk result (λ printed. IsSheetAndDecision poll.now lines.now casting (string_bytes printed.0) printed.1) }
 {
+    lines_are_counted();
     let matrix = ballot_box.matrix();
     let verdict = outcome(alloc, poll, &matrix)?;
     let decision = decide(&verdict, casting);
-    let results = Results {
-        poll,
-        quorum_votes: quorum_votes(poll),
-        lines: lines.len(),
-        totals: ballot_box.totals(),
-        matrix: &matrix,
-        verdict: &verdict,
-        decision,
-    };
-    let text = sheet_text(alloc, &results)?;
+    let mut text = String::new(alloc);
+    push_head(&mut text, poll, quorum_votes(poll))?;
+    push_totals(&mut text, poll, lines.len(), &ballot_box.totals())?;
+    push_options(&mut text, poll)?;
+    push_count(&mut text, poll, &matrix, &verdict, decision)?;
     Ok((text, decision))
 }
 
 /// A poll, its lines and the casting vote have one sheet.
 pub fn sheet_is_unique()
     ensures { SheetIsUnique }
-{}
+{
+    outcomes_are_determined();
+    decisions_are_determined();
+}

@@ -1,16 +1,15 @@
 //! The text of a result sheet, part by part. Each function adds its part at the end of the text.
 
-ghost use Rattle.std.specs.Prelude.{◌≡◌, ◌++◌, ◌+◌, ◌-◌, ◌≤◌, ◌<◌, OnOk, IfOk, decimal, length, string_bytes};
+ghost use Rattle.std.specs.Prelude.{◌≡◌, ℕ, ◌++◌, ◌+◌, ◌-◌, ◌≤◌, ◌<◌, OnOk, decimal, length, string_bytes};
 ghost use Rattle.vote_poll.specs.Options.{IsOption};
 ghost use Rattle.vote_poll.specs.declared.TheConstants.{MAX_OPTIONS};
 ghost use Rattle.vote_poll.specs.PollContent.{elector_count, option_count};
 ghost use Rattle.vote_count.specs.Sets.{has_pair};
 ghost use Rattle.vote_count.specs.Rounds.{cause_of};
-ghost use Rattle.vote_sheet.specs.Results.{IsDecided, sheet_of};
-ghost use Rattle.vote_sheet.specs.Sheet.{casting_note, cause_name, causes_text, column_text, decision_text, default_text, defeat_line, defeat_lines, defeats_text, defeats_by, drop_line, drops_of, each, ending, tie_text, winner_text, dropped_line, dropped_text, head_text, last_text, name_of, numbers, option_text, options_text, right, round_text, rounds_from, row_text, sheet_text, table_head_text, table_text, totals_text, votes_text, when, wording_text};
+ghost use Rattle.vote_count.specs.Rules.{IsKept};
+ghost use Rattle.vote_sheet.specs.Sheet.{casting_note, cause_name, causes_text, column_text, count_text, decision_text, default_text, defeat_line, defeat_lines, defeats_text, defeats_by, drop_line, drops_of, each, ending, tie_text, winner_text, dropped_line, dropped_text, head_text, last_text, name_of, numbers, option_text, options_text, right, round_text, rounds_from, row_text, table_head_text, table_text, totals_text, votes_text, when, wording_text};
 
-use crate::results::Results;
-use std::alloc::{AllocError, Global};
+use std::alloc::AllocError;
 use vote_count::{Cause, Decision, Defeats, Matrix, OptionSet, Round, Verdict};
 use vote_poll::{Poll, Wording};
 use vote_steps::Totals;
@@ -28,7 +27,7 @@ fn push_wording(text: &mut String, wording: Wording) -> Result<(), AllocError>
 
 /// The title, the electors, the quorum and the majority.
 #[tactic(auto, unfolding(crate::specs::Sheet::head_text))]
-fn push_head(text: &mut String, poll: &Poll, votes: u64) -> Result<(), AllocError>
+pub(crate) fn push_head(text: &mut String, poll: &Poll, votes: u64) -> Result<(), AllocError>
     ensures { OnOk result (string_bytes text.new ≡ string_bytes text.old ++ head_text poll.now.title (elector_count poll.now) poll.now.quorum_multiple votes poll.now.wording) }
 {
     writeln!(text, "Poll: {}", poll.title())?;
@@ -51,16 +50,16 @@ fn push_last(text: &mut String, last: Option<u32>) -> Result<(), AllocError>
 
 /// The numbers of lines and of voters.
 #[tactic(auto, unfolding(crate::specs::Sheet::totals_text))]
-fn push_totals(
+pub(crate) fn push_totals(
     text: &mut String,
+    poll: &Poll,
     lines: usize,
-    last: Option<u32>,
     totals: &Totals,
 ) -> Result<(), AllocError>
-    ensures { OnOk result (string_bytes text.new ≡ string_bytes text.old ++ totals_text lines last totals.now.valid totals.now.refused totals.now.voters) }
+    ensures { OnOk result (string_bytes text.new ≡ string_bytes text.old ++ totals_text lines poll.now.last_envelope totals.now.valid totals.now.refused totals.now.voters) }
 {
     writeln!(text, "Lines: {lines}")?;
-    push_last(text, last)?;
+    push_last(text, poll.last_envelope())?;
     writeln!(text, "Valid: {}", totals.valid)?;
     writeln!(text, "Refused: {}", totals.refused)?;
     writeln!(text, "Voters: {}", totals.voters)
@@ -94,7 +93,7 @@ fn push_option(text: &mut String, poll: &Poll, option: u8) -> Result<(), AllocEr
 }
 
 #[tactic(auto, using(crate::proofs::Texts::each_next), unfolding(crate::specs::Sheet::options_text))]
-fn push_options(text: &mut String, poll: &Poll) -> Result<(), AllocError>
+pub(crate) fn push_options(text: &mut String, poll: &Poll) -> Result<(), AllocError>
     ensures { OnOk result (string_bytes text.new ≡ string_bytes text.old ++ options_text poll.now.options poll.now.ratios) }
 {
     writeln!(text, "Options:")?;
@@ -412,7 +411,7 @@ fn push_ending(
     set: &OptionSet,
     decision: Decision,
 ) -> Result<(), AllocError>
-    requires { IsDecided (option_count poll.now) decision }
+    requires { (o : ℕ) → decision ≡ Decision.Winner o → IsOption (option_count poll.now) o }
     ensures { OnOk result (string_bytes text.new ≡ string_bytes text.old ++ ending poll.now.options set.now decision) }
 {
     match decision {
@@ -432,55 +431,30 @@ fn push_decision(
     set: &OptionSet,
     decision: Decision,
 ) -> Result<(), AllocError>
-    requires { IsDecided (option_count poll.now) decision }
+    requires { (o : ℕ) → decision ≡ Decision.Winner o → IsOption (option_count poll.now) o }
     ensures { OnOk result (string_bytes text.new ≡ string_bytes text.old ++ decision_text poll.now.options set.now decision) }
 {
     push_ending(text, poll, set, decision)?;
     writeln!(text)
 }
 
-/// How many bytes a sheet has at most, for so many options and rounds.
-fn room(options: u8, rounds: usize) -> usize {
-    let options = usize::from(options);
-    let pairs = options * options;
-    let head_and_ending = 448;
-    // a name has at most 40 bytes
-    let option_lines = 80 * options;
-    // each pair has a cell of the table, and at most half of them a defeat, which is dropped once
-    let table_and_defeats = 32 * (pairs + options + 1);
-    let round_line = 16 + 3 * options;
-    rounds
-        .saturating_mul(round_line)
-        .saturating_add(head_and_ending + option_lines + table_and_defeats)
-}
-
-/// The text of the sheet with these results, in one buffer that is reserved at once.
-pub(crate) fn sheet_text(alloc: Global, results: &Results<'_>) -> Result<String, AllocError>
-    requires options { results.now.matrix.now.options ≡ option_count results.now.poll.now }
-    requires decision { IsDecided (option_count results.now.poll.now) results.now.decision }
-    ensures { IfOk result (λ text. string_bytes text ≡ sheet_text (sheet_of results.now)) }
+/// What the votes come to: the votes themselves, who is dropped, the defeats, the rounds and the decision.
+#[tactic(auto, unfolding(crate::specs::Sheet::count_text))]
+pub(crate) fn push_count(
+    text: &mut String,
+    poll: &Poll,
+    matrix: &Matrix,
+    verdict: &Verdict,
+    decision: Decision,
+) -> Result<(), AllocError>
+    requires options { matrix.now.options ≡ option_count poll.now }
+    requires winner { (o : ℕ) → decision ≡ Decision.Winner o → IsKept poll.now matrix.now o }
+    ensures { OnOk result (string_bytes text.new ≡ string_bytes text.old ++ count_text poll.now.options matrix.now verdict.now decision) }
 {
-    let poll = results.poll;
     let options = poll.options();
-    let rounds = results.verdict.rounds();
-    let mut text = String::with_capacity(alloc, room(options, rounds.len()))?;
-    push_head(&mut text, poll, results.quorum_votes)?;
-    push_totals(
-        &mut text,
-        results.lines,
-        poll.last_envelope(),
-        &results.totals,
-    )?;
-    push_options(&mut text, poll)?;
-    push_table(&mut text, results.matrix)?;
-    push_dropped(&mut text, options, results.verdict)?;
-    push_defeats(&mut text, results.matrix, &results.verdict.defeats())?;
-    push_rounds(&mut text, options, rounds)?;
-    push_decision(
-        &mut text,
-        poll,
-        &results.verdict.final_set(),
-        results.decision,
-    )?;
-    Ok(text)
+    push_table(text, matrix)?;
+    push_dropped(text, options, verdict)?;
+    push_defeats(text, matrix, &verdict.defeats())?;
+    push_rounds(text, options, verdict.rounds())?;
+    push_decision(text, poll, &verdict.final_set(), decision)
 }

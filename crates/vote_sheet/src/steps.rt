@@ -5,6 +5,7 @@ ghost use Rattle.vote_sheet.specs.Steps.{IsStepsText, StepsAreDetermined, check_
 
 use std::alloc::{AllocError, Global};
 use vote_poll::{LineFault, Lines, Poll};
+use vote_steps::laws::order_leaves_no_choice;
 use vote_steps::{Reply, Step, cast_all};
 
 /// The words of a reply.
@@ -66,4 +67,6 @@ pub fn check_text(alloc: Global, poll: &Poll) -> Result<String, AllocError>
 /// The lines of a poll have one text of `steps`.
 pub fn steps_are_determined()
     ensures { StepsAreDetermined }
-{}
+{
+    order_leaves_no_choice();
+}

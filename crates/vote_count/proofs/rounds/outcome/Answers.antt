@@ -1,16 +1,16 @@
 use Rattle.std.proofs.Common.{◌≢◌, ℕ, ◌-◌, length, ◌<◌, ◌≤◌, inl, inr, refl, sym, ◌∙◌, subst, arith}
 use Rattle.std.proofs.lemmas.Bool.{cases_Bool, cases_eq, both_ways}
-use Rattle.std.specs.Prelude.{Option, None}
+use Rattle.std.specs.Prelude.{◌↔◌, Option, None}
 use Rattle.std.proofs.lemmas.List.{length-replicate, length-set}
 use Rattle.vote_poll.specs.declared.TheConstants.{MAX_OPTIONS}
 use Rattle.vote_count.specs.declared.rounds.Cause.{Cause}
 use Rattle.vote_poll.specs.PollContent.{option_count}
 use Rattle.vote_count.specs.Sets.{In, Pairs, has, has_pair}
 use Rattle.vote_count.specs.Rules.{IsKept, PairwiseDefeats}
-use Rattle.vote_count.specs.Rounds.{HasCause}
+use Rattle.vote_count.specs.Rounds.{AreRounds, HasCause}
 use Rattle.vote_count.specs.Votes.{votes}
 use Rattle.vote_poll.proofs.OptionLaws.{at_option-replicate, at_option-set, at_option-set_other}
-use Rattle.vote_count.proofs.RoundLemmas.{rounds_same, rounds_kept}
+use Rattle.vote_count.proofs.RoundLemmas.{final_kept, rounds_same, rounds_kept}
 use Rattle.vote_count.proofs.LawLemmas.{some_final, default_law, default_alone_law}
 use Rattle.vote_count.proofs.rounds.outcome.Goals as goal
 
@@ -37,17 +37,33 @@ loop-option-preserved c =
       later = λ o le. at_option-set_other c.loop-option.causes o at c.dropped_for.result None low (omega arith) ∙ c.loop-option.invariant.later o (omega arith);
     }
 
-pub returns-clause-rounds : goal.returns-clause-rounds
-returns-clause-rounds c =
+-- the defeats are those between the options that are kept
+are_defeats : (c : goal.In_ok-rounds) (a b : ℕ) → Pairs c.of-defeats.result a b ↔ PairwiseDefeats (IsKept c.args.poll.now c.args.matrix.now) c.args.matrix.now a b
+are_defeats c a b =
+    let is = c.kept_with-standing.ensures.kept in
+    let of = c.of-defeats.ensures a b in (
+      λ p. let d = of.0 p in ((is a).0 d.0, (is b).0 d.1, d.2),
+      λ d. of.1 ((is a).1 d.0, (is b).1 d.1, d.2),
+    )
+
+are_rounds : (c : goal.In_ok-rounds) → AreRounds (IsKept c.args.poll.now c.args.matrix.now) c.args.matrix.now (PairwiseDefeats (IsKept c.args.poll.now c.args.matrix.now) c.args.matrix.now) c.in_ok-rounds.rounds.items
+are_rounds c =
     let kept = IsKept c.args.poll.now c.args.matrix.now in
     let standing = In c.kept_with-standing.result in
     let is = c.kept_with-standing.ensures.kept in
-    let of = c.of-defeats.ensures in
-    rounds_same kept c.args.matrix.now (Pairs c.of-defeats.result) (PairwiseDefeats kept c.args.matrix.now)
-    (λ a b p. let d = (of a b).0 p in ((is a).0 d.0, (is b).0 d.1, d.2))
-    (λ a b d. (of a b).1 ((is a).1 d.0, (is b).1 d.1, d.2))
+    rounds_same kept c.args.matrix.now (Pairs c.of-defeats.result) (PairwiseDefeats kept c.args.matrix.now) (λ a b. (are_defeats c a b).0) (λ a b. (are_defeats c a b).1)
     c.in_ok-rounds.rounds.items
     (rounds_kept standing kept c.args.matrix.now (λ o. (is o).0) (λ o. (is o).1) (Pairs c.of-defeats.result) c.in_ok-rounds.rounds.items c.in_ok-rounds.ensures)
+
+pub returns-clause-outcome : goal.returns-clause-outcome
+returns-clause-outcome c = record {
+  causes = λ o is. grind arith;
+  defeats = are_defeats c;
+  rounds = are_rounds c;
+}
+
+pub returns-clause-kept : goal.returns-clause-kept
+returns-clause-kept c = final_kept (IsKept c.args.poll.now c.args.matrix.now) c.args.matrix.now (PairwiseDefeats (IsKept c.args.poll.now c.args.matrix.now) c.args.matrix.now) c.in_ok-rounds.rounds.items (are_rounds c)
 
 -- an option that stands is one of the poll's
 is_option : (c : goal.In_ok-rounds) (o : ℕ) → In c.kept_with-standing.result o → (1 ≤ o) × (o ≤ option_count c.args.poll.now)
@@ -75,8 +91,8 @@ more c o kept = c.kept_with-standing.ensures.more o ((c.kept_with-standing.ensur
 
 pub returns-clause-default : goal.returns-clause-default
 returns-clause-default c =
-    default_law c.args.poll.now c.args.matrix.now (more c) c.in_ok-rounds.rounds.items (returns-clause-rounds c)
+    default_law c.args.poll.now c.args.matrix.now (more c) c.in_ok-rounds.rounds.items (are_rounds c)
 
 pub returns-clause-default_alone : goal.returns-clause-default_alone
 returns-clause-default_alone c h =
-    default_alone_law c.args.poll.now c.args.matrix.now (more c) c.in_ok-rounds.rounds.items (returns-clause-rounds c) h
+    default_alone_law c.args.poll.now c.args.matrix.now (more c) c.in_ok-rounds.rounds.items (are_rounds c) h

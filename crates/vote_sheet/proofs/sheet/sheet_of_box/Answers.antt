@@ -1,18 +1,10 @@
 use Rattle.std.proofs.Common.{length, refl, ap, ◌∙◌, arith}
-use Rattle.vote_count.specs.Rounds.{final_set}
-use Rattle.vote_poll.specs.PollContent.{option_count}
 use Rattle.vote_steps.specs.declared.Totals.{Totals}
 use Rattle.vote_sheet.specs.Sheet.{Sheet}
 use Rattle.vote_sheet.specs.SheetOf.{IsSheetOf}
-use Rattle.vote_sheet.proofs.Deciding.{decided, final_is_option}
+use Rattle.vote_sheet.proofs.Texts.{four_parts}
 use Rattle.vote_sheet.proofs.Holding.{refused_are, valid_are, voters_are, votes_are}
 use Rattle.vote_sheet.proofs.sheet.sheet_of_box.Goals as goal
-
-pub sheet_text-requires-clause-decision : goal.sheet_text-requires-clause-decision
-sheet_text-requires-clause-decision c =
-    decided (option_count c.args.poll.now) (final_set c.in_ok-verdict.verdict.rounds) c.args.casting c.decide-decision.result c.requires.casting
-    (final_is_option c.args.poll.now c.matrix-matrix.result c.in_ok-verdict.verdict.rounds c.in_ok-verdict.ensures.rounds)
-    (record { alone = c.decide-decision.ensures.alone; several = c.decide-decision.ensures.several })
 
 pub returns : goal.returns
 returns c =
@@ -20,6 +12,7 @@ returns c =
     let poll = c.args.poll.now in
     let lines = c.args.lines.now in
     let totals = c.totals.ensures in
+    let counted = c.lines_are_counted.ensures poll lines c.args.ballot_box.now held in
     let s : Sheet = record {
       title = poll.title;
       electors = length poll.roll;
@@ -48,18 +41,18 @@ returns c =
       quorum_met = c.quorum_votes.ensures.enough;
       quorum_least = c.quorum_votes.ensures.least;
       line_count = c.len.ensures.number;
-      valid = ap (λ (t : Totals). t.valid) totals ∙ valid_are poll lines c.args.ballot_box.now held;
-      refused = ap (λ (t : Totals). t.refused) totals ∙ refused_are poll lines c.args.ballot_box.now held;
-      voters = ap (λ (t : Totals). t.voters) totals ∙ voters_are poll lines c.args.ballot_box.now held;
+      valid = ap (λ (t : Totals). t.valid) totals ∙ valid_are poll lines c.args.ballot_box.now held.sizes counted;
+      refused = ap (λ (t : Totals). t.refused) totals ∙ refused_are poll lines c.args.ballot_box.now held.sizes counted;
+      voters = ap (λ (t : Totals). t.voters) totals ∙ voters_are poll lines c.args.ballot_box.now held.sizes counted;
       size = c.matrix-matrix.ensures.options ∙ held.sizes.0;
       counted = λ a b in_a in_b.
           c.matrix-matrix.ensures.votes a b (in_a.0, omega (arith, in_a.1, held.sizes.0)) (in_b.0, omega (arith, in_b.1, held.sizes.0))
-          ∙ votes_are poll lines c.args.ballot_box.now held a b;
-      outcome = record {
-        causes = c.in_ok-verdict.ensures.causes;
-        defeats = c.in_ok-verdict.ensures.defeats;
-        rounds = c.in_ok-verdict.ensures.rounds;
-      };
-      decision = record { alone = c.decide-decision.ensures.alone; several = c.decide-decision.ensures.several };
-    } in
-    (s, is, c.in_ok-text.ensures, refl)
+          ∙ votes_are poll lines c.args.ballot_box.now held.sizes counted a b;
+      outcome = c.in_ok-verdict.ensures.outcome;
+      decision = c.decide-decision.ensures.decision;
+    } in (
+      s,
+      is,
+      four_parts _ _ _ _ _ _ _ _ _ c.new-text.ensures.bytes c.in_ok-push_head.ensures c.in_ok-push_totals.ensures c.in_ok-push_options.ensures c.in_ok-push_count.ensures,
+      refl,
+    )
