@@ -1,6 +1,5 @@
 pub mod Deciding
 pub mod Holding
 pub mod Padding
-pub mod PrintedSheets
 pub mod Texts
 pub mod Uniqueness

@@ -1,5 +1,5 @@
 -- What several writes append to a text.
-use Rattle.std.proofs.Common.{◌≡◌, ◌+◌, ◌-◌, ◌≤◌, ◌++◌, ◌∙◌, ℕ, zero, suc, List, [], ◌∷◌, Some, append_assoc, ap, sym, arith}
+use Rattle.std.proofs.Common.{◌≡◌, ◌+◌, ◌-◌, ◌≤◌, ◌++◌, ◌∙◌, ℕ, List, [], ◌∷◌, Some, append_assoc, add-one, refl, sym}
 use Rattle.std.specs.Prelude.{slice_get}
 use Rattle.std.specs.List.{concat}
 use mathlib.Core.List.{append-nil}
@@ -7,13 +7,9 @@ use Rattle.std.proofs.lemmas.Option.{get_or_from_slice_get}
 use Rattle.vote_poll.proofs.OptionLaws.{at_option-in}
 use Rattle.vote_sheet.specs.Sheet.{Text, each, name_of}
 
--- the text of the next number comes after those below it
-pub each_next : (o : ℕ) (text : ℕ → Text) → 1 ≤ o → each (o + 1 - 1) text ≡ each (o - 1) text ++ text o
-each_next zero text h = absurd (omega arith)
-each_next (suc k) text h =
-    let up : suc k + 1 - 1 ≡ suc k = omega arith in
-    let down : suc k - 1 ≡ k = omega arith in
-    ap (λ n. each n text) up ∙ ap (λ n. each n text ++ text (suc k)) (sym down)
+-- the text of the next number comes after those up to this one
+pub each_one_more : (n : ℕ) (text : ℕ → Text) → each (n + 1) text ≡ each n text ++ text (n + 1)
+each_one_more n text = rw add-one refl
 
 -- the name that stands at the place of an option
 pub name_found : (names : List Text) (o : ℕ) (name : Text) → 1 ≤ o → slice_get names (o - 1) ≡ Some name → name ≡ name_of names o

@@ -1,18 +1,36 @@
 //! The text of a result sheet, part by part. Each function adds its part at the end of the text.
 
-ghost use Rattle.std.specs.Prelude.{◌≡◌, ℕ, ◌++◌, ◌+◌, ◌-◌, ◌≤◌, ◌<◌, OnOk, decimal, length, string_bytes};
+ghost use Rattle.std.specs.Prelude.{◌≡◌, ℕ, ◌++◌, ◌+◌, ◌-◌, ◌≤◌, ◌<◌, OnOk, codes, decimal, length, string_bytes};
 ghost use Rattle.vote_poll.specs.Options.{IsOption};
 ghost use Rattle.vote_poll.specs.declared.TheConstants.{MAX_OPTIONS};
 ghost use Rattle.vote_poll.specs.PollContent.{elector_count, option_count};
-ghost use Rattle.vote_count.specs.Sets.{has_pair};
+ghost use Rattle.vote_count.specs.Sets.{has, has_pair};
 ghost use Rattle.vote_count.specs.Rounds.{cause_of};
 ghost use Rattle.vote_count.specs.Rules.{IsKept};
-ghost use Rattle.vote_sheet.specs.Sheet.{casting_note, cause_name, causes_text, column_text, count_text, decision_text, default_text, defeat_line, defeat_lines, defeats_text, defeats_by, drop_line, drops_of, each, ending, tie_text, winner_text, dropped_line, dropped_text, head_text, last_text, name_of, numbers, option_text, options_text, right, round_text, rounds_from, row_text, table_head_text, table_text, totals_text, votes_text, when, wording_text};
+ghost use Rattle.vote_sheet.specs.Sheet.{Text, casting_note, cause_name, causes_text, column_text, count_text, decision_text, default_text, defeat_line, defeat_lines, defeats_text, defeats_by, drop_line, drops_of, each, ending, tie_text, winner_text, dropped_line, dropped_text, head_text, last_text, name_of, numbers, option_text, options_text, right, round_text, rounds_from, row_text, table_head_text, table_text, totals_text, votes_text, when, wording_text};
 
 use std::alloc::AllocError;
 use vote_count::{Cause, Decision, Defeats, Matrix, OptionSet, Round, Verdict};
 use vote_poll::{Poll, Wording};
 use vote_steps::Totals;
+
+/// The part of each option from 1 to the last one, in order.
+#[tactic(auto, using(crate::proofs::Texts::each_one_more))]
+fn push_each<F: Fn(&mut String, u8) -> Result<(), AllocError>>(
+    text: &mut String,
+    last: u8,
+    push: F,
+) -> Result<(), AllocError>
+    ghost part: { ℕ → Text }
+    requires callable { (before : _) (o : ℕ) → IsOption last o → F.pre push before o }
+    requires writes { (before : _) (o : ℕ) (r : _) (after : _) → IsOption last o → F.post push before o r after → OnOk r (string_bytes after.now ≡ string_bytes before.now ++ part o) }
+    ensures { OnOk result (string_bytes text.new ≡ string_bytes text.old ++ each last part) }
+{
+    for before in 0..last {
+        push(text, before + 1)?;
+    }
+    Ok(())
+}
 
 /// How the majority is worded, where it is not as the Constitution words it.
 #[tactic(auto, unfolding(crate::specs::Sheet::wording_text))]
@@ -92,14 +110,14 @@ fn push_option(text: &mut String, poll: &Poll, option: u8) -> Result<(), AllocEr
     writeln!(text, "{option:>3} ratio {ratio} {name}")
 }
 
-#[tactic(auto, using(crate::proofs::Texts::each_next), unfolding(crate::specs::Sheet::options_text))]
+#[tactic(auto, unfolding(crate::specs::Sheet::options_text))]
 pub(crate) fn push_options(text: &mut String, poll: &Poll) -> Result<(), AllocError>
     ensures { OnOk result (string_bytes text.new ≡ string_bytes text.old ++ options_text poll.now.options poll.now.ratios) }
 {
     writeln!(text, "Options:")?;
-    for option in 1..poll.options() {
-        push_option(text, poll, option)?;
-    }
+    push_each(text, poll.options() - 1, |text, option| {
+        push_option(text, poll, option)
+    })?;
     push_default(text, poll)
 }
 
@@ -117,17 +135,6 @@ fn push_votes(text: &mut String, matrix: &Matrix, a: u8, b: u8) -> Result<(), Al
     }
 }
 
-#[tactic(auto, using(crate::proofs::Texts::each_next))]
-fn push_votes_over_each(text: &mut String, matrix: &Matrix, a: u8) -> Result<(), AllocError>
-    requires { IsOption matrix.now.options a }
-    ensures { OnOk result (string_bytes text.new ≡ string_bytes text.old ++ each matrix.now.options (votes_text matrix.now a)) }
-{
-    for b in 1..=matrix.options() {
-        push_votes(text, matrix, a, b)?;
-    }
-    Ok(())
-}
-
 #[tactic(auto, using(crate::proofs::Padding::number_in_3))]
 fn push_row_number(text: &mut String, option: u8) -> Result<(), AllocError>
     ensures { OnOk result (string_bytes text.new ≡ string_bytes text.old ++ right 3 (decimal option)) }
@@ -141,7 +148,9 @@ fn push_row(text: &mut String, matrix: &Matrix, a: u8) -> Result<(), AllocError>
     ensures { OnOk result (string_bytes text.new ≡ string_bytes text.old ++ row_text matrix.now a) }
 {
     push_row_number(text, a)?;
-    push_votes_over_each(text, matrix, a)?;
+    push_each(text, matrix.options(), |text, b| {
+        push_votes(text, matrix, a, b)
+    })?;
     writeln!(text)
 }
 
@@ -152,37 +161,21 @@ fn push_column(text: &mut String, option: u8) -> Result<(), AllocError>
     write!(text, "{option:>6}")
 }
 
-#[tactic(auto, using(crate::proofs::Texts::each_next))]
-fn push_columns(text: &mut String, options: u8) -> Result<(), AllocError>
-    requires { 1 ≤ options }
-    ensures { OnOk result (string_bytes text.new ≡ string_bytes text.old ++ each options column_text) }
-{
-    for option in 1..=options {
-        push_column(text, option)?;
-    }
-    Ok(())
-}
-
 #[tactic(auto, unfolding(crate::specs::Sheet::table_head_text))]
 fn push_table_head(text: &mut String, options: u8) -> Result<(), AllocError>
-    requires { 1 ≤ options }
     ensures { OnOk result (string_bytes text.new ≡ string_bytes text.old ++ table_head_text options) }
 {
     write!(text, "Votes:\n   ")?;
-    push_columns(text, options)?;
+    push_each(text, options, push_column)?;
     writeln!(text)
 }
 
-#[tactic(auto, using(crate::proofs::Texts::each_next), unfolding(crate::specs::Sheet::table_text))]
+#[tactic(auto, unfolding(crate::specs::Sheet::table_text))]
 fn push_table(text: &mut String, matrix: &Matrix) -> Result<(), AllocError>
-    requires { 1 ≤ matrix.now.options }
     ensures { OnOk result (string_bytes text.new ≡ string_bytes text.old ++ table_text matrix.now) }
 {
     push_table_head(text, matrix.options())?;
-    for a in 1..=matrix.options() {
-        push_row(text, matrix, a)?;
-    }
-    Ok(())
+    push_each(text, matrix.options(), |text, a| push_row(text, matrix, a))
 }
 
 /// The word for a cause.
@@ -206,25 +199,16 @@ fn push_cause(text: &mut String, option: u8, cause: Option<Cause>) -> Result<(),
     }
 }
 
-#[tactic(auto, using(crate::proofs::Texts::each_next), unfolding(crate::specs::Sheet::causes_text))]
-fn push_causes(text: &mut String, options: u8, verdict: &Verdict) -> Result<(), AllocError>
-    requires { IsOption MAX_OPTIONS options }
-    ensures { OnOk result (string_bytes text.new ≡ string_bytes text.old ++ causes_text options verdict.now) }
-{
-    for option in 1..=options {
-        push_cause(text, option, verdict.dropped(option))?;
-    }
-    Ok(())
-}
-
-#[tactic(auto, unfolding(crate::specs::Sheet::dropped_text))]
+#[tactic(auto, unfolding(crate::specs::Sheet::causes_text, crate::specs::Sheet::dropped_text))]
 fn push_dropped(text: &mut String, options: u8, verdict: &Verdict) -> Result<(), AllocError>
-    requires { IsOption MAX_OPTIONS options }
+    requires { options ≤ MAX_OPTIONS }
     ensures { OnOk result (string_bytes text.new ≡ string_bytes text.old ++ dropped_text options verdict.now) }
 {
     writeln!(text, "Dropped:")?;
     let start = text.len();
-    push_causes(text, options, verdict)?;
+    push_each(text, options, |text, option| {
+        push_cause(text, option, verdict.dropped(option))
+    })?;
     if text.len() == start {
         writeln!(text, "  none")?;
     }
@@ -252,7 +236,7 @@ fn push_defeat(
     Ok(())
 }
 
-#[tactic(auto, using(crate::proofs::Texts::each_next), unfolding(crate::specs::Sheet::defeats_by))]
+#[tactic(auto, unfolding(crate::specs::Sheet::defeats_by))]
 fn push_defeats_by(
     text: &mut String,
     matrix: &Matrix,
@@ -262,53 +246,41 @@ fn push_defeats_by(
     requires { IsOption matrix.now.options a }
     ensures { OnOk result (string_bytes text.new ≡ string_bytes text.old ++ defeats_by matrix.now defeats.now a) }
 {
-    for b in 1..=matrix.options() {
-        push_defeat(text, matrix, defeats, a, b)?;
-    }
-    Ok(())
+    push_each(text, matrix.options(), move |text, b| {
+        push_defeat(text, matrix, defeats, a, b)
+    })
 }
 
-#[tactic(auto, using(crate::proofs::Texts::each_next), unfolding(crate::specs::Sheet::defeat_lines))]
-fn push_defeat_lines(
-    text: &mut String,
-    matrix: &Matrix,
-    defeats: &Defeats,
-) -> Result<(), AllocError>
-    requires { 1 ≤ matrix.now.options }
-    ensures { OnOk result (string_bytes text.new ≡ string_bytes text.old ++ defeat_lines matrix.now defeats.now) }
-{
-    for a in 1..=matrix.options() {
-        push_defeats_by(text, matrix, defeats, a)?;
-    }
-    Ok(())
-}
-
-#[tactic(auto, unfolding(crate::specs::Sheet::defeats_text))]
+#[tactic(auto, unfolding(crate::specs::Sheet::defeat_lines, crate::specs::Sheet::defeats_text))]
 fn push_defeats(text: &mut String, matrix: &Matrix, defeats: &Defeats) -> Result<(), AllocError>
-    requires { 1 ≤ matrix.now.options }
     ensures { OnOk result (string_bytes text.new ≡ string_bytes text.old ++ defeats_text matrix.now defeats.now) }
 {
     writeln!(text, "Defeats:")?;
     let start = text.len();
-    push_defeat_lines(text, matrix, defeats)?;
+    push_each(text, matrix.options(), |text, a| {
+        push_defeats_by(text, matrix, defeats, a)
+    })?;
     if text.len() == start {
         writeln!(text, "  none")?;
     }
     Ok(())
 }
 
-/// The options of a set.
-#[tactic(auto, using(crate::proofs::Texts::each_next))]
-fn push_numbers(text: &mut String, options: u8, set: &OptionSet) -> Result<(), AllocError>
-    requires { 1 ≤ options }
-    ensures { OnOk result (string_bytes text.new ≡ string_bytes text.old ++ numbers options set.now) }
+/// The number of an option, if it is in the set.
+fn push_number(text: &mut String, set: &OptionSet, option: u8) -> Result<(), AllocError>
+    ensures { OnOk result (string_bytes text.new ≡ string_bytes text.old ++ when (has set.now option) (codes " " ++ decimal option)) }
 {
-    for option in 1..=options {
-        if set.has(option) {
-            write!(text, " {option}")?;
-        }
+    if set.has(option) {
+        write!(text, " {option}")?;
     }
     Ok(())
+}
+
+/// The options of a set.
+fn push_numbers(text: &mut String, options: u8, set: &OptionSet) -> Result<(), AllocError>
+    ensures { OnOk result (string_bytes text.new ≡ string_bytes text.old ++ numbers options set.now) }
+{
+    push_each(text, options, |text, option| push_number(text, set, option))
 }
 
 /// The line of the defeat of `b` by `a`, if it is removed.
@@ -322,26 +294,11 @@ fn push_drop(text: &mut String, removed: &Defeats, a: u8, b: u8) -> Result<(), A
     Ok(())
 }
 
-#[tactic(auto, using(crate::proofs::Texts::each_next), unfolding(crate::specs::Sheet::drops_of))]
+#[tactic(auto, unfolding(crate::specs::Sheet::drops_of))]
 fn push_drops_of(text: &mut String, options: u8, removed: &Defeats, a: u8) -> Result<(), AllocError>
-    requires { 1 ≤ options }
     ensures { OnOk result (string_bytes text.new ≡ string_bytes text.old ++ drops_of options removed.now a) }
 {
-    for b in 1..=options {
-        push_drop(text, removed, a, b)?;
-    }
-    Ok(())
-}
-
-#[tactic(auto, using(crate::proofs::Texts::each_next))]
-fn push_drops(text: &mut String, options: u8, removed: &Defeats) -> Result<(), AllocError>
-    requires { 1 ≤ options }
-    ensures { OnOk result (string_bytes text.new ≡ string_bytes text.old ++ each options (drops_of options removed.now)) }
-{
-    for a in 1..=options {
-        push_drops_of(text, options, removed, a)?;
-    }
-    Ok(())
+    push_each(text, options, |text, b| push_drop(text, removed, a, b))
 }
 
 /// A round: its set, and then the defeats that it removes.
@@ -352,17 +309,18 @@ fn push_round(
     number: usize,
     round: &Round,
 ) -> Result<(), AllocError>
-    requires { 1 ≤ options }
     ensures { OnOk result (string_bytes text.new ≡ string_bytes text.old ++ round_text options number round.now) }
 {
     write!(text, "Round {number}:")?;
     push_numbers(text, options, &round.set)?;
     writeln!(text)?;
-    push_drops(text, options, &round.removed)
+    let removed = &round.removed;
+    push_each(text, options, |text, a| {
+        push_drops_of(text, options, removed, a)
+    })
 }
 
 fn push_rounds(text: &mut String, options: u8, rounds: &[Round]) -> Result<(), AllocError>
-    requires { 1 ≤ options }
     ensures { OnOk result (string_bytes text.new ≡ string_bytes text.old ++ rounds_from options 1 rounds.now) }
 {
     for (index, round) in rounds.iter().enumerate() {
@@ -398,7 +356,6 @@ fn push_winner(
 
 #[tactic(auto, unfolding(crate::specs::Sheet::tie_text))]
 fn push_tie(text: &mut String, options: u8, set: &OptionSet) -> Result<(), AllocError>
-    requires { 1 ≤ options }
     ensures { OnOk result (string_bytes text.new ≡ string_bytes text.old ++ tie_text options set.now) }
 {
     write!(text, "Tie:")?;

@@ -1,8 +1,7 @@
-use Rattle.std.proofs.Common.{◌≡◌, ◌-◌, ◌++◌, string_bytes}
 use Rattle.vote_count.specs.Sets.{has_pair}
-use Rattle.vote_sheet.specs.Sheet.{each, when, drop_line}
+use Rattle.vote_sheet.specs.Sheet.{drop_line, when}
 use Rattle.vote_sheet.proofs.sheet_text.push_drops_of.Given as goal
 
-abbrev pub invariant-loop-b : goal.invariant-loop-b
-invariant-loop-b l =
-    string_bytes l.text ≡ string_bytes l.initial.text ++ each (l.b - 1) (λ b. when (has_pair l.removed l.a b) (drop_line l.a b))
+-- the closure holds the removed defeats and `a`
+abbrev pub ghost-push_each : goal.ghost-push_each
+ghost-push_each a = λ b. when (has_pair a.push.0.now a.push.1.now b) (drop_line a.push.1.now b)

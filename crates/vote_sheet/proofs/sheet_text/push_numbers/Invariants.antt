@@ -1,7 +1,8 @@
-use Rattle.std.proofs.Common.{◌≡◌, ◌-◌, ◌++◌, string_bytes}
-use Rattle.vote_sheet.specs.Sheet.{numbers}
+use Rattle.std.proofs.Common.{◌++◌, codes, decimal}
+use Rattle.vote_count.specs.Sets.{has}
+use Rattle.vote_sheet.specs.Sheet.{when}
 use Rattle.vote_sheet.proofs.sheet_text.push_numbers.Given as goal
 
-abbrev pub invariant-loop-option : goal.invariant-loop-option
-invariant-loop-option l =
-    string_bytes l.text ≡ string_bytes l.initial.text ++ numbers (l.option-counter - 1) l.set
+-- the closure holds the set
+abbrev pub ghost-push_each : goal.ghost-push_each
+ghost-push_each a = λ o. when (has a.push.0.now o) (codes " " ++ decimal o)

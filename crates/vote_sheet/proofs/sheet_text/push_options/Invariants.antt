@@ -1,7 +1,6 @@
-use Rattle.std.proofs.Common.{◌≡◌, ◌-◌, ◌++◌, string_bytes}
-use Rattle.vote_sheet.specs.Sheet.{each, option_text}
+use Rattle.vote_sheet.specs.Sheet.{option_text}
 use Rattle.vote_sheet.proofs.sheet_text.push_options.Given as goal
 
-abbrev pub invariant-loop-option : goal.invariant-loop-option
-invariant-loop-option l =
-    string_bytes l.text ≡ string_bytes l.initial.text ++ each (l.option - 1) (option_text l.poll.options l.poll.ratios)
+-- the closure holds the poll
+abbrev pub ghost-push_each : goal.ghost-push_each
+ghost-push_each a = option_text a.push.0.now.options a.push.0.now.ratios

@@ -1,7 +1,6 @@
-use Rattle.std.proofs.Common.{◌≡◌, ◌-◌, ◌++◌, string_bytes}
-use Rattle.vote_sheet.specs.Sheet.{each, row_text}
+use Rattle.vote_sheet.specs.Sheet.{row_text}
 use Rattle.vote_sheet.proofs.sheet_text.push_table.Given as goal
 
-abbrev pub invariant-loop-a : goal.invariant-loop-a
-invariant-loop-a l =
-    string_bytes l.text ≡ string_bytes l.initial.text ++ each (l.a - 1) (row_text l.matrix)
+-- the closure holds the matrix
+abbrev pub ghost-push_each : goal.ghost-push_each
+ghost-push_each a = row_text a.push.0.now
