@@ -1,13 +1,15 @@
 -- Condorcet winners, and sets that dominate.
-use Rattle.std.proofs.Common.{◌≡◌, ℕ, Bool, List, [], ◌∷◌, ◌++◌, inl, inr, sym, ap, subst, arith}
+use Rattle.std.proofs.Common.{◌≡◌, ℕ, Bool, List, [], ◌∷◌, ◌++◌, Option, None, Some, inl, inr, sym, ap, subst, arith}
 use Rattle.std.proofs.lemmas.Bool.{cases_Bool, cases_eq, both_ways}
 use Rattle.vote_count.specs.declared.rounds.Round.{Round}
 use Rattle.vote_count.specs.Laws.{IsCondorcetWinner, IsDominant}
-use Rattle.vote_count.specs.Rounds.{IsRound, AreRounds, final_set}
+use Rattle.vote_count.specs.declared.rounds.Decision.TheVariants.{Winner}
+use Rattle.vote_count.specs.Rounds.{IsRound, AreRounds, IsByCasting, IsDecision, final_set}
 use Rattle.vote_count.specs.Rules.{PairwiseDefeats, EachDefeatsNext, TransitivelyDefeats, Without}
-use Rattle.vote_count.specs.Sets.{has, In, Pairs, IsAlone}
+use Rattle.vote_count.specs.Sets.{has, In, Pairs, IsAlone, size}
 use Rattle.vote_count.specs.Votes.{Votes, votes}
 use Rattle.vote_count.proofs.Closure.{last_defeat}
+use Rattle.vote_count.proofs.Sizes.{alone_from_size, size-alone, size_some}
 
 module _ (K : ℕ → Type 0) (m : Votes) (winner : ℕ) (wins : IsCondorcetWinner K m winner) where
   undefeated : (b : ℕ) → ¬ PairwiseDefeats K m b winner
@@ -83,3 +85,22 @@ module _ (K : ℕ → Type 0) (m : Votes) (S : List Bool) (dominant : IsDominant
       final_inside (next ∷ later) (Without E (Pairs r.removed)) (λ x y w. into x y w.0)
       (λ x y inside k outside. (out x y inside k outside, λ removed. outside (round_inside E into out r h.0 y ((h.0.removed x y).0 removed).0.2)))
       h.2 a i
+
+-- ---- a winner is in the set
+by_casting : (set : List Bool) (casting : Option ℕ) (winner : ℕ) → IsByCasting set casting (Winner winner) → In set winner
+by_casting set None winner is = cc
+by_casting set (Some choice) winner is =
+    elim is [
+      | inl chosen ↦ let same : winner ≡ choice = (let e = chosen.1 in cc) in subst (In set) (sym same) chosen.0
+      | inr outside ↦ absurd (let e = outside.1 in cc)
+    ]
+
+pub winner_in_set : (set : List Bool) (casting : Option ℕ) (winner : ℕ) → IsDecision set casting (Winner winner) → In set winner
+winner_in_set set casting winner is =
+    elim (cases_eq (size set) 1) [
+      | inl single ↦
+          let some = size_some set (omega (arith, single)) in
+          let same : winner ≡ some.0 = (let e = is.alone some.0 (alone_from_size set some.0 some.1 single) in cc) in
+          subst (In set) (sym same) some.1
+      | inr several ↦ by_casting set casting winner (is.several (λ o alone. several (size-alone set o alone)))
+    ]

@@ -8,6 +8,7 @@ use Rattle.vote_poll.specs.Ranks.{prefers}
 use Rattle.vote_count.specs.declared.rounds.Round.{Round}
 use Rattle.vote_count.specs.Ballots.{entry_prefers}
 use Rattle.vote_count.specs.declared.rounds.Decision.{Decision}
+use Rattle.vote_count.specs.declared.rounds.Decision.TheVariants.{Winner}
 use Rattle.vote_count.specs.Rounds.{AreRounds, AreSameRounds, IsDecision, IsOutcome, VerdictState, cause_of, final_set}
 use Rattle.vote_count.specs.Rules.{IsKept, PairwiseDefeats, TransitivelyDefeats, IsWeaker}
 use Rattle.vote_count.specs.Sets.{In, IsAlone, Pairs, size}
@@ -34,6 +35,10 @@ abbrev pub DecisionsAreDetermined : Type 0
 DecisionsAreDetermined =
     (set other : List Bool) (casting : Option ℕ) (first second : Decision) → ((o : ℕ) → In set o ↔ In other o) →
     IsDecision set casting first → IsDecision other casting second → (size set ≡ size other) × (first ≡ second)
+
+-- A winner is one of the options of the set, whether it is alone there or the casting vote chose it.
+abbrev pub WinnersAreInTheSet : Type 0
+WinnersAreInTheSet = (set : List Bool) (casting : Option ℕ) (winner : ℕ) → IsDecision set casting (Winner winner) → In set winner
 
 -- Anonymity: the votes do not depend on the order of the ballots.
 abbrev pub BallotsAreAnonymous : Type 0

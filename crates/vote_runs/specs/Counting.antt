@@ -6,8 +6,8 @@ use Rattle.vote_poll.specs.Lines.{lines_of}
 use Rattle.vote_poll.specs.Names.{place_of}
 use Rattle.vote_poll.specs.PollContent.{PollContent}
 use Rattle.vote_poll.specs.PollFile.{poll_in}
-use Rattle.vote_sheet.specs.Sheet.{Sheet, Text, sheet_text}
-use Rattle.vote_sheet.specs.SheetOf.{IsSheetOf}
+use Rattle.vote_sheet.specs.SheetOf.{IsSheetAndDecision}
+use Rattle.vote_sheet.specs.Texts.{Text}
 use Rattle.vote_runs.specs.declared.fault.Ended.{Ended}
 use Rattle.vote_runs.specs.declared.fault.Ended.TheVariants as ended
 use Rattle.vote_runs.specs.declared.fault.RunFault.{RunFault}
@@ -37,8 +37,8 @@ ended_of (decision.CastingOutside option) = ended.CastingOutside option
 -- the text is the sheet of the poll, the lines and the casting vote, and the end is what this sheet decides
 abbrev pub IsCountOf : Text → Text → Option Text → Text → Ended → Type 0
 IsCountOf poll_text ballots casting text end =
-    (poll : PollContent) × (s : Sheet) × (poll_in poll_text ≡ Ok poll) × IsSheetOf poll (lines_of ballots) (casting_option poll casting) s
-    × (text ≡ sheet_text s) × (end ≡ ended_of s.decision)
+    (poll : PollContent) × (decision : Decision) × (poll_in poll_text ≡ Ok poll)
+    × IsSheetAndDecision poll (lines_of ballots) (casting_option poll casting) text decision × (end ≡ ended_of decision)
 
 -- the text is that sheet, and where the run came to an end, it ended by what the sheet decides
 abbrev pub IsCount : Text → Text → Option Text → Result Ended RunFault → Text → Type 0

@@ -1,9 +1,11 @@
 -- What the program does with the bytes of its inputs, job by job.
-use Rattle.std.specs.Prelude.{◌≡◌, ◌≢◌, ◌≤◌, Option, Some, option_map, Result, IfOk}
+use Rattle.std.specs.Prelude.{◌≡◌, ◌≢◌, ◌≤◌, ℕ, Option, Some, option_map, Result, IfOk}
 use Rattle.std.specs.Result.{result_err}
 use Rattle.vote_poll.specs.Lines.{lines_of}
 use Rattle.vote_poll.specs.declared.lines.LinesFault.{LinesFault}
 use Rattle.vote_steps.specs.declared.TheConstants.{MAX_DESKS}
+use Rattle.vote_desks.specs.Faults.{CanStopVotes, IsOfDesk}
+use Rattle.vote_desks.specs.declared.VoteFault.{VoteFault}
 use Rattle.vote_sheet.specs.Texts.{Text}
 use Rattle.vote_runs.specs.Counting.{AnswersCasting, IsCount}
 use Rattle.vote_runs.specs.Joined.{joined_parts}
@@ -22,11 +24,13 @@ HasDesks (Steps poll ballots) = Unit {0}
 HasDesks (Check poll) = Unit {0}
 HasDesks (Joined input) = Unit {0}
 
--- the sheet of these bytes and this casting vote is written, and the run ends by what it decides
-pub record Counts (poll_text ballots : Text) (named : Option Text) (old new : Option Text) (result : Result Ended RunFault) : Type 0 where
+-- the sheet of these bytes and this casting vote is written, and the run ends by what it decides; the votes stop it only by a fault
+-- that they can have at so many desks
+pub record Counts (poll_text ballots : Text) (desks : ℕ) (named : Option Text) (old new : Option Text) (result : Result Ended RunFault) : Type 0 where
   pub poll : AnswersPoll poll_text (result_err result)
   pub casting : AnswersCasting poll_text named (result_err result)
   pub lines : AnswersLines (lines_of ballots) (result_err result)
+  pub votes : (fault : VoteFault) → result_err result ≡ Some (run.Vote fault) → CanStopVotes fault × IsOfDesk desks fault
   pub writes : Writes (IsCount poll_text ballots named result) old new (result_err result)
 
 -- the replies to the lines of these bytes are written
@@ -34,6 +38,7 @@ pub record PrintsSteps (poll_text ballots : Text) (old new : Option Text) (resul
   pub poll : AnswersPoll poll_text (result_err result)
   pub lines : AnswersLines (lines_of ballots) (result_err result)
   pub option : result_err result ≢ Some run.NoSuchOption
+  pub votes : (fault : VoteFault) → result_err result ≢ Some (run.Vote fault)
   pub writes : Writes (AreSteps poll_text ballots) old new (result_err result)
   pub end : IfOk result (λ end. end ≡ ended.Done)
 
@@ -42,12 +47,13 @@ pub record Checks (poll_text : Text) (old new : Option Text) (result : Result En
   pub poll : AnswersPoll poll_text (result_err result)
   pub lines : (fault : LinesFault) → result_err result ≢ Some (run.Lines fault)
   pub option : result_err result ≢ Some run.NoSuchOption
+  pub votes : (fault : VoteFault) → result_err result ≢ Some (run.Vote fault)
   pub writes : Writes (IsCheck poll_text) old new (result_err result)
   pub end : IfOk result (λ end. end ≡ ended.Done)
 
 -- what a sink holds before and after a job, and how the job ends
 abbrev pub Performs : Job → Option Text → Option Text → Result Ended RunFault → Type 0
-Performs (Count poll ballots desks casting) old new result = Counts poll.now ballots.now (option_map (λ name. name.now) casting) old new result
+Performs (Count poll ballots desks casting) old new result = Counts poll.now ballots.now desks (option_map (λ name. name.now) casting) old new result
 Performs (Steps poll ballots) old new result = PrintsSteps poll.now ballots.now old new result
 Performs (Check poll) old new result = Checks poll.now old new result
 Performs (Joined input) old new result = PrintsSteps (joined_parts input.now).0 (joined_parts input.now).1 old new result

@@ -1,11 +1,10 @@
 //! The result sheet of an audited box.
 
-ghost use Rattle.std.specs.Prelude.{◌≡◌, IfOk, IfSome, string_bytes};
+ghost use Rattle.std.specs.Prelude.{IfOk, IfSome, string_bytes};
 ghost use Rattle.vote_poll.specs.Options.{IsOption};
 ghost use Rattle.vote_poll.specs.PollContent.{option_count};
 ghost use Rattle.vote_desks.specs.Audit.{IsAudited};
-ghost use Rattle.vote_sheet.specs.Sheet.{Sheet, sheet_text};
-ghost use Rattle.vote_sheet.specs.SheetOf.{IsSheet, IsSheetOf};
+ghost use Rattle.vote_sheet.specs.SheetOf.{IsSheet, IsSheetAndDecision};
 
 use std::alloc::{AllocError, Global};
 use vote_count::Decision;
@@ -26,7 +25,7 @@ pub fn sheet_and_decision(
 ) -> Result<(String, Decision), AllocError>
     requires audited { IsAudited poll.now lines.now audited.now.ballot_box audited.now.sheets }
     requires casting { IfSome casting (IsOption (option_count poll.now)) }
-    ensures { IfOk result (λ printed. (s : Sheet) × IsSheetOf poll.now lines.now casting s × (string_bytes printed.0 ≡ sheet_text s) × (printed.1 ≡ s.decision)) }
+    ensures { IfOk result (λ printed. IsSheetAndDecision poll.now lines.now casting (string_bytes printed.0) printed.1) }
 {
     sheet_of_box(alloc, poll, lines, audited.ballot_box(), casting)
 }

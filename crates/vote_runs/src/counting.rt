@@ -4,13 +4,12 @@ ghost use Rattle.std.specs.Prelude.{◌≡◌, ◌≢◌, ◌<◌, ◌≤◌, �
 ghost use Rattle.vote_poll.specs.Lines.{lines_of};
 ghost use Rattle.vote_poll.specs.Options.{IsOption};
 ghost use Rattle.vote_poll.specs.PollContent.{option_count};
-ghost use Rattle.vote_desks.specs.Faults.{CanStopVotes};
+ghost use Rattle.vote_desks.specs.Faults.{CanStopVotes, IsOfDesk};
 ghost use Rattle.vote_runs.specs.Counting.{AnswersCasting, IsCount, NamesNoOption, casting_option, ended_of};
 ghost use Rattle.std.specs.Result.{result_err};
 ghost use Rattle.vote_runs.specs.declared.fault.InputFault.{InputFault};
 ghost use Rattle.vote_runs.specs.Runs.{AnswersLines, AnswersPoll, Writes};
-ghost use Rattle.vote_sheet.specs.Sheet.{Sheet, sheet_text};
-ghost use Rattle.vote_sheet.specs.SheetOf.{IsSheetOf};
+ghost use Rattle.vote_sheet.specs.SheetOf.{IsSheetAndDecision};
 
 use crate::audited::sheet_and_decision;
 use crate::fault::{Ended, RunFault};
@@ -63,8 +62,8 @@ fn sheet_of_votes<G: Gate + Sync, R: Threads + Wait + Sync>(
 ) -> Result<(String, Decision), RunFault>
     requires desks { (1 ≤ desks) × (desks ≤ MAX_DESKS) }
     requires casting { IfSome casting (IsOption (option_count poll.now)) }
-    ensures sheet { IfOk result (λ printed. (s : Sheet) × IsSheetOf poll.now lines.now casting s × (string_bytes printed.0 ≡ sheet_text s) × (printed.1 ≡ s.decision)) }
-    ensures votes { IfErr result (λ fault. (fault ≡ RunFault.Memory) ⊎ ((votes : VoteFault) × (fault ≡ RunFault.Vote votes) × CanStopVotes votes)) }
+    ensures sheet { IfOk result (λ printed. IsSheetAndDecision poll.now lines.now casting (string_bytes printed.0) printed.1) }
+    ensures votes { IfErr result (λ fault. (fault ≡ RunFault.Memory) ⊎ ((votes : VoteFault) × (fault ≡ RunFault.Vote votes) × CanStopVotes votes × IsOfDesk desks votes)) }
 {
     let audited = match take_votes(rt, alloc, poll, lines, desks, gate) {
         Ok(audited) => audited,
@@ -94,7 +93,7 @@ pub fn run<G: Gate + Sync, W: Sink, R: Threads + Wait + Sync>(
     ensures casting { AnswersCasting poll_text.now (option_map (λ name. name.now) casting.entry) (result_err result) }
     ensures lines { AnswersLines (lines_of ballots.now) (result_err result) }
     ensures writes { Writes (IsCount poll_text.now ballots.now (option_map (λ name. name.now) casting.entry) result) (W.contents sink.old) (W.contents sink.new) (result_err result) }
-    ensures votes { (fault : VoteFault) → result ≡ Err (RunFault.Vote fault) → CanStopVotes fault }
+    ensures votes { (fault : VoteFault) → result ≡ Err (RunFault.Vote fault) → CanStopVotes fault × IsOfDesk desks fault }
     ensures output { IsErrOf result RunFault.Output ↔ (W.faults sink.old < W.faults sink.new) }
     ensures flushed { OnOk result (W.flushed sink.new ≡ true) }
 {

@@ -2,7 +2,6 @@
 
 ghost use Rattle.std.specs.Prelude.{◌≡◌, ◌≢◌, ◌<◌, ◌↔◌, true, Err, IfOk, IsErrOf, OnOk};
 ghost use Rattle.std.specs.Result.{result_err};
-ghost use Rattle.vote_desks.specs.Faults.{CanStopVotes};
 ghost use Rattle.vote_runs.specs.Performing.{HasDesks, Performs};
 ghost use Rattle.vote_runs.specs.declared.fault.InputFault.{InputFault};
 
@@ -15,7 +14,7 @@ use std::marker::Brand;
 use std::sync::Wait;
 use std::sync::ledger::{Blank, Ledger};
 use std::thread::Threads;
-use vote_desks::{Gate, VoteFault};
+use vote_desks::Gate;
 use vote_files::{Meter, Sink, WriterSink};
 
 /// A run of the program, with the bytes of its inputs.
@@ -67,7 +66,6 @@ pub fn perform<G: Gate + Sync, W: Sink, R: Threads + Wait + Sync>(
     requires { HasDesks job.now }
     ensures performs { Performs job.now (W.contents sink.old) (W.contents sink.new) result }
     ensures input { (fault : InputFault) → result ≢ Err (RunFault.Input fault) }
-    ensures votes { (fault : VoteFault) → result ≡ Err (RunFault.Vote fault) → CanStopVotes fault }
     ensures output { IsErrOf result RunFault.Output ↔ (W.faults sink.old < W.faults sink.new) }
     ensures flushed { OnOk result (W.flushed sink.new ≡ true) }
 {
@@ -98,7 +96,6 @@ fn perform_metered<G: Gate + Sync, W: Write, L: Ledger, R: Threads + Wait + Sync
     requires two { blank.parts ≡ 2 }
     ensures performs { Performs job.now (W.contents writer) (W.contents result.0) result.1 }
     ensures input { (fault : InputFault) → result.1 ≢ Err (RunFault.Input fault) }
-    ensures votes { (fault : VoteFault) → result.1 ≡ Err (RunFault.Vote fault) → CanStopVotes fault }
 {
     let mut sink = WriterSink::new(writer, Meter::<L>::new(blank));
     let outcome = perform(rt, alloc, job, gate, &mut sink);
@@ -116,7 +113,6 @@ pub fn perform_on<G: Gate + Sync, W: Write, R: Threads + Wait + Sync>(
     requires { HasDesks job.now }
     ensures performs { Performs job.now (W.contents writer) (W.contents result.0) result.1 }
     ensures input { (fault : InputFault) → result.1 ≢ Err (RunFault.Input fault) }
-    ensures votes { (fault : VoteFault) → result.1 ≡ Err (RunFault.Vote fault) → CanStopVotes fault }
 {
     perform_metered::<G, W, Brand, R>(rt, alloc, job, gate, writer, Blank::new(2))
 }

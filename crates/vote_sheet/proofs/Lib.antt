@@ -3,3 +3,4 @@ pub mod Holding
 pub mod Padding
 pub mod Texts
 pub mod Uniqueness
+pub mod SheetLaws

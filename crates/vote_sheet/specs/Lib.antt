@@ -3,3 +3,4 @@ pub mod LastBallots
 pub mod Steps
 pub mod Sheet
 pub mod SheetOf
+pub mod SheetLaws

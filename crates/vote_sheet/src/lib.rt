@@ -7,11 +7,13 @@
 //! - [`steps_text`] gives the reply of the box to each line, where one desk casts the lines in their order. By
 //!   [`steps_are_determined`] the poll and the lines leave no choice in it.
 //! - [`check_text`] gives the line of a poll that is in order.
+//! - The functions of [`laws`] bring laws of the count to what people see: ballot files, and the winner that a sheet names.
 //!
 //! Nothing here knows a file, a thread or a device: what is made is a text in memory, or a want of memory. The modules: `sheet`
 //! and `steps` have the public calls, and `sheet_text` the parts of a sheet.
 #![tactic(auto)]
 
+pub mod laws;
 mod sheet;
 mod sheet_text;
 mod steps;
