@@ -111,7 +111,8 @@ pub(crate) fn parse_voter_names(
         if !is_voter_name(text.as_bytes()) {
             return Err(PollFault::VoterName(place));
         }
-        if !roll.insert(String::from_str(alloc, text)?)? {
+        let is_new = roll.insert(String::from_str(alloc, text)?)?;
+        if !is_new {
             return Err(PollFault::VoterName(place));
         }
     }
