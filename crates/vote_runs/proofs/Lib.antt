@@ -1,3 +1,4 @@
 pub mod Counted
-pub mod Separators
+pub mod FirstPlace
+pub mod JoinedLaws
 pub mod Written

@@ -1,7 +1,7 @@
 //! A poll and its ballots in one input, with the line `%%` between them.
 
 ghost use Rattle.std.specs.Prelude.{◌≡◌, ◌<◌, drop, length};
-ghost use Rattle.vote_runs.specs.Joined.{is_separator_at, joined_parts};
+ghost use Rattle.vote_runs.specs.Joined.{AreParts, is_separator_at, joined_parts};
 
 /// Whether the line `%%` begins at this place.
 #[tactic(auto, unfolding(crate::specs::Joined::is_separator_at))]
@@ -24,7 +24,8 @@ fn bytes_from(input: &[u8], at: usize) -> &[u8]
 /// The poll and the ballots of a joined input: the bytes before and after the first line that is `%%`. Without such a
 /// line all bytes are the poll's, and there are no ballots.
 pub fn split_joined(input: &[u8]) -> (&[u8], &[u8])
-    ensures { (result.0.now, result.1.now) ≡ joined_parts input.now }
+    ensures parts { AreParts input.now result.0.now result.1.now }
+    ensures same { (result.0.now, result.1.now) ≡ joined_parts input.now }
 {
     for at in 0..input.len() {
         if is_separator_at(input, at) {

@@ -16,8 +16,9 @@
 //! of memory can come at any growth and want of a thread at any start. Where it answers that all is well, its sink was flushed.
 //! The clauses hold over every [`Sink`](vote_files::Sink), whatever it answers and whenever it fails.
 //!
-//! The modules: `joined` parts a joined input, `steps` and `counting` are the runs, `jobs` does whichever is asked for,
-//! `audited` is the sheet of an audited box, `output` writes the text of a run, and `fault` says how a run ends.
+//! The modules: `joined` parts a joined input, and [`laws`] says what its parts are; `steps` and `counting` are the runs, `jobs`
+//! does whichever is asked for, `audited` is the sheet of an audited box, `output` writes the text of a run, and `fault` says
+//! how a run ends.
 #![tactic(auto)]
 
 mod audited;
@@ -25,6 +26,7 @@ mod counting;
 mod fault;
 mod jobs;
 mod joined;
+pub mod laws;
 mod output;
 mod steps;
 

@@ -45,7 +45,7 @@ pub fn print_steps<W: Sink>(
     write_run(sink, text.as_bytes())
 }
 
-/// `print_steps` for a poll and its ballots in one input.
+/// `print_steps` for a poll and its ballots in one input, as [`split_joined`] parts it.
 pub fn steps_joined<W: Sink>(alloc: Global, input: &[u8], sink: &mut W) -> Result<(), RunFault>
     ensures input { (fault : InputFault) → result ≢ Err (RunFault.Input fault) }
     ensures poll { AnswersPoll (joined_parts input.now).0 (result_err result) }

@@ -7,4 +7,4 @@ use Rattle.vote_runs.proofs.steps.steps_joined.Goals as goal
 pub returns-clause-writes : goal.returns-clause-writes
 returns-clause-writes g c =
     let P : Text × Text → Type 0 = λ parts. Writes (AreSteps parts.0 parts.1) (g.W.Sink.contents c.args.sink.now) (g.W.Sink.contents c.print_steps.new.sink) (result_err c.print_steps.result) in
-    subst P c.split_joined.ensures c.print_steps.ensures.writes
+    subst P c.split_joined.ensures.same c.print_steps.ensures.writes

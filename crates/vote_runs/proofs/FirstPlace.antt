@@ -1,7 +1,7 @@
--- The first place in a text where a test holds.
-use Rattle.std.proofs.Common.{◌≡◌, ◌<◌, ℕ, Bool, true, false, nat_lt, length, Some, None, ap, ◌∙◌, arith}
+-- The first number below a bound for which a test holds.
+use Rattle.std.proofs.Common.{◌≡◌, ◌<◌, ◌⊎◌, inl, inr, zero, suc, ℕ, Bool, true, false, nat_lt, length, Some, None, ap, ◌∙◌, arith, get_or}
 use Rattle.std.specs.List.{position, position_or_len, range_with_len}
-use Rattle.std.proofs.Common.{get_or}
+use Rattle.std.proofs.lemmas.Bool.{cases_Bool, cases_eq}
 use Rattle.std.proofs.lemmas.Bool.Decides.{nat_tests}
 use Rattle.std.proofs.lemmas.List.FromFn.{length-range_with_len, get_or-range_with_len}
 use Rattle.std.proofs.lemmas.List.Sums.{position_or_len_is}
@@ -31,3 +31,18 @@ module _ (test : ℕ → Bool) (n : ℕ) where
       (λ past. absurd (omega arith)) in
       let missing : nat_lt n n ≡ false = grind (arith, nat_tests) in
       rw (first, long, missing)
+
+-- there is a first place where it holds, or none
+pub first_or_none : (test : ℕ → Bool) (n : ℕ) → ((k : ℕ) → k < n → test k ≡ false) ⊎ ((at : ℕ) × (at < n) × ((k : ℕ) → k < at → test k ≡ false) × (test at ≡ true))
+first_or_none test zero = inl (λ k below. absurd (omega arith))
+first_or_none test (suc n) =
+    elim (first_or_none test n) [
+      | inl none ↦ elim (cases_Bool (test n)) [
+        | inl here ↦ inr (n, omega arith, none, here)
+        | inr fails ↦ inl (λ k below. elim (cases_eq k n) [
+          | inl last ↦ ap test last ∙ fails
+          | inr other ↦ none k (omega arith)
+        ])
+      ]
+      | inr (at, within, before, here) ↦ inr (at, omega arith, before, here)
+    ]
