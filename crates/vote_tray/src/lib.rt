@@ -213,7 +213,8 @@ impl Tray {
 
     /// Takes the first place that is left. None is answered only where no place is left.
     ///
-    /// It looks at the word once and then tries until an attempt is not lost. It waits for nobody.
+    /// It looks at the word once and then tries until an attempt is not lost. It waits for nobody: it takes no `Wait`, and without
+    /// one a body that waits does not compile.
     pub fn take(&self, pass: &mut Pass) -> Option<u64>
         requires { pass.old.tray ≡ self.now }
         ensures some { IfSome result (λ place. (pass.old.seen ≤ place) × (place < self.now.size) × (pass.new ≡ with_place pass.old place)) }
