@@ -1,8 +1,7 @@
 -- The first number below a bound for which a test holds.
-use Rattle.std.proofs.Common.{◌≡◌, ◌<◌, ◌⊎◌, inl, inr, zero, suc, ℕ, Bool, true, false, nat_lt, length, Some, None, ap, ◌∙◌, arith, get_or}
+use Rattle.std.proofs.Common.{◌≡◌, ◌<◌, ◌⊎◌, inl, inr, zero, suc, ℕ, Bool, true, false, length, Some, None, ap, ◌∙◌, arith, get_or}
 use Rattle.std.specs.List.{position, position_or_len, range_with_len}
-use Rattle.std.proofs.lemmas.Bool.{cases_Bool, cases_eq}
-use Rattle.std.proofs.lemmas.Bool.Decides.{nat_tests}
+use Rattle.std.proofs.lemmas.Bool.{cases_Bool, cases_eq, le-ltb, lt-ltb}
 use Rattle.std.proofs.lemmas.List.FromFn.{length-range_with_len, get_or-range_with_len}
 use Rattle.std.proofs.lemmas.List.Sums.{position_or_len_is}
 
@@ -18,8 +17,7 @@ module _ (test : ℕ → Bool) (n : ℕ) where
       position_or_len_is test (range_with_len 0 n) at 0 (omega arith)
       (λ k below. ap test (at_place k (omega arith)) ∙ before k below)
       (λ _. ap test (at_place at within) ∙ here) in
-      let found : nat_lt at n ≡ true = grind (arith, nat_tests) in
-      rw (first, long, found)
+      rw (first, long, lt-ltb at n within)
 
   -- it holds nowhere
   pub no_place : ((k : ℕ) → k < n → test k ≡ false) → position test (range_with_len 0 n) ≡ None
@@ -29,8 +27,7 @@ module _ (test : ℕ → Bool) (n : ℕ) where
       position_or_len_is test (range_with_len 0 n) n 0 (omega arith)
       (λ k below. ap test (at_place k below) ∙ none k below)
       (λ past. absurd (omega arith)) in
-      let missing : nat_lt n n ≡ false = grind (arith, nat_tests) in
-      rw (first, long, missing)
+      rw (first, long, le-ltb n n (omega arith))
 
 -- there is a first place where it holds, or none
 pub first_or_none : (test : ℕ → Bool) (n : ℕ) → ((k : ℕ) → k < n → test k ≡ false) ⊎ ((at : ℕ) × (at < n) × ((k : ℕ) → k < at → test k ≡ false) × (test at ≡ true))

@@ -1,13 +1,14 @@
-//! What the definition of a joined input's parts means: each law is the contract of a function that does nothing.
+//! What the poll and the ballots of a joined input are, in terms of its lines: each law is the contract of a function that
+//! does nothing.
 ghost use Rattle.vote_runs.specs.Joined.{InputsArePartedAtSeparator, PartsAreUnique};
 
-/// What the contracts of this crate call the poll and the ballots of a joined input stand before and after its first line
-/// `%%`; without such a line the poll is the whole input, and there are no ballots.
+/// The poll of a joined input stands before its first line `%%`, and its ballots after that line. Without such a line all of
+/// the input is the poll, and there are no ballots.
 pub fn inputs_are_parted_at_separator()
     ensures { InputsArePartedAtSeparator }
 {}
 
-/// A joined input can be parted so in one way only.
+/// No other two texts are the poll and the ballots of a joined input.
 pub fn parts_are_unique()
     ensures { PartsAreUnique }
 {}
