@@ -1,10 +1,6 @@
-//! Votes taken by workers: any number of desks, gates that wait or do not let pass, and what a want of memory or of a thread leaves.
+//! Votes taken by workers: gates that wait or do not let pass, and what a want of memory or of a thread leaves.
 ghost use Rattle.std.specs.Prelude.{◌≤◌};
 
-use crate::tests::{
-    HUNDRED, TEN_ELECTORS, TWO_ELECTORS, TWO_LINES, assert_hundred, hundred_lines, lines_in,
-    poll_in,
-};
 use crate::{Audited, Gate, NoGate, Slip, VoteFault, take_votes};
 use std::alloc::{AllocError, Global};
 use std::process::Abort;
@@ -48,54 +44,19 @@ fn assert_nine(rt: &impl Abort, ballot_box: &BallotBox) {
     );
 }
 
-/// Takes the votes of the lines of a text by the poll of a text.
+/// Takes the votes of the lines of a text by the nine electors' poll.
 fn taken<G: Gate + Sync, R: Threads + Wait + Sync>(
     rt: &R,
     alloc: Global,
-    poll: &str,
     lines: &str,
     desks: u8,
     gate: &G,
-) -> Result<Audited, Fail>
+) -> Result<Result<Audited, VoteFault>, Fail>
     requires { (1 ≤ desks) × (desks ≤ MAX_DESKS) }
 {
-    let poll = Poll::from_text(alloc, poll.as_bytes())?;
+    let poll = Poll::from_text(alloc, NINE_ELECTORS.as_bytes())?;
     let lines = Lines::split(alloc, lines.as_bytes())?;
-    Ok(take_votes(rt, alloc, &poll, &lines, desks, gate)?)
-}
-
-/// Takes the votes of a hundred lines at some desks, by a poll with this key, and asserts what is counted.
-fn assert_counts<R: Threads + Wait + Abort + Sync>(
-    rt: &R,
-    alloc: Global,
-    desks: u8,
-    key: &str,
-    counts: (u64, u64, u64),
-) -> Result<(), Fail>
-    requires { (1 ≤ desks) × (desks ≤ MAX_DESKS) }
-{
-    let poll = format!(in alloc; "{TEN_ELECTORS}{key}")?;
-    let lines = hundred_lines(alloc)?;
-    let audited = taken(rt, alloc, &poll, &lines, desks, &NoGate)?;
-    assert_hundred(rt, audited.ballot_box(), counts);
-    assert_eq!(rt; audited.desks(), desks);
-    Ok(())
-}
-
-#[test]
-fn any_number_of_desks_counts_alike(rt: HostRuntime) -> Result<(), Fail> {
-    // A key of the poll, and what is counted with it.
-    let cases = [
-        ("", HUNDRED),
-        ("last_envelope = 50\n", (48, 52, 10)),
-        ("last_envelope = 0\n", (0, 100, 0)),
-    ];
-    for (key, counts) in cases {
-        for desks in [1, 2, 8] {
-            assert_counts(&rt, rt.alloc(), desks, key, counts)?;
-        }
-    }
-    Ok(())
+    Ok(take_votes(rt, alloc, &poll, &lines, desks, gate))
 }
 
 /// What a gate was told of one envelope.
@@ -126,8 +87,6 @@ struct Turnstile {
     cast: AtomicU64,
     /// By stamp.
     told: Vec<Told>,
-    /// The number of the first slip that it was given.
-    first: OnceLock<u64>,
 }
 
 /// Whether a count rose so far while it was read at most 1,000,000,000 times.
@@ -144,9 +103,10 @@ fn reaches(count: &AtomicU64, least: u64) -> bool {
 }
 
 impl Turnstile {
-    fn new(alloc: Global, passes: Passes, lines: usize) -> Result<Turnstile, AllocError> {
+    /// A gate for nine envelopes.
+    fn new(alloc: Global, passes: Passes) -> Result<Turnstile, AllocError> {
         let mut told = Vec::new(alloc);
-        for _ in 0..=lines {
+        for _ in 0..=9 {
             told.push(Told {
                 before: OnceLock::new(),
                 after: OnceLock::new(),
@@ -157,20 +117,22 @@ impl Turnstile {
             asked: AtomicU64::new(0),
             cast: AtomicU64::new(0),
             told,
-            first: OnceLock::new(),
         })
     }
 
-    /// Asserts that it was asked for each of so many lines once, and told of each once, by the desk that cast it and with its slip.
-    fn assert_told(&self, rt: &impl Abort, audited: &Audited, lines: u64) {
-        assert_eq!(rt; self.asked.load(SeqCst), lines);
-        assert_eq!(rt; self.cast.load(SeqCst), lines);
-        for desk in 1..=audited.desks() {
-            for slip in audited.sheet_of(desk) {
-                let told = self.told.get(slip.stamp as usize).expect(rt, "the stamp");
-                assert_eq!(rt; told.before.get(), Some(&desk));
-                assert_eq!(rt; told.after.get(), Some(&(desk, *slip)));
-            }
+    /// For how many envelopes it was asked, and of how many casts it was told.
+    fn counts(&self) -> (u64, u64) {
+        (self.asked.load(SeqCst), self.cast.load(SeqCst))
+    }
+
+    /// Asserts that it was asked for each envelope of a desk and told of each cast, by this desk and with its slip.
+    fn assert_told(&self, rt: &impl Abort, desk: u8, sheet: &[Slip]) {
+        for slip in sheet {
+            let told = self.told.get(slip.stamp as usize).expect(rt, "the stamp");
+            assert_eq!(rt;
+                (told.before.get(), told.after.get()),
+                (Some(&desk), Some(&(desk, *slip)))
+            );
         }
     }
 }
@@ -193,131 +155,95 @@ impl Gate for Turnstile {
         if let Some(told) = self.told.get(slip.stamp as usize) {
             let _ = told.after.try_set((desk, *slip));
         }
-        let _ = self.first.try_set(slip.number);
         self.cast.fetch_add(1, SeqCst);
     }
 }
 
-/// Whether the first steps are the casts of these stamps.
-fn are_cast(audited: &Audited, stamps: [u32; 2]) -> bool {
-    match audited.ballot_box().steps() {
-        [
-            Step::Cast { stamp: first, .. },
-            Step::Cast { stamp: second, .. },
-            ..
-        ] => *first == stamps[0] && *second == stamps[1],
-        _ => false,
+/// The stamp of the last cast, before the close.
+fn last_cast(ballot_box: &BallotBox) -> Option<u32> {
+    match ballot_box.steps() {
+        [.., Step::Cast { stamp, .. }, _] => Some(*stamp),
+        _ => None,
     }
 }
 
-/// Takes two lines at two desks by such a gate, and asserts in which order they are cast.
-fn assert_waits<R: Threads + Wait + Abort + Sync>(
+/// Takes the nine lines at two desks by a gate, asserts what it was told, and answers which envelope was cast last.
+fn last_taken<R: Threads + Wait + Abort + Sync>(
     rt: &R,
     alloc: Global,
     passes: Passes,
-    order: Option<[u32; 2]>,
-) -> Result<(), Fail> {
-    let gate = Turnstile::new(alloc, passes, 2)?;
-    let audited = taken(rt, alloc, TWO_ELECTORS, TWO_LINES, 2, &gate)?;
-    gate.assert_told(rt, &audited, 2);
-    if let Some(order) = order {
-        let began = (gate.first.get(), are_cast(&audited, order));
-        assert_eq!(rt; began, (Some(&1), true));
-    }
-    Ok(())
+) -> Result<Option<u32>, Fail> {
+    let gate = Turnstile::new(alloc, passes)?;
+    let audited = taken(rt, alloc, NINE_LINES, 2, &gate)??;
+    assert_eq!(rt; (gate.counts(), audited.desks()), ((9, 9), 2));
+    gate.assert_told(rt, 1, audited.sheet_of(1));
+    gate.assert_told(rt, 2, audited.sheet_of(2));
+    Ok(last_cast(audited.ballot_box()))
 }
 
 #[test]
 fn envelopes_wait_for_one_another(rt: HostRuntime) -> Result<(), Fail> {
-    let cases = [
-        (Passes::Together, None),
-        (Passes::Behind(1, 1), Some([2, 1])),
-        (Passes::Behind(2, 1), Some([1, 2])),
-    ];
-    for (passes, order) in cases {
-        assert_waits(&rt, rt.alloc(), passes, order)?;
-    }
-    Ok(())
-}
-
-#[test]
-fn one_desk_waits_while_the_other_serves(rt: HostRuntime) -> Result<(), Fail> {
     let alloc = rt.alloc();
-    let lines = hundred_lines(alloc)?;
-    let gate = Turnstile::new(alloc, Passes::Behind(1, 99), 100)?;
-    let audited = taken(&rt, alloc, TEN_ELECTORS, &lines, 2, &gate)?;
-    gate.assert_told(&rt, &audited, 100);
-    assert_hundred(&rt, audited.ballot_box(), HUNDRED);
+    let _ = last_taken(&rt, alloc, Passes::Together)?;
+    let first = last_taken(&rt, alloc, Passes::Behind(1, 8))?;
+    let fifth = last_taken(&rt, alloc, Passes::Behind(5, 8))?;
+    assert_eq!(rt; (first, fifth), (Some(1), Some(5)));
     Ok(())
 }
 
-/// Takes votes by a gate, and answers the fault, for how many envelopes the gate was asked, and of how many casts it was told.
+/// Takes lines by a gate, and answers the fault, for how many envelopes the gate was asked, and of how many casts it was told.
 fn stopped<R: Threads + Wait + Sync>(
     rt: &R,
     alloc: Global,
-    poll: &str,
     lines: &str,
     desks: u8,
     passes: Passes,
-) -> Result<(Option<VoteFault>, u64, u64), Fail>
+) -> Result<(Option<VoteFault>, (u64, u64)), Fail>
     requires { (1 ≤ desks) × (desks ≤ MAX_DESKS) }
 {
-    let poll = Poll::from_text(alloc, poll.as_bytes())?;
-    let lines = Lines::split(alloc, lines.as_bytes())?;
-    let gate = Turnstile::new(alloc, passes, 100)?;
-    let fault = take_votes(rt, alloc, &poll, &lines, desks, &gate).err();
-    Ok((fault, gate.asked.load(SeqCst), gate.cast.load(SeqCst)))
+    let gate = Turnstile::new(alloc, passes)?;
+    let fault = taken(rt, alloc, lines, desks, &gate)?.err();
+    Ok((fault, gate.counts()))
 }
 
 #[test]
 fn the_least_desk_that_stopped_is_named(rt: HostRuntime) -> Result<(), Fail> {
     let alloc = rt.alloc();
-    let hundred = hundred_lines(alloc)?;
+    let fifth = stopped(&rt, alloc, NINE_LINES, 1, Passes::AllBut(5))?;
+    let each = stopped(&rt, alloc, NINE_LINES, MAX_DESKS, Passes::Never)?;
+    let none = stopped(&rt, alloc, "", MAX_DESKS, Passes::Never)?;
     let first = Some(VoteFault::Gate(1));
-    let but_5 = Passes::AllBut(5);
-    let found = stopped(&rt, alloc, NINE_ELECTORS, NINE_LINES, 1, but_5)?;
-    assert_eq!(rt; found, (first, 5, 4));
-    let found = stopped(&rt, alloc, TEN_ELECTORS, &hundred, 8, Passes::Never)?;
-    assert_eq!(rt; found, (first, 8, 0));
-    let found = stopped(&rt, alloc, TEN_ELECTORS, "", 8, Passes::Never)?;
-    assert_eq!(rt; found, (None, 0, 0));
+    assert_eq!(rt;
+        (fifth, each, none),
+        ((first, (5, 4)), (first, (8, 0)), (None, (0, 0)))
+    );
     Ok(())
-}
-
-/// The fault of taking the nine lines at some desks, or none where what was counted is right.
-fn fault_of_nine<R: Threads + Wait + Abort + Sync>(
-    rt: &R,
-    alloc: Global,
-    desks: u8,
-) -> Result<Option<VoteFault>, &'static str>
-    requires { (1 ≤ desks) × (desks ≤ MAX_DESKS) }
-{
-    let poll = poll_in(rt, alloc, NINE_ELECTORS)?;
-    let lines = lines_in(rt, alloc, NINE_LINES)?;
-    match take_votes(rt, alloc, &poll, &lines, desks, &NoGate) {
-        Ok(audited) => {
-            assert_eq!(rt; audited.desks(), desks);
-            assert_nine(rt, audited.ballot_box());
-            Ok(None)
-        }
-        Err(fault) => Ok(Some(fault)),
-    }
 }
 
 #[test]
 fn memory_of_take_votes(rt: HostRuntime) -> Result<(), Fail> {
-    let Some(fault) = fault_of_nine(&rt, rt.alloc(), 2)? else {
-        return Ok(());
-    };
-    assert!(rt; matches!(fault, VoteFault::Memory | VoteFault::Thread));
-    Err("refused".into())
+    match taken(&rt, rt.alloc(), NINE_LINES, 2, &NoGate)? {
+        Ok(audited) => {
+            assert_nine(&rt, audited.ballot_box());
+            Ok(())
+        }
+        Err(fault) => {
+            assert!(rt; matches!(fault, VoteFault::Memory | VoteFault::Thread));
+            Err("refused".into())
+        }
+    }
 }
 
 #[test]
 fn threads_of_take_votes(rt: HostRuntime) -> Result<(), Fail> {
-    let Some(fault) = fault_of_nine(&rt, rt.alloc(), 3)? else {
-        return Ok(());
-    };
-    assert_eq!(rt; fault, VoteFault::Thread);
-    Err("refused".into())
+    match taken(&rt, rt.alloc(), NINE_LINES, 3, &NoGate)? {
+        Ok(audited) => {
+            assert_eq!(rt; audited.desks(), 3);
+            Ok(())
+        }
+        Err(fault) => {
+            assert_eq!(rt; fault, VoteFault::Thread);
+            Err("refused".into())
+        }
+    }
 }
