@@ -1,5 +1,5 @@
 //! Entering an envelope at a desk.
-ghost use Rattle.std.specs.Prelude.{◌≡◌, ℕ, ◌+◌, ◌<◌, ◌≤◌, ◌↔◌, ◌⊎◌, Err, length, IsTrue, IfOk, OnErr};
+ghost use Rattle.std.specs.Prelude.{◌≡◌, ◌+◌, ◌<◌, ◌≤◌, ◌↔◌, ◌⊎◌, Err, length, IsTrue, IfOk, OnErr};
 ghost use Rattle.vote_steps.specs.History.{is_used, reply_to};
 ghost use Rattle.vote_desks.specs.Desks.{FitsBox, HasRoom, IsLater, with_cast, with_slip};
 

@@ -1,10 +1,9 @@
 //! The box behind its lock, and the opening of its desks.
-ghost use Rattle.std.specs.Prelude.{◌≡◌, ◌≤◌, ◌<◌, ◌↔◌, ◌⊎◌, ◌∷◌, ◌++◌, [], Err, length, map, IsTrue, IfOk, OnOk, IfErr, OnErr, vec_len};
+ghost use Rattle.std.specs.Prelude.{◌≡◌, ◌≤◌, ◌<◌, ◌↔◌, ◌⊎◌, [], Err, map, IsTrue, IfOk, OnOk, IfErr, OnErr, vec_len};
 ghost use Rattle.std.specs.List.{range_with_len};
 ghost use Rattle.vote_steps.specs.History.{is_closed, standing_ranks};
-ghost use Rattle.vote_steps.specs.declared.Step.TheVariants.{Close};
-ghost use Rattle.vote_desks.specs.Slips.{CanReply};
 ghost use Rattle.vote_steps.specs.Boxes.{box_of};
+ghost use Rattle.vote_desks.specs.Slips.{CanReply};
 ghost use Rattle.vote_desks.specs.Desks.{FitsBox, HasRoom, IsLater, fresh_desk, with_close, with_slip};
 
 use crate::desk::{Desk, Held, Tally};
