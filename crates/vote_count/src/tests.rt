@@ -1,43 +1,31 @@
 //! Worked examples, with values from outside.
-ghost use Rattle.std.specs.Prelude.{◌≡◌, ◌<◌, ◌≤◌, IfOk, All};
+ghost use Rattle.std.specs.Prelude.{◌≡◌, ◌<◌, ◌≤◌, IfOk, All, length};
 ghost use Rattle.vote_poll.specs.PollContent.{option_count};
 ghost use Rattle.vote_count.specs.Ballots.{IsBallotOf};
 
 use crate::{
-    Cause, Chains, Decision, Defeats, Matrix, Round, Verdict, decide, outcome, quorum_votes, reach,
-    recount, standing_options,
+    Cause, Chains, Defeats, Matrix, Verdict, Word, outcome, reach, recount, standing_options,
 };
 use std::alloc::{AllocError, Global};
 use std::test::Fail;
 use vote_poll::{MAX_ELECTORS, MAX_OPTIONS, Poll, PollFault, Ranks, Reading, read_line};
 
-/// A poll of these options and the default, each with its ratio, and so many electors.
-fn poll(
-    alloc: Global,
-    names: &str,
-    ratios: &str,
-    quorum: u8,
-    electors: usize,
-) -> Result<Poll, Fail> {
-    poll_worded(alloc, names, ratios, quorum, electors, "at_least")
-}
-
-/// The same, in this wording of its majorities.
-fn poll_worded(
-    alloc: Global,
-    names: &str,
-    ratios: &str,
-    quorum: u8,
-    electors: usize,
-    wording: &str,
-) -> Result<Poll, Fail> {
+/// A poll of these options and the default, each with ratio 1, and so many electors.
+fn poll(alloc: Global, options: u8, quorum: u8, electors: usize) -> Result<Poll, Fail> {
+    let mut names = String::new(alloc);
+    let mut ratios = String::new(alloc);
+    for option in 0..options {
+        let name = format!(in alloc; "\"Option {option}\", ")?;
+        names.push_str(name.as_str())?;
+        ratios.push_str("1, ")?;
+    }
     let mut roll = String::new(alloc);
     for voter in 0..electors {
         let name = format!(in alloc; "\"v{voter}\", ")?;
         roll.push_str(name.as_str())?;
     }
     let text = format!(in alloc;
-        "title = \"Test\"\noptions = [{names}]\nratios = [{ratios}]\ndefault = \"None\"\nquorum = {quorum}\nroll = [{roll}]\nwording = \"{wording}\"\n"
+        "title = \"Test\"\noptions = [{names}]\nratios = [{ratios}]\ndefault = \"None\"\nquorum = {quorum}\nroll = [{roll}]\n"
     )?;
     match Poll::from_text(alloc, text.as_bytes()) {
         Ok(poll) => Ok(poll),
@@ -46,14 +34,21 @@ fn poll_worded(
     }
 }
 
+/// The ranks of a line.
+fn ranks(poll: &Poll, line: &str) -> Result<Ranks, Fail>
+    ensures { IfOk result (λ ranks. length ranks ≡ option_count poll.now) }
+{
+    match read_line(poll, line.as_bytes()) {
+        Reading::Ballot { voter: _, ranks } => Ok(ranks),
+        Reading::Bad(_) => Err(Fail::from("not a ballot")),
+    }
+}
+
 /// The ballot of a line.
 fn ballot(poll: &Poll, line: &str) -> Result<Option<Ranks>, Fail>
     ensures { IfOk result (IsBallotOf (option_count poll.now)) }
 {
-    match read_line(poll, line.as_bytes()) {
-        Reading::Ballot { voter: _, ranks } => Ok(Some(ranks)),
-        Reading::Bad(_) => Err(Fail::from("not a ballot")),
-    }
+    Ok(Some(ranks(poll, line)?))
 }
 
 /// The matrix of ballots, of which there can be as many as electors.
@@ -121,19 +116,7 @@ fn prefer(
     Ok(())
 }
 
-const NO_BALLOTS: &[(usize, &str)] = &[];
-
 const CYCLE: &[(usize, &str)] = &[(4, "v0 1,2,3,4"), (3, "v0 3,1,2,4"), (2, "v0 2,3,1,4")];
-
-const EVEN_CYCLE: &[(usize, &str)] = &[(1, "v0 1,2,3,4"), (1, "v0 3,1,2,4"), (1, "v0 2,3,1,4")];
-
-// A cycle in which a voter ranks two options alike.
-const EQUAL_RANKS: &[(usize, &str)] = &[
-    (4, "v0 1,2,3,4"),
-    (3, "v0 3,1,2,4"),
-    (1, "v0 2,3,1,4"),
-    (1, "v0 2,2,1,3"),
-];
 
 /// The defeats of a count of these ballots, of which none drops an option.
 fn kept_defeats(poll: &Poll, ballots: &[Option<Ranks>]) -> Result<Defeats, Fail>
@@ -166,50 +149,6 @@ fn removes(verdict: &Verdict, pairs: &[(u8, u8)]) -> bool {
     }
 }
 
-/// What a count of these lines comes to with a casting vote: whether the three options have this cause, whether the first round
-/// removes these defeats, and the decision.
-fn of_three_options(
-    alloc: Global,
-    lines: &[(usize, &str)],
-    quorum: u8,
-    electors: usize,
-    cause: Option<Cause>,
-    removed: &[(u8, u8)],
-    casting: Option<u8>,
-) -> Result<(bool, bool, Decision), Fail> {
-    let poll = poll(alloc, "\"A\", \"B\", \"C\"", "1, 1, 1", quorum, electors)?;
-    let matrix = count(alloc, &poll, lines)?;
-    let verdict = outcome(alloc, &poll, &matrix)?;
-    let decision = decide(&verdict, casting);
-    Ok((
-        have_cause(&verdict, cause),
-        removes(&verdict, removed),
-        decision,
-    ))
-}
-
-#[test]
-fn three_options(rt: HostRuntime) -> Result<(), Fail> {
-    let dropped = Some(Cause::Quorum);
-    let all = &[(1, 2), (2, 3), (3, 1)][..];
-    let last = &[(3, 1)][..];
-    let none = &[][..];
-    let outside = Decision::CastingOutside(4);
-    for (lines, quorum, electors, cause, removed, casting, decision) in [
-        (NO_BALLOTS, 3, 9, dropped, none, None, Decision::Winner(4)),
-        (CYCLE, 3, 9, None, last, None, Decision::Winner(1)),
-        (CYCLE, 3, 9, None, last, Some(4), Decision::Winner(1)),
-        (EVEN_CYCLE, 1, 3, None, all, None, Decision::Tie),
-        (EVEN_CYCLE, 1, 3, None, all, Some(2), Decision::Winner(2)),
-        (EVEN_CYCLE, 1, 3, None, all, Some(4), outside),
-        (EQUAL_RANKS, 3, 9, None, last, None, Decision::Winner(1)),
-    ] {
-        let found = of_three_options(rt.alloc(), lines, quorum, electors, cause, removed, casting)?;
-        assert_eq!(rt; found, (true, true, decision));
-    }
-    Ok(())
-}
-
 /// Whether the first option wins after a round that removes the weakest defeat of the cycle.
 fn is_verdict_of_three(verdict: &Verdict) -> bool {
     let set = verdict.final_set();
@@ -220,11 +159,26 @@ fn is_verdict_of_three(verdict: &Verdict) -> bool {
         && set.len() == 1
 }
 
+/// How many defeats there are, and what each of four options reaches by them.
+fn words_of_four(defeats: &Defeats) -> (usize, [Word; 4]) {
+    let chains = reach(defeats);
+    let words = [chains.row(1), chains.row(2), chains.row(3), chains.row(4)];
+    (defeats.len(), words)
+}
+
+/// The defeats that the first round of a count leaves.
+fn left_by_first_round(verdict: &Verdict) -> Defeats {
+    match verdict.rounds().first() {
+        Some(round) => verdict.defeats().minus(&round.removed),
+        None => verdict.defeats(),
+    }
+}
+
 /// Where a growth is refused, the call says so, or gives the right answer.
 #[test]
 fn memory_of_outcome(rt: HostRuntime) -> Result<(), Fail> {
     let alloc = rt.alloc();
-    let poll = poll(alloc, "\"A\", \"B\", \"C\"", "1, 1, 1", 3, 9)?;
+    let poll = poll(alloc, 3, 3, 9)?;
     let matrix = count(alloc, &poll, CYCLE)?;
     match outcome(alloc, &poll, &matrix) {
         Ok(verdict) => {
@@ -233,59 +187,6 @@ fn memory_of_outcome(rt: HostRuntime) -> Result<(), Fail> {
         }
         Err(AllocError) => Err(Fail::from("refused")),
     }
-}
-
-/// What a poll of one option and the default comes to where so many prefer the one and so many the other.
-fn of_one_option(
-    alloc: Global,
-    wording: &str,
-    ratio: &str,
-    won: usize,
-    lost: usize,
-) -> Result<(Option<Cause>, Decision), Fail> {
-    let poll = poll_worded(alloc, "\"A\"", ratio, 0, 13, wording)?;
-    let matrix = count(alloc, &poll, &[(won, "v0 1,2"), (lost, "v1 2,1")])?;
-    let verdict = outcome(alloc, &poll, &matrix)?;
-    Ok((verdict.dropped(1), decide(&verdict, None)))
-}
-
-#[test]
-fn one_option(rt: HostRuntime) -> Result<(), Fail> {
-    let (at_least, more_than) = ("at_least", "more_than");
-    for (wording, ratio, won, lost, cause, winner) in [
-        (at_least, "3", 9, 3, None, 1),
-        (at_least, "3", 8, 3, Some(Cause::Majority), 2),
-        (at_least, "1", 2, 2, Some(Cause::Majority), 2),
-        (more_than, "3", 9, 3, Some(Cause::Majority), 2),
-        (more_than, "3", 10, 3, None, 1),
-        (more_than, "1", 2, 2, Some(Cause::Majority), 2),
-        (more_than, "10", 1, 0, None, 1),
-    ] {
-        let found = of_one_option(rt.alloc(), wording, ratio, won, lost)?;
-        assert_eq!(rt; found, (cause, Decision::Winner(winner)));
-    }
-    Ok(())
-}
-
-#[test]
-fn fewest_votes_of_a_quorum(rt: HostRuntime) -> Result<(), Fail> {
-    let alloc = rt.alloc();
-    for (multiple, electors, votes) in [
-        (3, 9, 5),
-        (1, 3, 1),
-        (3, 16, 6),
-        (3, 17, 7),
-        (0, 9, 0),
-        (10, 10_000, 500),
-    ] {
-        let poll = poll(alloc, "\"A\"", "1", multiple, electors)?;
-        assert_eq!(rt;
-            quorum_votes(&poll),
-            votes,
-            "{multiple} times Q of {electors}"
-        );
-    }
-    Ok(())
 }
 
 const PAIRS: [(u8, u8); 6] = [(1, 2), (1, 3), (1, 4), (2, 3), (2, 4), (3, 4)];
@@ -367,7 +268,7 @@ fn are_pairs(chains: &Chains, pairs: &[(u8, u8)], last: u8) -> bool {
 #[test]
 fn both_forms_of_reach_agree(rt: HostRuntime) -> Result<(), Fail> {
     let alloc = rt.alloc();
-    let poll = poll(alloc, "\"A\", \"B\", \"C\", \"D\"", "1, 1, 1, 1", 0, 13)?;
+    let poll = poll(alloc, 4, 0, 13)?;
     for relation in 0..729 {
         let ballots = ballots_of(alloc, &poll, relation)?;
         let defeats = kept_defeats(&poll, &ballots)?;
@@ -378,122 +279,60 @@ fn both_forms_of_reach_agree(rt: HostRuntime) -> Result<(), Fail> {
     Ok(())
 }
 
-/// Ballots by which each option defeats the next one, and the last one before the default the first.
-fn cycle(alloc: Global, poll: &Poll) -> Result<Vec<Option<Ranks>>, Fail>
-    ensures { IfOk result (λ ballots. All (IsBallotOf (option_count poll.now)) ballots.items) }
-{
-    let mut ballots = Vec::new(alloc);
-    let last = poll.options() - 1;
-    for a in 1..last {
-        prefer(alloc, poll, a, a + 1, &mut ballots)?;
-    }
-    prefer(alloc, poll, last, 1, &mut ballots)?;
-    Ok(ballots)
-}
+/// A ballot that ranks the first of 31 options first, the others alike, and the default last.
+const FIRST_OF_31: &str = "v0 1,2,2,2,2,2,2,2,2,2,2,2,2,2,2,2,2,2,2,2,2,2,2,2,2,2,2,2,2,2,2,3";
 
-/// Whether each option up to the last one reaches each, and itself.
-fn all_reach_all(chains: &Chains, last: u8) -> bool {
-    for a in 1..=last {
-        for c in 1..=last {
-            if !chains.has(a, c) {
-                return false;
-            }
-        }
-    }
-    true
-}
-
-/// By how many voters more `a` is preferred to `b` than the other way round in a cycle of the options before the default.
-fn lead_in_cycle(default: u8, a: u8, b: u8) -> i64
-    requires { (a < default) × (b < default) }
-{
-    if b == a + 1 || (a + 1 == default && b == 1) {
-        2
-    } else if a == b + 1 || (b + 1 == default && a == 1) {
-        -2
-    } else {
-        0
-    }
-}
-
-/// Whether a matrix is that of a cycle, in which all voters prefer each other option to the default.
-fn is_cycle(matrix: &Matrix) -> bool {
-    let default = matrix.options();
-    for a in 1..default {
-        for b in 1..default {
-            let lead = i64::from(matrix.votes(a, b)) - i64::from(matrix.votes(b, a));
-            if lead != lead_in_cycle(default, a, b) {
-                return false;
-            }
-        }
-        if matrix.votes(a, default) != 2 * (u32::from(default) - 1)
-            || matrix.votes(default, a) != 0
-        {
-            return false;
-        }
-    }
-    true
-}
-
-/// A poll of so many options, each with ratio 1, and the default.
-fn poll_of(alloc: Global, others: u8) -> Result<Poll, Fail> {
-    let mut names = String::new(alloc);
-    let mut ratios = String::new(alloc);
-    for option in 0..others {
-        let name = format!(in alloc; "\"Option {option}\", ")?;
-        names.push_str(name.as_str())?;
-        ratios.push_str("1, ")?;
-    }
-    poll(alloc, names.as_str(), ratios.as_str(), 0, 62)
-}
-
-/// What the rounds of a cycle have: in the first round all options but the default, of which each defeats the next one, and
-/// those defeats are removed; in the second the same options.
-fn are_rounds_of_cycle(rounds: &[Round], others: usize) -> bool {
-    match rounds {
-        [first, second] => {
-            first.set.len() == others
-                && first.removed.len() == others
-                && first.removed.row(1) == 0b10
-                && second.set == first.set
-                && second.removed.is_empty()
-        }
-        _ => false,
-    }
-}
-
-/// Whether a count finds the cycle of the options before the default, in which each reaches each, and a tie of all of them:
-/// `defeated` and `reached` are the first option's row of defeats and each option's row of chains.
-fn is_verdict_of_cycle(verdict: &Verdict, default: u8, defeated: u32, reached: u32) -> bool
-    requires { (2 ≤ default) × (default ≤ MAX_OPTIONS) }
-{
-    let others = default - 1;
-    let defeats = verdict.defeats();
-    let chains = reach(&defeats);
-    defeats.row(1) == defeated
-        && all_reach_all(&chains, others)
-        && chains.row(1) == reached
-        && chains.row(others) == reached
-        && are_rounds_of_cycle(verdict.rounds(), others as usize)
-        && !verdict.final_set().has(default)
-        && decide(verdict, None) == Decision::Tie
-}
-
-/// Whether the ballots are as many as the cycle needs, and their matrix is the cycle's.
-fn are_ballots_of_cycle(ballots: &[Option<Ranks>], matrix: &Matrix, others: u8) -> bool {
-    ballots.len() == 2 * others as usize && is_cycle(matrix)
+#[test]
+fn rows_as_words(rt: HostRuntime) -> Result<(), Fail> {
+    let alloc = rt.alloc();
+    let poll = poll(alloc, 31, 0, 1)?;
+    let ballots = vec![in alloc; ballot(&poll, FIRST_OF_31)?]?;
+    let defeats = kept_defeats(&poll, &ballots)?;
+    let rows = (defeats.row(1), defeats.row(2), defeats.row(32));
+    assert_eq!(rt; rows, (0xFFFF_FFFE, 0x8000_0000, 0));
+    Ok(())
 }
 
 #[test]
-fn a_cycle_of_all_options(rt: HostRuntime) -> Result<(), Fail> {
+fn a_cycle_without_its_weakest_defeat(rt: HostRuntime) -> Result<(), Fail> {
     let alloc = rt.alloc();
-    for (others, defeated, reached) in [(15, 0x8002, 0xFFFF), (31, 0x8000_0002, 0xFFFF_FFFF)] {
-        let poll = poll_of(alloc, others)?;
-        let ballots = cycle(alloc, &poll)?;
-        let matrix = recounted(&poll, &ballots)?;
-        assert!(rt; are_ballots_of_cycle(&ballots, &matrix, others));
-        let verdict = outcome(alloc, &poll, &matrix)?;
-        assert!(rt; is_verdict_of_cycle(&verdict, poll.options(), defeated, reached));
-    }
+    let poll = poll(alloc, 3, 3, 9)?;
+    let verdict = outcome(alloc, &poll, &count(alloc, &poll, CYCLE)?)?;
+    let whole = words_of_four(&verdict.defeats());
+    let left = words_of_four(&left_by_first_round(&verdict));
+    assert_eq!(rt; whole, (6, [0b1111, 0b1111, 0b1111, 0]));
+    assert_eq!(rt; left, (5, [0b1110, 0b1100, 0b1000, 0]));
+    Ok(())
+}
+
+/// The matrix of two ballots, and those in which the second is exchanged for a third: in one pass, and by taking it out and
+/// adding the third.
+fn exchanged(poll: &Poll, first: &Ranks, second: &Ranks, third: &Ranks) -> (Matrix, Matrix, Matrix)
+    requires first { length first.now ≡ option_count poll.now }
+    requires second { length second.now ≡ option_count poll.now }
+    requires third { length third.now ≡ option_count poll.now }
+{
+    let mut counted = Matrix::zero(poll.options());
+    counted.add(first);
+    counted.add(second);
+    let mut at_once = counted;
+    at_once.exchange(second, third);
+    let mut by_two = counted;
+    by_two.take_out(second);
+    by_two.add(third);
+    (counted, at_once, by_two)
+}
+
+#[test]
+fn exchange_is_take_out_and_add(rt: HostRuntime) -> Result<(), Fail> {
+    let alloc = rt.alloc();
+    let poll = poll(alloc, 3, 0, 2)?;
+    let first = ranks(&poll, "v0 1,2,3,4")?;
+    let second = ranks(&poll, "v1 3,1,2,4")?;
+    let third = ranks(&poll, "v1 2,2,-,1")?;
+    let (counted, at_once, by_two) = exchanged(&poll, &first, &second, &third);
+    assert!(rt; at_once == by_two);
+    assert!(rt; at_once == recounted(&poll, &[Some(first), Some(third)])?);
+    assert!(rt; at_once != counted);
     Ok(())
 }
