@@ -1,4 +1,3 @@
-pub mod Deciding
 pub mod Holding
 pub mod Padding
 pub mod Texts
