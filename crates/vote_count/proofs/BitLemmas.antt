@@ -1,5 +1,5 @@
 -- What the bits of a word say of its marks.
-use Rattle.std.proofs.Common.{◌≡◌, ℕ, zero, suc, nat_eq, ◌+◌, ◌-◌, ◌<◌, ◌≤◌, ◌^◌, ◌*◌, ◌/◌, ◌%◌, Bool, true, false, cond, not, ◌&&◌, ◌||◌, length, map-id, refl, sym, ap, ◌∙◌, inl, inr, arith}
+use Rattle.std.proofs.Common.{◌≡◌, ℕ, zero, suc, nat_eq, ◌+◌, ◌-◌, ◌<◌, ◌≤◌, ◌^◌, ◌*◌, ◌/◌, ◌%◌, Bool, true, false, not, ◌&&◌, ◌||◌, length, map-id, refl, sym, ap, ◌∙◌, inl, inr, arith}
 use Rattle.std.specs.Prelude.{◌↔◌, IsTrue}
 use Rattle.std.specs.Int.{bit_at, leading_zeros}
 use Rattle.std.specs.Int.RustNames.{bit_or, count_ones}
@@ -13,24 +13,18 @@ use Prim.Native.Nat.{min, max}
 use Rattle.vote_poll.specs.declared.TheConstants.{MAX_OPTIONS}
 use Rattle.vote_count.specs.Sets.{has, size}
 use Rattle.vote_count.specs.Bits.{marks_of, mask_l-marks_of, mask_l}
+use Rattle.vote_count.proofs.Counts.{one, one_of}
 use Rattle.vote_poll.proofs.OptionLaws.{at_option-in, at_option-none, at_option-past}
 
 -- the width of `Word`, which has a bit for each option
 abbrev pub width : Width
 width = w32
 
-abbrev one : Bool → ℕ
-one mark = cond mark 1 0
-
 same_one : (b c : Bool) → one b ≡ one c → b ≡ c
 same_one true true h = refl
 same_one true false h = absurd (omega arith)
 same_one false true h = absurd (omega arith)
 same_one false false h = refl
-
-pub one_true : (b : Bool) → one b ≡ 1 → b ≡ true
-one_true true h = refl
-one_true false h = absurd (omega arith)
 
 -- a mark is a bit of the word
 pub bit_of_has : (n o : ℕ) → n < 2 ^ MAX_OPTIONS → 1 ≤ o → one (has (marks_of MAX_OPTIONS n) o) ≡ bit_at n (o - 1)
@@ -40,7 +34,7 @@ bit_of_has n o h low =
 -- a bit is set exactly where the option is in the set
 pub bit_is_mark : (n o : ℕ) → n < 2 ^ MAX_OPTIONS → 1 ≤ o → (bit_at n (o - 1) ≡ 1) ↔ IsTrue (has (marks_of MAX_OPTIONS n) o)
 bit_is_mark n o h low = (
-  λ set. one_true _ (bit_of_has n o h low ∙ set),
+  λ set. one_of _ (omega (arith, bit_of_has n o h low, set)),
   λ mark. sym (bit_of_has n o h low) ∙ ap one mark,
 )
 

@@ -7,8 +7,12 @@ use Rattle.std.proofs.lemmas.List.Elements.{All-nil, All-cons, All-head, All-tai
 use Rattle.std.proofs.lemmas.List.Sums.{sum_by-cons}
 
 -- what an element adds to the count
-abbrev one : Bool → ℕ
+abbrev pub one : Bool → ℕ
 one passes = cond passes 1 0
+
+pub one_of : (b : Bool) → 1 ≤ one b → b ≡ true
+one_of true h = refl
+one_of false h = absurd (omega arith)
 
 one_more : (b c : Bool) → (IsTrue b → IsTrue c) → one b ≤ one c
 one_more false c h = omega arith

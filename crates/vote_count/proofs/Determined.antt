@@ -1,5 +1,5 @@
 -- The rules leave no choice in an outcome and in a decision.
-use Rattle.std.proofs.Common.{◌≡◌, ℕ, ◌<◌, ◌⊎◌, ◌↔◌, Bool, List, [], ◌∷◌, Option, None, Some, refl, inl, inr, sym, ap, ◌∙◌, subst, arith}
+use Rattle.std.proofs.Common.{◌≡◌, ◌≢◌, ℕ, ◌<◌, ◌⊎◌, ◌↔◌, Bool, List, [], ◌∷◌, Option, None, Some, refl, inl, inr, sym, ap, ◌∙◌, subst, arith}
 use Rattle.std.proofs.lemmas.Bool.{cases_eq}
 use Rattle.vote_poll.specs.Options.{IsOption}
 use Rattle.vote_poll.specs.PollContent.{PollContent, option_count, ratio_of}
@@ -7,12 +7,13 @@ use Rattle.vote_count.specs.declared.rounds.Cause.{Cause}
 use Rattle.vote_count.specs.declared.rounds.Cause.TheVariants.{Majority, Quorum}
 use Rattle.vote_count.specs.declared.rounds.Decision.{Decision}
 use Rattle.vote_count.specs.declared.rounds.Round.{Round}
-use Rattle.vote_count.specs.Laws.{AreSameOutcomes, DecisionsAreDetermined, HaveSameVotes, OutcomesAreDetermined}
+use Rattle.vote_count.specs.Laws.{DecisionsAreDetermined, HaveSameVotes, OutcomesAreDetermined}
 use Rattle.vote_count.specs.Votes.{Votes, votes}
 use Rattle.vote_count.specs.Sets.{In, IsAlone, Pairs, size}
 use Rattle.vote_count.specs.Rules.{IsKept, IsMajority, IsWeaker, IsWeakest, MeetsMajority, MeetsQuorum, PairwiseDefeats, Without}
 use Rattle.vote_count.specs.Rounds.{AreRounds, AreSameRounds, HasCause, IsByCasting, IsDecision, IsOutcome, IsRound, VerdictState, cause_of}
 use Rattle.vote_count.proofs.RoundLemmas.{rounds_kept, rounds_same, rounds_unique}
+use Rattle.vote_count.proofs.Schulze.{kept_option, other_kept}
 use Rattle.vote_count.proofs.Sizes.{alone_from_size, size-alone, size_le, size_some}
 
 turned : (n : ℕ) (m w : Votes) → HaveSameVotes n m w → HaveSameVotes n w m
@@ -42,19 +43,9 @@ module _ (poll : PollContent) (m w : Votes) (same : HaveSameVotes (option_count 
   -- an option that defeats another is one of the options, and so is the other
   between_options : (a b : ℕ) → PairwiseDefeats (IsKept poll m) m a b → IsOption (option_count poll) a × IsOption (option_count poll) b
   between_options a b d =
-      elim d.0 [
-        | inl default ↦ elim d.1 [
-          | inl other ↦
-              let equal = ap (λ x. votes m x a) (other ∙ sym default) in
-              let equal' = ap (λ x. votes m a x) (other ∙ sym default) in
-              absurd (omega (arith, d.2, equal, equal'))
-          | inr other ↦ ((omega (arith, default, other.0, other.1), omega (arith, default)), (other.0, omega (arith, other.1)))
-        ]
-        | inr one ↦ elim d.1 [
-          | inl default ↦ ((one.0, omega (arith, one.1)), (omega (arith, default, one.0, one.1), omega (arith, default)))
-          | inr other ↦ ((one.0, omega (arith, one.1)), (other.0, omega (arith, other.1)))
-        ]
-      ]
+      let apart : a ≢ b = λ equal. omega (arith, d.2, ap (votes m a) equal, ap (λ x. votes m x a) equal) in
+      let some = (other_kept poll m a b d.0 d.1 apart).3 in
+      (kept_option poll m some a d.0, kept_option poll m some b d.1)
 
   defeats_same : (a b : ℕ) → PairwiseDefeats (IsKept poll m) m a b → PairwiseDefeats (IsKept poll w) w a b
   defeats_same a b d =
@@ -144,7 +135,7 @@ outcomes_same poll m w o u same is_o is_u =
       rounds = same_rounds poll m w same o u is_o is_u;
     }
 
--- ---- decisions
+-- whether an option is alone in a set is known
 alone_or_not : (set : List Bool) → ((o : ℕ) × IsAlone set o) ⊎ ((o : ℕ) → ¬ IsAlone set o)
 alone_or_not set =
     elim (cases_eq (size set) 1) [

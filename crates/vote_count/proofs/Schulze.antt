@@ -118,7 +118,7 @@ module _ (K : ℕ → Type 0) (m : Votes) where
       let Left = Without E (Pairs r.removed) in
       next_in K m E into r h.0 a (((first_is Left next later h.2).set a).0 (final_in_first next later Left (λ x y w. into x y w.0) h.2 a i))
 
-  -- an option of the final set has a chain as strong to each option that has one to it
+  -- however strong a chain to an option of the final set is, the option has a chain back that is as strong
   reaches_back : (rs : List Round) (E : ℕ → ℕ → Type 0) → ((a b : ℕ) → E a b → PairwiseDefeats K m a b) → AreRounds K m E rs
       → (a : ℕ) → In (final_set rs) a → (b : ℕ) → K b → (x y : ℕ) → ReachesBy m E x y b a → ReachesBy m E x y a b
   reaches_back [] E into h a i b k x y chain = absurd h
@@ -223,7 +223,7 @@ module _ (K : ℕ → Type 0) (m : Votes) (n : ℕ) (few : (o : ℕ) → K o →
     λ wins. winner_final K m n few a wins rs are,
   )
 
--- a winner has a chain to each option that has one to it, as strong as any number of votes that this one is as strong as
+-- however strong a chain to a winner is, the winner has a chain back that is as strong
 module _ (K : ℕ → Type 0) (m : Votes) (a : ℕ) (wins : IsSchulzeWinner K m (PairwiseDefeats K m) a) where
   abbrev S : ℕ → ℕ → ℕ → ℕ → Type 0
   S = Strong m (PairwiseDefeats K m)

@@ -1,10 +1,11 @@
 -- How the sizes of sets compare.
-use Rattle.std.proofs.Common.{◌≡◌, ℕ, zero, suc, ◌+◌, ◌-◌, ◌<◌, ◌≤◌, Bool, true, false, cond, not, ◌&&◌, List, [], ◌∷◌, length, get_or, set, subst, refl, inl, inr, sym, ap, ◌∙◌, arith}
+use Rattle.std.proofs.Common.{◌≡◌, ℕ, zero, suc, ◌+◌, ◌-◌, ◌<◌, ◌≤◌, Bool, true, false, not, ◌&&◌, List, [], ◌∷◌, length, get_or, set, subst, refl, inl, inr, sym, ap, ◌∙◌, arith}
 use Rattle.std.specs.Prelude.{sum_by}
 use Rattle.std.proofs.lemmas.Bool.{cases_lt, true≢false, and_parts, cases_Bool, cases_eq, and_from, not_from_true}
 use Rattle.std.proofs.lemmas.List.Sums.{sum_by-cons, sum_by-set}
 use Rattle.vote_count.specs.Sets.{has, has_pair, size, pair_count, In, Pairs, IsAlone}
 use Rattle.vote_poll.proofs.OptionLaws.{at_option-in, at_option-none, at_option-past, at_option-set, at_option-set_other}
+use Rattle.vote_count.proofs.Counts.{one, one_of}
 use Rattle.vote_count.proofs.Rows.{has_pair-in, row_of_pair}
 
 module _ {X : Type 0} (f : X → ℕ) (d : X) (nothing : f d ≡ 0) where
@@ -32,13 +33,6 @@ module _ {X : Type 0} (f : X → ℕ) (d : X) (nothing : f d ≡ 0) where
   sum_by_lt [] (y ∷ ys) h i less = omega (arith, nothing, sum_by_at (y ∷ ys) i)
   sum_by_lt (x ∷ xs) (y ∷ ys) h zero less = omega (arith, sum_by-cons f x xs, sum_by-cons f y ys, sum_by_le xs ys (λ i. h (suc i)))
   sum_by_lt (x ∷ xs) (y ∷ ys) h (suc i) less = omega (arith, sum_by-cons f x xs, sum_by-cons f y ys, h 0, sum_by_lt xs ys (λ j. h (suc j)) i less)
-
-abbrev one : Bool → ℕ
-one mark = cond mark 1 0
-
-one_of : (b : Bool) → 1 ≤ one b → b ≡ true
-one_of true h = refl
-one_of false h = absurd (omega arith)
 
 one_le : (b c : Bool) → (b ≡ true → c ≡ true) → one b ≤ one c
 one_le false c h = omega arith

@@ -36,7 +36,7 @@ not_below v w x y h =
       | inr (inr more) ↦ inl more
     ]
 
--- what is no weaker than one thing, and that no weaker than a third, is no weaker than the third
+-- being no weaker is transitive
 pub not_below_transitive : (v w x y t u : ℕ) → ¬ IsBelow v w x y → ¬ IsBelow x y t u → ¬ IsBelow v w t u
 not_below_transitive v w x y t u h k below = let h' = not_below v w x y h in let k' = not_below x y t u k in omega arith
 
@@ -56,7 +56,7 @@ abbrev pub Strong : Votes → (ℕ → ℕ → Type 0) → ℕ → ℕ → ℕ �
 Strong m E v w a b = E a b × ¬ IsBelow (votes m a b) (votes m b a) v w
 
 module _ (m : Votes) where
-  -- a chain is as strong as what is no stronger than another strength that it has
+  -- a chain that is as strong as one strength is as strong as each that is no stronger
   pub as_strong : (E : ℕ → ℕ → Type 0) (v w x y : ℕ) → ¬ IsBelow v w x y → (a b : ℕ) → TransitivelyDefeats (Strong m E v w) a b → TransitivelyDefeats (Strong m E x y) a b
   as_strong E v w x y h = monotone (Strong m E v w) (Strong m E x y) (λ a b s. (s.0, not_below_transitive (votes m a b) (votes m b a) v w x y s.1 h))
 

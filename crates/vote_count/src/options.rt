@@ -82,8 +82,8 @@ impl OptionSet {
         self.len() == 0
     }
 
-    // An option behind which the set has none: its last one, or 0 where it is empty. So a loop over the
-    // set needs no more turns than its poll has options.
+    // The greatest option of the set, or 0 if it is empty. So a loop over the set needs no more turns
+    // than its poll has options.
     pub(crate) fn last(&self) -> u8
         ensures none_behind { (o : ℕ) → In self.now o → o ≤ result }
         ensures at_most { result ≤ MAX_OPTIONS }

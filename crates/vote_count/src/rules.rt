@@ -163,7 +163,7 @@ fn one_weakest(defeats: &Defeats, matrix: &Matrix) -> Option<(u8, u8)>
     weakest
 }
 
-// The defeats than which this one is no weaker.
+// The defeats that are no stronger than this one.
 fn no_stronger_than(weakest: (u8, u8), defeats: &Defeats, matrix: &Matrix) -> Defeats
     requires weakest { IsOption matrix.now.options weakest.0 × IsOption matrix.now.options weakest.1 }
     requires defeats { (a b : ℕ) → Pairs defeats.now a b → IsOption matrix.now.options a × IsOption matrix.now.options b }
@@ -180,10 +180,10 @@ fn no_stronger_than(weakest: (u8, u8), defeats: &Defeats, matrix: &Matrix) -> De
     found
 }
 
-/// The weakest of the defeats between options of a set (Appendix A, Vote Counting): those than
-/// which none is weaker, of which there may be several. There are none where no defeat lies inside
-/// the set. Of two defeats the one with fewer votes for it is weaker, and where these are equal the
-/// one with more votes against it.
+/// The weakest of the defeats between options of a set (Appendix A, Vote Counting): no other defeat
+/// between them is weaker. There may be several, and there are none where no defeat lies inside the
+/// set. Of two defeats the one with fewer votes for it is weaker, and where these are equal the one
+/// with more votes against it.
 pub fn weakest(set: &OptionSet, defeats: &Defeats, matrix: &Matrix) -> Defeats
     requires { (o : ℕ) → In set.now o → IsOption matrix.now.options o }
     ensures { (a b : ℕ) → Pairs result a b ↔ IsWeakest matrix.now (In set.now) (Pairs defeats.now) a b }
