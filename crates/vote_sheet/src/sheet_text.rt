@@ -83,6 +83,7 @@ pub(crate) fn push_totals(
     writeln!(text, "Voters: {}", totals.voters)
 }
 
+/// The name of an option, the default among them.
 #[tactic(auto, using(crate::proofs::Texts::name_found))]
 fn option_name(poll: &Poll, option: u8) -> &str
     requires { IsOption (option_count poll.now) option }
@@ -91,6 +92,7 @@ fn option_name(poll: &Poll, option: u8) -> &str
     poll.option_name(option)
 }
 
+/// The line of the default option.
 #[tactic(auto, using(crate::proofs::Padding::number_in_3), unfolding(crate::specs::Sheet::default_text))]
 fn push_default(text: &mut String, poll: &Poll) -> Result<(), AllocError>
     ensures { OnOk result (string_bytes text.new ≡ string_bytes text.old ++ default_text poll.now.options) }
@@ -99,6 +101,7 @@ fn push_default(text: &mut String, poll: &Poll) -> Result<(), AllocError>
     writeln!(text, "{option:>3} default {}", option_name(poll, option))
 }
 
+/// The line of another option, with its ratio.
 #[tactic(auto, using(crate::proofs::Padding::number_in_3), unfolding(crate::specs::Sheet::option_text))]
 fn push_option(text: &mut String, poll: &Poll, option: u8) -> Result<(), AllocError>
     requires least { 1 ≤ option }
@@ -110,6 +113,7 @@ fn push_option(text: &mut String, poll: &Poll, option: u8) -> Result<(), AllocEr
     writeln!(text, "{option:>3} ratio {ratio} {name}")
 }
 
+/// The options and their ratios.
 #[tactic(auto, unfolding(crate::specs::Sheet::options_text))]
 pub(crate) fn push_options(text: &mut String, poll: &Poll) -> Result<(), AllocError>
     ensures { OnOk result (string_bytes text.new ≡ string_bytes text.old ++ options_text poll.now.options poll.now.ratios) }
@@ -135,6 +139,7 @@ fn push_votes(text: &mut String, matrix: &Matrix, a: u8, b: u8) -> Result<(), Al
     }
 }
 
+/// The option of a row, at the head of the row.
 #[tactic(auto, using(crate::proofs::Padding::number_in_3))]
 fn push_row_number(text: &mut String, option: u8) -> Result<(), AllocError>
     ensures { OnOk result (string_bytes text.new ≡ string_bytes text.old ++ right 3 (decimal option)) }
@@ -142,6 +147,7 @@ fn push_row_number(text: &mut String, option: u8) -> Result<(), AllocError>
     write!(text, "{option:>3}")
 }
 
+/// The row of an option: the votes for it over each.
 #[tactic(auto, unfolding(crate::specs::Sheet::row_text))]
 fn push_row(text: &mut String, matrix: &Matrix, a: u8) -> Result<(), AllocError>
     requires { IsOption matrix.now.options a }
@@ -154,6 +160,7 @@ fn push_row(text: &mut String, matrix: &Matrix, a: u8) -> Result<(), AllocError>
     writeln!(text)
 }
 
+/// The option of a column, at the head of the column.
 #[tactic(auto, using(crate::proofs::Padding::number_in_6), unfolding(crate::specs::Sheet::column_text))]
 fn push_column(text: &mut String, option: u8) -> Result<(), AllocError>
     ensures { OnOk result (string_bytes text.new ≡ string_bytes text.old ++ column_text option) }
@@ -161,6 +168,7 @@ fn push_column(text: &mut String, option: u8) -> Result<(), AllocError>
     write!(text, "{option:>6}")
 }
 
+/// The head of the table of votes.
 #[tactic(auto, unfolding(crate::specs::Sheet::table_head_text))]
 fn push_table_head(text: &mut String, options: u8) -> Result<(), AllocError>
     ensures { OnOk result (string_bytes text.new ≡ string_bytes text.old ++ table_head_text options) }
@@ -170,6 +178,7 @@ fn push_table_head(text: &mut String, options: u8) -> Result<(), AllocError>
     writeln!(text)
 }
 
+/// The table of votes.
 #[tactic(auto, unfolding(crate::specs::Sheet::table_text))]
 fn push_table(text: &mut String, matrix: &Matrix) -> Result<(), AllocError>
     ensures { OnOk result (string_bytes text.new ≡ string_bytes text.old ++ table_text matrix.now) }
@@ -199,6 +208,7 @@ fn push_cause(text: &mut String, option: u8, cause: Option<Cause>) -> Result<(),
     }
 }
 
+/// The options that were dropped, each with its cause.
 #[tactic(auto, unfolding(crate::specs::Sheet::causes_text, crate::specs::Sheet::dropped_text))]
 fn push_dropped(text: &mut String, options: u8, verdict: &Verdict) -> Result<(), AllocError>
     requires { options ≤ MAX_OPTIONS }
@@ -236,6 +246,7 @@ fn push_defeat(
     Ok(())
 }
 
+/// The lines of the defeats by `a`.
 #[tactic(auto, unfolding(crate::specs::Sheet::defeats_by))]
 fn push_defeats_by(
     text: &mut String,
@@ -251,6 +262,7 @@ fn push_defeats_by(
     })
 }
 
+/// The defeats before any removal.
 #[tactic(auto, unfolding(crate::specs::Sheet::defeat_lines, crate::specs::Sheet::defeats_text))]
 fn push_defeats(text: &mut String, matrix: &Matrix, defeats: &Defeats) -> Result<(), AllocError>
     ensures { OnOk result (string_bytes text.new ≡ string_bytes text.old ++ defeats_text matrix.now defeats.now) }
@@ -294,6 +306,7 @@ fn push_drop(text: &mut String, removed: &Defeats, a: u8, b: u8) -> Result<(), A
     Ok(())
 }
 
+/// The lines of the removed defeats by `a`.
 #[tactic(auto, unfolding(crate::specs::Sheet::drops_of))]
 fn push_drops_of(text: &mut String, options: u8, removed: &Defeats, a: u8) -> Result<(), AllocError>
     ensures { OnOk result (string_bytes text.new ≡ string_bytes text.old ++ drops_of options removed.now a) }
@@ -320,6 +333,7 @@ fn push_round(
     })
 }
 
+/// The rounds, numbered from 1.
 fn push_rounds(text: &mut String, options: u8, rounds: &[Round]) -> Result<(), AllocError>
     ensures { OnOk result (string_bytes text.new ≡ string_bytes text.old ++ rounds_from options 1 rounds.now) }
 {
@@ -340,6 +354,7 @@ fn push_casting_note(text: &mut String, set: &OptionSet) -> Result<(), AllocErro
     Ok(())
 }
 
+/// The winner, and whether the casting vote chose it.
 #[tactic(auto, unfolding(crate::specs::Sheet::winner_text))]
 fn push_winner(
     text: &mut String,
@@ -354,6 +369,7 @@ fn push_winner(
     push_casting_note(text, set)
 }
 
+/// The options of a tie.
 #[tactic(auto, unfolding(crate::specs::Sheet::tie_text))]
 fn push_tie(text: &mut String, options: u8, set: &OptionSet) -> Result<(), AllocError>
     ensures { OnOk result (string_bytes text.new ≡ string_bytes text.old ++ tie_text options set.now) }
@@ -362,6 +378,7 @@ fn push_tie(text: &mut String, options: u8, set: &OptionSet) -> Result<(), Alloc
     push_numbers(text, options, set)
 }
 
+/// What the last line says.
 fn push_ending(
     text: &mut String,
     poll: &Poll,
@@ -381,6 +398,7 @@ fn push_ending(
     }
 }
 
+/// The last line: how the final set is decided.
 #[tactic(auto, unfolding(crate::specs::Sheet::decision_text))]
 fn push_decision(
     text: &mut String,
