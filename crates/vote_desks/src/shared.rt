@@ -86,6 +86,8 @@ pub fn open_desks<VL: Tally, RL: Tally>(
 
 impl<VL: Tally, RL: Tally> SharedBox<VL, RL> {
     /// Casts an envelope at a desk, as `enter` does, and holds the lock for no longer.
+    ///
+    /// Which stamps were used and whether the box is open, no caller can know before: another desk may cast or close first.
     pub fn cast(
         &self,
         rt: &impl Wait,

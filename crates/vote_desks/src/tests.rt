@@ -14,7 +14,7 @@ use std::sync::ledger::Blank;
 use std::test::Fail;
 use std::thread;
 use std::thread::Threads;
-use vote_poll::{Lines, Poll, read_line};
+use vote_poll::{Lines, Poll, Reading, read_line};
 use vote_steps::{AlreadyClosed, MAX_DESKS, Reply};
 
 const TWO_ELECTORS: &str =
@@ -22,9 +22,6 @@ const TWO_ELECTORS: &str =
 
 const FIRST_IS_LAST: &str =
     "title = \"First\"\noptions = [\"A\", \"B\"]\nratios = [1, 1]\ndefault = \"None\"\nquorum = 0\nroll = [\"ann\", \"bob\"]\nlast_envelope = 1\n";
-
-const FOUR_OPTIONS: &str =
-    "title = \"Four\"\noptions = [\"A\", \"B\", \"C\"]\nratios = [1, 1, 1]\ndefault = \"None\"\nquorum = 0\nroll = [\"ann\", \"bob\"]\n";
 
 const TWO_LINES: &str = "ann 1,2,3\nbob 2,1,3\n";
 
@@ -37,6 +34,8 @@ const BOB: &str = "bob 2,1,3";
 enum Deed {
     /// A cast at the desk at this index, of a stamp and a line.
     Cast(usize, u32, &'static str, Result<Reply, EnterFault>),
+    /// A cast at the desk at this index, of a stamp and a ballot of a voter whom the box does not have.
+    Stranger(usize, u32),
     Close(Result<(), AlreadyClosed>),
     /// Whether a ballot of this voter stands.
     Standing(usize, Result<bool, NoVoter>),
@@ -50,10 +49,18 @@ fn reply_of(cast: Result<Slip, EnterFault>) -> Result<Reply, EnterFault> {
     }
 }
 
+/// A ballot of the voter behind the last of two.
+fn strangers_ballot(poll: &Poll) -> Reading {
+    match read_line(poll, ANN.as_bytes()) {
+        Reading::Ballot { ranks, .. } => Reading::Ballot { voter: 2, ranks },
+        Reading::Bad(fault) => Reading::Bad(fault),
+    }
+}
+
 /// Does a deed, whose line is read by this poll, and asserts its answer.
 fn assert_done<VL: Tally, RL: Tally, R: Wait + Abort>(
     rt: &R,
-    reads: &Poll,
+    poll: &Poll,
     shared: &SharedBox<VL, RL>,
     desks: &mut [Desk<VL, RL>],
     deed: Deed,
@@ -61,9 +68,14 @@ fn assert_done<VL: Tally, RL: Tally, R: Wait + Abort>(
     match deed {
         Deed::Cast(index, stamp, line, answer) => {
             let desk = desks.get_mut(index).expect(rt, "the desk");
-            let reading = read_line(reads, line.as_bytes());
+            let reading = read_line(poll, line.as_bytes());
             let cast = shared.cast(rt, desk, stamp, reading);
             assert_eq!(rt; reply_of(cast), answer, "at stamp {stamp}");
+        }
+        Deed::Stranger(index, stamp) => {
+            let desk = desks.get_mut(index).expect(rt, "the desk");
+            let cast = shared.cast(rt, desk, stamp, strangers_ballot(poll));
+            assert_eq!(rt; reply_of(cast), Err(EnterFault::Sizes));
         }
         Deed::Close(answer) => assert_eq!(rt; shared.close(rt), answer),
         Deed::Standing(voter, answer) => {
@@ -81,7 +93,6 @@ fn act<VL: Tally, RL: Tally, R: Wait + Abort>(
     rt: &R,
     alloc: Global,
     poll: &Poll,
-    reads: &Poll,
     desks: u8,
     deeds: &[Deed],
     all: bool,
@@ -95,7 +106,7 @@ fn act<VL: Tally, RL: Tally, R: Wait + Abort>(
 {
     let (shared, mut opened) = open_desks::<VL, RL>(alloc, poll, 2, desks, valid, refused)?;
     for deed in deeds {
-        assert_done(rt, reads, &shared, &mut opened, *deed);
+        assert_done(rt, poll, &shared, &mut opened, *deed);
     }
     if !all {
         opened.pop();
@@ -104,12 +115,11 @@ fn act<VL: Tally, RL: Tally, R: Wait + Abort>(
     gather(alloc, shared, opened)
 }
 
-/// Does the deeds at a box for the poll of a text, whose lines another poll reads.
+/// Does the deeds at a box for the poll of a text.
 fn acted<R: Wait + Abort>(
     rt: &R,
     alloc: Global,
     poll: &str,
-    reads: &str,
     desks: u8,
     deeds: &[Deed],
     all: bool,
@@ -117,9 +127,8 @@ fn acted<R: Wait + Abort>(
     requires { (1 ≤ desks) × (desks ≤ MAX_DESKS) }
 {
     let poll = Poll::from_text(alloc, poll.as_bytes())?;
-    let reads = Poll::from_text(alloc, reads.as_bytes())?;
     let (valid, refused) = (Blank::new(u64::from(desks)), Blank::new(u64::from(desks)));
-    Ok(act::<Brand, Brand, R>(rt, alloc, &poll, &reads, desks, deeds, all, valid, refused))
+    Ok(act::<Brand, Brand, R>(rt, alloc, &poll, desks, deeds, all, valid, refused))
 }
 
 /// How many steps a box has, how many of its lines are valid and refused, and how many desks it had.
@@ -138,24 +147,24 @@ fn counts_of(sealed: &Sealed) -> (usize, u64, u64, u8) {
 fn counts_after<R: Wait + Abort>(
     rt: &R,
     alloc: Global,
-    reads: &str,
     desks: u8,
     deeds: &[Deed],
 ) -> Result<(usize, u64, u64, u8), Fail>
     requires { (1 ≤ desks) × (desks ≤ MAX_DESKS) }
 {
-    let sealed = acted(rt, alloc, TWO_ELECTORS, reads, desks, deeds, true)??;
+    let sealed = acted(rt, alloc, TWO_ELECTORS, desks, deeds, true)??;
     Ok(counts_of(&sealed))
 }
 
 #[test]
 fn a_missing_desk_is_told(rt: HostRuntime) -> Result<(), Fail> {
-    let gathered = acted(&rt, rt.alloc(), TWO_ELECTORS, TWO_ELECTORS, 2, &[], false)?;
+    let gathered = acted(&rt, rt.alloc(), TWO_ELECTORS, 2, &[], false)?;
     assert_eq!(rt; gathered.err(), Some(DeskFault::MissingDesk));
     Ok(())
 }
 
-const REFUSED_CASTS: [Deed; 6] = [
+const REFUSED_CASTS: [Deed; 7] = [
+    Deed::Stranger(0, 1),
     Deed::Cast(0, 1, ANN, Ok(Reply::Counted)),
     Deed::Cast(0, 1, ANN, Err(EnterFault::StampUsed)),
     Deed::Cast(0, 0, ANN, Err(EnterFault::StampRange)),
@@ -164,19 +173,15 @@ const REFUSED_CASTS: [Deed; 6] = [
     Deed::Cast(0, 2, BOB, Err(EnterFault::SheetFull)),
 ];
 
-/// Of a poll with one option more.
-const REFUSED_BALLOT: [Deed; 1] = [Deed::Cast(0, 1, "ann 1,2,3,4", Err(EnterFault::Sizes))];
-
 #[test]
 fn refused_casts_change_nothing(rt: HostRuntime) -> Result<(), Fail> {
-    let alloc = rt.alloc();
-    let casts = counts_after(&rt, alloc, TWO_ELECTORS, 1, &REFUSED_CASTS)?;
-    let ballot = counts_after(&rt, alloc, FOUR_OPTIONS, 1, &REFUSED_BALLOT)?;
-    assert_eq!(rt; (casts, ballot), ((3, 2, 0, 1), (1, 0, 0, 1)));
+    let counts = counts_after(&rt, rt.alloc(), 1, &REFUSED_CASTS)?;
+    assert_eq!(rt; counts, (3, 2, 0, 1));
     Ok(())
 }
 
-const CLOSED: [Deed; 7] = [
+const CLOSED: [Deed; 8] = [
+    Deed::Standing(2, Err(NoVoter)),
     Deed::Standing(0, Ok(false)),
     Deed::Cast(0, 1, ANN, Ok(Reply::Counted)),
     Deed::Standing(0, Ok(true)),
@@ -188,7 +193,7 @@ const CLOSED: [Deed; 7] = [
 
 #[test]
 fn a_closed_box_refuses(rt: HostRuntime) -> Result<(), Fail> {
-    let counts = counts_after(&rt, rt.alloc(), TWO_ELECTORS, 1, &CLOSED)?;
+    let counts = counts_after(&rt, rt.alloc(), 1, &CLOSED)?;
     assert_eq!(rt; counts, (3, 1, 1, 1));
     Ok(())
 }
@@ -216,76 +221,60 @@ const LATE: [Deed; 2] = [
     Deed::Cast(0, 1, ANN, Ok(Reply::Counted)),
 ];
 
-/// Does the deeds at one desk of a box for a poll, and audits it for another poll and two lines.
-fn audit_of<R: Wait + Abort>(
+/// What is found in a sealed box by itself, without the sheets of its desks.
+fn found_without_sheets(
+    rt: &impl Abort,
+    poll: &Poll,
+    lines: &Lines<'_>,
+    sealed: &Sealed,
+) -> Option<AuditFault> {
+    let ballot_box = sealed.ballot_box();
+    assert!(rt; !ballot_box.is_open());
+    compare(poll, lines, ballot_box, &[]).err()
+}
+
+/// Does the deeds at one desk of a box for a poll, and answers what is found for another poll and two lines, with the sheet of
+/// the desk and without it.
+fn found_after<R: Wait + Abort>(
     rt: &R,
     alloc: Global,
     opened: &str,
     deeds: &[Deed],
     poll: &str,
-) -> Result<Option<AuditFault>, Fail> {
-    let sealed = acted(rt, alloc, opened, opened, 1, deeds, true)??;
+) -> Result<(Option<AuditFault>, Option<AuditFault>), Fail> {
+    let sealed = acted(rt, alloc, opened, 1, deeds, true)??;
     let poll = Poll::from_text(alloc, poll.as_bytes())?;
     let lines = Lines::split(alloc, TWO_LINES.as_bytes())?;
-    Ok(audit(&poll, &lines, sealed).err())
+    let without = found_without_sheets(rt, &poll, &lines, &sealed);
+    Ok((audit(&poll, &lines, sealed).err(), without))
 }
 
-/// The poll of a box, what is done at it, the poll for which it is audited, and what is found.
-const AUDITS: [(&str, &[Deed], &str, Option<AuditFault>); 6] = [
-    (TWO_ELECTORS, &BOTH, TWO_ELECTORS, None),
-    (FIRST_IS_LAST, &LATE, FIRST_IS_LAST, None),
-    (
-        TWO_ELECTORS,
-        &BOTH,
-        FIRST_IS_LAST,
-        Some(AuditFault::SizeDiffers),
-    ),
-    (
-        TWO_ELECTORS,
-        &ONE,
-        TWO_ELECTORS,
-        Some(AuditFault::CountDiffers),
-    ),
-    (
-        TWO_ELECTORS,
-        &MISTAKEN,
-        TWO_ELECTORS,
-        Some(AuditFault::StepDiffers(1)),
-    ),
-    (
-        TWO_ELECTORS,
-        &CLOSED_BETWEEN,
-        TWO_ELECTORS,
-        Some(AuditFault::ClosedEarly(2)),
-    ),
+const SIZE: Option<AuditFault> = Some(AuditFault::SizeDiffers);
+
+const COUNT: Option<AuditFault> = Some(AuditFault::CountDiffers);
+
+const STEP: Option<AuditFault> = Some(AuditFault::StepDiffers(1));
+
+const SLIP: Option<AuditFault> = Some(AuditFault::SlipDiffers(1, 1));
+
+const CLOSE: Option<AuditFault> = Some(AuditFault::ClosedEarly(2));
+
+/// The poll of a box, what is done at it, the poll for which it is audited, and what is found with the sheet and without it.
+const AUDITS: [(&str, &[Deed], &str, Option<AuditFault>, Option<AuditFault>); 6] = [
+    (TWO_ELECTORS, &BOTH, TWO_ELECTORS, None, SLIP),
+    (FIRST_IS_LAST, &LATE, FIRST_IS_LAST, None, SLIP),
+    (TWO_ELECTORS, &BOTH, FIRST_IS_LAST, SIZE, SIZE),
+    (TWO_ELECTORS, &ONE, TWO_ELECTORS, COUNT, COUNT),
+    (TWO_ELECTORS, &MISTAKEN, TWO_ELECTORS, STEP, STEP),
+    (TWO_ELECTORS, &CLOSED_BETWEEN, TWO_ELECTORS, CLOSE, SLIP),
 ];
 
 #[test]
 fn audits_find_what_differs(rt: HostRuntime) -> Result<(), Fail> {
-    for (opened, deeds, poll, fault) in AUDITS {
-        let found = audit_of(&rt, rt.alloc(), opened, deeds, poll)?;
-        assert_eq!(rt; found, fault);
+    for (opened, deeds, poll, with, without) in AUDITS {
+        let found = found_after(&rt, rt.alloc(), opened, deeds, poll)?;
+        assert_eq!(rt; found, (with, without));
     }
-    Ok(())
-}
-
-/// What is found where a box has the casts of two lines, and no desk handed in its sheet.
-fn found_without_sheets<R: Wait + Abort>(
-    rt: &R,
-    alloc: Global,
-) -> Result<Result<(), AuditFault>, Fail> {
-    let sealed = acted(rt, alloc, TWO_ELECTORS, TWO_ELECTORS, 1, &BOTH, true)??;
-    let poll = Poll::from_text(alloc, TWO_ELECTORS.as_bytes())?;
-    let lines = Lines::split(alloc, TWO_LINES.as_bytes())?;
-    let ballot_box = sealed.ballot_box();
-    assert!(rt; !ballot_box.is_open());
-    Ok(compare(&poll, &lines, ballot_box, &[]))
-}
-
-#[test]
-fn a_missing_sheet_differs(rt: HostRuntime) -> Result<(), Fail> {
-    let found = found_without_sheets(&rt, rt.alloc())?;
-    assert_eq!(rt; found, Err(AuditFault::SlipDiffers(1, 1)));
     Ok(())
 }
 
@@ -350,33 +339,27 @@ fn two_desks_in_threads(rt: HostRuntime) -> Result<(), Fail> {
     Ok(())
 }
 
-/// Opens two desks of a box for two lines, and asserts that all are new.
-fn open_two<VL: Tally, RL: Tally, R: Wait + Abort>(
-    rt: &R,
+/// Opens two desks of a box for two lines, and answers their numbers.
+fn open_two<VL: Tally, RL: Tally>(
     alloc: Global,
     poll: &Poll,
     valid: Blank,
     refused: Blank,
-) -> Result<(), DeskFault>
+) -> Result<(u8, u8), DeskFault>
     requires valid { (valid.name ≡ VL.name) × (valid.parts ≡ VL.parts) × (VL.parts ≡ 2) × (VL.desks ≡ 2) }
     requires refused { (refused.name ≡ RL.name) × (refused.parts ≡ RL.parts) × (RL.parts ≡ 2) × (RL.desks ≡ 2) }
     requires opened { VL.opened ≡ box_of poll.now 2 [] }
 {
-    let (shared, desks) = open_desks::<VL, RL>(alloc, poll, 2, 2, valid, refused)?;
-    assert_eq!(rt; desks.len(), 2);
-    assert_eq!(rt; (desks[0].number(), desks[1].number()), (1, 2));
-    assert_eq!(rt;
-        (shared.standing(rt, 1), shared.standing(rt, 2)),
-        (Ok(None), Err(NoVoter))
-    );
-    Ok(())
+    let (_, desks) = open_desks::<VL, RL>(alloc, poll, 2, 2, valid, refused)?;
+    Ok((desks[0].number(), desks[1].number()))
 }
 
 #[test]
 fn memory_of_open_desks(rt: HostRuntime) -> Result<(), Fail> {
-    let alloc = rt.alloc();
-    let poll = Poll::from_text(alloc, TWO_ELECTORS.as_bytes())?;
-    Ok(open_two::<Brand, Brand, _>(&rt, alloc, &poll, Blank::new(2), Blank::new(2))?)
+    let poll = Poll::from_text(rt.alloc(), TWO_ELECTORS.as_bytes())?;
+    let numbers = open_two::<Brand, Brand>(rt.alloc(), &poll, Blank::new(2), Blank::new(2))?;
+    assert_eq!(rt; numbers, (1, 2));
+    Ok(())
 }
 
 const AT_TWO_DESKS: [Deed; 2] = [
@@ -386,7 +369,7 @@ const AT_TWO_DESKS: [Deed; 2] = [
 
 #[test]
 fn memory_of_gather(rt: HostRuntime) -> Result<(), Fail> {
-    let counts = counts_after(&rt, rt.alloc(), TWO_ELECTORS, 2, &AT_TWO_DESKS)?;
+    let counts = counts_after(&rt, rt.alloc(), 2, &AT_TWO_DESKS)?;
     assert_eq!(rt; counts, (3, 2, 0, 2));
     Ok(())
 }
