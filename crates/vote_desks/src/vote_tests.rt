@@ -20,7 +20,7 @@ const NINE_ELECTORS: &str =
 const NINE_LINES: &str =
     "v0 1,2,3,4\nv1 1,2,3,4\nv2 1,2,3,4\nv3 1,2,3,4\nv4 3,1,2,4\nv5 3,1,2,4\nv6 3,1,2,4\nv7 2,3,1,4\nv8 2,3,1,4\n";
 
-/// Asserts what the nine lines give: the totals, and the votes of each option over each.
+/// Asserts what the nine lines give: the totals, and the votes of A over B, of B over C, and of C over A.
 fn assert_nine(rt: &impl Abort, ballot_box: &BallotBox) {
     let totals = Totals {
         valid: 9,
@@ -30,18 +30,8 @@ fn assert_nine(rt: &impl Abort, ballot_box: &BallotBox) {
     assert_eq!(rt; ballot_box.totals(), totals);
     let matrix = ballot_box.matrix();
     assert_eq!(rt; matrix.options(), 4);
-    let row = |a| {
-        [
-            matrix.votes(a, 1),
-            matrix.votes(a, 2),
-            matrix.votes(a, 3),
-            matrix.votes(a, 4),
-        ]
-    };
-    assert_eq!(rt;
-        [row(1), row(2), row(3), row(4)],
-        [[0, 6, 4, 9], [3, 0, 7, 9], [5, 2, 0, 9], [0, 0, 0, 0]]
-    );
+    let cycle = [matrix.votes(1, 2), matrix.votes(2, 3), matrix.votes(3, 1)];
+    assert_eq!(rt; cycle, [6, 7, 5]);
 }
 
 /// Takes the votes of the lines of a text by the nine electors' poll.
@@ -215,7 +205,11 @@ fn the_least_desk_that_stopped_is_named(rt: HostRuntime) -> Result<(), Fail> {
     let first = Some(VoteFault::Gate(1));
     assert_eq!(rt;
         (fifth, each, none),
-        ((first, (5, 4)), (first, (8, 0)), (None, (0, 0)))
+        (
+            (first, (5, 4)),
+            (first, (u64::from(MAX_DESKS), 0)),
+            (None, (0, 0))
+        )
     );
     Ok(())
 }
