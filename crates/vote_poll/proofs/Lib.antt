@@ -8,6 +8,7 @@ mod NamesLaws
 mod OneReading
 mod SortKeys
 mod PollFileLaws
+mod RankKeys
 mod RankRow
 mod ReadingLaws
 pub mod OptionLaws

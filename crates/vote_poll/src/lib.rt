@@ -35,6 +35,7 @@ mod lines;
 mod names;
 mod poll;
 mod poll_file;
+mod rank_key;
 mod ranks;
 mod reading;
 mod wording;

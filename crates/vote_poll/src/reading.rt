@@ -14,6 +14,7 @@ ghost use Rattle.std.specs.Cmp.Rules.{comparing};
 
 use crate::names::is_voter_name;
 use crate::poll::Poll;
+use crate::rank_key::key_of;
 use crate::ranks::Ranks;
 use crate::{MAX_LINE, MAX_OPTIONS, UNRANKED};
 
@@ -57,15 +58,13 @@ fn first_key(text: &[u8]) -> Option<(u8, &[u8])>
     ensures shorter { IfSome result (λ first. length first.1.now < length text.now) }
     ensures none { IfNone result (ranks_in text.now ≡ None) }
 {
-    match text {
-        [b'-', b',', rest @ ..] => Some((UNRANKED, rest)),
-        [ones @ b'1'..=b'9', b',', rest @ ..] => Some((*ones - b'0', rest)),
-        [tens @ b'1'..=b'9', ones @ b'0'..=b'9', b',', rest @ ..] => Some((
-            10 * (*tens - b'0') + (*ones - b'0'),
-            rest,
-        )),
-        _ => None,
+    let second = text[1];
+    let end = 1 + (second != b',') as usize;
+    if text[end] != b',' {
+        return None;
     }
+    let key = key_of(text[0], second)?;
+    Some((key, &text[end + 1..]))
 }
 
 /// Writes where the next option stands into a row, where there is room for it.
