@@ -100,18 +100,18 @@ key-comma a =
     elim (cases_Bool (is_within 49 57 a)) [
       | inl digit ↦ digit-comma a digit
       | inr other ↦ elim (cases_Bool (a == 45)) [
-          | inl hyphen ↦ let same : a ≡ 45 = grind (arith, nat_tests, hyphen) in rw same
-          | inr none ↦ other-comma a other none
-        ]
+        | inl hyphen ↦ let same : a ≡ 45 = grind (arith, nat_tests, hyphen) in rw same
+        | inr none ↦ other-comma a other none
+      ]
     ]
 
 key-pair : (a b : ℕ) → (b == 44) ≡ false → spelled (key_at (kind_of a) (kind_of b)) ≡ rank_in (a ∷ b ∷ [])
 key-pair a b comma =
     elim (cases_Bool (is_within 49 57 a)) [
       | inl first ↦ elim (cases_Bool (is_within 48 57 b)) [
-          | inl second ↦ two-digits a b first second
-          | inr other ↦ digit-other a b first other comma
-        ]
+        | inl second ↦ two-digits a b first second
+        | inr other ↦ digit-other a b first other comma
+      ]
       | inr none ↦ no-digit a b none comma
     ]
 
