@@ -44,7 +44,7 @@ fn kind_of(byte: u8) -> u8
 }
 
 /// Where an option stands whose rank is spelled by one byte and a comma behind it, or else by both bytes.
-pub(crate) fn key_of(first: u8, second: u8) -> Option<u8>
+pub(crate) fn spelled_key(first: u8, second: u8) -> Option<u8>
     ensures { option_map rank_of_key result ≡ rank_in (if second == byte "," then first ∷ [] else first ∷ second ∷ []) }
 {
     let key = KEYS[16 * kind_of(first) as usize + kind_of(second) as usize];

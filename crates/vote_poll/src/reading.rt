@@ -14,7 +14,7 @@ ghost use Rattle.std.specs.Cmp.Rules.{comparing};
 
 use crate::names::is_voter_name;
 use crate::poll::Poll;
-use crate::rank_key::key_of;
+use crate::rank_key::spelled_key;
 use crate::ranks::Ranks;
 use crate::{MAX_LINE, MAX_OPTIONS, UNRANKED};
 
@@ -63,7 +63,7 @@ fn first_key(text: &[u8]) -> Option<(u8, &[u8])>
     if text[end] != b',' {
         return None;
     }
-    let key = key_of(text[0], second)?;
+    let key = spelled_key(text[0], second)?;
     Some((key, &text[end + 1..]))
 }
 

@@ -1,6 +1,6 @@
 use Rattle.std.proofs.Common.{arith}
 use Rattle.vote_poll.proofs.RankKeys.{key-none, key-some, kind-small}
-use Rattle.vote_poll.proofs.rank_key.key_of.Goals as goal
+use Rattle.vote_poll.proofs.rank_key.spelled_key.Goals as goal
 
 pub bounds-kind_of : goal.bounds-kind_of
 bounds-kind_of c = omega (arith, kind-small c.args.first, kind-small c.args.second)
