@@ -10,6 +10,7 @@
 //! - [`Ranks`]: what one ballot says of the options, and which option it prefers to which.
 //! - [`Reading`]: what a poll reads in a line, by [`read_line`]: a ballot of an elector, or a [`LineFault`].
 //!   [`is_reading`] says whether a reading is that of a line.
+//! - [`push_shown`]: adds bytes of a file to a text, so that what is no printable ASCII is seen by its number.
 //!
 //! Options are numbered from 1, as in the file, and the default option has the greatest number. Voters are
 //! numbered from 0, by their place on the roll. Places of lines are numbered from 0; the line at place `i` is
@@ -38,6 +39,7 @@ mod poll_file;
 mod rank_key;
 mod ranks;
 mod reading;
+mod shown;
 mod wording;
 
 pub use fault::{PollFault, PollKey};
@@ -45,6 +47,7 @@ pub use lines::{Lines, LinesFault, MAX_LINES, lines_are_unique};
 pub use poll::Poll;
 pub use ranks::Ranks;
 pub use reading::{LineFault, Reading, is_reading, read_line, readings_are_unique};
+pub use shown::push_shown;
 pub use wording::Wording;
 
 /// The most options that a poll can have, the default among them. It has two at least.

@@ -33,7 +33,7 @@ pub(crate) fn is_voter_name(text: &[u8]) -> bool
 }
 
 /// Whether a byte is a printable ASCII character or a space.
-fn is_printable(byte: u8) -> bool
+pub(crate) fn is_printable(byte: u8) -> bool
     ensures { result ≡ is_printable byte }
 {
     matches!(byte, 0x20..=0x7E)

@@ -147,8 +147,9 @@ impl Poll {
     }
 
     /// The name of the voter with this number (from 0), where there is one. Only this voter has it.
-    pub(crate) fn voter_name(&self, voter: usize) -> Option<&[u8]>
-        ensures { IfSome result (λ name. (place_of name.now self.now.roll ≡ Some voter) × IsTrue (is_voter_name name.now)) }
+    pub fn voter_name(&self, voter: usize) -> Option<&[u8]>
+        ensures found { option_map (λ name. name.now) result ≡ slice_get self.now.roll voter }
+        ensures name { IfSome result (λ name. (place_of name.now self.now.roll ≡ Some voter) × IsTrue (is_voter_name name.now)) }
     {
         let name = self.roll.get_index(voter)?;
         Some(name.as_str().as_bytes())

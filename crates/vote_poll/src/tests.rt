@@ -1,6 +1,6 @@
 use crate::{
     LineFault, Lines, LinesFault, MAX_LINES, Poll, PollFault, Ranks, Reading, UNRANKED, Wording,
-    is_reading, read_line,
+    is_reading, push_shown, read_line,
 };
 use std::alloc::Global;
 use std::test::Fail;
@@ -180,5 +180,15 @@ fn memory_of_split(rt: HostRuntime) -> Result<(), Fail> {
     assert_eq!(rt; lines.len(), 3);
     let read = (lines.line(0), lines.line(1), lines.line(2));
     assert_eq!(rt; read, (b"a".as_slice(), b"".as_slice(), b"b".as_slice()));
+    Ok(())
+}
+
+#[test]
+fn memory_of_push_shown(rt: HostRuntime) -> Result<(), Fail> {
+    let mut text = String::new(rt.alloc());
+    if push_shown(&mut text, b"A \r\xFFB", 4).is_err() {
+        return Err(Fail::from("refused"));
+    }
+    assert_eq!(rt; text.as_str(), "A \\x0D\\xFF");
     Ok(())
 }

@@ -4,8 +4,8 @@ use Rattle.std.proofs.lemmas.Option.{slice_get_within, get_or_from_slice_get}
 use Rattle.vote_poll.proofs.NamesLaws.{name-at}
 use Rattle.vote_poll.proofs.poll.Poll.voter_name.Goals as goal
 
-pub returns : goal.returns
-returns c =
+pub returns-clause-name : goal.returns-clause-name
+returns-clause-name c =
     let keys : List (String Global) = c.self.inside.roll.keys in
     let within : c.args.voter < length c.self.inside.roll.keys = slice_get_within c.self.inside.roll.keys c.args.voter c.in_ok-name.name.now (sym c.in_ok-name.ensures.key) in
     let there : get_or c.self.inside.roll.keys c.args.voter c.in_ok-name.name.now ≡ c.in_ok-name.name.now =
