@@ -6,7 +6,7 @@
 //!   desks and every order in which the lines came, byte for byte.
 //! - [`steps_text`] gives the reply of the box to each line, where one desk casts the lines in their order. By
 //!   [`steps_are_determined`] the poll and the lines leave no choice in it.
-//! - [`check_text`] gives the line of a poll that is in order.
+//! - [`check_text`] gives the line of a poll that is in order, and [`reply_words`] the words of a reply.
 //! - The functions of [`laws`] bring laws of the count to what people see: ballot files, and the winner that a sheet names.
 //!
 //! Nothing here knows a file, a thread or a device: what is made is a text in memory, or a want of memory. The modules: `sheet`
@@ -19,7 +19,7 @@ mod sheet_text;
 mod steps;
 
 pub use sheet::{sheet_is_unique, sheet_of_box};
-pub use steps::{check_text, steps_are_determined, steps_text};
+pub use steps::{check_text, reply_words, steps_are_determined, steps_text};
 
 #[cfg(test)]
 mod tests;

@@ -8,8 +8,8 @@ use vote_poll::{LineFault, Lines, Poll};
 use vote_steps::laws::order_leaves_no_choice;
 use vote_steps::{Reply, Step, cast_all};
 
-/// The words of a reply.
-fn reply_words(reply: Reply) -> &'static str
+/// The words of a reply, as `steps` writes them.
+pub fn reply_words(reply: Reply) -> &'static str
     ensures { result.now ≡ reply_words reply }
 {
     match reply {
