@@ -3,3 +3,5 @@ pub mod Padding
 pub mod Texts
 pub mod Uniqueness
 pub mod SheetLaws
+pub mod BallotTexts
+pub mod StandingLemmas

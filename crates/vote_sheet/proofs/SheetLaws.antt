@@ -1,7 +1,7 @@
 -- From the lines of a ballot file to the sheet: what the laws of the count say of matrices and rounds holds of what people see.
-use Rattle.std.proofs.Common.{◌≡◌, ◌≢◌, ℕ, ◌≤◌, ◌<◌, List, Option, None, Some, inl, inr, refl, sym, subst, arith}
+use Rattle.std.proofs.Common.{◌≡◌, ℕ, ◌≤◌, ◌<◌, List, Option, None, Some, inl, inr, refl, subst, arith}
 use Rattle.vote_poll.specs.Options.{IsOption}
-use Rattle.vote_poll.specs.PollContent.{PollContent, IsPoll, option_count}
+use Rattle.vote_poll.specs.PollContent.{PollContent, option_count}
 use Rattle.vote_count.specs.declared.Cause.{Cause}
 use Rattle.vote_count.specs.declared.Cause.TheVariants.{Quorum, Majority}
 use Rattle.vote_count.specs.declared.Decision.{Decision}

@@ -4,3 +4,4 @@ pub mod Steps
 pub mod Sheet
 pub mod SheetOf
 pub mod SheetLaws
+pub mod Standing

@@ -1,11 +1,14 @@
 //! Laws of the count on what people see, from the lines of a ballot file to the sheet. Each function does nothing but call the laws
 //! of the count that it stands on: its contract is the law, and that is proved.
 ghost use Rattle.vote_sheet.specs.SheetLaws.{CondorcetWinnersAreNamed, LikedOptionsStay, LikedWinnersStay, UnanimityRules};
+ghost use Rattle.vote_sheet.specs.Standing.{StandingHasTheSameSheet, StandingSaysTheSame};
 
+use crate::sheet::sheet_is_unique;
 use vote_count::{
     condorcet_winners_win, final_set_is_pareto, final_set_is_schulze, raised_ballots_raise,
     raised_winners_win, winners_are_in_the_set,
 };
+use vote_poll::lines_are_unique;
 
 /// Monotonicity: where the electors come to like an option more and change nothing else, it stays in the last round.
 pub fn liked_options_stay()
@@ -37,4 +40,21 @@ pub fn condorcet_winners_are_named()
     ensures { CondorcetWinnersAreNamed }
 {
     condorcet_winners_win();
+}
+
+/// The text of `standing` is a ballot file of the same poll: it has as many lines as there are voters, each is a ballot that is
+/// not late, and the last valid ballot of each elector is the same.
+pub fn standing_says_the_same()
+    ensures { StandingSaysTheSame }
+{
+    lines_are_unique();
+}
+
+/// For every casting vote the sheet of a ballot file and the sheet of its text of `standing` are the same from the line `Voters:`
+/// on.
+pub fn standing_has_the_same_sheet()
+    ensures { StandingHasTheSameSheet }
+{
+    sheet_is_unique();
+    standing_says_the_same();
 }

@@ -1,6 +1,6 @@
-//! A whole sheet and the texts of `steps` and `check`, each call with its memory refused in turn (tests/refused-memory).
+//! A whole sheet and the texts of `steps`, `standing` and `check`, each call with its memory refused in turn (tests/refused-memory).
 
-use crate::{check_text, sheet_of_box, steps_text};
+use crate::{check_text, sheet_of_box, standing_text, steps_text};
 use std::alloc::{AllocError, Global};
 use std::process::Abort;
 use std::test::Fail;
@@ -76,6 +76,21 @@ fn memory_of_steps_text(rt: HostRuntime) -> Result<(), Fail> {
     match steps_text(alloc, &poll, &lines) {
         Ok(text) => {
             let whole = "1 counted\n2 bad shape\n3 bad not on roll\n4 replaced\n";
+            assert!(rt; text.as_str() == whole, "{}", text);
+            Ok(())
+        }
+        Err(AllocError) => Err(Fail::from("refused")),
+    }
+}
+
+#[test]
+fn memory_of_standing_text(rt: HostRuntime) -> Result<(), Fail> {
+    let alloc = rt.alloc();
+    let poll = poll_of(&rt, alloc, THREE_ELECTORS)?;
+    let lines = lines_of(&rt, alloc, "v2 -,10,3,-\nv0 1,2,3,4\nv1\nv0 2,1,3,4\n")?;
+    match standing_text(alloc, &poll, &lines) {
+        Ok(text) => {
+            let whole = "v0 2,1,3,4\nv2 -,10,3,-\n";
             assert!(rt; text.as_str() == whole, "{}", text);
             Ok(())
         }

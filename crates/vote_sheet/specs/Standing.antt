@@ -1,0 +1,55 @@
+-- What `standing` writes: of each elector with a ballot that stands the line that spells this ballot.
+use Rattle.std.specs.Prelude.{◌≡◌, ℕ, List, [], ◌∷◌, ◌++◌, length, Option, Some, None, codes}
+use Rattle.vote_poll.specs.BallotLine.{line_text}
+use Rattle.vote_poll.specs.Lines.{AreLines, text_of_lines}
+use Rattle.vote_poll.specs.PollContent.{PollContent}
+use Rattle.vote_poll.specs.Readings.{IsReading, reading}
+use Rattle.vote_sheet.specs.LastBallots.{last_valid_ballots, refused_count, valid_count, voter_count}
+use Rattle.vote_sheet.specs.SheetOf.{IsSheet}
+use Rattle.vote_sheet.specs.Texts.{Text}
+
+-- the line of a voter's ballot, where there is one
+abbrev pub ballot_line : Text → Option (List (Option ℕ)) → List Text
+ballot_line voter None = []
+ballot_line voter (Some ranks) = line_text voter ranks ∷ []
+
+-- the lines of all voters with a ballot, where each voter's entry stands at the voter's place
+abbrev pub ballot_lines : List Text → List (Option (List (Option ℕ))) → List Text
+ballot_lines [] ballots = []
+ballot_lines (voter ∷ voters) [] = []
+ballot_lines (voter ∷ voters) (ballot ∷ ballots) = ballot_line voter ballot ++ ballot_lines voters ballots
+
+-- the lines of the ballots that stand, in the order of the roll
+abbrev pub standing_lines : PollContent → List Text → List Text
+standing_lines poll lines = ballot_lines poll.roll (last_valid_ballots poll lines)
+
+-- these lines, with a line feed after each
+abbrev pub standing_text : PollContent → List Text → Text
+standing_text poll lines = text_of_lines (standing_lines poll lines)
+
+-- The second lines say of the voters what the first say, and nothing else: there are as many as voters, each is a ballot that is
+-- not late, and the last valid ballot of each elector is the same.
+pub record SaysTheSame (poll : PollContent) (lines again : List Text) : Type 0 where
+  pub count : length again ≡ voter_count poll lines
+  pub valid : valid_count poll again ≡ voter_count poll lines
+  pub refused : refused_count poll again ≡ 0
+  pub last : last_valid_ballots poll again ≡ last_valid_ballots poll lines
+
+-- what is read in each line is what the grammar of a ballot line says; `read_line` of vote_poll promises it of each line that it reads
+abbrev pub EachLineIsRead : Type 0
+EachLineIsRead = (poll : PollContent) (line : Text) → IsReading poll line (reading poll line)
+
+-- a law: the text of `standing` is a ballot file of the same poll that says the same
+abbrev pub StandingSaysTheSame : Type 0
+StandingSaysTheSame = EachLineIsRead → (poll : PollContent) (lines again : List Text) → AreLines (standing_text poll lines) again → SaysTheSame poll lines again
+
+-- from the line `Voters:` on two texts are the same
+abbrev pub AreSameFromVoters : Text → Text → Type 0
+AreSameFromVoters text other =
+    (front : Text) × (other_front : Text) × (rest : Text) × (text ≡ front ++ codes "\nVoters: " ++ rest) × (other ≡ other_front ++ codes "\nVoters: " ++ rest)
+
+-- a law: for every casting vote the sheet of a ballot file and the sheet of its text of `standing` are the same from the line `Voters:` on
+abbrev pub StandingHasTheSameSheet : Type 0
+StandingHasTheSameSheet =
+    EachLineIsRead → (poll : PollContent) (lines again : List Text) (casting : Option ℕ) (text other : Text) →
+    AreLines (standing_text poll lines) again → IsSheet poll lines casting text → IsSheet poll again casting other → AreSameFromVoters text other

@@ -1,0 +1,89 @@
+//! The ballots that stand, as a ballot file.
+
+ghost use Rattle.std.specs.Prelude.{◌≡◌, ℕ, [], ◌++◌, ◌<◌, ◌≤◌, IfOk, OnOk, length, map, slice_index_or, string_bytes};
+ghost use Rattle.std.specs.List.{join_with_byte};
+ghost use Rattle.vote_poll.specs.BallotLine.{rank_text};
+ghost use Rattle.vote_poll.specs.Lines.{text_of_lines};
+ghost use Rattle.vote_poll.specs.PollContent.{elector_count, option_count};
+ghost use Rattle.vote_count.specs.Ballots.{IsBallotOf};
+ghost use Rattle.vote_sheet.specs.Standing.{ballot_line, standing_text};
+
+use std::alloc::{AllocError, Global};
+use vote_poll::{Lines, Poll, Ranks};
+use vote_steps::cast_all;
+use vote_steps::laws::last_lines_stand;
+
+/// A rank, or a hyphen where an option is left unranked.
+fn push_rank(text: &mut String, rank: Option<u8>) -> Result<(), AllocError>
+    ensures { OnOk result (string_bytes text.new ≡ string_bytes text.old ++ rank_text rank) }
+{
+    match rank {
+        Some(rank) => write!(text, "{rank}"),
+        None => text.push_str("-"),
+    }
+}
+
+/// The ranks of a ballot of so many options, with a comma between each two.
+fn push_ranks(text: &mut String, options: u8, ranks: &Ranks) -> Result<(), AllocError>
+    requires some { 1 ≤ options }
+    requires options { length ranks.now ≡ options }
+    ensures { OnOk result (string_bytes text.new ≡ string_bytes text.old ++ join_with_byte 44 (map rank_text ranks.now)) }
+{
+    push_rank(text, ranks.rank(1))?;
+    for before in 1..options {
+        text.push_str(",")?;
+        push_rank(text, ranks.rank(before + 1))?;
+    }
+    Ok(())
+}
+
+/// The name of the voter at a place of the roll.
+fn voter_name(poll: &Poll, voter: usize) -> &str
+    requires { voter < elector_count poll.now }
+    ensures { result.now ≡ slice_index_or poll.now.roll voter [] }
+{
+    let Some(name) = poll.voter_name(voter) else {
+        unreachable!()
+    };
+    let Ok(name) = std::str::from_utf8(name) else {
+        unreachable!()
+    };
+    name
+}
+
+/// The line of a voter's ballot, where there is one. Voters are numbered from 0, by their place on the roll.
+fn push_ballot(
+    text: &mut String,
+    poll: &Poll,
+    voter: usize,
+    ballot: Option<Ranks>,
+) -> Result<(), AllocError>
+    requires voter { voter < elector_count poll.now }
+    requires ballot { IsBallotOf (option_count poll.now) ballot }
+    ensures { OnOk result (string_bytes text.new ≡ string_bytes text.old ++ text_of_lines (ballot_line (slice_index_or poll.now.roll voter []) ballot)) }
+{
+    match ballot {
+        Some(ranks) => {
+            write!(text, "{} ", voter_name(poll, voter))?;
+            push_ranks(text, poll.options(), &ranks)?;
+            writeln!(text)
+        }
+        None => Ok(()),
+    }
+}
+
+/// The text of `standing`: of each elector with a ballot that stands, in the order of the roll, the line that spells it, where one
+/// desk casts the lines in their order.
+///
+/// It is a ballot file of the same poll, and says of the voters what the lines say (`laws`).
+pub fn standing_text(alloc: Global, poll: &Poll, lines: &Lines<'_>) -> Result<String, AllocError>
+    ensures { IfOk result (λ text. string_bytes text ≡ standing_text poll.now lines.now) }
+{
+    last_lines_stand();
+    let ballot_box = cast_all(alloc, poll, lines)?;
+    let mut text = String::new(alloc);
+    for voter in 0..poll.electors() {
+        push_ballot(&mut text, poll, voter, ballot_box.standing(voter))?;
+    }
+    Ok(text)
+}
