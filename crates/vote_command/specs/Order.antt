@@ -9,7 +9,7 @@ use Rattle.vote_command.specs.declared.TheConstants.{MAX_DESKS}
 use Rattle.vote_command.specs.declared.command_line.OrderFault.{OrderFault}
 use Rattle.vote_command.specs.declared.command_line.OrderFault.TheVariants.{Help, Refused, Memory}
 use Rattle.vote_command.specs.declared.command_line.Task.{Task}
-use Rattle.vote_command.specs.declared.command_line.Task.TheVariants.{Count, Steps, Check}
+use Rattle.vote_command.specs.declared.command_line.Task.TheVariants.{Count, Steps, Check, Explain, Standing, Verify, Picture}
 
 -- the value of a subcommand's option
 abbrev pub HasText : List Row → Text → Text → Type 0
@@ -22,27 +22,45 @@ HasNumber rows name n = (text : Text) × (one_of name rows ≡ Some text) × IsN
 abbrev pub HasDesks : List Row → ℕ → Type 0
 HasDesks rows desks = (1 ≤ desks) × (desks ≤ MAX_DESKS) × HasNumber rows (codes "desks") desks
 
--- a count has a number of desks that may be asked for
+-- a number of desks that may be asked for
+abbrev pub AreDesks : ℕ → Type 0
+AreDesks desks = (1 ≤ desks) × (desks ≤ MAX_DESKS)
+
+-- a task that counts has such a number of desks
 abbrev pub DesksFit : Task → Type 0
-DesksFit (Count poll ballots desks casting) = (1 ≤ desks) × (desks ≤ MAX_DESKS)
+DesksFit (Count poll ballots desks casting) = AreDesks desks
 DesksFit (Steps poll ballots) = Unit {0}
 DesksFit (Check poll) = Unit {0}
+DesksFit (Explain poll ballots) = Unit {0}
+DesksFit (Standing poll ballots) = Unit {0}
+DesksFit (Verify poll ballots sheet desks) = AreDesks desks
+DesksFit (Picture poll ballots desks casting) = AreDesks desks
 
 -- the subcommand that asks for the task
 abbrev pub subcommand_name : Task → Text
 subcommand_name (Count poll ballots desks casting) = codes "count"
 subcommand_name (Steps poll ballots) = codes "steps"
 subcommand_name (Check poll) = codes "check"
+subcommand_name (Explain poll ballots) = codes "explain"
+subcommand_name (Standing poll ballots) = codes "standing"
+subcommand_name (Verify poll ballots sheet desks) = codes "verify"
+subcommand_name (Picture poll ballots desks casting) = codes "picture"
+
+-- the values of a count
+abbrev pub HasCountValues : List Row → Text → Text → ℕ → Option Text → Type 0
+HasCountValues rows poll ballots desks casting =
+    HasText rows (codes "poll") poll × HasText rows (codes "ballots") ballots × HasDesks rows desks × (casting ≡ first_of (codes "casting") rows)
 
 -- the task has the values of the subcommand's options
 abbrev pub HasValues : List Row → Task → Type 0
-HasValues rows (Count poll ballots desks casting) =
-    HasText rows (codes "poll") poll.now
-    × HasText rows (codes "ballots") ballots.now
-    × HasDesks rows desks
-    × (option_map (λ name. name.now) casting ≡ first_of (codes "casting") rows)
+HasValues rows (Count poll ballots desks casting) = HasCountValues rows poll.now ballots.now desks (option_map (λ name. name.now) casting)
 HasValues rows (Steps poll ballots) = HasText rows (codes "poll") poll.now × HasText rows (codes "ballots") ballots.now
 HasValues rows (Check poll) = HasText rows (codes "poll") poll.now
+HasValues rows (Explain poll ballots) = HasText rows (codes "poll") poll.now × (option_map (λ name. name.now) ballots ≡ first_of (codes "ballots") rows)
+HasValues rows (Standing poll ballots) = HasText rows (codes "poll") poll.now × HasText rows (codes "ballots") ballots.now
+HasValues rows (Verify poll ballots sheet desks) =
+    HasText rows (codes "poll") poll.now × HasText rows (codes "ballots") ballots.now × HasText rows (codes "sheet") sheet.now × HasDesks rows desks
+HasValues rows (Picture poll ballots desks casting) = HasCountValues rows poll.now ballots.now desks (option_map (λ name. name.now) casting)
 
 -- the subcommand that was given asks for the task
 abbrev pub AsksFor : Option (Text × List Row) → Task → Type 0

@@ -5,11 +5,11 @@ ghost use Rattle.clap.specs.Faults.{fault_of};
 ghost use Rattle.clap.specs.Values.{kind_of};
 ghost use Rattle.clap.specs.declared.builder.command.Command.TheViews.{out-Command as fields_of};
 ghost use Rattle.clap.specs.Words.{app_of, first_of, found_of, rows_of, rule_of, subcommand_of, subcommand_rows_of};
-ghost use Rattle.vote_command.specs.CommandLine.{bare_command, check_command, count_command, debvote_command, desks_flag, flag, required_flag, steps_command};
+ghost use Rattle.vote_command.specs.CommandLine.{ballots_command, bare_command, check_command, count_command, counting_command, debvote_command, desks_flag, explain_command, flag, picture_command, required_flag, standing_command, steps_command, verify_command};
 ghost use Rattle.vote_command.specs.Order.{AsksFor, DesksFit, HasDesks, HasValues, HelpsIfAsked, IsFaultOfKind, RefusesIfAtFault, order_status, subcommand_name};
 ghost use Rattle.vote_command.specs.declared.command_line.Task.{Task};
 
-use crate::MAX_DESKS;
+use crate::{MAX_DESKS, VERSION};
 use clap::error::ErrorKind;
 use clap::{Arg, ArgAction, ArgMatches, Command, Error};
 use std::alloc::{AllocError, Global};
@@ -32,6 +32,30 @@ pub enum Task<'a> {
     /// Check the poll file.
     Check {
         poll: &'a str,
+    },
+    /// Print all that is wrong with the poll file, and with the ballots where they are given.
+    Explain {
+        poll: &'a str,
+        ballots: Option<&'a str>,
+    },
+    /// Print the ballots that stand.
+    Standing {
+        poll: &'a str,
+        ballots: &'a str,
+    },
+    /// Count the ballots, and compare the result with a published sheet.
+    Verify {
+        poll: &'a str,
+        ballots: &'a str,
+        sheet: &'a str,
+        desks: u8,
+    },
+    /// Count the ballots, and print the result as a graph for Graphviz.
+    Picture {
+        poll: &'a str,
+        ballots: &'a str,
+        desks: u8,
+        casting: Option<&'a str>,
     },
 }
 
@@ -76,6 +100,9 @@ fn file_arg<'a>(alloc: Global, id: &'a str, help: &'a str) -> Arg<'a>
     value_arg(alloc, id, "FILE", help).required(true)
 }
 
+/// What a ballot file is.
+const BALLOTS_HELP: &str = "The ballot file, one ballot a line: name 1,2,3";
+
 fn poll_arg<'a>(alloc: Global) -> Arg<'a>
     ensures rule { rule_of result ≡ required_flag (codes "poll") }
     ensures local { result.global ≡ false }
@@ -87,7 +114,7 @@ fn ballots_arg<'a>(alloc: Global) -> Arg<'a>
     ensures rule { rule_of result ≡ required_flag (codes "ballots") }
     ensures local { result.global ≡ false }
 {
-    file_arg(alloc, "ballots", "The ballot file, an envelope a line")
+    file_arg(alloc, "ballots", BALLOTS_HELP)
 }
 
 fn casting_arg<'a>(alloc: Global) -> Arg<'a>
@@ -98,7 +125,7 @@ fn casting_arg<'a>(alloc: Global) -> Arg<'a>
         alloc,
         "casting",
         "NAME",
-        "The option that the casting vote chooses in a tie",
+        "The exact name of the option that the casting vote chooses in a tie",
     )
 }
 
@@ -111,14 +138,37 @@ fn check_command<'a>(alloc: Global) -> Result<Command<'a>, AllocError>
         .arg(poll_arg(alloc))
 }
 
+/// A command on a poll and its ballots.
+fn ballots_command<'a>(
+    alloc: Global,
+    name: &'a str,
+    about: &'a str,
+) -> Result<Command<'a>, AllocError>
+    ensures app { IfOk result (λ c. app_of c ≡ ballots_command name.entry.now) }
+    ensures local { IfOk result (λ c. (fields_of c).has_globals ≡ false) }
+{
+    Command::new(alloc, name)
+        .about(about)
+        .arg(poll_arg(alloc))?
+        .arg(ballots_arg(alloc))
+}
+
 fn steps_command<'a>(alloc: Global) -> Result<Command<'a>, AllocError>
     ensures app { IfOk result (λ c. app_of c ≡ steps_command) }
     ensures local { IfOk result (λ c. (fields_of c).has_globals ≡ false) }
 {
-    Command::new(alloc, "steps")
-        .about("Prints the reply to each ballot")
-        .arg(poll_arg(alloc))?
-        .arg(ballots_arg(alloc))
+    ballots_command(alloc, "steps", "Prints the reply to each ballot")
+}
+
+fn standing_command<'a>(alloc: Global) -> Result<Command<'a>, AllocError>
+    ensures app { IfOk result (λ c. app_of c ≡ standing_command) }
+    ensures local { IfOk result (λ c. (fields_of c).has_globals ≡ false) }
+{
+    ballots_command(
+        alloc,
+        "standing",
+        "Prints the ballots that stand, the last valid one of each elector",
+    )
 }
 
 fn desks_arg<'a>(alloc: Global) -> Arg<'a>
@@ -130,17 +180,74 @@ fn desks_arg<'a>(alloc: Global) -> Arg<'a>
         .default_value("1")
 }
 
+/// A command that counts, where the casting vote may choose.
+fn counting_command<'a>(
+    alloc: Global,
+    name: &'a str,
+    about: &'a str,
+) -> Result<Command<'a>, AllocError>
+    ensures app { IfOk result (λ c. app_of c ≡ counting_command name.entry.now) }
+    ensures local { IfOk result (λ c. (fields_of c).has_globals ≡ false) }
+{
+    ballots_command(alloc, name, about)?
+        .arg(desks_arg(alloc))?
+        .arg(casting_arg(alloc))
+}
+
 fn count_command<'a>(alloc: Global) -> Result<Command<'a>, AllocError>
     ensures app { IfOk result (λ c. app_of c ≡ count_command) }
     ensures local { IfOk result (λ c. (fields_of c).has_globals ≡ false) }
 {
-    Command::new(alloc, "count")
-        .about("Counts the ballots and prints the result")
-        .arg(poll_arg(alloc))?
-        .arg(ballots_arg(alloc))?
-        .arg(desks_arg(alloc))?
-        .arg(casting_arg(alloc))
+    counting_command(alloc, "count", "Counts the ballots and prints the result")
 }
+
+fn picture_command<'a>(alloc: Global) -> Result<Command<'a>, AllocError>
+    ensures app { IfOk result (λ c. app_of c ≡ picture_command) }
+    ensures local { IfOk result (λ c. (fields_of c).has_globals ≡ false) }
+{
+    counting_command(
+        alloc,
+        "picture",
+        "Counts the ballots and prints the result as a graph for Graphviz",
+    )
+}
+
+fn verify_command<'a>(alloc: Global) -> Result<Command<'a>, AllocError>
+    ensures app { IfOk result (λ c. app_of c ≡ verify_command) }
+    ensures local { IfOk result (λ c. (fields_of c).has_globals ≡ false) }
+{
+    ballots_command(
+        alloc,
+        "verify",
+        "Counts the ballots and compares the result with a published sheet",
+    )?
+    .arg(file_arg(alloc, "sheet", "The sheet that was published"))?
+    .arg(desks_arg(alloc))
+}
+
+fn explain_command<'a>(alloc: Global) -> Result<Command<'a>, AllocError>
+    ensures app { IfOk result (λ c. app_of c ≡ explain_command) }
+    ensures local { IfOk result (λ c. (fields_of c).has_globals ≡ false) }
+{
+    Command::new(alloc, "explain")
+        .about("Says all that is wrong with a poll and its ballots, and where")
+        .arg(poll_arg(alloc))?
+        .arg(value_arg(alloc, "ballots", "FILE", BALLOTS_HELP))
+}
+
+/// What the exit statuses say.
+const STATUSES_HELP: &str = "Exit statuses:
+  0  done; a count has a winner, a poll or its ballots have nothing wrong, a sheet is verified
+  1  a tie, and no casting vote was given; the result is printed
+  2  the command line is refused
+  3  the poll file is refused or can't be read
+  4  the ballot file is refused or can't be read
+  5  out of memory, or a thread could not be started
+  6  the votes could not be taken, or their audit failed
+  7  the output failed
+  8  the casting vote is for an option that is not left, or not in the poll
+  9  something was found by explain, or differs by verify
+ 10  the sheet can't be read";
 
 /// The program without its subcommands. Its name is given, since the words come without it.
 fn bare_command<'a>(alloc: Global) -> Result<Command<'a>, AllocError>
@@ -149,6 +256,8 @@ fn bare_command<'a>(alloc: Global) -> Result<Command<'a>, AllocError>
 {
     Command::new(alloc, "debvote")
         .about("Counts votes by the Debian Constitution")
+        .version(VERSION)
+        .after_help(STATUSES_HELP)
         .no_binary_name(true)
         .subcommand_required(true)
         .bin_name("debvote")
@@ -161,7 +270,11 @@ fn debvote_command<'a>(alloc: Global) -> Result<Command<'a>, AllocError>
     bare_command(alloc)?
         .subcommand(count_command(alloc)?)?
         .subcommand(steps_command(alloc)?)?
-        .subcommand(check_command(alloc)?)
+        .subcommand(check_command(alloc)?)?
+        .subcommand(explain_command(alloc)?)?
+        .subcommand(standing_command(alloc)?)?
+        .subcommand(verify_command(alloc)?)?
+        .subcommand(picture_command(alloc)?)
 }
 
 fn desks(given: &ArgMatches<'_>) -> Option<u8>
@@ -218,6 +331,56 @@ fn check_task<'a>(given: &ArgMatches<'a>) -> Option<Task<'a>>
     })
 }
 
+#[tactic(auto, using(crate::proofs::Orders::first_value_rows))]
+fn explain_task<'a>(given: &ArgMatches<'a>) -> Option<Task<'a>>
+    ensures name { IfSome result (λ task. subcommand_name task ≡ codes "explain") }
+    ensures values { IfSome result (HasValues (rows_of (found_of given.now))) }
+    ensures none { IfNone result ((task : Task) → subcommand_name task ≡ codes "explain" → HasValues (rows_of (found_of given.now)) task → ⊥) }
+{
+    Some(Task::Explain {
+        poll: file(given, "poll")?,
+        ballots: given.get_str("ballots"),
+    })
+}
+
+fn standing_task<'a>(given: &ArgMatches<'a>) -> Option<Task<'a>>
+    ensures name { IfSome result (λ task. subcommand_name task ≡ codes "standing") }
+    ensures values { IfSome result (HasValues (rows_of (found_of given.now))) }
+    ensures none { IfNone result ((task : Task) → subcommand_name task ≡ codes "standing" → HasValues (rows_of (found_of given.now)) task → ⊥) }
+{
+    Some(Task::Standing {
+        poll: file(given, "poll")?,
+        ballots: file(given, "ballots")?,
+    })
+}
+
+fn verify_task<'a>(given: &ArgMatches<'a>) -> Option<Task<'a>>
+    ensures name { IfSome result (λ task. subcommand_name task ≡ codes "verify") }
+    ensures values { IfSome result (HasValues (rows_of (found_of given.now))) }
+    ensures none { IfNone result ((task : Task) → subcommand_name task ≡ codes "verify" → HasValues (rows_of (found_of given.now)) task → ⊥) }
+{
+    Some(Task::Verify {
+        poll: file(given, "poll")?,
+        ballots: file(given, "ballots")?,
+        sheet: file(given, "sheet")?,
+        desks: desks(given)?,
+    })
+}
+
+#[tactic(auto, using(crate::proofs::Orders::first_value_rows))]
+fn picture_task<'a>(given: &ArgMatches<'a>) -> Option<Task<'a>>
+    ensures name { IfSome result (λ task. subcommand_name task ≡ codes "picture") }
+    ensures values { IfSome result (HasValues (rows_of (found_of given.now))) }
+    ensures none { IfNone result ((task : Task) → subcommand_name task ≡ codes "picture" → HasValues (rows_of (found_of given.now)) task → ⊥) }
+{
+    Some(Task::Picture {
+        poll: file(given, "poll")?,
+        ballots: file(given, "ballots")?,
+        desks: desks(given)?,
+        casting: given.get_str("casting"),
+    })
+}
+
 fn task_of<'a>(matches: &ArgMatches<'a>) -> Option<Task<'a>>
     ensures found { IfSome result (AsksFor (subcommand_rows_of matches.now)) }
     ensures none { IfNone result ((task : Task) → AsksFor (subcommand_rows_of matches.now) task → ⊥) }
@@ -227,6 +390,10 @@ fn task_of<'a>(matches: &ArgMatches<'a>) -> Option<Task<'a>>
         "count" => count_task(given),
         "steps" => steps_task(given),
         "check" => check_task(given),
+        "explain" => explain_task(given),
+        "standing" => standing_task(given),
+        "verify" => verify_task(given),
+        "picture" => picture_task(given),
         _ => None,
     }
 }

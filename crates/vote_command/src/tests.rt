@@ -48,7 +48,7 @@ fn memory_of_order_for_help(rt: HostRuntime) -> Result<(), Fail> {
                 "{}",
                 text
             );
-            for name in ["count", "steps", "check", "--help"] {
+            for name in ["count", "explain", "picture", "--version", "Exit statuses"] {
                 assert!(rt; text.contains(name), "{}", text);
             }
             Ok(())

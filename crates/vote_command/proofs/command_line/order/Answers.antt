@@ -59,3 +59,10 @@ returns-clause-refused c =
     let same = c.in_ok-command.ensures.app in
     let found = c.in-Ok.ensures.ok.2 (ap is_simple same ∙ simple) in
     inr (λ task asks. c.in-None.ensures.none task (asks.0, found.1 ∙ ap (λ (command : App). subcommand_of command (map (λ word. word.now) c.args.words.now)) same ∙ asks.1, asks.2))
+
+pub returns-in-Some-clause-ok : goal.returns-in-Some-clause-ok
+returns-in-Some-clause-ok c =
+    let same = c.in_ok-command.ensures.app in
+    let found = c.in-Ok.ensures.ok.2 (ap is_simple same ∙ simple) in
+    let asks = c.in-Some.ensures.found in
+    (asks.0, sym (found.1 ∙ ap (λ (command : App). subcommand_of command (map (λ word. word.now) c.args.words.now)) same) ∙ asks.1, asks.2)
