@@ -1,5 +1,5 @@
 -- What a count writes, and how it ends.
-use Rattle.std.specs.Prelude.{◌≡◌, ◌+◌, ℕ, Option, Some, None, option_map, Result, Ok, IfOk}
+use Rattle.std.specs.Prelude.{◌≡◌, ◌+◌, ℕ, List, Option, Some, None, option_map, Result, Ok, IfOk}
 use Rattle.vote_count.specs.declared.Decision.{Decision}
 use Rattle.vote_count.specs.declared.Decision.TheVariants as decision
 use Rattle.vote_poll.specs.Lines.{lines_of}
@@ -10,6 +10,8 @@ use Rattle.vote_sheet.specs.SheetOf.{IsSheetAndDecision}
 use Rattle.vote_sheet.specs.Texts.{Text}
 use Rattle.vote_runs.specs.declared.fault.Ended.{Ended}
 use Rattle.vote_runs.specs.declared.fault.Ended.TheVariants as ended
+use Rattle.vote_runs.specs.declared.counting.Purpose.{Purpose}
+use Rattle.vote_runs.specs.declared.counting.Purpose.TheVariants as purpose
 use Rattle.vote_runs.specs.declared.fault.RunFault.{RunFault}
 use Rattle.vote_runs.specs.declared.fault.RunFault.TheVariants as run
 
@@ -34,12 +36,15 @@ ended_of (decision.Winner option) = ended.Decided option
 ended_of decision.Tie = ended.Tie
 ended_of (decision.CastingOutside option) = ended.CastingOutside option
 
--- the text is the sheet of the poll, the lines and the casting vote, and the end is what this sheet decides
-abbrev pub IsCountOf : Text → Text → Option Text → Text → Ended → Type 0
-IsCountOf poll_text ballots casting text end =
-    (poll : PollContent) × (decision : Decision) × (poll_in poll_text ≡ Ok poll)
-    × IsSheetAndDecision poll (lines_of ballots) (casting_option poll casting) text decision × (end ≡ ended_of decision)
+-- what a count is made for: the text of the poll, the lines and the casting vote, and how the run ends by it
+abbrev pub IsMade : Purpose → PollContent → List Text → Option ℕ → Text → Ended → Type 0
+IsMade purpose.Sheet poll lines casting text end = (decision : Decision) × IsSheetAndDecision poll lines casting text decision × (end ≡ ended_of decision)
 
--- the text is that sheet, and where the run came to an end, it ended by what the sheet decides
-abbrev pub IsCount : Text → Text → Option Text → Result Ended RunFault → Text → Type 0
-IsCount poll_text ballots casting result text = (end : Ended) × IsCountOf poll_text ballots casting text end × IfOk result (λ ended. ended ≡ end)
+-- the same of two files and the name of an option
+abbrev pub IsCountFor : Purpose → Text → Text → Option Text → Text → Ended → Type 0
+IsCountFor made_for poll_text ballots casting text end =
+    (poll : PollContent) × (poll_in poll_text ≡ Ok poll) × IsMade made_for poll (lines_of ballots) (casting_option poll casting) text end
+
+-- the text is that, and where the run came to an end, it ended by it
+abbrev pub IsCount : Purpose → Text → Text → Option Text → Result Ended RunFault → Text → Type 0
+IsCount made_for poll_text ballots casting result text = (end : Ended) × IsCountFor made_for poll_text ballots casting text end × IfOk result (λ ended. ended ≡ end)

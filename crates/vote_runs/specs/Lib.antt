@@ -2,5 +2,6 @@
 pub mod Joined
 pub mod Runs
 pub mod Counting
+pub mod Taking
 pub mod Performing
 pub mod Status

@@ -10,6 +10,8 @@ use Rattle.vote_sheet.specs.Texts.{Text}
 use Rattle.vote_runs.specs.Counting.{AnswersCasting, IsCount}
 use Rattle.vote_runs.specs.Joined.{joined_parts}
 use Rattle.vote_runs.specs.Runs.{AnswersLines, AnswersPoll, AreSteps, IsCheck, Writes}
+use Rattle.vote_runs.specs.declared.counting.Purpose.{Purpose}
+use Rattle.vote_runs.specs.declared.counting.Purpose.TheVariants as purpose
 use Rattle.vote_runs.specs.declared.fault.Ended.{Ended}
 use Rattle.vote_runs.specs.declared.fault.Ended.TheVariants as ended
 use Rattle.vote_runs.specs.declared.fault.RunFault.{RunFault}
@@ -24,14 +26,14 @@ HasDesks (Steps poll ballots) = Unit {0}
 HasDesks (Check poll) = Unit {0}
 HasDesks (Joined input) = Unit {0}
 
--- the sheet of these bytes and this casting vote is written, and the run ends by what it decides; the votes stop it only by a fault
+-- what the count of these bytes and this casting vote is made for is written, and the run ends by it; the votes stop it only by a fault
 -- that they can have at so many desks
-pub record Counts (poll_text ballots : Text) (desks : ℕ) (named : Option Text) (old new : Option Text) (result : Result Ended RunFault) : Type 0 where
+pub record Counts (made_for : Purpose) (poll_text ballots : Text) (desks : ℕ) (named : Option Text) (old new : Option Text) (result : Result Ended RunFault) : Type 0 where
   pub poll : AnswersPoll poll_text (result_err result)
   pub casting : AnswersCasting poll_text named (result_err result)
   pub lines : AnswersLines (lines_of ballots) (result_err result)
   pub votes : (fault : VoteFault) → result_err result ≡ Some (run.Vote fault) → CanStopVotes fault × IsOfDesk desks fault
-  pub writes : Writes (IsCount poll_text ballots named result) old new (result_err result)
+  pub writes : Writes (IsCount made_for poll_text ballots named result) old new (result_err result)
 
 -- the replies to the lines of these bytes are written
 pub record PrintsSteps (poll_text ballots : Text) (old new : Option Text) (result : Result Ended RunFault) : Type 0 where
@@ -53,7 +55,7 @@ pub record Checks (poll_text : Text) (old new : Option Text) (result : Result En
 
 -- what a sink holds before and after a job, and how the job ends
 abbrev pub Performs : Job → Option Text → Option Text → Result Ended RunFault → Type 0
-Performs (Count poll ballots desks casting) old new result = Counts poll.now ballots.now desks (option_map (λ name. name.now) casting) old new result
+Performs (Count poll ballots desks casting) old new result = Counts purpose.Sheet poll.now ballots.now desks (option_map (λ name. name.now) casting) old new result
 Performs (Steps poll ballots) old new result = PrintsSteps poll.now ballots.now old new result
 Performs (Check poll) old new result = Checks poll.now old new result
 Performs (Joined input) old new result = PrintsSteps (joined_parts input.now).0 (joined_parts input.now).1 old new result

@@ -29,9 +29,10 @@ mod joined;
 pub mod laws;
 mod output;
 mod steps;
+mod taking;
 
 pub use audited::{sheet, sheet_and_decision};
-pub use counting::run;
+pub use counting::{Purpose, count_for, run};
 pub use fault::{Ended, InputFault, RunFault, ballots_unread, fault_status, poll_unread, status};
 pub use jobs::{Job, perform, perform_on};
 pub use joined::split_joined;
