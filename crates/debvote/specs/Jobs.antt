@@ -1,14 +1,47 @@
--- The job of a task, once its files are read.
-use Rattle.std.specs.Prelude.{◌≡◌, List, ℕ, option_map}
+-- The files of a task, and its job once they are read.
+use Rattle.std.specs.Prelude.{◌≡◌, List, ℕ, Option, Some, None, is_some, option_map}
 use Rattle.vote_command.specs.declared.Task.{Task}
 use Rattle.vote_command.specs.declared.Task.TheVariants as task
 use Rattle.vote_runs.specs.declared.Job.{Job}
 use Rattle.vote_runs.specs.declared.Job.TheVariants as job
 
--- what the task asks for, with these bytes of its poll file and its ballot file, and with its desks and its casting vote
-abbrev pub IsJobOf : Task → List ℕ → List ℕ → Job → Type 0
-IsJobOf (task.Count poll_name ballots_name asked named) poll_text ballots_text (job.Count poll ballots desks casting) =
-    (poll.now ≡ poll_text) × (ballots.now ≡ ballots_text) × (desks ≡ asked) × (option_map (λ name. name.now) casting ≡ option_map (λ name. name.now) named)
-IsJobOf (task.Steps poll_name ballots_name) poll_text ballots_text (job.Steps poll ballots) = (poll.now ≡ poll_text) × (ballots.now ≡ ballots_text)
-IsJobOf (task.Check poll_name) poll_text ballots_text (job.Check poll) = poll.now ≡ poll_text
-IsJobOf asked poll_text ballots_text other = ⊥
+-- the name of the poll file
+abbrev pub poll_name : Task → List ℕ
+poll_name (task.Count poll ballots desks casting) = poll.now
+poll_name (task.Steps poll ballots) = poll.now
+poll_name (task.Check poll) = poll.now
+poll_name (task.Explain poll ballots) = poll.now
+poll_name (task.Standing poll ballots) = poll.now
+poll_name (task.Verify poll ballots sheet desks) = poll.now
+poll_name (task.Picture poll ballots desks casting) = poll.now
+
+-- the name of the ballot file, where the task has one
+abbrev pub ballots_name : Task → Option (List ℕ)
+ballots_name (task.Count poll ballots desks casting) = Some ballots.now
+ballots_name (task.Steps poll ballots) = Some ballots.now
+ballots_name (task.Check poll) = None
+ballots_name (task.Explain poll ballots) = option_map (λ name. name.now) ballots
+ballots_name (task.Standing poll ballots) = Some ballots.now
+ballots_name (task.Verify poll ballots sheet desks) = Some ballots.now
+ballots_name (task.Picture poll ballots desks casting) = Some ballots.now
+
+-- the bytes of the files that a task may name: its poll file, its ballot file and its published sheet
+pub record Files : Type 0 where
+  pub poll : List ℕ
+  pub ballots : List ℕ
+  pub sheet : List ℕ
+
+-- what the task asks for, with these bytes of its files, and with its desks and its casting vote
+abbrev pub IsJobOf : Task → Files → Job → Type 0
+IsJobOf (task.Count poll_name ballots_name asked named) files (job.Count poll ballots desks casting) =
+    (poll.now ≡ files.poll) × (ballots.now ≡ files.ballots) × (desks ≡ asked) × (option_map (λ name. name.now) casting ≡ option_map (λ name. name.now) named)
+IsJobOf (task.Steps poll_name ballots_name) files (job.Steps poll ballots) = (poll.now ≡ files.poll) × (ballots.now ≡ files.ballots)
+IsJobOf (task.Check poll_name) files (job.Check poll) = poll.now ≡ files.poll
+IsJobOf (task.Explain poll_name named) files (job.Explain poll ballots) =
+    (poll.now ≡ files.poll) × (option_map (λ bytes. bytes.now) ballots ≡ option_map (λ name. files.ballots) named)
+IsJobOf (task.Standing poll_name ballots_name) files (job.Standing poll ballots) = (poll.now ≡ files.poll) × (ballots.now ≡ files.ballots)
+IsJobOf (task.Verify poll_name ballots_name sheet_name asked) files (job.Verify poll ballots sheet desks) =
+    (poll.now ≡ files.poll) × (ballots.now ≡ files.ballots) × (sheet.now ≡ files.sheet) × (desks ≡ asked)
+IsJobOf (task.Picture poll_name ballots_name asked named) files (job.Picture poll ballots desks casting) =
+    (poll.now ≡ files.poll) × (ballots.now ≡ files.ballots) × (desks ≡ asked) × (option_map (λ name. name.now) casting ≡ option_map (λ name. name.now) named)
+IsJobOf asked files other = ⊥

@@ -2,15 +2,18 @@
 
 ghost use Rattle.std.specs.Prelude.{◌≡◌, IfErr};
 ghost use Rattle.vote_files.specs.declared.ReadFault.{ReadFault};
-ghost use Rattle.vote_runs.specs.Status.{ballots_unread, poll_unread};
+ghost use Rattle.vote_runs.specs.Status.{ballots_unread, poll_unread, sheet_unread};
 
 use std::fs::File;
 use std::rt::Files;
 use vote_files::{ReadFault, read_all};
-use vote_runs::{RunFault, ballots_unread, poll_unread};
+use vote_runs::{RunFault, ballots_unread, poll_unread, sheet_unread};
 
 /// The most bytes of a poll file.
 const POLL_LIMIT: usize = 1_048_576;
+
+/// The most bytes of a published sheet.
+const SHEET_LIMIT: usize = 1_048_576;
 
 /// The most bytes of a ballot file.
 const BALLOTS_LIMIT: usize = 33_554_432;
@@ -47,6 +50,16 @@ pub fn read_ballots<R: Files + AllocGlobal>(rt: &R, name: &str) -> Result<Vec<u8
     match read_file(rt, name, BALLOTS_LIMIT) {
         Ok(bytes) => Ok(bytes),
         Err(fault) => Err(ballots_unread(fault)),
+    }
+}
+
+/// All bytes of a published sheet.
+pub fn read_sheet<R: Files + AllocGlobal>(rt: &R, name: &str) -> Result<Vec<u8>, RunFault>
+    ensures { IfErr result (λ fault. (read : ReadFault) × (fault ≡ sheet_unread read)) }
+{
+    match read_file(rt, name, SHEET_LIMIT) {
+        Ok(bytes) => Ok(bytes),
+        Err(fault) => Err(sheet_unread(fault)),
     }
 }
 

@@ -1,23 +1,26 @@
 //! Counts votes by the Debian Constitution.
 //!
-//! `debvote count` counts the ballots of a file by a poll file and writes the result sheet, `debvote steps` writes the
-//! reply of the ballot box to each line, and `debvote check` checks a poll file. Without arguments the program reads a poll
-//! and its ballots from standard input, joined by a line `%%`, and acts as `steps`.
+//! `debvote count` counts the ballots of a file by a poll file and writes the result sheet, and `debvote picture` the outcome as
+//! a graph. `debvote steps` writes the reply of the ballot box to each line, `debvote standing` the ballots that stand, and
+//! `debvote verify` whether a published sheet is that of the count. `debvote check` checks a poll file, and `debvote explain`
+//! says all that is wrong with it and with the ballots. Without arguments the program reads a poll and its ballots from
+//! standard input, joined by a line `%%`, and acts as `steps`.
 //!
 //! The program reads, calls and reports. What the words ask for is said by `vote_command`, the inputs are read by `vote_files`,
 //! and all else is one call of `vote_runs`, which writes what is meant by the bytes that were read and says how the run ended.
 #![tactic(auto)]
 
 mod inputs;
+mod tasks;
 
 ghost use Rattle.std.specs.Prelude.{◌≡◌, ◌⊎◌, Err};
-ghost use Rattle.debvote.specs.Jobs.{IsJobOf};
 ghost use Rattle.vote_command.specs.Order.{DesksFit, order_status};
-ghost use Rattle.vote_runs.specs.Performing.{HasDesks};
 ghost use Rattle.vote_runs.specs.Status.{status};
 
-use crate::inputs::{read_ballots, read_joined, read_poll};
+use crate::inputs::{read_ballots, read_joined, read_poll, read_sheet};
+use crate::tasks::{ballots_name, job_of, poll_name};
 use std::process::ExitCode;
+use std::io::{ErrorKind, IsTerminal};
 use std::rt::{Env, Files};
 use std::sync::Wait;
 use std::thread::Threads;
@@ -26,38 +29,27 @@ use vote_command::{OrderFault, Task, order, order_status};
 use vote_desks::NoGate;
 use vote_runs::{Ended, Job, RunFault, perform_on, status};
 
-/// The job of a task whose files have these bytes.
-fn job_of<'a>(task: &Task<'a>, poll: &'a [u8], ballots: &'a [u8]) -> Job<'a>
-    requires { DesksFit task.now }
-    ensures job { IsJobOf task.now poll.now ballots.now result }
-    ensures desks { HasDesks result }
-{
-    match task {
-        Task::Count { desks, casting, .. } => Job::Count {
-            poll,
-            ballots,
-            desks: *desks,
-            casting: casting.map(|name| name.as_bytes()),
-        },
-        Task::Steps { .. } => Job::Steps { poll, ballots },
-        Task::Check { .. } => Job::Check { poll },
-    }
-}
+/// What is said at a terminal before a joined input is read.
+const TERMINAL_HINT: &str =
+    "debvote: reading a poll and its ballots from the terminal; see debvote --help";
 
-/// Reads the files of a task, the poll first, before anything is checked, and does its job.
+/// Reads the files of a task before anything is checked, the poll first and a published sheet last, and does its job.
 fn carry_out<R: Files + Print + AllocGlobal + Threads + Wait + Sync>(
     rt: &R,
     task: &Task<'_>,
 ) -> Result<Ended, RunFault>
     requires { DesksFit task.now }
 {
-    let (poll, ballots) = match task {
-        Task::Count { poll, ballots, .. } | Task::Steps { poll, ballots } => {
-            (read_poll(rt, poll)?, read_ballots(rt, ballots)?)
-        }
-        Task::Check { poll } => (read_poll(rt, poll)?, Vec::new(rt.alloc())),
+    let poll = read_poll(rt, poll_name(task))?;
+    let ballots = match ballots_name(task) {
+        Some(name) => read_ballots(rt, name)?,
+        None => Vec::new(rt.alloc()),
     };
-    let job = job_of(task, poll.as_slice(), ballots.as_slice());
+    let sheet = match task {
+        Task::Verify { sheet, .. } => read_sheet(rt, sheet)?,
+        _ => Vec::new(rt.alloc()),
+    };
+    let job = job_of(task, poll.as_slice(), ballots.as_slice(), sheet.as_slice());
     let (_, outcome) = perform_on(rt, rt.alloc(), &job, &NoGate, io::writer(rt));
     outcome
 }
@@ -97,6 +89,9 @@ fn explain<R: Print + Eprint>(rt: &R, fault: &OrderFault) -> u8
         OrderFault::Refused(text) => {
             let _ = rt.eprint(text);
         }
+        OrderFault::NotUtf8 => {
+            let _ = eprintln!(rt; "debvote: an argument is not UTF-8");
+        }
         OrderFault::Memory => return report(rt, &Err(RunFault::Memory)),
     }
     order_status(fault)
@@ -106,8 +101,12 @@ fn explain<R: Print + Eprint>(rt: &R, fault: &OrderFault) -> u8
 fn act<R: Files + Input + Print + Eprint + AllocGlobal + Threads + Wait + Sync>(
     rt: &R,
     words: &[&str],
+    at_terminal: bool,
 ) -> u8 {
     if words.is_empty() {
+        if at_terminal {
+            let _ = eprintln!(rt; "{TERMINAL_HINT}");
+        }
         return report(rt, &print_joined(rt));
     }
     match order(rt.alloc(), words) {
@@ -119,9 +118,14 @@ fn act<R: Files + Input + Print + Eprint + AllocGlobal + Threads + Wait + Sync>(
 /// Acts on the words after the program's name, and gives the exit status.
 fn run_program<R: Files + Input + Print + Eprint + Env + AllocGlobal + Threads + Wait + Sync>(
     rt: &R,
+    at_terminal: bool,
 ) -> Result<u8, RunFault> {
-    let Ok(args) = env::args(rt) else {
-        return Err(RunFault::Memory);
+    let args = match env::args(rt) {
+        Ok(args) => args,
+        Err(error) if error.kind() == ErrorKind::InvalidData => {
+            return Ok(explain(rt, &OrderFault::NotUtf8));
+        }
+        Err(_) => return Err(RunFault::Memory),
     };
     let args: Vec<String> = args.collect(rt.alloc())?;
     let words: Vec<&str> = args
@@ -129,11 +133,11 @@ fn run_program<R: Files + Input + Print + Eprint + Env + AllocGlobal + Threads +
         .skip(1)
         .map(|word| word.as_str())
         .collect(rt.alloc())?;
-    Ok(act(rt, words.as_slice()))
+    Ok(act(rt, words.as_slice(), at_terminal))
 }
 
 fn main(rt: HostRuntime) -> ExitCode {
-    let status = match run_program(&rt) {
+    let status = match run_program(&rt, rt.stdin().is_terminal()) {
         Ok(status) => status,
         Err(fault) => report(&rt, &Err(fault)),
     };

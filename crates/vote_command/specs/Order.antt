@@ -7,7 +7,7 @@ use Rattle.clap.specs.declared.error.kind.ErrorKind.{ErrorKind}
 use Rattle.clap.specs.declared.error.kind.ErrorKind.TheVariants as kind
 use Rattle.vote_command.specs.declared.TheConstants.{MAX_DESKS}
 use Rattle.vote_command.specs.declared.command_line.OrderFault.{OrderFault}
-use Rattle.vote_command.specs.declared.command_line.OrderFault.TheVariants.{Help, Refused, Memory}
+use Rattle.vote_command.specs.declared.command_line.OrderFault.TheVariants.{Help, Refused, NotUtf8, Memory}
 use Rattle.vote_command.specs.declared.command_line.Task.{Task}
 use Rattle.vote_command.specs.declared.command_line.Task.TheVariants.{Count, Steps, Check, Explain, Standing, Verify, Picture}
 
@@ -78,22 +78,26 @@ IsRefusal k = (k ≢ kind.DisplayHelp) × (k ≢ kind.DisplayVersion) × (k ≢ 
 abbrev pub IsFaultOfKind : ErrorKind → OrderFault → Type 0
 IsFaultOfKind k (Help text) = AsksForHelp k
 IsFaultOfKind k (Refused text) = IsRefusal k
+IsFaultOfKind k NotUtf8 = ⊥
 IsFaultOfKind k Memory = k ≡ kind.OutOfMemory
 
 -- help is answered only where the words ask for it
 abbrev pub HelpsIfAsked : Kinds → OrderFault → Type 0
 HelpsIfAsked kinds (Help text) = (k : ErrorKind) × AsksForHelp k × IsAmong k kinds
 HelpsIfAsked kinds (Refused text) = Unit {0}
+HelpsIfAsked kinds NotUtf8 = ⊥
 HelpsIfAsked kinds Memory = Unit {0}
 
--- words are refused only where `clap` finds a fault in them, or where no task has the values that it finds
+-- words are refused only where `clap` finds a fault in them, or where no task has the values that it finds; they are all UTF-8
 abbrev pub RefusesIfAtFault : Kinds → Option (Text × List Row) → OrderFault → Type 0
 RefusesIfAtFault kinds subcommand (Help text) = Unit {0}
 RefusesIfAtFault kinds subcommand (Refused text) = ((k : ErrorKind) × IsRefusal k × IsAmong k kinds) ⊎ ((task : Task) → AsksFor subcommand task → ⊥)
+RefusesIfAtFault kinds subcommand NotUtf8 = ⊥
 RefusesIfAtFault kinds subcommand Memory = Unit {0}
 
 -- the exit status for words that are no task
 abbrev pub order_status : OrderFault → ℕ
 order_status (Help text) = 0
 order_status (Refused text) = 2
+order_status NotUtf8 = 2
 order_status Memory = 5

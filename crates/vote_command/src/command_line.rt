@@ -66,6 +66,8 @@ pub enum OrderFault {
     Help(String),
     /// They are refused, for this reason.
     Refused(String),
+    /// One of them is not UTF-8, so [`order`] was not called.
+    NotUtf8,
     /// Memory ran out.
     Memory,
 }
@@ -435,7 +437,7 @@ pub fn order_status(fault: &OrderFault) -> u8
 {
     match fault {
         OrderFault::Help(_) => 0,
-        OrderFault::Refused(_) => 2,
+        OrderFault::Refused(_) | OrderFault::NotUtf8 => 2,
         OrderFault::Memory => 5,
     }
 }

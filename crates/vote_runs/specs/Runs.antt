@@ -9,7 +9,10 @@ use Rattle.vote_poll.specs.declared.lines.LinesFault.{LinesFault}
 use Rattle.vote_poll.specs.declared.lines.LinesFault.TheVariants as lines
 use Rattle.vote_files.specs.Device.{AppendsPrefix}
 use Rattle.vote_sheet.specs.Steps.{IsStepsText, check_text}
+use Rattle.vote_sheet.specs.Standing.{standing_text}
 use Rattle.vote_sheet.specs.Texts.{Text}
+use Rattle.vote_runs.specs.declared.listing.Listing.{Listing}
+use Rattle.vote_runs.specs.declared.listing.Listing.TheVariants as listing
 use Rattle.vote_runs.specs.declared.fault.RunFault.{RunFault}
 use Rattle.vote_runs.specs.declared.fault.RunFault.TheVariants as run
 
@@ -36,9 +39,14 @@ Writes IsMeant old new None = (text : Text) × IsMeant text × Appends old new t
 Writes IsMeant old new (Some run.Output) = (text : Text) × IsMeant text × AppendsPrefix old new text
 Writes IsMeant old new (Some fault) = Keeps old new
 
--- the text of `steps` for a poll file and a ballot file
-abbrev pub AreSteps : Text → Text → Text → Type 0
-AreSteps poll_text ballots text = (poll : PollContent) × (poll_in poll_text ≡ Ok poll) × IsStepsText poll (lines_of ballots) text
+-- what is listed of a poll and its lines
+abbrev pub IsListed : Listing → PollContent → List Text → Text → Type 0
+IsListed listing.Steps poll lines text = IsStepsText poll lines text
+IsListed listing.Standing poll lines text = text ≡ standing_text poll lines
+
+-- the same of a poll file and a ballot file
+abbrev pub IsListing : Listing → Text → Text → Text → Type 0
+IsListing listed poll_text ballots text = (poll : PollContent) × (poll_in poll_text ≡ Ok poll) × IsListed listed poll (lines_of ballots) text
 
 -- the text of `check` for a poll file
 abbrev pub IsCheck : Text → Text → Type 0

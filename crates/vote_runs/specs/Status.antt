@@ -17,7 +17,7 @@ use Rattle.vote_runs.specs.declared.fault.Ended.TheVariants as ended
 use Rattle.vote_runs.specs.declared.fault.RunFault.{RunFault}
 use Rattle.vote_runs.specs.declared.fault.RunFault.TheVariants as run
 
--- why a poll file, or else the ballots or a joined input, was not read
+-- why a poll file, or the ballots or a joined input, or a published sheet was not read
 abbrev pub poll_unread : ReadFault → RunFault
 poll_unread read.Device = run.Input input.PollUnreadable
 poll_unread read.TooLong = run.Input input.PollTooLong
@@ -28,12 +28,19 @@ ballots_unread read.Device = run.Input input.BallotsUnreadable
 ballots_unread read.TooLong = run.Input input.BallotsTooLong
 ballots_unread read.Memory = run.Memory
 
+abbrev pub sheet_unread : ReadFault → RunFault
+sheet_unread read.Device = run.Input input.SheetUnreadable
+sheet_unread read.TooLong = run.Input input.SheetTooLong
+sheet_unread read.Memory = run.Memory
+
 -- ---- statuses
 abbrev pub input_status : InputFault → ℕ
 input_status input.PollUnreadable = 3
 input_status input.PollTooLong = 3
 input_status input.BallotsUnreadable = 4
 input_status input.BallotsTooLong = 4
+input_status input.SheetUnreadable = 10
+input_status input.SheetTooLong = 10
 
 abbrev pub poll_status : PollFault → ℕ
 poll_status poll.Memory = 5
@@ -69,6 +76,9 @@ ended_status (ended.Decided option) = 0
 ended_status ended.Tie = 1
 ended_status (ended.CastingOutside option) = 8
 ended_status ended.Done = 0
+ended_status ended.PollRefused = 3
+ended_status ended.Found = 9
+ended_status ended.Differs = 9
 
 abbrev pub status : Result Ended RunFault → ℕ
 status (Ok end) = ended_status end

@@ -1,7 +1,7 @@
 //! How a run ends, and the exit status that says so.
 
 ghost use Rattle.std.specs.Prelude.{◌≡◌};
-ghost use Rattle.vote_runs.specs.Status.{ballots_unread, fault_status, input_status, poll_unread, status, vote_status};
+ghost use Rattle.vote_runs.specs.Status.{ballots_unread, fault_status, input_status, poll_unread, sheet_unread, status, vote_status};
 
 use std::alloc::AllocError;
 use thiserror::Error;
@@ -20,6 +20,12 @@ pub enum Ended {
     CastingOutside(u8),
     /// The text of another run was written.
     Done,
+    /// All that is wrong with a poll was written, and it is refused.
+    PollRefused,
+    /// All that is wrong was written, and the poll is in order.
+    Found,
+    /// A published sheet differs from the count, and where was written.
+    Differs,
 }
 
 /// Why an input was not read. The ballots stand for a joined input too.
@@ -37,6 +43,12 @@ pub enum InputFault {
     /// The ballot file or the joined input has more bytes than its limit.
     #[error("ballots too long")]
     BallotsTooLong,
+    /// The published sheet can't be opened, or its device failed.
+    #[error("sheet unreadable")]
+    SheetUnreadable,
+    /// The published sheet has more bytes than its limit.
+    #[error("sheet too long")]
+    SheetTooLong,
 }
 
 /// Why a run did not come to its end: the first of these that holds, where `Memory` can take the place of any that would come
@@ -110,12 +122,24 @@ pub fn ballots_unread(fault: ReadFault) -> RunFault
     }
 }
 
+/// Why a published sheet was not read.
+pub fn sheet_unread(fault: ReadFault) -> RunFault
+    ensures { result ≡ sheet_unread fault }
+{
+    match fault {
+        ReadFault::Device => RunFault::Input(InputFault::SheetUnreadable),
+        ReadFault::TooLong => RunFault::Input(InputFault::SheetTooLong),
+        ReadFault::Memory => RunFault::Memory,
+    }
+}
+
 fn input_status(fault: &InputFault) -> u8
     ensures { result ≡ input_status fault.now }
 {
     match fault {
         InputFault::PollUnreadable | InputFault::PollTooLong => 3,
         InputFault::BallotsUnreadable | InputFault::BallotsTooLong => 4,
+        InputFault::SheetUnreadable | InputFault::SheetTooLong => 10,
     }
 }
 
@@ -154,7 +178,9 @@ pub fn status(outcome: &Result<Ended, RunFault>) -> u8
     match outcome {
         Ok(Ended::Decided(_) | Ended::Done) => 0,
         Ok(Ended::Tie) => 1,
+        Ok(Ended::PollRefused) => 3,
         Ok(Ended::CastingOutside(_)) => 8,
+        Ok(Ended::Found | Ended::Differs) => 9,
         Err(fault) => fault_status(fault),
     }
 }

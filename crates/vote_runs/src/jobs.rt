@@ -5,9 +5,10 @@ ghost use Rattle.std.specs.Result.{result_err};
 ghost use Rattle.vote_runs.specs.Performing.{HasDesks, Performs};
 ghost use Rattle.vote_runs.specs.declared.fault.InputFault.{InputFault};
 
-use crate::counting::run;
+use crate::checking::check_poll;
+use crate::counting::{Purpose, count_for};
 use crate::fault::{Ended, RunFault};
-use crate::steps::{check_poll, print_steps, steps_joined};
+use crate::listing::{Listing, print_listing, steps_joined};
 use std::alloc::Global;
 use std::io::Write;
 use std::marker::Brand;
@@ -34,6 +35,11 @@ pub enum Job<'a> {
         poll: &'a [u8],
         ballots: &'a [u8],
     },
+    /// Write the ballots that stand.
+    Standing {
+        poll: &'a [u8],
+        ballots: &'a [u8],
+    },
     /// Check the poll file.
     Check {
         poll: &'a [u8],
@@ -41,6 +47,28 @@ pub enum Job<'a> {
     /// Write the reply to each ballot of a poll and its ballots in one input.
     Joined {
         input: &'a [u8],
+    },
+    /// Count the ballots, and write the outcome as a graph for Graphviz.
+    Picture {
+        poll: &'a [u8],
+        ballots: &'a [u8],
+        /// From 1 to [`MAX_DESKS`](vote_steps::MAX_DESKS).
+        desks: u8,
+        /// The name of the option that the casting vote chooses in a tie.
+        casting: Option<&'a [u8]>,
+    },
+    /// Count the ballots, and write whether a published sheet is that of the count.
+    Verify {
+        poll: &'a [u8],
+        ballots: &'a [u8],
+        sheet: &'a [u8],
+        /// From 1 to [`MAX_DESKS`](vote_steps::MAX_DESKS).
+        desks: u8,
+    },
+    /// Write all that is wrong with the poll, and with the ballots where they are given.
+    Explain {
+        poll: &'a [u8],
+        ballots: Option<&'a [u8]>,
     },
 }
 
@@ -75,8 +103,31 @@ pub fn perform<G: Gate + Sync, W: Sink, R: Threads + Wait + Sync>(
             ballots,
             desks,
             casting,
-        } => run(rt, alloc, poll, ballots, *desks, *casting, gate, sink),
-        Job::Steps { poll, ballots } => done(print_steps(alloc, poll, ballots, sink)),
+        } => count_for(
+            rt,
+            alloc,
+            poll,
+            ballots,
+            *desks,
+            *casting,
+            Purpose::Sheet,
+            gate,
+            sink,
+        ),
+        Job::Steps { poll, ballots } => done(print_listing(
+            alloc,
+            poll,
+            ballots,
+            Listing::Steps,
+            sink,
+        )),
+        Job::Standing { poll, ballots } => done(print_listing(
+            alloc,
+            poll,
+            ballots,
+            Listing::Standing,
+            sink,
+        )),
         Job::Check { poll } => done(check_poll(alloc, poll, sink)),
         Job::Joined { input } => done(steps_joined(alloc, input, sink)),
     }

@@ -22,21 +22,25 @@
 #![tactic(auto)]
 
 mod audited;
+mod checking;
 mod counting;
 mod fault;
 mod jobs;
 mod joined;
 pub mod laws;
+mod listing;
 mod output;
-mod steps;
 mod taking;
 
 pub use audited::{sheet, sheet_and_decision};
+pub use checking::check_poll;
 pub use counting::{Purpose, count_for, run};
-pub use fault::{Ended, InputFault, RunFault, ballots_unread, fault_status, poll_unread, status};
+pub use fault::{
+    Ended, InputFault, RunFault, ballots_unread, fault_status, poll_unread, sheet_unread, status,
+};
 pub use jobs::{Job, perform, perform_on};
 pub use joined::split_joined;
-pub use steps::{check_poll, print_steps, steps_joined};
+pub use listing::{Listing, print_listing, print_steps, steps_joined};
 
 #[cfg(test)]
 mod fault_tests;

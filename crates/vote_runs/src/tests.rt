@@ -263,6 +263,16 @@ fn memory_of_print_steps(rt: HostRuntime) -> Result<(), Fail> {
 }
 
 #[test]
+fn memory_of_print_listing(rt: HostRuntime) -> Result<(), Fail> {
+    let job = Job::Standing {
+        poll: CYCLE,
+        ballots: b"v1 1,2,3,4\nv0 -,2,99,1\nv1 4,3,2,1",
+    };
+    let standing = "v0 -,2,99,1\nv1 4,3,2,1\n";
+    walk(&rt, rt.alloc(), &job, standing, Ended::Done)
+}
+
+#[test]
 fn memory_of_check_poll(rt: HostRuntime) -> Result<(), Fail> {
     let job = Job::Check { poll: CYCLE };
     let sizes = "poll ok: 4 options, 9 electors\n";

@@ -8,7 +8,7 @@ use Rattle.clap.specs.declared.error.Error.{Error}
 use Rattle.vote_command.specs.CommandLine.{debvote_command}
 use Rattle.vote_command.specs.Order.{HelpsIfAsked, IsFaultOfKind, RefusesIfAtFault}
 use Rattle.vote_command.specs.declared.command_line.OrderFault.{OrderFault}
-use Rattle.vote_command.specs.declared.command_line.OrderFault.TheVariants.{Help, Refused, Memory}
+use Rattle.vote_command.specs.declared.command_line.OrderFault.TheVariants.{Help, Refused, NotUtf8, Memory}
 use Rattle.vote_command.proofs.command_line.order.Goals as goal
 
 free : is_simple_and_free debvote_command ≡ true
@@ -31,6 +31,7 @@ helps kinds error (Help text) (inl memory) (inl asks) = cc
 helps kinds error (Help text) (inl memory) (inr asks) = cc
 helps kinds error (Help text) (inr among) asks = (kind_of error, asks, among)
 helps kinds error (Refused text) has by = tt
+helps kinds error NotUtf8 has by = by
 helps kinds error Memory has by = tt
 
 pub returns-in-Err-clause-help : goal.returns-in-Err-clause-help
@@ -45,6 +46,7 @@ refuses : (kinds : Kinds) (subcommand : Option (Text × List Row)) (error : Erro
 refuses kinds subcommand error (Help text) has by = tt
 refuses kinds subcommand error (Refused text) (inl memory) by = absurd (by.2 memory)
 refuses kinds subcommand error (Refused text) (inr among) by = inl (kind_of error, by, among)
+refuses kinds subcommand error NotUtf8 has by = by
 refuses kinds subcommand error Memory has by = tt
 
 pub returns-in-Err-clause-refused : goal.returns-in-Err-clause-refused

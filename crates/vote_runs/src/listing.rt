@@ -1,0 +1,104 @@
+//! The commands that list something of the ballots: `steps` and `standing`.
+
+ghost use Rattle.std.specs.Prelude.{◌≡◌, ◌≢◌, ◌<◌, ◌↔◌, true, Err, IfOk, IsErrOf, OnOk, string_bytes};
+ghost use Rattle.std.specs.Result.{result_err};
+ghost use Rattle.vote_poll.specs.Lines.{lines_of};
+ghost use Rattle.vote_runs.specs.Joined.{joined_parts};
+ghost use Rattle.vote_runs.specs.Runs.{AnswersLines, AnswersPoll, IsListed, IsListing, Writes};
+ghost use Rattle.vote_runs.specs.declared.fault.InputFault.{InputFault};
+
+use crate::fault::RunFault;
+use crate::joined::split_joined;
+use crate::output::write_run;
+use std::alloc::{AllocError, Global};
+use vote_desks::VoteFault;
+use vote_files::Sink;
+use vote_poll::{Lines, Poll};
+use vote_sheet::{standing_text, steps_text};
+
+/// What is listed of the ballots, which one desk casts in their order.
+#[derive(Clone, Copy, Debug)]
+pub enum Listing {
+    /// The reply to each ballot.
+    Steps,
+    /// The ballots that stand, the last valid one of each elector.
+    Standing,
+}
+
+/// The text of a listing.
+fn list(
+    alloc: Global,
+    poll: &Poll,
+    lines: &Lines<'_>,
+    listing: Listing,
+) -> Result<String, AllocError>
+    ensures { IfOk result (λ text. IsListed listing poll.now lines.now (string_bytes text)) }
+{
+    match listing {
+        Listing::Steps => steps_text(alloc, poll, lines),
+        Listing::Standing => standing_text(alloc, poll, lines),
+    }
+}
+
+/// Casts the lines in order at one desk, and writes what is to be listed. Nothing is written before all of it is there.
+pub fn print_listing<W: Sink>(
+    alloc: Global,
+    poll_text: &[u8],
+    ballots: &[u8],
+    listing: Listing,
+    sink: &mut W,
+) -> Result<(), RunFault>
+    ensures input { (fault : InputFault) → result ≢ Err (RunFault.Input fault) }
+    ensures poll { AnswersPoll poll_text.now (result_err result) }
+    ensures lines { AnswersLines (lines_of ballots.now) (result_err result) }
+    ensures option { result ≢ Err RunFault.NoSuchOption }
+    ensures votes { (fault : VoteFault) → result ≢ Err (RunFault.Vote fault) }
+    ensures writes { Writes (IsListing listing poll_text.now ballots.now) (W.contents sink.old) (W.contents sink.new) (result_err result) }
+    ensures output { IsErrOf result RunFault.Output ↔ (W.faults sink.old < W.faults sink.new) }
+    ensures flushed { OnOk result (W.flushed sink.new ≡ true) }
+{
+    let poll = match Poll::from_text(alloc, poll_text) {
+        Ok(poll) => poll,
+        Err(fault) => return Err(RunFault::Poll(fault)),
+    };
+    let lines = match Lines::split(alloc, ballots) {
+        Ok(lines) => lines,
+        Err(fault) => return Err(RunFault::Lines(fault)),
+    };
+    let text = list(alloc, &poll, &lines, listing)?;
+    write_run(sink, text.as_bytes())
+}
+
+/// Writes the reply of the ballot box to each line.
+pub fn print_steps<W: Sink>(
+    alloc: Global,
+    poll_text: &[u8],
+    ballots: &[u8],
+    sink: &mut W,
+) -> Result<(), RunFault>
+    ensures input { (fault : InputFault) → result ≢ Err (RunFault.Input fault) }
+    ensures poll { AnswersPoll poll_text.now (result_err result) }
+    ensures lines { AnswersLines (lines_of ballots.now) (result_err result) }
+    ensures option { result ≢ Err RunFault.NoSuchOption }
+    ensures votes { (fault : VoteFault) → result ≢ Err (RunFault.Vote fault) }
+    ensures writes { Writes (IsListing Listing.Steps poll_text.now ballots.now) (W.contents sink.old) (W.contents sink.new) (result_err result) }
+    ensures output { IsErrOf result RunFault.Output ↔ (W.faults sink.old < W.faults sink.new) }
+    ensures flushed { OnOk result (W.flushed sink.new ≡ true) }
+{
+    print_listing(alloc, poll_text, ballots, Listing::Steps, sink)
+}
+
+/// `print_steps` for a poll and its ballots in one input, as [`split_joined`] parts it.
+pub fn steps_joined<W: Sink>(alloc: Global, input: &[u8], sink: &mut W) -> Result<(), RunFault>
+    ensures input { (fault : InputFault) → result ≢ Err (RunFault.Input fault) }
+    ensures poll { AnswersPoll (joined_parts input.now).0 (result_err result) }
+    ensures lines { AnswersLines (lines_of (joined_parts input.now).1) (result_err result) }
+    ensures option { result ≢ Err RunFault.NoSuchOption }
+    ensures votes { (fault : VoteFault) → result ≢ Err (RunFault.Vote fault) }
+    ensures writes { Writes (IsListing Listing.Steps (joined_parts input.now).0 (joined_parts input.now).1) (W.contents sink.old) (W.contents sink.new) (result_err result) }
+    ensures output { IsErrOf result RunFault.Output ↔ (W.faults sink.old < W.faults sink.new) }
+    ensures flushed { OnOk result (W.flushed sink.new ≡ true) }
+{
+    let (poll_text, ballots) = split_joined(input);
+    print_steps(alloc, poll_text, ballots, sink)
+}
