@@ -46,7 +46,9 @@ pub use fault::{PollFault, PollKey};
 pub use lines::{Lines, LinesFault, MAX_LINES, lines_are_unique};
 pub use poll::Poll;
 pub use ranks::Ranks;
-pub use reading::{LineFault, Reading, is_reading, read_line, readings_are_unique};
+pub use reading::{
+    LineFault, Reading, each_line_is_read, is_reading, read_line, readings_are_unique,
+};
 pub use shown::push_shown;
 pub use wording::Wording;
 

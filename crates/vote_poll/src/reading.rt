@@ -223,6 +223,12 @@ pub fn is_reading(poll: &Poll, line: &[u8], answer: &Reading) -> bool
     read_line(poll, line) == *answer
 }
 
+/// Each line reads as something by the grammar: as what [`read_line`] answers.
+#[tactic(auto, using(crate::proofs::GrammarLaws::reading_is))]
+pub fn each_line_is_read()
+    ensures { (poll : PollContent) (line : List ℕ) → IsReading poll line (reading poll line) }
+{}
+
 /// A law: a poll reads one thing in a line, so what [`read_line`] answers is the only reading.
 #[tactic(auto, using(crate::proofs::OneReading::readings_are_one))]
 pub fn readings_are_unique()
