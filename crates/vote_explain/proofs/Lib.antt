@@ -1,0 +1,4 @@
+pub mod RankTexts
+pub mod Parts
+pub mod Steps
+pub mod LineFronts

@@ -1,0 +1,67 @@
+-- What can stand behind a front of a ballot line, by the part of the line in which the front ends.
+use Rattle.std.specs.Prelude.{◌≡◌, ℕ, ◌+◌, ◌<◌, ◌≤◌, ◌⊎◌, ◌↔◌, List, ◌∷◌, ◌++◌, length, Option, Some, None, IsTrue, codes}
+use Rattle.std.specs.List.{All, flat_map, list_all}
+use Rattle.std.specs.Str.{byte}
+use Rattle.vote_poll.specs.BallotLine.{IsRank, rank_text}
+use Rattle.vote_poll.specs.Names.{is_voter_byte, is_within}
+use Rattle.vote_poll.specs.declared.TheConstants.{MAX_LINE, MAX_VOTER_NAME}
+use Rattle.vote_explain.specs.declared.fronts.Part.{Part}
+use Rattle.vote_explain.specs.declared.fronts.Part.TheVariants.{Name, Rank, Digit, Comma}
+
+-- ranks, each behind a comma
+abbrev pub more_text : List (Option ℕ) → List ℕ
+more_text ranks = flat_map (λ rank. codes "," ++ rank_text rank) ranks
+
+-- nothing, or ranks, each behind a comma
+pub record AreMore (text : List ℕ) : Type 0 where
+  pub ranks : List (Option ℕ)
+  pub are_ranks : All IsRank ranks
+  pub is_text : text ≡ more_text ranks
+
+-- a rank, and more of them
+pub record AreRanks (text : List ℕ) : Type 0 where
+  pub rank : Option ℕ
+  pub more : List ℕ
+  pub is_rank : IsRank rank
+  pub are_more : AreMore more
+  pub is_text : text ≡ rank_text rank ++ more
+
+-- a second digit, and more ranks
+pub record IsDigit (text : List ℕ) : Type 0 where
+  pub digit : ℕ
+  pub more : List ℕ
+  pub is_digit : IsTrue (is_within (byte "0") (byte "9") digit)
+  pub are_more : AreMore more
+  pub is_text : text ≡ digit ∷ more
+
+-- the rest of a name of which so many bytes stand before it, a space, and ranks
+pub record IsNamed (place : ℕ) (text : List ℕ) : Type 0 where
+  pub name : List ℕ
+  pub ranks : List ℕ
+  pub is_name : IsTrue (list_all is_voter_byte name)
+  pub least : 1 ≤ place + length name
+  pub most : place + length name ≤ MAX_VOTER_NAME
+  pub are_ranks : AreRanks ranks
+  pub is_text : text ≡ name ++ byte " " ∷ ranks
+
+abbrev pub GoesOn : Part → ℕ → List ℕ → Type 0
+GoesOn Name place rest = IsNamed place rest
+GoesOn Rank place rest = AreRanks rest
+GoesOn Digit place rest = AreMore rest ⊎ IsDigit rest
+GoesOn Comma place rest = AreMore rest
+
+-- the rest can stand behind a front of so many bytes that ends in this part
+abbrev pub Completes : Part → ℕ → List ℕ → Type 0
+Completes part place rest = (place + length rest ≤ MAX_LINE) × GoesOn part place rest
+
+-- whether something can stand behind a front of so many bytes: a name is not too long yet, and there is room for a rank
+abbrev pub HasRoom : Part → ℕ → Type 0
+HasRoom Name place = place ≤ MAX_VOTER_NAME
+HasRoom Rank place = place < MAX_LINE
+HasRoom Digit place = place ≤ MAX_LINE
+HasRoom Comma place = place ≤ MAX_LINE
+
+-- what a front of so many bytes that ends in this part is with one more byte: one that ends in the next part, or none
+abbrev pub IsNext : Part → ℕ → ℕ → Option Part → Type 0
+IsNext part place b (Some next) = HasRoom next (place + 1) × ((rest : List ℕ) → Completes part place (b ∷ rest) ↔ Completes next (place + 1) rest)
+IsNext part place b None = (rest : List ℕ) → Completes part place (b ∷ rest) → ⊥
