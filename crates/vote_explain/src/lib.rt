@@ -2,5 +2,6 @@
 #![tactic(auto)]
 
 mod fronts;
+mod words;
 
 pub use fronts::column;
