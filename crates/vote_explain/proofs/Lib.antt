@@ -1,3 +1,4 @@
+pub mod Texts
 pub mod RankTexts
 pub mod Parts
 pub mod Steps

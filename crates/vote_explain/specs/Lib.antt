@@ -1,4 +1,6 @@
 -- what the contracts of public calls say
 pub mod Column
+pub mod Explained
 -- what private functions say of their parts
 pub mod Fronts
+pub mod Answers
