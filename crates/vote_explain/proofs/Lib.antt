@@ -1,4 +1,8 @@
 pub mod Texts
+pub mod Listing
+pub mod Answering
+pub mod Counting
+pub mod Whole
 pub mod RankTexts
 pub mod Parts
 pub mod Steps

@@ -1,5 +1,5 @@
 -- What several writes append to a text, and the place of the first element that passes a test.
-use Rattle.std.proofs.Common.{◌≡◌, ◌+◌, ◌++◌, ◌∙◌, ap, sym, append_assoc, append-nil, Result, Ok, Err, OnOk, is_ok, if◌then◌else◌, ◌≤◌, ℕ, suc, List, [], ◌∷◌, length, Bool, true, false, not, cond, nat_lt, refl, Option, Some, None, inl, inr, arith, unwrap_or}
+use Rattle.std.proofs.Common.{◌≡◌, ◌+◌, ◌++◌, append_assoc, append-nil, Result, Ok, Err, OnOk, is_ok, if◌then◌else◌, ◌≤◌, ℕ, suc, List, [], ◌∷◌, length, Bool, true, false, not, cond, nat_lt, inl, inr, arith, unwrap_or}
 use Rattle.std.specs.List.{concat, position, position_or_len, prefix_len}
 use Rattle.std.proofs.lemmas.Bool.{cases_Bool}
 use Rattle.std.proofs.lemmas.Bool.Decides.{nat_tests}

@@ -1,5 +1,6 @@
 -- What private functions say of a box that holds the lines, and of the texts that they add to.
-use Rattle.std.specs.Prelude.{◌≡◌, ℕ, ◌+◌, ◌++◌, List, Option, Some, None, if◌then◌else◌, slice_get}
+use Rattle.std.specs.Prelude.{◌≡◌, ℕ, ◌+◌, ◌++◌, List, [], ◌∷◌, Option, Some, None, if◌then◌else◌, slice_get, option_map, option_to_list, codes, decimal}
+use Rattle.std.specs.List.{concat}
 use Rattle.vote_poll.specs.PollContent.{PollContent, last_in_time}
 use Rattle.vote_poll.specs.Readings.{reading}
 use Rattle.vote_poll.specs.declared.Reading.{Reading}
@@ -8,23 +9,37 @@ use Rattle.vote_steps.specs.declared.Reply.{Reply}
 use Rattle.vote_steps.specs.declared.Step.{Step}
 use Rattle.vote_steps.specs.declared.Step.TheVariants.{Cast}
 use Rattle.vote_sheet.specs.Texts.{Text}
-use Rattle.vote_explain.specs.Explained.{IsHint, refusing_reply}
+use Rattle.vote_sheet.specs.Steps.{reply_words}
+use Rattle.vote_explain.specs.Explained.{AreFindings, IsHint, Refusal, refusing_reply}
 
 -- the reply, where it refuses a line
 abbrev pub if_refusing : Reply → Option Reply
 if_refusing reply = if is_valid reply then None else Some reply
 
--- the step is the cast of the line with this number, and its reply refuses the line where one is to
-pub record IsAnswer (poll : PollContent) (number : ℕ) (bytes : Text) (step : Step) : Type 0 where
-  pub reading_is : Reading
-  pub reply : Reply
-  pub is_cast : step ≡ Cast 1 number reading_is reply
-  pub refuses : if_refusing reply ≡ refusing_reply (last_in_time poll) number (reading poll bytes)
+-- the step at the place is a cast with this reply
+abbrev pub HasReplyAt : List Step → ℕ → Reply → Type 0
+HasReplyAt steps place reply = (desk : ℕ) × (stamp : ℕ) × (reading : Reading) × (slice_get steps place ≡ Some (Cast desk stamp reading reply))
 
--- the step at the place of each line is the cast of this line
+abbrev pub IsCastAt : List Step → ℕ → Type 0
+IsCastAt steps place = (reply : Reply) × HasReplyAt steps place reply
+
+-- the step at the place of each line is a cast, whose reply refuses the line where one is to
 abbrev pub AreAnswers : PollContent → List Text → List Step → Type 0
-AreAnswers poll lines steps = (place : ℕ) (bytes : Text) → slice_get lines place ≡ Some bytes → (step : Step) × (slice_get steps place ≡ Some step) × IsAnswer poll (place + 1) bytes step
+AreAnswers poll lines steps = (place : ℕ) (bytes : Text) → slice_get lines place ≡ Some bytes
+    → (answer : Reply) × HasReplyAt steps place answer × (if_refusing answer ≡ refusing_reply (last_in_time poll) (place + 1) (reading poll bytes))
 
 -- a hint was added to the text
 abbrev pub AddsHint : PollContent → Text → Reply → Text → Text → Type 0
 AddsHint poll bytes reply before after = (hint : Text) × IsHint poll bytes reply hint × (after ≡ before ++ hint)
+
+-- a finding up to its hint
+unfoldable pub finding_head : ℕ → Reply → Text
+finding_head number reply = concat (codes "ballots:" ∷ decimal number ∷ codes ": " ∷ reply_words reply ∷ codes ": " ∷ [])
+
+-- the line with this number, where this reply refuses it
+abbrev pub refused_by : ℕ → Text → Reply → List Refusal
+refused_by number bytes reply = option_to_list (option_map (λ answer. record { number = number; bytes = bytes; reply = answer }) (if_refusing reply))
+
+-- the findings of these lines were added to the text
+abbrev pub AddsFindings : PollContent → List Refusal → Text → Text → Type 0
+AddsFindings poll refusals before after = (findings : Text) × AreFindings poll refusals findings × (after ≡ before ++ findings)

@@ -1,5 +1,5 @@
 -- What `explain` says of the lines of a ballot file.
-use Rattle.std.specs.Prelude.{◌≡◌, ℕ, ◌+◌, ◌⊎◌, ◌==◌, ◌&&◌, nat_eq, nat_lt, Bool, if◌then◌else◌, List, [], ◌∷◌, ◌++◌, length, drop, count_by, slice_get, Option, Some, None, option_map, option_to_list, codes, decimal}
+use Rattle.std.specs.Prelude.{◌≡◌, ℕ, ◌+◌, ◌⊎◌, ◌==◌, ◌&&◌, nat_eq, nat_lt, Bool, true, false, if◌then◌else◌, List, [], ◌∷◌, ◌++◌, length, drop, count_by, slice_get, Option, Some, None, option_map, option_to_list, codes, decimal}
 use Rattle.std.specs.List.{before_first, concat, ends_with, list_all}
 use Rattle.std.specs.Str.{byte}
 use Rattle.vote_poll.specs.PollContent.{PollContent, elector_count, last_in_time, option_count}
@@ -91,9 +91,9 @@ ends_with_return refusal = ends_with nat_eq refusal.bytes (0x0D ∷ [])
 abbrev pub is_from_windows : List Refusal → Bool
 is_from_windows refusals = nat_lt 0 (length refusals) && list_all ends_with_return refusals
 
-unfoldable pub windows_text : List Refusal → Text
-windows_text refusals =
-    if is_from_windows refusals then line (codes "all refused lines end with a carriage return: the file comes from Windows; take it out with tr -d '\\r'" ∷ []) else []
+unfoldable pub windows_line : Bool → Text
+windows_line true = line (codes "all refused lines end with a carriage return: the file comes from Windows; take it out with tr -d '\\r'" ∷ [])
+windows_line false = []
 
 -- how many lines are late
 abbrev pub late_count : PollContent → List Text → ℕ
@@ -113,7 +113,7 @@ closing_text poll lines =
 abbrev pub IsExplained : PollContent → List Text → Text → Type 0
 IsExplained poll lines text =
     (findings : Text) × AreFindings poll (refusals poll lines) findings
-    × (text ≡ concat (findings ∷ windows_text (refusals poll lines) ∷ closing_text poll lines ∷ []))
+    × (text ≡ concat (findings ∷ windows_line (is_from_windows (refusals poll lines)) ∷ closing_text poll lines ∷ []))
 
 -- as many lines are listed as the result sheet has refused lines
 abbrev pub EachRefusalIsListed : Type 0

@@ -1,13 +1,13 @@
 //! What is wrong with the lines of a ballot file, and where.
 #![tactic(auto)]
 
-//mod explain;
+mod explain;
 mod fronts;
 mod hints;
 mod nearest;
 mod words;
 
-//pub use explain::{Explained, each_refusal_is_listed, explain_ballots};
+pub use explain::{Explained, each_refusal_is_listed, explain_ballots};
 pub use fronts::column;
 
 /// The most bytes of a voter's name that are shown.
