@@ -4,4 +4,5 @@ pub mod Texts
 pub mod Uniqueness
 pub mod SheetLaws
 pub mod BallotTexts
+pub mod Quoting
 pub mod StandingLemmas

@@ -5,3 +5,4 @@ pub mod Sheet
 pub mod SheetOf
 pub mod SheetLaws
 pub mod Standing
+pub mod Picture

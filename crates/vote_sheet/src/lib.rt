@@ -1,4 +1,5 @@
-//! What is printed of a poll and its lines: the result sheet, the lines of `steps` and of `standing`, and the line of `check`.
+//! What is printed of a poll and its lines: the result sheet and its picture, the lines of `steps` and of
+//! `standing`, and the line of `check`.
 //!
 //! - [`sheet_of_box`] gives the sheet of a box that holds the lines of the poll, and what the sheet decides. What the sheet
 //!   says is a relation between the poll, the lines, the casting vote and the sheet (`IsSheetOf`), in which no history, desk or
@@ -7,19 +8,22 @@
 //! - [`steps_text`] gives the reply of the box to each line, where one desk casts the lines in their order. By
 //!   [`steps_are_determined`] the poll and the lines leave no choice in it.
 //! - [`standing_text`] gives the ballots that stand, as a ballot file.
+//! - [`picture_of_box`] gives what the sheet of the same box says as a graph in the language of Graphviz.
 //! - [`check_text`] gives the line of a poll that is in order, and [`reply_words`] the words of a reply.
 //! - The functions of [`laws`] bring laws of the count to what people see: ballot files, and the winner that a sheet names.
 //!
 //! Nothing here knows a file, a thread or a device: what is made is a text in memory, or a want of memory. The modules: `sheet`,
-//! `steps` and `standing` have the public calls, and `sheet_text` the parts of a sheet.
+//! `picture`, `steps` and `standing` have the public calls, and `sheet_text` the parts of a sheet.
 #![tactic(auto)]
 
 pub mod laws;
+mod picture;
 mod sheet;
 mod sheet_text;
 mod standing;
 mod steps;
 
+pub use picture::picture_of_box;
 pub use sheet::{sheet_is_unique, sheet_of_box};
 pub use standing::standing_text;
 pub use steps::{check_text, reply_words, steps_are_determined, steps_text};

@@ -1,19 +1,56 @@
 //! The result sheet.
 
-ghost use Rattle.std.specs.Prelude.{IfOk, IfSome, string_bytes};
+ghost use Rattle.std.specs.Prelude.{◌≡◌, ℕ, IfOk, IfSome, Option, length, string_bytes};
 ghost use Rattle.vote_poll.specs.Options.{IsOption};
 ghost use Rattle.vote_poll.specs.PollContent.{option_count};
+ghost use Rattle.vote_count.specs.Rounds.{IsDecision, final_set};
+ghost use Rattle.vote_count.specs.Rules.{IsKept};
+ghost use Rattle.vote_count.specs.Sets.{In};
 ghost use Rattle.vote_steps.specs.Casting.{HoldsLines};
-ghost use Rattle.vote_sheet.specs.SheetOf.{IsSheetAndDecision, SheetIsUnique};
+ghost use Rattle.vote_sheet.specs.SheetOf.{IsSheetAndDecision, IsSheetOf, SheetIsUnique, sheet_with};
 
 use crate::sheet_text::{push_count, push_head, push_options, push_totals};
 use std::alloc::{AllocError, Global};
 use vote_count::{
-    Decision, decide, decisions_are_determined, outcome, outcomes_are_determined, quorum_votes,
+    Decision, Matrix, Verdict, decide, decisions_are_determined, outcome, outcomes_are_determined,
+    quorum_votes,
 };
 use vote_poll::{Lines, Poll};
-use vote_steps::BallotBox;
 use vote_steps::laws::lines_are_counted;
+use vote_steps::{BallotBox, Totals};
+
+/// What the lines of a poll come to: all that its sheets say, but the poll's own words and the decision.
+#[derive(Drop)]
+pub(crate) struct Count {
+    /// The least number of votes that meets the quorum.
+    pub(crate) quorum_votes: u64,
+    pub(crate) totals: Totals,
+    pub(crate) matrix: Matrix,
+    pub(crate) verdict: Verdict,
+}
+
+/// Counts a closed box that holds the lines of the poll. With each decision of the final set it gives a sheet.
+pub(crate) fn count_of_box(
+    alloc: Global,
+    poll: &Poll,
+    lines: &Lines<'_>,
+    ballot_box: &BallotBox,
+) -> Result<Count, AllocError>
+    requires { HoldsLines poll.now lines.now ballot_box.now }
+    ensures sheets { IfOk result (λ count. (casting : Option ℕ) (decision : Decision) → IsDecision (final_set count.verdict.rounds) casting decision → IsSheetOf poll.now lines.now casting (sheet_with poll.now (length lines.now) count.quorum_votes count.totals count.matrix count.verdict decision)) }
+    ensures options { IfOk result (λ count. count.matrix.options ≡ option_count poll.now) }
+    ensures kept { IfOk result (λ count. (o : ℕ) → In (final_set count.verdict.rounds) o → IsKept poll.now count.matrix o) }
+{
+    lines_are_counted();
+    let matrix = ballot_box.matrix();
+    let verdict = outcome(alloc, poll, &matrix)?;
+    Ok(Count {
+        quorum_votes: quorum_votes(poll),
+        totals: ballot_box.totals(),
+        matrix,
+        verdict,
+    })
+}
 
 /// The result sheet of a closed box that holds the lines of the poll, with the option of the casting vote, and what the sheet
 /// says is decided. Options are numbered from 1.
@@ -30,15 +67,13 @@ pub fn sheet_of_box(
     requires casting { IfSome casting (IsOption (option_count poll.now)) }
     ensures { IfOk result (λ printed. IsSheetAndDecision poll.now lines.now casting (string_bytes printed.0) printed.1) }
 {
-    lines_are_counted();
-    let matrix = ballot_box.matrix();
-    let verdict = outcome(alloc, poll, &matrix)?;
-    let decision = decide(&verdict, casting);
+    let count = count_of_box(alloc, poll, lines, ballot_box)?;
+    let decision = decide(&count.verdict, casting);
     let mut text = String::new(alloc);
-    push_head(&mut text, poll, quorum_votes(poll))?;
-    push_totals(&mut text, poll, lines.len(), &ballot_box.totals())?;
+    push_head(&mut text, poll, count.quorum_votes)?;
+    push_totals(&mut text, poll, lines.len(), &count.totals)?;
     push_options(&mut text, poll)?;
-    push_count(&mut text, poll, &matrix, &verdict, decision)?;
+    push_count(&mut text, poll, &count.matrix, &count.verdict, decision)?;
     Ok((text, decision))
 }
 

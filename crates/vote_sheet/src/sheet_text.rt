@@ -16,7 +16,7 @@ use vote_steps::Totals;
 
 /// The part of each option from 1 to the last one, in order.
 #[tactic(auto, using(crate::proofs::Texts::each_one_more))]
-fn push_each<F: Fn(&mut String, u8) -> Result<(), AllocError>>(
+pub(crate) fn push_each<F: Fn(&mut String, u8) -> Result<(), AllocError>>(
     text: &mut String,
     last: u8,
     push: F,
@@ -85,7 +85,7 @@ pub(crate) fn push_totals(
 
 /// The name of an option, the default among them.
 #[tactic(auto, using(crate::proofs::Texts::name_found))]
-fn option_name(poll: &Poll, option: u8) -> &str
+pub(crate) fn option_name(poll: &Poll, option: u8) -> &str
     requires { IsOption (option_count poll.now) option }
     ensures { result.now ≡ name_of poll.now.options option }
 {
@@ -188,7 +188,7 @@ fn push_table(text: &mut String, matrix: &Matrix) -> Result<(), AllocError>
 }
 
 /// The word for a cause.
-fn cause_name(cause: Cause) -> &'static str
+pub(crate) fn cause_name(cause: Cause) -> &'static str
     ensures { result.now ≡ cause_name cause }
 {
     match cause {

@@ -1,6 +1,6 @@
 //! A whole sheet and the texts of `steps`, `standing` and `check`, each call with its memory refused in turn (tests/refused-memory).
 
-use crate::{check_text, sheet_of_box, standing_text, steps_text};
+use crate::{check_text, picture_of_box, sheet_of_box, standing_text, steps_text};
 use std::alloc::{AllocError, Global};
 use std::process::Abort;
 use std::test::Fail;
@@ -61,6 +61,38 @@ fn memory_of_sheet_of_box(rt: HostRuntime) -> Result<(), Fail> {
     match printed(alloc, &poll, &lines) {
         Ok((text, decision)) => {
             assert!(rt; text.as_str() == A_CYCLE, "{}", text);
+            assert_eq!(rt; decision, Decision::Winner(1));
+            Ok(())
+        }
+        Err(AllocError) => Err(Fail::from("refused")),
+    }
+}
+
+/// A picture with names that need backslashes.
+const A_PICTURE: &str =
+    "digraph \"\\\"\\\\\" {\n  rankdir=LR;\n  node [shape=box];\n  1 [label=\"1 A\\\"\", peripheries=2];\n  2 [label=\"2 \\\\N\"];\n  3 [label=\"3 C\\nquorum\", style=dotted];\n  4 [label=\"4 \\\\\"];\n  1 -> 2 [label=\"2 : 1\"];\n  1 -> 4 [label=\"3 : 0\"];\n  2 -> 4 [label=\"3 : 0\"];\n}\n";
+
+const QUOTES_AND_BACKSLASHES: &str =
+    "title = '\"\\'\noptions = ['A\"', '\\N', 'C']\nratios = [1, 1, 1]\ndefault = '\\'\nquorum = 1\nroll = ['v0', 'v1', 'v2']\n";
+
+/// The picture of the outcome, and what is decided.
+fn pictured(
+    alloc: Global,
+    poll: &Poll,
+    lines: &Lines<'_>,
+) -> Result<(String, Decision), AllocError> {
+    let ballot_box = cast_all(alloc, poll, lines)?;
+    picture_of_box(alloc, poll, lines, &ballot_box, None)
+}
+
+#[test]
+fn memory_of_picture_of_box(rt: HostRuntime) -> Result<(), Fail> {
+    let alloc = rt.alloc();
+    let poll = poll_of(&rt, alloc, QUOTES_AND_BACKSLASHES)?;
+    let lines = lines_of(&rt, alloc, "v0 1,2,9,3\nv1 1,2,9,3\nv2 2,1,9,3\n")?;
+    match pictured(alloc, &poll, &lines) {
+        Ok((text, decision)) => {
+            assert!(rt; text.as_str() == A_PICTURE, "{}", text);
             assert_eq!(rt; decision, Decision::Winner(1));
             Ok(())
         }

@@ -1,0 +1,99 @@
+-- The text of a picture: the outcome of a sheet as a graph, in the language of Graphviz.
+use Rattle.std.specs.Prelude.{◌≡◌, ℕ, ◌+◌, Bool, ◌==◌, ◌||◌, if◌then◌else◌, List, [], ◌∷◌, ◌++◌, length, Option, Some, None, codes, decimal}
+use Rattle.std.specs.List.{concat, flat_map}
+use Rattle.vote_count.specs.Votes.{Votes, votes}
+use Rattle.vote_count.specs.Sets.{has, has_pair}
+use Rattle.vote_count.specs.Rounds.{VerdictState, cause_of, final_set}
+use Rattle.vote_count.specs.declared.Round.{Round}
+use Rattle.vote_count.specs.declared.Cause.{Cause}
+use Rattle.vote_count.specs.declared.Decision.{Decision}
+use Rattle.vote_count.specs.declared.Decision.TheVariants.{Winner, Tie, CastingOutside}
+use Rattle.vote_poll.specs.PollContent.{PollContent}
+use Rattle.vote_sheet.specs.Sheet.{Sheet, cause_name, each, name_of, when}
+use Rattle.vote_sheet.specs.SheetOf.{IsSheetOf}
+use Rattle.vote_sheet.specs.Texts.{Text, line}
+
+-- a byte within quotes: before a quote or a backslash there is a backslash
+unfoldable pub quoted_byte : ℕ → Text
+quoted_byte b = if (b == 34) || (b == 92) then 92 ∷ b ∷ [] else b ∷ []
+
+-- a name within quotes
+unfoldable pub quoted : Text → Text
+quoted name = flat_map quoted_byte name
+
+-- options are boxes, and lie from left to right as they defeat one another
+unfoldable pub graph_style : Text
+graph_style = codes "  rankdir=LR;\n  node [shape=box];\n"
+
+unfoldable pub graph_head : Text → Text
+graph_head title = line (codes "digraph \"" ∷ quoted title ∷ codes "\" {" ∷ []) ++ graph_style
+
+-- ---- options
+
+-- why an option is dropped, as a second line of its label: Graphviz ends a line of a label at a backslash and an n
+abbrev pub cause_label : Option Cause → Text
+cause_label None = []
+cause_label (Some cause) = codes "\\n" ++ cause_name cause
+
+-- an option that is dropped has a dotted border
+abbrev pub dropped_style : Option Cause → Text
+dropped_style None = []
+dropped_style (Some cause) = codes ", style=dotted"
+
+-- the winner has a double border, and in a tie each option of the final set a bold one
+abbrev pub decided_style : List Bool → Decision → ℕ → Text
+decided_style set (Winner winner) o = when (o == winner) (codes ", peripheries=2")
+decided_style set Tie o = when (has set o) (codes ", style=bold")
+decided_style set (CastingOutside casting) o = when (has set o) (codes ", style=bold")
+
+-- the number and the name, and why the option is dropped, if it is
+unfoldable pub label_text : List Text → VerdictState → ℕ → Text
+label_text names outcome o =
+    concat (codes "\"" ∷ decimal o ∷ codes " " ∷ quoted (name_of names o) ∷ cause_label (cause_of outcome o) ∷ codes "\"" ∷ [])
+
+unfoldable pub style_text : VerdictState → Decision → ℕ → Text
+style_text outcome decision o = dropped_style (cause_of outcome o) ++ decided_style (final_set outcome.rounds) decision o
+
+unfoldable pub option_line : List Text → VerdictState → Decision → ℕ → Text
+option_line names outcome decision o =
+    line (codes "  " ∷ decimal o ∷ codes " [label=" ∷ label_text names outcome o ∷ style_text outcome decision o ∷ codes "];" ∷ [])
+
+unfoldable pub option_lines : List Text → VerdictState → Decision → Text
+option_lines names outcome decision = each (length names) (option_line names outcome decision)
+
+-- ---- defeats
+
+-- the number of the round that removes the defeat of b by a, if one does; the first of the rounds has this number
+abbrev pub removing_round : ℕ → List Round → ℕ → ℕ → Option ℕ
+removing_round number [] a b = None
+removing_round number (round ∷ rounds) a b = if has_pair round.removed a b then Some number else removing_round (number + 1) rounds a b
+
+-- a defeat that a round removes is dashed, and has the round in its label
+abbrev pub removal_text : Option ℕ → Text
+removal_text None = codes "\"];"
+removal_text (Some round) = codes ", round " ++ decimal round ++ codes "\", style=dashed];"
+
+unfoldable pub edge_line : Votes → List Round → ℕ → ℕ → Text
+edge_line matrix rounds a b = line (
+    codes "  " ∷ decimal a ∷ codes " -> " ∷ decimal b
+    ∷ codes " [label=\"" ∷ decimal (votes matrix a b) ∷ codes " : " ∷ decimal (votes matrix b a) ∷ removal_text (removing_round 1 rounds a b) ∷ [])
+
+unfoldable pub edges_by : Votes → VerdictState → ℕ → Text
+edges_by matrix outcome a = each matrix.options (λ b. when (has_pair outcome.defeats a b) (edge_line matrix outcome.rounds a b))
+
+unfoldable pub edge_lines : Votes → VerdictState → Text
+edge_lines matrix outcome = each matrix.options (edges_by matrix outcome)
+
+-- ---- the whole
+
+abbrev pub picture_text : Sheet → Text
+picture_text s = concat (
+    graph_head s.title
+    ∷ option_lines s.names s.outcome s.decision
+    ∷ edge_lines s.matrix s.outcome
+    ∷ line (codes "}" ∷ [])
+    ∷ [])
+
+-- the text is the picture of a sheet of the poll, the lines and the casting vote, and this is what the sheet decides
+abbrev pub IsPictureAndDecision : PollContent → List Text → Option ℕ → Text → Decision → Type 0
+IsPictureAndDecision poll lines casting text decision = (s : Sheet) × IsSheetOf poll lines casting s × (text ≡ picture_text s) × (decision ≡ s.decision)

@@ -1,0 +1,265 @@
+//! The outcome of a sheet as a graph, in the language of Graphviz. Each function adds its part at the end of the text.
+
+ghost use Rattle.std.specs.Prelude.{◌≡◌, ℕ, ◌++◌, ◌≤◌, IfOk, IfSome, OnOk, string_bytes};
+ghost use Rattle.std.specs.Char.{encode_utf8};
+ghost use Rattle.vote_poll.specs.Options.{IsOption};
+ghost use Rattle.vote_poll.specs.declared.TheConstants.{MAX_OPTIONS};
+ghost use Rattle.vote_poll.specs.PollContent.{option_count};
+ghost use Rattle.vote_count.specs.Sets.{has_pair};
+ghost use Rattle.vote_count.specs.Rounds.{cause_of, final_set};
+ghost use Rattle.vote_steps.specs.Casting.{HoldsLines};
+ghost use Rattle.vote_sheet.specs.Sheet.{when};
+ghost use Rattle.vote_sheet.specs.Picture.{IsPictureAndDecision, cause_label, decided_style, dropped_style, edge_line, edge_lines, edges_by, graph_head, graph_style, label_text, option_line, option_lines, quoted, removal_text, removing_round, style_text};
+
+use crate::sheet::count_of_box;
+use crate::sheet_text::{cause_name, option_name, push_each};
+use std::alloc::{AllocError, Global};
+use vote_count::{Cause, Decision, Matrix, OptionSet, Round, Verdict, decide};
+use vote_poll::{Lines, Poll};
+use vote_steps::BallotBox;
+
+/// A character of a name within quotes.
+#[tactic(auto, using(crate::proofs::Quoting::quoting))]
+fn push_quoted_char(text: &mut String, character: char) -> Result<(), AllocError>
+    ensures { OnOk result (string_bytes text.new ≡ string_bytes text.old ++ quoted (encode_utf8 character)) }
+{
+    if character == '"' {
+        return text.push_str("\\\"");
+    }
+    if character == '\\' {
+        return text.push_str("\\\\");
+    }
+    text.push(character)
+}
+
+/// A name within quotes. The title of a poll and the names of its options have printable ASCII bytes alone, so nothing else
+/// needs a backslash.
+fn push_quoted(text: &mut String, name: &str) -> Result<(), AllocError>
+    ensures { OnOk result (string_bytes text.new ≡ string_bytes text.old ++ quoted name.now) }
+{
+    for character in name.chars() {
+        push_quoted_char(text, character)?;
+    }
+    Ok(())
+}
+
+/// How the graph is drawn.
+#[tactic(auto, unfolding(crate::specs::Picture::graph_style))]
+fn push_graph_style(text: &mut String) -> Result<(), AllocError>
+    ensures { OnOk result (string_bytes text.new ≡ string_bytes text.old ++ graph_style) }
+{
+    text.push_str("  rankdir=LR;\n  node [shape=box];\n")
+}
+
+/// The first lines, with the title of the poll as the name of the graph.
+#[tactic(auto, unfolding(crate::specs::Picture::graph_head))]
+fn push_graph_head(text: &mut String, poll: &Poll) -> Result<(), AllocError>
+    ensures { OnOk result (string_bytes text.new ≡ string_bytes text.old ++ graph_head poll.now.title) }
+{
+    write!(text, "digraph \"")?;
+    push_quoted(text, poll.title())?;
+    writeln!(text, "\" {{")?;
+    push_graph_style(text)
+}
+
+/// Why an option is dropped, in its label.
+fn push_cause_label(text: &mut String, cause: Option<Cause>) -> Result<(), AllocError>
+    ensures { OnOk result (string_bytes text.new ≡ string_bytes text.old ++ cause_label cause) }
+{
+    match cause {
+        Some(cause) => write!(text, "\\n{}", cause_name(cause)),
+        None => Ok(()),
+    }
+}
+
+/// The border of an option that is dropped.
+fn push_dropped_style(text: &mut String, cause: Option<Cause>) -> Result<(), AllocError>
+    ensures { OnOk result (string_bytes text.new ≡ string_bytes text.old ++ dropped_style cause) }
+{
+    if cause.is_some() {
+        write!(text, ", style=dotted")?;
+    }
+    Ok(())
+}
+
+/// The border of an option that wins, or that is in the final set of a tie.
+fn push_decided_style(
+    text: &mut String,
+    set: &OptionSet,
+    decision: Decision,
+    option: u8,
+) -> Result<(), AllocError>
+    ensures { OnOk result (string_bytes text.new ≡ string_bytes text.old ++ decided_style set.now decision option) }
+{
+    match decision {
+        Decision::Winner(winner) if option == winner => write!(text, ", peripheries=2"),
+        Decision::Winner(_) => Ok(()),
+        Decision::Tie | Decision::CastingOutside(_) if set.has(option) => {
+            write!(text, ", style=bold")
+        }
+        Decision::Tie | Decision::CastingOutside(_) => Ok(()),
+    }
+}
+
+/// The label of an option.
+#[tactic(auto, unfolding(crate::specs::Picture::label_text))]
+fn push_label(
+    text: &mut String,
+    poll: &Poll,
+    verdict: &Verdict,
+    option: u8,
+) -> Result<(), AllocError>
+    requires option { IsOption (option_count poll.now) option }
+    requires most { option ≤ MAX_OPTIONS }
+    ensures { OnOk result (string_bytes text.new ≡ string_bytes text.old ++ label_text poll.now.options verdict.now option) }
+{
+    write!(text, "\"{option} ")?;
+    push_quoted(text, option_name(poll, option))?;
+    push_cause_label(text, verdict.dropped(option))?;
+    write!(text, "\"")
+}
+
+/// The border of an option.
+#[tactic(auto, unfolding(crate::specs::Picture::style_text))]
+fn push_style(
+    text: &mut String,
+    verdict: &Verdict,
+    decision: Decision,
+    option: u8,
+) -> Result<(), AllocError>
+    requires { IsOption MAX_OPTIONS option }
+    ensures { OnOk result (string_bytes text.new ≡ string_bytes text.old ++ style_text verdict.now decision option) }
+{
+    push_dropped_style(text, verdict.dropped(option))?;
+    push_decided_style(text, &verdict.final_set(), decision, option)
+}
+
+/// The line of an option.
+#[tactic(auto, unfolding(crate::specs::Picture::option_line))]
+fn push_option_line(
+    text: &mut String,
+    poll: &Poll,
+    verdict: &Verdict,
+    decision: Decision,
+    option: u8,
+) -> Result<(), AllocError>
+    requires option { IsOption (option_count poll.now) option }
+    requires most { option ≤ MAX_OPTIONS }
+    ensures { OnOk result (string_bytes text.new ≡ string_bytes text.old ++ option_line poll.now.options verdict.now decision option) }
+{
+    write!(text, "  {option} [label=")?;
+    push_label(text, poll, verdict, option)?;
+    push_style(text, verdict, decision, option)?;
+    writeln!(text, "];")
+}
+
+/// The lines of all options.
+#[tactic(auto, using(crate::proofs::Texts::each_one_more), unfolding(crate::specs::Picture::option_lines))]
+fn push_option_lines(
+    text: &mut String,
+    poll: &Poll,
+    verdict: &Verdict,
+    decision: Decision,
+) -> Result<(), AllocError>
+    ensures { OnOk result (string_bytes text.new ≡ string_bytes text.old ++ option_lines poll.now.options verdict.now decision) }
+{
+    for before in 0..poll.options() {
+        push_option_line(text, poll, verdict, decision, before + 1)?;
+    }
+    Ok(())
+}
+
+/// The number of the round that removes the defeat of `b` by `a`, if one does. Rounds are numbered from 1.
+fn removing_round(rounds: &[Round], a: u8, b: u8) -> Option<usize>
+    ensures { result ≡ removing_round 1 rounds.now a b }
+{
+    for (index, round) in rounds.iter().enumerate() {
+        if round.removed.has(a, b) {
+            return Some(index + 1);
+        }
+    }
+    None
+}
+
+/// What the line of a defeat says behind the votes.
+fn push_removal(text: &mut String, round: Option<usize>) -> Result<(), AllocError>
+    ensures { OnOk result (string_bytes text.new ≡ string_bytes text.old ++ removal_text round) }
+{
+    match round {
+        Some(round) => write!(text, ", round {round}\", style=dashed];"),
+        None => write!(text, "\"];"),
+    }
+}
+
+/// The line of the defeat of `b` by `a`, if there is one.
+#[tactic(auto, unfolding(crate::specs::Picture::edge_line))]
+fn push_edge(
+    text: &mut String,
+    matrix: &Matrix,
+    verdict: &Verdict,
+    a: u8,
+    b: u8,
+) -> Result<(), AllocError>
+    requires a { IsOption matrix.now.options a }
+    requires b { IsOption matrix.now.options b }
+    ensures { OnOk result (string_bytes text.new ≡ string_bytes text.old ++ when (has_pair verdict.now.defeats a b) (edge_line matrix.now verdict.now.rounds a b)) }
+{
+    if verdict.defeats().has(a, b) {
+        let won = matrix.votes(a, b);
+        let lost = matrix.votes(b, a);
+        write!(text, "  {a} -> {b} [label=\"{won} : {lost}")?;
+        push_removal(text, removing_round(verdict.rounds(), a, b))?;
+        writeln!(text)?;
+    }
+    Ok(())
+}
+
+/// The lines of the defeats by `a`.
+#[tactic(auto, unfolding(crate::specs::Picture::edges_by))]
+fn push_edges_by(
+    text: &mut String,
+    matrix: &Matrix,
+    verdict: &Verdict,
+    a: u8,
+) -> Result<(), AllocError>
+    requires { IsOption matrix.now.options a }
+    ensures { OnOk result (string_bytes text.new ≡ string_bytes text.old ++ edges_by matrix.now verdict.now a) }
+{
+    push_each(text, matrix.options(), move |text, b| {
+        push_edge(text, matrix, verdict, a, b)
+    })
+}
+
+/// The lines of the defeats before any removal.
+#[tactic(auto, unfolding(crate::specs::Picture::edge_lines))]
+fn push_edges(text: &mut String, matrix: &Matrix, verdict: &Verdict) -> Result<(), AllocError>
+    ensures { OnOk result (string_bytes text.new ≡ string_bytes text.old ++ edge_lines matrix.now verdict.now) }
+{
+    push_each(text, matrix.options(), |text, a| {
+        push_edges_by(text, matrix, verdict, a)
+    })
+}
+
+/// The picture of the outcome of a closed box that holds the lines of the poll, with the option of the casting vote, and what
+/// is decided. It is a text in the language of Graphviz, made of what the sheet of the same box says. Options are numbered
+/// from 1.
+pub fn picture_of_box(
+    alloc: Global,
+    poll: &Poll,
+    lines: &Lines<'_>,
+    ballot_box: &BallotBox,
+    casting: Option<u8>,
+) -> Result<(String, Decision), AllocError>
+    requires held { HoldsLines poll.now lines.now ballot_box.now }
+    requires casting { IfSome casting (IsOption (option_count poll.now)) }
+    ensures { IfOk result (λ printed. IsPictureAndDecision poll.now lines.now casting (string_bytes printed.0) printed.1) }
+{
+    let count = count_of_box(alloc, poll, lines, ballot_box)?;
+    let decision = decide(&count.verdict, casting);
+    let mut text = String::new(alloc);
+    push_graph_head(&mut text, poll)?;
+    push_option_lines(&mut text, poll, &count.verdict, decision)?;
+    push_edges(&mut text, &count.matrix, &count.verdict)?;
+    writeln!(text, "}}")?;
+    Ok((text, decision))
+}
