@@ -6,6 +6,7 @@ use Rattle.vote_poll.specs.Lines.{lines_of}
 use Rattle.vote_poll.specs.Names.{place_of}
 use Rattle.vote_poll.specs.PollContent.{PollContent}
 use Rattle.vote_poll.specs.PollFile.{poll_in}
+use Rattle.vote_sheet.specs.Picture.{IsPictureAndDecision}
 use Rattle.vote_sheet.specs.SheetOf.{IsSheetAndDecision}
 use Rattle.vote_sheet.specs.Texts.{Text}
 use Rattle.vote_runs.specs.declared.fault.Ended.{Ended}
@@ -38,6 +39,7 @@ ended_of (decision.CastingOutside option) = ended.CastingOutside option
 
 -- what a count is made for: the text of the poll, the lines and the casting vote, and how the run ends by it
 abbrev pub IsMade : Purpose → PollContent → List Text → Option ℕ → Text → Ended → Type 0
+IsMade purpose.Picture poll lines casting text end = (decision : Decision) × IsPictureAndDecision poll lines casting text decision × (end ≡ ended_of decision)
 IsMade purpose.Sheet poll lines casting text end = (decision : Decision) × IsSheetAndDecision poll lines casting text decision × (end ≡ ended_of decision)
 
 -- the same of two files and the name of an option

@@ -1,16 +1,17 @@
-//! The result sheet of an audited box.
+//! What is made of an audited box: the result sheet and the picture.
 
 ghost use Rattle.std.specs.Prelude.{IfOk, IfSome, string_bytes};
 ghost use Rattle.vote_poll.specs.Options.{IsOption};
 ghost use Rattle.vote_poll.specs.PollContent.{option_count};
 ghost use Rattle.vote_desks.specs.Audit.{IsAudited};
+ghost use Rattle.vote_sheet.specs.Picture.{IsPictureAndDecision};
 ghost use Rattle.vote_sheet.specs.SheetOf.{IsSheet, IsSheetAndDecision};
 
 use std::alloc::{AllocError, Global};
 use vote_count::Decision;
 use vote_desks::Audited;
 use vote_poll::{Lines, Poll};
-use vote_sheet::sheet_of_box;
+use vote_sheet::{picture_of_box, sheet_of_box};
 
 /// The result sheet of an audited box, with the option of the casting vote, and what the sheet
 /// says is decided. Options are numbered from 1.
@@ -28,6 +29,22 @@ pub fn sheet_and_decision(
     ensures { IfOk result (λ printed. IsSheetAndDecision poll.now lines.now casting (string_bytes printed.0) printed.1) }
 {
     sheet_of_box(alloc, poll, lines, audited.ballot_box(), casting)
+}
+
+/// The picture of what is decided of an audited box, with the option of the casting vote, and what is decided. Options are
+/// numbered from 1.
+pub fn picture_and_decision(
+    alloc: Global,
+    poll: &Poll,
+    lines: &Lines<'_>,
+    audited: &Audited,
+    casting: Option<u8>,
+) -> Result<(String, Decision), AllocError>
+    requires audited { IsAudited poll.now lines.now audited.now.ballot_box audited.now.sheets }
+    requires casting { IfSome casting (IsOption (option_count poll.now)) }
+    ensures { IfOk result (λ printed. IsPictureAndDecision poll.now lines.now casting (string_bytes printed.0) printed.1) }
+{
+    picture_of_box(alloc, poll, lines, audited.ballot_box(), casting)
 }
 
 /// The result sheet of an audited box, with the option of the casting vote. Options are numbered

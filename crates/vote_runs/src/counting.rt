@@ -11,7 +11,7 @@ ghost use Rattle.vote_runs.specs.Counting.{AnswersCasting, IsCount, IsMade, ende
 ghost use Rattle.vote_runs.specs.Runs.{AnswersLines, AnswersPoll, Writes};
 ghost use Rattle.vote_runs.specs.declared.fault.InputFault.{InputFault};
 
-use crate::audited::sheet_and_decision;
+use crate::audited::{picture_and_decision, sheet_and_decision};
 use crate::fault::{Ended, RunFault};
 use crate::output::write_run;
 use crate::taking::{Taken, take};
@@ -28,6 +28,8 @@ use vote_steps::MAX_DESKS;
 pub enum Purpose {
     /// The result sheet.
     Sheet,
+    /// The outcome as a graph for Graphviz.
+    Picture,
 }
 
 /// How a count ends that is decided so.
@@ -47,15 +49,19 @@ fn make(alloc: Global, taken: &Taken<'_>, purpose: Purpose) -> Result<(String, E
     requires casting { IfSome taken.now.casting (IsOption (option_count taken.now.poll)) }
     ensures { IfOk result (λ made. IsMade purpose taken.now.poll taken.now.lines taken.now.casting (string_bytes made.0) made.1) }
 {
+    let Taken {
+        poll,
+        lines,
+        casting,
+        audited,
+    } = taken;
     match purpose {
         Purpose::Sheet => {
-            let (text, decision) = sheet_and_decision(
-                alloc,
-                &taken.poll,
-                &taken.lines,
-                &taken.audited,
-                taken.casting,
-            )?;
+            let (text, decision) = sheet_and_decision(alloc, poll, lines, audited, *casting)?;
+            Ok((text, ended_of(decision)))
+        }
+        Purpose::Picture => {
+            let (text, decision) = picture_and_decision(alloc, poll, lines, audited, *casting)?;
             Ok((text, ended_of(decision)))
         }
     }

@@ -57,19 +57,6 @@ pub enum Job<'a> {
         /// The name of the option that the casting vote chooses in a tie.
         casting: Option<&'a [u8]>,
     },
-    /// Count the ballots, and write whether a published sheet is that of the count.
-    Verify {
-        poll: &'a [u8],
-        ballots: &'a [u8],
-        sheet: &'a [u8],
-        /// From 1 to [`MAX_DESKS`](vote_steps::MAX_DESKS).
-        desks: u8,
-    },
-    /// Write all that is wrong with the poll, and with the ballots where they are given.
-    Explain {
-        poll: &'a [u8],
-        ballots: Option<&'a [u8]>,
-    },
 }
 
 /// How a run ends that decides nothing.
@@ -130,6 +117,22 @@ pub fn perform<G: Gate + Sync, W: Sink, R: Threads + Wait + Sync>(
         )),
         Job::Check { poll } => done(check_poll(alloc, poll, sink)),
         Job::Joined { input } => done(steps_joined(alloc, input, sink)),
+        Job::Picture {
+            poll,
+            ballots,
+            desks,
+            casting,
+        } => count_for(
+            rt,
+            alloc,
+            poll,
+            ballots,
+            *desks,
+            *casting,
+            Purpose::Picture,
+            gate,
+            sink,
+        ),
     }
 }
 
