@@ -8,6 +8,7 @@ mod NamesLaws
 mod OneReading
 mod SortKeys
 mod PollFileLaws
+mod PollFaultsLaws
 mod RankKeys
 mod RankRow
 mod ReadingLaws

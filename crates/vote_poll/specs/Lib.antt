@@ -4,6 +4,7 @@ pub mod Ranks
 pub mod Names
 pub mod PollContent
 pub mod PollFile
+pub mod PollFaults
 pub mod BallotLine
 pub mod Readings
 pub mod Comparisons

@@ -32,6 +32,7 @@
 #![tactic(auto)]
 
 mod fault;
+mod findings;
 mod lines;
 mod names;
 mod poll;
@@ -43,6 +44,7 @@ mod shown;
 mod wording;
 
 pub use fault::{PollFault, PollKey};
+pub use findings::first_fault_is_told;
 pub use lines::{Lines, LinesFault, MAX_LINES, lines_are_unique};
 pub use poll::Poll;
 pub use ranks::Ranks;
