@@ -5,6 +5,7 @@ pub mod Names
 pub mod PollContent
 pub mod PollFile
 pub mod PollFaults
+pub mod Findings
 pub mod BallotLine
 pub mod Readings
 pub mod Comparisons
@@ -15,4 +16,5 @@ pub mod SortKeys
 -- what types stand for, and what private functions say of their parts
 pub mod PollView
 pub mod FieldsView
+pub mod FoundView
 pub mod Parsing

@@ -1,5 +1,6 @@
 //! Why a poll file is refused, and the words for it.
 ghost use Rattle.std.specs.Prelude.{◌≡◌};
+ghost use Rattle.vote_poll.specs.PollFaults.{key_name};
 ghost use Rattle.vote_poll.specs.declared.fault.PollFault.TheVariants.{Memory};
 
 use std::alloc::{AllocError, AllocFailed};
@@ -27,9 +28,12 @@ pub enum PollKey {
     Wording,
 }
 
-impl fmt::Display for PollKey {
-    fn fmt<W: fmt::Write>(&self, f: &mut fmt::Formatter<W>) -> fmt::Result {
-        f.write_str(match self {
+impl PollKey {
+    /// The key as it stands in the file.
+    pub(crate) fn name(self) -> &'static str
+        ensures { result.now ≡ key_name self }
+    {
+        match self {
             PollKey::Title => "title",
             PollKey::Options => "options",
             PollKey::Ratios => "ratios",
@@ -38,7 +42,13 @@ impl fmt::Display for PollKey {
             PollKey::Roll => "roll",
             PollKey::LastEnvelope => "last_envelope",
             PollKey::Wording => "wording",
-        })
+        }
+    }
+}
+
+impl fmt::Display for PollKey {
+    fn fmt<W: fmt::Write>(&self, f: &mut fmt::Formatter<W>) -> fmt::Result {
+        f.write_str(self.name())
     }
 }
 

@@ -33,6 +33,7 @@
 
 mod fault;
 mod findings;
+mod found;
 mod lines;
 mod names;
 mod poll;

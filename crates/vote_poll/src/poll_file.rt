@@ -33,7 +33,7 @@ fn document(alloc: Global, text: &[u8]) -> Result<Table, PollFault>
 }
 
 /// The value at a key of the table.
-fn value_at<'t>(table: &'t Table, name: &str) -> Option<&'t Value>
+pub(crate) fn value_at<'t>(table: &'t Table, name: &str) -> Option<&'t Value>
     ensures { option_map (λ value. view value.now) result ≡ get_member name.now (table_view table.now) }
 {
     table.get(name)
@@ -96,7 +96,7 @@ fn items_at<'t>(table: &'t Table, name: &str, key: PollKey) -> Result<&'t [Value
 }
 
 /// The texts of a list.
-fn texts_of(alloc: Global, items: &[Value], key: PollKey) -> Result<Vec<&str>, PollFault>
+pub(crate) fn texts_of(alloc: Global, items: &[Value], key: PollKey) -> Result<Vec<&str>, PollFault>
     ensures { Gives (λ texts. map (λ text. text.now) texts.items) result (ok_or (each_of as_str (items_view items.now)) (fault.Key key)) }
 {
     let mut texts = Vec::new(alloc);
@@ -110,7 +110,7 @@ fn texts_of(alloc: Global, items: &[Value], key: PollKey) -> Result<Vec<&str>, P
 }
 
 /// The whole numbers of a list.
-fn integers_of(alloc: Global, items: &[Value], key: PollKey) -> Result<Vec<i64>, PollFault>
+pub(crate) fn integers_of(alloc: Global, items: &[Value], key: PollKey) -> Result<Vec<i64>, PollFault>
     ensures { Gives (λ numbers. numbers.items) result (ok_or (each_of as_integer (items_view items.now)) (fault.Key key)) }
 {
     let mut numbers = Vec::new(alloc);

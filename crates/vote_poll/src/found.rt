@@ -1,0 +1,114 @@
+//! The keys of a poll file, each where it is there and of its kind.
+ghost use Rattle.std.specs.Prelude.{◌≡◌, IfOk, map, option_copied, option_map};
+ghost use Rattle.toml.specs.Data.{as_array, as_integer, as_str};
+ghost use Rattle.toml.specs.View.{items_view, table_view};
+ghost use Rattle.vote_poll.specs.FoundView.{IsKnown, found_view};
+ghost use Rattle.vote_poll.specs.PollFaults.{found, found_in};
+ghost use Rattle.vote_poll.specs.PollFile.{list_of};
+
+use crate::fault::{PollFault, PollKey};
+use crate::poll_file::{integers_of, texts_of, value_at};
+use std::alloc::{AllocError, Global};
+use toml::{Table, Value};
+
+/// The keys of a poll file, each where it is there and of its kind.
+#[derive(Drop)]
+pub(crate) struct Found<'t> {
+    pub(crate) title: Option<&'t str>,
+    pub(crate) options: Option<Vec<&'t str>>,
+    pub(crate) ratios: Option<Vec<i64>>,
+    pub(crate) default_option: Option<&'t str>,
+    pub(crate) quorum: Option<i64>,
+    pub(crate) roll: Option<Vec<&'t str>>,
+    pub(crate) last_envelope: Option<i64>,
+    pub(crate) wording: Option<&'t str>,
+}
+
+/// The text at a key.
+fn text_at<'t>(table: &'t Table, key: PollKey) -> Option<&'t str>
+    ensures { option_copied result ≡ found key as_str (table_view table.now) }
+{
+    match value_at(table, key.name()) {
+        Some(Value::String(text)) => Some(text.as_str()),
+        _ => None,
+    }
+}
+
+/// The whole number at a key.
+fn integer_at(table: &Table, key: PollKey) -> Option<i64>
+    ensures { result ≡ found key as_integer (table_view table.now) }
+{
+    match value_at(table, key.name()) {
+        Some(Value::Integer(number)) => Some(*number),
+        _ => None,
+    }
+}
+
+/// The list at a key.
+fn items_at<'t>(table: &'t Table, key: PollKey) -> Option<&'t [Value]>
+    ensures { option_map (λ items. items_view items.now) result ≡ found key as_array (table_view table.now) }
+{
+    match value_at(table, key.name()) {
+        Some(Value::Array(items)) => Some(items.as_slice()),
+        _ => None,
+    }
+}
+
+/// The value that was read, where it was not refused.
+fn known<T: Drop>(read: Result<T, PollFault>) -> Result<Option<T>, AllocError>
+    ensures { IfOk result (IsKnown read) }
+{
+    match read {
+        Ok(value) => Ok(Some(value)),
+        Err(PollFault::Memory) => Err(AllocError),
+        Err(_) => Ok(None),
+    }
+}
+
+/// The texts of the list at a key.
+#[tactic(auto, using(crate::proofs::FoundLaws::known_value))]
+fn texts_at(alloc: Global, table: &Table, key: PollKey) -> Result<Option<Vec<&str>>, AllocError>
+    ensures { IfOk result (λ texts. option_map (λ list. map (λ text. text.now) list.items) texts ≡ found key (list_of as_str) (table_view table.now)) }
+{
+    match items_at(table, key) {
+        Some(items) => known(texts_of(alloc, items, key)),
+        None => Ok(None),
+    }
+}
+
+/// The whole numbers of the list at a key.
+#[tactic(auto, using(crate::proofs::FoundLaws::known_value))]
+fn integers_at(alloc: Global, table: &Table, key: PollKey) -> Result<Option<Vec<i64>>, AllocError>
+    ensures { IfOk result (λ numbers. option_map (λ list. list.items) numbers ≡ found key (list_of as_integer) (table_view table.now)) }
+{
+    match items_at(table, key) {
+        Some(items) => known(integers_of(alloc, items, key)),
+        None => Ok(None),
+    }
+}
+
+impl<'t> Found<'t> {
+    /// The keys of a table.
+    pub(crate) fn of_table(alloc: Global, table: &'t Table) -> Result<Found<'t>, AllocError>
+        ensures { IfOk result (λ keys. found_view keys ≡ found_in (table_view table.now)) }
+    {
+        let title = text_at(table, PollKey::Title);
+        let options = texts_at(alloc, table, PollKey::Options)?;
+        let ratios = integers_at(alloc, table, PollKey::Ratios)?;
+        let default_option = text_at(table, PollKey::DefaultOption);
+        let quorum = integer_at(table, PollKey::Quorum);
+        let roll = texts_at(alloc, table, PollKey::Roll)?;
+        let last_envelope = integer_at(table, PollKey::LastEnvelope);
+        let wording = text_at(table, PollKey::Wording);
+        Ok(Found {
+            title,
+            options,
+            ratios,
+            default_option,
+            quorum,
+            roll,
+            last_envelope,
+            wording,
+        })
+    }
+}
