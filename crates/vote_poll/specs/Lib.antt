@@ -17,4 +17,5 @@ pub mod SortKeys
 pub mod PollView
 pub mod FieldsView
 pub mod FoundView
+pub mod NameFindings
 pub mod Parsing

@@ -46,6 +46,25 @@ impl PollKey {
     }
 }
 
+impl PollKey {
+    /// The keys, in the order in which they are looked for.
+    pub(crate) const ALL: [PollKey; 8] = [
+        PollKey::Title,
+        PollKey::Options,
+        PollKey::Ratios,
+        PollKey::DefaultOption,
+        PollKey::Quorum,
+        PollKey::Roll,
+        PollKey::LastEnvelope,
+        PollKey::Wording,
+    ];
+
+    /// The key that is written like this.
+    pub(crate) fn of_name(name: &str) -> Option<PollKey> {
+        PollKey::ALL.iter().copied().find(|key| key.name() == name)
+    }
+}
+
 impl fmt::Display for PollKey {
     fn fmt<W: fmt::Write>(&self, f: &mut fmt::Formatter<W>) -> fmt::Result {
         f.write_str(self.name())

@@ -34,7 +34,9 @@
 mod fault;
 mod findings;
 mod found;
+mod hints;
 mod lines;
+mod name_findings;
 mod names;
 mod poll;
 mod poll_file;
@@ -42,6 +44,7 @@ mod rank_key;
 mod ranks;
 mod reading;
 mod shown;
+mod unread;
 mod wording;
 
 pub use fault::{PollFault, PollKey};
@@ -78,6 +81,9 @@ pub const MAX_LINE: usize = 200;
 
 /// The most bytes that the name of a voter can have.
 pub const MAX_VOTER_NAME: usize = 32;
+
+/// The most bytes of a name or text of a file that a finding shows.
+pub const MAX_SHOWN: usize = 60;
 
 /// The most bytes that the title of a poll can have.
 pub const MAX_TITLE: usize = 80;

@@ -12,7 +12,7 @@ use indexmap::IndexSet;
 use std::alloc::Global;
 
 /// Whether a voter's name may have this byte.
-fn is_voter_byte(byte: u8) -> bool
+pub(crate) fn is_voter_byte(byte: u8) -> bool
     ensures { result ≡ is_voter_byte byte }
 {
     matches!(byte, b'a'..=b'z' | b'0'..=b'9' | b'.' | b'-')
@@ -61,7 +61,7 @@ fn has_outer_space(name: &[u8]) -> bool
 }
 
 /// Whether a text is the name of an option.
-fn is_option_name(name: &[u8]) -> bool
+pub(crate) fn is_option_name(name: &[u8]) -> bool
     ensures { result ≡ is_option_name name.now }
 {
     1 <= name.len()

@@ -110,7 +110,11 @@ pub(crate) fn texts_of(alloc: Global, items: &[Value], key: PollKey) -> Result<V
 }
 
 /// The whole numbers of a list.
-pub(crate) fn integers_of(alloc: Global, items: &[Value], key: PollKey) -> Result<Vec<i64>, PollFault>
+pub(crate) fn integers_of(
+    alloc: Global,
+    items: &[Value],
+    key: PollKey,
+) -> Result<Vec<i64>, PollFault>
     ensures { Gives (λ numbers. numbers.items) result (ok_or (each_of as_integer (items_view items.now)) (fault.Key key)) }
 {
     let mut numbers = Vec::new(alloc);
