@@ -6,6 +6,7 @@ use Rattle.std.proofs.lemmas.Bool.{cases_Bool}
 use Rattle.std.proofs.lemmas.Bool.Decides.{nat_tests}
 use Rattle.std.proofs.lemmas.List.Elements.{All-nil, All-cons, All-append, filter-append}
 use Rattle.std.proofs.lemmas.List.{map-append}
+use Rattle.std.proofs.lemmas.List.Concat.{concat_is, flat_map-append}
 use Rattle.vote_poll.specs.Findings.{AddsFindings, AddsKeyLines, AreFindings, IsKeyLine, fault_words, finding}
 use Rattle.vote_poll.specs.Lines.{IsUnbroken, line_feed}
 use Rattle.vote_poll.specs.Names.{is_printable}
@@ -82,6 +83,14 @@ pub on_then : {X E : Type 0} (r : Result X E) (xs ys : List PollFault) (before b
 on_then (Ok x) xs ys before between after first more = adds_then xs ys before between after first more
 on_then (Err x) xs ys before between after first more = tt
 
+-- the same test by another name
+pub judged : (b d : Bool) (e : PollFault) (before after : List ℕ) → b ≡ d → AddsFindings (fault_unless b e) before after → AddsFindings (fault_unless d e) before after
+judged b d e before after same h = subst (λ (r : Bool). AddsFindings (fault_unless r e) before after) same h
+
+pub on_judged : {X E : Type 0} (r : Result X E) (b d : Bool) (e : PollFault) (before after : List ℕ) → b ≡ d → OnOk r (AddsFindings (fault_unless b e) before after) → OnOk r (AddsFindings (fault_unless d e) before after)
+on_judged (Ok x) b d e before after same h = judged b d e before after same h
+on_judged (Err x) b d e before after same h = tt
+
 -- ---- places that pass a test
 range_more : (a n : ℕ) → range_with_len a (suc n) ≡ range_with_len a n ++ (a + n) ∷ []
 range_more a zero = ap (λ k. k ∷ []) (omega arith)
@@ -100,3 +109,28 @@ places_more p naming n =
     one : (b : Bool) → p n ≡ b → map naming (filter p (n ∷ [])) ≡ fault_unless (not (p n)) (naming n)
     one true e = rw e refl
     one false e = rw e refl
+
+-- ---- lines of keys
+pub no_key_lines : (text : List ℕ) → AddsKeyLines text text
+no_key_lines text = ([], All-nil IsKeyLine, sym (append-nil text))
+
+pub one_key_line : (path remark before between after : List ℕ) (most n : ℕ) → AddsKeyLines before between
+    → after ≡ between ++ codes "poll: key " ++ shown most path ++ codes " is not read" ++ shown n remark ++ line_feed → AddsKeyLines before after
+one_key_line path remark before between after most n first added =
+    let text : List ℕ = codes "poll: key " ++ shown most path ++ codes " is not read" ++ shown n remark ++ line_feed in
+    let is : IsKeyLine text = record { path = shown most path; remark = shown n remark; path_unbroken = shown_unbroken most path; remark_unbroken = shown_unbroken n remark; is_text = refl } in
+    let lines : List (List ℕ) = first.0 ++ text ∷ [] in
+    let joined : concat (first.0 ++ text ∷ []) ≡ concat first.0 ++ text =
+    concat_is (first.0 ++ text ∷ []) ∙ flat_map-append (λ x. x) first.0 (text ∷ []) ∙ ap (λ t. t ++ (text ++ [])) (sym (concat_is first.0)) ∙ ap (λ t. concat first.0 ++ t) (append-nil text) in (
+      lines,
+      All-append IsKeyLine first.0 (text ∷ []) first.1 (All-cons IsKeyLine text [] is (All-nil IsKeyLine)),
+      added ∙ five_behind between (codes "poll: key ") (shown most path) (codes " is not read") (shown n remark) line_feed ∙ ap (λ t. t ++ text) first.2
+          ∙ append_assoc before (concat first.0) text ∙ ap (λ t. before ++ t) (sym joined),
+    )
+
+-- ---- all findings
+pub all_findings : (faults : List PollFault) (before between after : List ℕ) → before ≡ [] → AddsFindings faults before between → AddsKeyLines between after
+    → (lines : List ℕ) × AreFindings faults lines × AddsKeyLines lines after
+all_findings faults before between after none first keys =
+    let is : between ≡ first.0 = first.2 ∙ ap (λ t. t ++ first.0) none in
+    (between, subst (λ (t : List ℕ). AreFindings faults t) (sym is) first.1, keys)

@@ -125,7 +125,7 @@ told_contents f g title options ratios default_option quorum roll last wording =
     told_names _ _ fault.RollSize fault.VoterName is_voter_name g.roll _ _ refl (
     told_last g.last_envelope _ _ (λ d _. told_wording g.wording _)))))))
 
-told_all : (table : Members) → slice_get (of_keys table ++ of_contents (found_in table)) 0 ≡ fault_told (fields_of table >>= poll_of)
+told_all : (table : Members) → slice_get (of_keys table (found_in table) ++ of_contents (found_in table)) 0 ≡ fault_told (fields_of table >>= poll_of)
 unfolding of_keys fields_of
 told_all table = rw (append_assoc, append_assoc, append_assoc, append_assoc, append_assoc, append_assoc, append_assoc)
     (told_key key.Title (found key.Title as_str table) _ _ poll_of (λ a title.

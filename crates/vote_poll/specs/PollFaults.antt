@@ -111,8 +111,8 @@ unfoldable pub of_wording : Found → List PollFault
 of_wording f = where_found f.wording (λ wording. fault_of (wording_in (Some wording)))
 
 -- ---- the file
-unfoldable pub of_keys : Members → List PollFault
-of_keys table = let f = found_in table in
+unfoldable pub of_keys : Members → Found → List PollFault
+of_keys table f =
     of_key key.Title f.title
     ++ of_key key.Options f.options
     ++ of_key key.Ratios f.ratios
@@ -135,7 +135,7 @@ of_contents f =
     ++ of_wording f
 
 abbrev pub faults_in : Result Members PollFault → List PollFault
-faults_in (Ok table) = of_keys table ++ of_contents (found_in table)
+faults_in (Ok table) = of_keys table (found_in table) ++ of_contents (found_in table)
 faults_in (Err e) = e ∷ []
 
 -- all faults of the text of a poll file

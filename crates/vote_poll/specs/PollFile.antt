@@ -127,12 +127,17 @@ poll_of f = do
 unfoldable pub document : List ℕ → Result Members PollFault
 document text = ok_or (if is_utf8 text then parse_document text else None) fault.Syntax
 
+-- what the table of a poll file means
+abbrev pub poll_in_table : Members → Result PollContent PollFault
+poll_in_table table = do
+  f ← fields_of table
+  poll_of f
+
 -- what the text of a poll file means
 unfoldable pub poll_in : List ℕ → Result PollContent PollFault
 poll_in text = do
   table ← document text
-  f ← fields_of table
-  poll_of f
+  poll_in_table table
 
 -- ---- what a call gives
 abbrev pub Fails : {Y : Type 0} → PollFault → Result Y PollFault → Type 0

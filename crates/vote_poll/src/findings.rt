@@ -1,4 +1,4 @@
-//! All that is wrong with a poll file, in words.
+//! The faults of what the keys of a poll file say.
 ghost use Rattle.std.specs.Prelude.{◌≡◌, ◌+◌, ◌++◌, ◌&&◌, ◌||◌, ◌==◌, IfOk, OnOk, codes, length, map, option_copied, option_to_list, is_none, string_bytes, not};
 ghost use Rattle.std.specs.List.{list_all, list_any};
 ghost use Rattle.std.specs.Str.{bytes_eq};
@@ -16,7 +16,7 @@ ghost use Rattle.vote_poll.specs.declared.fault.PollFault.TheVariants as fault;
 use crate::fault::{PollFault, PollKey};
 use crate::found::Found;
 use crate::hints::{
-    Named, key_hint, options_hint, range_hint, ratios_hint, roll_hint, shape_hint, wording_hint,
+    Named, options_hint, range_hint, ratios_hint, roll_hint, shape_hint, wording_hint,
 };
 use crate::lines::MAX_LINES;
 use crate::name_findings::{NameList, push_bad_names};
@@ -28,13 +28,6 @@ use crate::unread::{UnreadKey, UnreadKeys};
 use crate::{MAX_ELECTORS, MAX_OPTIONS, MAX_QUORUM_MULTIPLE, MAX_RATIO, MAX_SHOWN};
 use std::alloc::{AllocError, Global};
 use toml::Table;
-
-/// A law: the fault that [`Poll::from_text`](crate::Poll::from_text) answers is the first of all faults of its text, and it
-/// answers a poll just where there is none.
-#[tactic(auto, using(crate::proofs::PollFaultsLaws::first_is_told))]
-pub fn first_fault_is_told()
-    ensures { FirstIsTold }
-{}
 
 /// Ends the line of a fault with a hint.
 pub(crate) fn push_hint(text: &mut String, hint: &str) -> Result<(), AllocError>
@@ -248,7 +241,11 @@ fn push_wording(alloc: Global, text: &mut String, found: &Found<'_>) -> Result<(
 
 /// What the keys say, in the order of the faults.
 #[tactic(auto, unfolding(crate::specs::PollFaults::of_contents))]
-fn push_contents(alloc: Global, text: &mut String, found: &Found<'_>) -> Result<(), AllocError>
+pub(crate) fn push_contents(
+    alloc: Global,
+    text: &mut String,
+    found: &Found<'_>,
+) -> Result<(), AllocError>
     ensures { OnOk result (AddsFindings (of_contents (found_view found.now)) (string_bytes text.old) (string_bytes text.new)) }
 {
     push_title(alloc, text, found)?;

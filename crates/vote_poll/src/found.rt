@@ -2,7 +2,7 @@
 ghost use Rattle.std.specs.Prelude.{◌≡◌, IfOk, map, option_copied, option_map};
 ghost use Rattle.toml.specs.Data.{as_array, as_integer, as_str};
 ghost use Rattle.toml.specs.View.{items_view, table_view};
-ghost use Rattle.vote_poll.specs.FoundView.{IsKnown, found_view};
+ghost use Rattle.vote_poll.specs.FoundView.{IsKnown, found_view, has};
 ghost use Rattle.vote_poll.specs.PollFaults.{found, found_in};
 ghost use Rattle.vote_poll.specs.PollFile.{list_of};
 
@@ -110,5 +110,21 @@ impl<'t> Found<'t> {
             last_envelope,
             wording,
         })
+    }
+
+    /// Whether a key is there and of its kind.
+    pub(crate) fn has(&self, key: PollKey) -> bool
+        ensures { result ≡ has (found_view self.now) key }
+    {
+        match key {
+            PollKey::Title => self.title.is_some(),
+            PollKey::Options => self.options.is_some(),
+            PollKey::Ratios => self.ratios.is_some(),
+            PollKey::DefaultOption => self.default_option.is_some(),
+            PollKey::Quorum => self.quorum.is_some(),
+            PollKey::Roll => self.roll.is_some(),
+            PollKey::LastEnvelope => self.last_envelope.is_some(),
+            PollKey::Wording => self.wording.is_some(),
+        }
     }
 }

@@ -4,12 +4,11 @@
 use crate::fault::PollKey;
 use crate::names::{is_printable, is_voter_byte};
 use crate::shown::push_shown;
-use crate::unread::UnreadKeys;
 use crate::{
     MAX_ELECTORS, MAX_OPTION_NAME, MAX_OPTIONS, MAX_RATIO, MAX_SHOWN, MAX_TITLE, MAX_VOTER_NAME,
 };
 use std::alloc::{AllocError, Global};
-use toml::{Table, Value};
+use toml::Value;
 
 /// What a name is the name of.
 #[derive(Clone, Copy, Debug, PartialEq, Eq)]
@@ -203,24 +202,11 @@ fn list_hint(alloc: Global, key: PollKey, items: &[Value]) -> Result<String, All
 }
 
 /// What stands at a key in place of what is wanted.
-fn kind_hint(alloc: Global, key: PollKey, value: &Value) -> Result<String, AllocError> {
+pub(crate) fn kind_hint(alloc: Global, key: PollKey, value: &Value) -> Result<String, AllocError> {
     match value {
         Value::Array(items) => list_hint(alloc, key, items),
         other => String::from_str(alloc, kind_words(other)),
     }
-}
-
-/// That a key is missing, and where it stands below a table, in which.
-fn missing_hint(
-    alloc: Global,
-    key: PollKey,
-    unread: &UnreadKeys<'_>,
-) -> Result<String, AllocError> {
-    let mut hint = String::from_str(alloc, "it is missing")?;
-    if let Some(table) = unread.table_with(key) {
-        push_below(&mut hint, table)?;
-    }
-    Ok(hint)
 }
 
 /// Adds that a key stands below a table.
@@ -228,17 +214,4 @@ pub(crate) fn push_below(hint: &mut String, table: &[u8]) -> Result<(), AllocErr
     hint.push_str("; it stands below [")?;
     push_shown(hint, table, MAX_SHOWN)?;
     hint.push_str("], and is read above all tables only")
-}
-
-/// What is wrong with a key: it is missing, or of the wrong kind.
-pub(crate) fn key_hint(
-    alloc: Global,
-    key: PollKey,
-    table: &Table,
-    unread: &UnreadKeys<'_>,
-) -> Result<String, AllocError> {
-    match table.get(key.name()) {
-        Some(value) => kind_hint(alloc, key, value),
-        None => missing_hint(alloc, key, unread),
-    }
 }

@@ -31,10 +31,12 @@
 //! so are that envelopes can be late and that a majority can be worded as more than its ratio.
 #![tactic(auto)]
 
+mod explain;
 mod fault;
 mod findings;
 mod found;
 mod hints;
+mod key_findings;
 mod lines;
 mod name_findings;
 mod names;
@@ -47,8 +49,8 @@ mod shown;
 mod unread;
 mod wording;
 
+pub use explain::{ExplainedPoll, explain_poll, first_fault_is_told};
 pub use fault::{PollFault, PollKey};
-pub use findings::first_fault_is_told;
 pub use lines::{Lines, LinesFault, MAX_LINES, lines_are_unique};
 pub use poll::Poll;
 pub use ranks::Ranks;

@@ -5,7 +5,7 @@ ghost use Rattle.vote_poll.specs.FieldsView.{fields_view};
 ghost use Rattle.vote_poll.specs.declared.fault.PollFault.TheVariants as fault;
 ghost use Rattle.toml.specs.Data.{get_member, as_array, as_str, as_integer};
 ghost use Rattle.toml.specs.View.{items_view, view, table_view};
-ghost use Rattle.vote_poll.specs.PollFile.{Gives, document, each_of, field, fields_of, last_envelope_in, list_of, option_names_in, optional_field, poll_in, poll_of, quorum_in, ratios_in, roll_in, title_in};
+ghost use Rattle.vote_poll.specs.PollFile.{Gives, document, each_of, field, fields_of, last_envelope_in, list_of, option_names_in, optional_field, poll_in, poll_in_table, poll_of, quorum_in, ratios_in, roll_in, title_in};
 
 use crate::fault::{PollFault, PollKey};
 use crate::lines::MAX_LINES;
@@ -301,6 +301,14 @@ fn poll_of(alloc: Global, fields: Fields<'_>) -> Result<Poll, PollFault>
     })
 }
 
+/// The poll of a table, or its first fault.
+pub(crate) fn poll_of_table(alloc: Global, table: &Table) -> Result<Poll, PollFault>
+    ensures { Gives (λ poll. poll) result (poll_in_table (table_view table.now)) }
+{
+    let fields = fields_of(alloc, table)?;
+    poll_of(alloc, fields)
+}
+
 impl Poll {
     /// The poll that the text of a poll file means, or the first of its faults. The text is TOML with the keys of
     /// [`PollKey`], of which the last two may be missing; other keys are passed over.
@@ -314,7 +322,6 @@ impl Poll {
         ensures { Gives (λ poll. poll) result (poll_in text.now) }
     {
         let table = document(alloc, text)?;
-        let fields = fields_of(alloc, &table)?;
-        poll_of(alloc, fields)
+        poll_of_table(alloc, &table)
     }
 }
