@@ -12,3 +12,6 @@ pub use fronts::column;
 
 /// The most bytes of a voter's name that are shown.
 pub const MOST_SHOWN: usize = 60;
+
+#[cfg(test)]
+mod tests;
