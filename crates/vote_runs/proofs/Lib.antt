@@ -1,4 +1,5 @@
 pub mod Counted
+pub mod ExplainedTexts
 pub mod FirstPlace
 pub mod HeldLines
 pub mod JoinedLaws

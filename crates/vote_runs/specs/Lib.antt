@@ -3,5 +3,6 @@ pub mod Joined
 pub mod Runs
 pub mod Counting
 pub mod Taking
+pub mod Explaining
 pub mod Performing
 pub mod Status

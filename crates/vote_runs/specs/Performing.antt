@@ -8,6 +8,7 @@ use Rattle.vote_desks.specs.Faults.{CanStopVotes, IsOfDesk}
 use Rattle.vote_desks.specs.declared.VoteFault.{VoteFault}
 use Rattle.vote_sheet.specs.Texts.{Text}
 use Rattle.vote_runs.specs.Counting.{AnswersCasting, IsCount}
+use Rattle.vote_runs.specs.Explaining.{Explains}
 use Rattle.vote_runs.specs.Joined.{joined_parts}
 use Rattle.vote_runs.specs.Runs.{AnswersLines, AnswersPoll, IsCheck, IsListing, Writes}
 use Rattle.vote_runs.specs.declared.counting.Purpose.{Purpose}
@@ -19,7 +20,7 @@ use Rattle.vote_runs.specs.declared.fault.Ended.TheVariants as ended
 use Rattle.vote_runs.specs.declared.fault.RunFault.{RunFault}
 use Rattle.vote_runs.specs.declared.fault.RunFault.TheVariants as run
 use Rattle.vote_runs.specs.declared.jobs.Job.{Job}
-use Rattle.vote_runs.specs.declared.jobs.Job.TheVariants.{Count, Steps, Standing, Check, Joined, Picture}
+use Rattle.vote_runs.specs.declared.jobs.Job.TheVariants.{Count, Steps, Standing, Check, Joined, Picture, Explain}
 
 -- a count has a number of desks that a box can have
 abbrev pub HasDesks : Job → Type 0
@@ -28,6 +29,7 @@ HasDesks (Steps poll ballots) = Unit {0}
 HasDesks (Standing poll ballots) = Unit {0}
 HasDesks (Check poll) = Unit {0}
 HasDesks (Joined input) = Unit {0}
+HasDesks (Explain poll ballots) = Unit {0}
 HasDesks (Picture poll ballots desks casting) = (1 ≤ desks) × (desks ≤ MAX_DESKS)
 
 -- what the count of these bytes and this casting vote is made for is written, and the run ends by it; the votes stop it only by a fault
@@ -65,3 +67,4 @@ Performs (Standing poll ballots) old new result = Lists listing.Standing poll.no
 Performs (Check poll) old new result = Checks poll.now old new result
 Performs (Joined input) old new result = Lists listing.Steps (joined_parts input.now).0 (joined_parts input.now).1 old new result
 Performs (Picture poll ballots desks casting) old new result = Counts purpose.Picture poll.now ballots.now desks (option_map (λ name. name.now) casting) old new result
+Performs (Explain poll ballots) old new result = Explains poll.now (option_map (λ bytes. bytes.now) ballots) old new result

@@ -7,6 +7,7 @@ ghost use Rattle.vote_runs.specs.declared.fault.InputFault.{InputFault};
 
 use crate::checking::check_poll;
 use crate::counting::{Purpose, count_for};
+use crate::explaining::explain;
 use crate::fault::{Ended, RunFault};
 use crate::listing::{Listing, print_listing, steps_joined};
 use std::alloc::Global;
@@ -56,6 +57,11 @@ pub enum Job<'a> {
         desks: u8,
         /// The name of the option that the casting vote chooses in a tie.
         casting: Option<&'a [u8]>,
+    },
+    /// Write all that is wrong with the poll, and with the ballots where they are given.
+    Explain {
+        poll: &'a [u8],
+        ballots: Option<&'a [u8]>,
     },
 }
 
@@ -116,6 +122,7 @@ pub fn perform<G: Gate + Sync, W: Sink, R: Threads + Wait + Sync>(
             sink,
         )),
         Job::Check { poll } => done(check_poll(alloc, poll, sink)),
+        Job::Explain { poll, ballots } => explain(alloc, poll, *ballots, sink),
         Job::Joined { input } => done(steps_joined(alloc, input, sink)),
         Job::Picture {
             poll,

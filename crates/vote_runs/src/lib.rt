@@ -24,6 +24,7 @@
 mod audited;
 mod checking;
 mod counting;
+mod explaining;
 mod fault;
 mod jobs;
 mod joined;
@@ -35,6 +36,7 @@ mod taking;
 pub use audited::{sheet, sheet_and_decision};
 pub use checking::check_poll;
 pub use counting::{Purpose, count_for, run};
+pub use explaining::explain;
 pub use fault::{
     Ended, InputFault, RunFault, ballots_unread, fault_status, poll_unread, sheet_unread, status,
 };

@@ -1,0 +1,80 @@
+//! The command `explain`.
+
+ghost use Rattle.std.specs.Prelude.{◌≡◌, ◌≢◌, ◌<◌, ◌↔◌, true, Err, IfErr, IfOk, IsErrOf, OnOk, option_map, string_bytes};
+ghost use Rattle.std.specs.Result.{result_err};
+ghost use Rattle.vote_poll.specs.PollFile.{poll_in};
+ghost use Rattle.vote_runs.specs.Explaining.{AnswersGiven, Explains, IsExplanation, IsGivenFault, ended_by};
+ghost use Rattle.vote_runs.specs.declared.fault.InputFault.{InputFault};
+
+use crate::fault::{Ended, RunFault};
+use crate::output::write_run;
+use std::alloc::Global;
+use vote_explain::{Explained, explain_ballots};
+use vote_files::Sink;
+use vote_poll::{ExplainedPoll, Lines, explain_poll};
+use vote_sheet::check_text;
+
+/// How a run ends by its findings.
+fn ended_by(findings: &String, refused: u64) -> Ended
+    ensures { result ≡ ended_by (string_bytes findings.now) refused }
+{
+    if findings.is_empty() && refused == 0 {
+        Ended::Done
+    } else {
+        Ended::Found
+    }
+}
+
+/// What is said of a poll and, where they are given, of its ballots, and how the run ends by it.
+fn explanation(
+    alloc: Global,
+    poll_text: &[u8],
+    ballots: Option<&[u8]>,
+) -> Result<(String, Ended), RunFault>
+    ensures text { IfOk result (λ explained. IsExplanation poll_text.now (option_map (λ bytes. bytes.now) ballots.entry) (string_bytes explained.0) explained.1) }
+    ensures lines { AnswersGiven (poll_in poll_text.now) (option_map (λ bytes. bytes.now) ballots.entry) (result_err result) }
+    ensures fault { IfErr result IsGivenFault }
+{
+    let ExplainedPoll { findings, outcome } = explain_poll(alloc, poll_text)?;
+    let Ok(poll) = outcome else {
+        return Ok((findings, Ended::PollRefused));
+    };
+    let mut text = findings;
+    let Some(ballots) = ballots else {
+        let ended = ended_by(&text, 0);
+        let sizes = check_text(alloc, &poll)?;
+        text.push_str(sizes.as_str())?;
+        return Ok((text, ended));
+    };
+    let lines = match Lines::split(alloc, ballots) {
+        Ok(lines) => lines,
+        Err(fault) => return Err(RunFault::Lines(fault)),
+    };
+    let Explained { text: said, refused } = explain_ballots(alloc, &poll, &lines)?;
+    let ended = ended_by(&text, refused);
+    text.push_str(said.as_str())?;
+    Ok((text, ended))
+}
+
+/// Writes all that is wrong with a poll file, and where it is in order with its ballots too, if they are given. Nothing is written
+/// before all of it is there.
+pub fn explain<W: Sink>(
+    alloc: Global,
+    poll_text: &[u8],
+    ballots: Option<&[u8]>,
+    sink: &mut W,
+) -> Result<Ended, RunFault>
+    ensures explains { Explains poll_text.now (option_map (λ bytes. bytes.now) ballots.entry) (W.contents sink.old) (W.contents sink.new) result }
+    ensures input { (fault : InputFault) → result ≢ Err (RunFault.Input fault) }
+    ensures output { IsErrOf result RunFault.Output ↔ (W.faults sink.old < W.faults sink.new) }
+    ensures flushed { OnOk result (W.flushed sink.new ≡ true) }
+{
+    let (text, ended) = match explanation(alloc, poll_text, ballots) {
+        Ok(explained) => explained,
+        Err(fault) => return Err(fault),
+    };
+    match write_run(sink, text.as_bytes()) {
+        Ok(()) => Ok(ended),
+        Err(fault) => Err(fault),
+    }
+}
