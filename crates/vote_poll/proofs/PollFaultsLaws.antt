@@ -117,17 +117,17 @@ unfolding of_contents of_title of_option_count of_option_names of_ratios of_quor
 told_contents f g title options ratios default_option quorum roll last wording =
     let names : List (List ℕ) = g.options ++ g.default_option ∷ [] in
     let count : length (g.options ++ g.default_option ∷ []) ≡ length g.options + 1 = length-append g.options (g.default_option ∷ []) in
-    rw (title, options, ratios, default_option, quorum, roll, last, wording, append_assoc, append_assoc, append_assoc, append_assoc, append_assoc, append_assoc, append_assoc)
+    rw (title, options, ratios, default_option, quorum, roll, last, wording) (simp append_assoc
     (told_part (title_in g.title) _ _ (λ a _.
     told_names _ _ fault.OptionCount (λ place. fault.OptionName (place + 1)) is_option_name names _ _ (ap (is_within 2 MAX_OPTIONS) count) (
     told_part (ratios_in (length g.options) g.ratios) _ _ (λ b _.
     told_part (quorum_in g.quorum) _ _ (λ c _.
     told_names _ _ fault.RollSize fault.VoterName is_voter_name g.roll _ _ refl (
-    told_last g.last_envelope _ _ (λ d _. told_wording g.wording _)))))))
+    told_last g.last_envelope _ _ (λ d _. told_wording g.wording _))))))))
 
 told_all : (table : Members) → slice_get (of_keys table (found_in table) ++ of_contents (found_in table)) 0 ≡ fault_told (fields_of table >>= poll_of)
 unfolding of_keys fields_of
-told_all table = rw (append_assoc, append_assoc, append_assoc, append_assoc, append_assoc, append_assoc, append_assoc)
+told_all table = simp append_assoc
     (told_key key.Title (found key.Title as_str table) _ _ poll_of (λ a title.
     told_key key.Options (found key.Options (list_of as_str) table) _ _ poll_of (λ b options.
     told_key key.Ratios (found key.Ratios (list_of as_integer) table) _ _ poll_of (λ c ratios.
