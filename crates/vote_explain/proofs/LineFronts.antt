@@ -139,3 +139,12 @@ ends part place line whole is = record {
   is_front = front_before part place line is;
   longest = λ n most front. omega (arith, short_front (take n line) front, length-take n line);
 }
+
+-- of two columns neither is behind the other
+pub columns_are_one : (line : List ℕ) (a b : ℕ) → IsColumn line a → IsColumn line b → a ≡ b
+columns_are_one line a b one other =
+    let first : 1 ≤ a = one.from_one in
+    let second : 1 ≤ b = other.from_one in
+    let below : a - 1 < b = other.longest (a - 1) (omega (arith, one.within)) one.is_front in
+    let above : b - 1 < a = one.longest (b - 1) (omega (arith, other.within)) other.is_front in
+    omega arith

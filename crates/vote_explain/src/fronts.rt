@@ -1,6 +1,6 @@
 //! Where a line leaves the grammar of ballot lines.
 
-ghost use Rattle.std.specs.Prelude.{◌≡◌, ◌<◌, ◌≤◌};
+ghost use Rattle.std.specs.Prelude.{◌≡◌, ◌<◌, ◌≤◌, List, ℕ};
 ghost use Rattle.vote_poll.specs.Names.{is_voter_byte};
 ghost use Rattle.vote_explain.specs.Column.{IsColumn};
 ghost use Rattle.vote_explain.specs.Fronts.{HasRoom, IsNext};
@@ -105,3 +105,8 @@ pub fn column(line: &[u8]) -> usize
     }
     most + 1
 }
+
+/// A law: a line leaves the grammar in one column.
+pub fn columns_are_unique()
+    ensures { (line : List ℕ) (a b : ℕ) → IsColumn line a → IsColumn line b → a ≡ b }
+{}

@@ -8,7 +8,7 @@ mod nearest;
 mod words;
 
 pub use explain::{Explained, each_refusal_is_listed, explain_ballots};
-pub use fronts::column;
+pub use fronts::{column, columns_are_unique};
 
 /// The most bytes of a voter's name that are shown.
 pub const MOST_SHOWN: usize = 60;
