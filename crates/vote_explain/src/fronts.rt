@@ -1,7 +1,8 @@
 //! Where a line leaves the grammar of ballot lines.
 
 ghost use Rattle.std.specs.Prelude.{◌≡◌, ◌<◌, ◌≤◌, List, ℕ};
-ghost use Rattle.vote_poll.specs.Names.{is_voter_byte};
+ghost use Rattle.vote_poll.specs.Names.{is_voter_byte, is_within};
+ghost use Rattle.std.specs.Str.{byte};
 ghost use Rattle.vote_explain.specs.Column.{IsColumn};
 ghost use Rattle.vote_explain.specs.Fronts.{HasRoom, IsNext};
 ghost use Rattle.vote_explain.specs.declared.fronts.Part.TheVariants.{Comma, Digit, Name, Rank};
@@ -28,6 +29,20 @@ fn is_voter_byte(byte: u8) -> bool
     matches!(byte, b'a'..=b'z' | b'0'..=b'9' | b'.' | b'-')
 }
 
+/// Whether a byte is the first digit of a rank.
+fn is_first_digit(digit: u8) -> bool
+    ensures { result ≡ is_within (byte "1") (byte "9") digit }
+{
+    matches!(digit, b'1'..=b'9')
+}
+
+/// Whether a byte is the second digit of a rank.
+fn is_second_digit(digit: u8) -> bool
+    ensures { result ≡ is_within (byte "0") (byte "9") digit }
+{
+    matches!(digit, b'0'..=b'9')
+}
+
 /// What a front is that ends in a name of so many bytes, with one more byte.
 fn next_in_name(place: usize, byte: u8) -> Option<Part>
     requires { place ≤ MAX_VOTER_NAME }
@@ -47,11 +62,13 @@ fn next_in_rank(place: usize, byte: u8) -> Option<Part>
     requires { place < MAX_LINE }
     ensures { IsNext Rank place byte result }
 {
-    match byte {
-        b'-' => Some(Part::Comma),
-        b'1'..=b'9' => Some(Part::Digit),
-        _ => None,
+    if byte == b'-' {
+        return Some(Part::Comma);
     }
+    if is_first_digit(byte) {
+        return Some(Part::Digit);
+    }
+    None
 }
 
 /// What a front is that ends with a whole rank, with one more byte. A comma wants room for a rank behind it.
@@ -70,10 +87,10 @@ fn next_behind_digit(place: usize, byte: u8) -> Option<Part>
     requires { place < MAX_LINE }
     ensures { IsNext Digit place byte result }
 {
-    match byte {
-        b'0'..=b'9' => Some(Part::Comma),
-        _ => next_behind_rank(place, byte),
+    if is_second_digit(byte) {
+        return Some(Part::Comma);
     }
+    next_behind_rank(place, byte)
 }
 
 /// What a front of so many bytes is that ends in this part, with one more byte.
