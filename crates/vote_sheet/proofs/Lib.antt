@@ -5,4 +5,6 @@ pub mod Uniqueness
 pub mod SheetLaws
 pub mod BallotTexts
 pub mod Quoting
+pub mod FileLines
+pub mod Verifying
 pub mod StandingLemmas

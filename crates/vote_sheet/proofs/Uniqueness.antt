@@ -13,7 +13,7 @@ use Rattle.vote_count.specs.Votes.{Votes, votes}
 use Rattle.vote_count.specs.Sets.{In, Pairs, has, has_pair, size}
 use Rattle.vote_count.specs.Rounds.{AreSameRounds, IsDecision, IsSameRound, VerdictState, cause_of, final_set}
 use Rattle.vote_count.specs.Laws.{AreSameOutcomes, DecisionsAreDetermined, HaveSameVotes, OutcomesAreDetermined}
-use Rattle.vote_sheet.specs.Sheet.{Sheet, Text, casting_note, causes_text, count_text, decision_text, defeat_line, defeat_lines, defeats_by, defeats_text, drop_line, dropped_line, dropped_text, drops_of, each, ending, head_text, line, name_of, numbers, options_text, or_none, right, round_text, rounds_from, row_text, sheet_text, table_head_text, table_text, tie_text, totals_text, votes_text, when, winner_text}
+use Rattle.vote_sheet.specs.Sheet.{Sheet, Text, casting_note, causes_text, count_text, counted_text, decision_text, defeat_line, defeat_lines, defeats_by, defeats_text, drop_line, dropped_line, dropped_text, drops_of, each, ending, head_text, line, name_of, numbers, options_text, or_none, right, round_text, rounds_from, row_text, sheet_text, table_head_text, table_text, tie_text, totals_text, votes_text, when, winner_text}
 use Rattle.vote_sheet.specs.SheetOf.{IsSheetOf, SheetIsUnique}
 
 each_same : (n : ℕ) (f g : ℕ → Text) → ((o : ℕ) → IsOption n o → f o ≡ g o) → each n f ≡ each n g
@@ -155,7 +155,7 @@ options_text_same names names' ratios ratios' is_names is_ratios = cc
 count_text_same : DecisionsAreDetermined → (n : ℕ) (names : List Text) → length names ≡ n → (m w : Votes) → m.options ≡ n → w.options ≡ n → HaveSameVotes n m w
     → (o u : VerdictState) → AreSameOutcomes n o u → (casting : Option ℕ) (d e : Decision) → IsDecision (final_set o.rounds) casting d → IsDecision (final_set u.rounds) casting e
     → count_text names m o d ≡ count_text names w u e
-unfolding count_text
+unfolding count_text counted_text
 count_text_same decisions n names long m w size_m size_w same o u outcome casting d e is_d is_e =
     let final = final_same o.rounds u.rounds outcome.rounds in
     let dropped : dropped_text (length names) o ≡ dropped_text (length names) u = rw long (dropped_text_same n o u outcome.causes) in

@@ -6,3 +6,4 @@ pub mod SheetOf
 pub mod SheetLaws
 pub mod Standing
 pub mod Picture
+pub mod Verify

@@ -183,17 +183,18 @@ ending names set (CastingOutside c) =
 unfoldable pub decision_text : List Text → List Bool → Decision → Text
 decision_text names set decision = line (ending names set decision ∷ [])
 
--- what the votes come to
-unfoldable pub count_text : List Text → Votes → VerdictState → Decision → Text
-count_text names matrix outcome decision =
-    let n = length names in
-    concat (
+-- what the votes come to, before the decision
+unfoldable pub counted_text : ℕ → Votes → VerdictState → Text
+counted_text n matrix outcome = concat (
     table_text matrix
     ∷ dropped_text n outcome
     ∷ defeats_text matrix outcome.defeats
     ∷ rounds_from n 1 outcome.rounds
-    ∷ decision_text names (final_set outcome.rounds) decision
     ∷ [])
+
+-- what the votes come to
+unfoldable pub count_text : List Text → Votes → VerdictState → Decision → Text
+count_text names matrix outcome decision = counted_text (length names) matrix outcome ++ decision_text names (final_set outcome.rounds) decision
 
 abbrev pub sheet_text : Sheet → Text
 sheet_text s = concat (
@@ -201,4 +202,13 @@ sheet_text s = concat (
     ∷ totals_text s.line_count s.last_envelope s.valid s.refused s.voters
     ∷ options_text s.names s.ratios
     ∷ count_text s.names s.matrix s.outcome s.decision
+    ∷ [])
+
+-- all lines but the last, which alone depends on the casting vote
+abbrev pub shared_text : Sheet → Text
+shared_text s = concat (
+    head_text s.title s.electors s.quorum_multiple s.quorum_votes s.wording
+    ∷ totals_text s.line_count s.last_envelope s.valid s.refused s.voters
+    ∷ options_text s.names s.ratios
+    ∷ counted_text (length s.names) s.matrix s.outcome
     ∷ [])

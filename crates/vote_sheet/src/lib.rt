@@ -7,13 +7,14 @@
 //!   desks and every order in which the lines came, byte for byte.
 //! - [`steps_text`] gives the reply of the box to each line, where one desk casts the lines in their order. By
 //!   [`steps_are_determined`] the poll and the lines leave no choice in it.
+//! - [`verify_sheet`] compares a text with the sheets of a box, without a casting vote and with each ([`Verification`]).
 //! - [`standing_text`] gives the ballots that stand, as a ballot file.
 //! - [`picture_of_box`] gives what the sheet of the same box says as a graph in the language of Graphviz.
 //! - [`check_text`] gives the line of a poll that is in order, and [`reply_words`] the words of a reply.
 //! - The functions of [`laws`] bring laws of the count to what people see: ballot files, and the winner that a sheet names.
 //!
 //! Nothing here knows a file, a thread or a device: what is made is a text in memory, or a want of memory. The modules: `sheet`,
-//! `picture`, `steps` and `standing` have the public calls, and `sheet_text` the parts of a sheet.
+//! `verify`, `picture`, `steps` and `standing` have the public calls, and `sheet_text` the parts of a sheet.
 #![tactic(auto)]
 
 pub mod laws;
@@ -22,11 +23,13 @@ mod sheet;
 mod sheet_text;
 mod standing;
 mod steps;
+mod verify;
 
 pub use picture::picture_of_box;
 pub use sheet::{sheet_is_unique, sheet_of_box};
 pub use standing::standing_text;
 pub use steps::{check_text, reply_words, steps_are_determined, steps_text};
+pub use verify::{Verification, verify_sheet};
 
 #[cfg(test)]
 mod tests;

@@ -7,7 +7,7 @@ ghost use Rattle.vote_poll.specs.PollContent.{elector_count, option_count};
 ghost use Rattle.vote_count.specs.Sets.{has, has_pair};
 ghost use Rattle.vote_count.specs.Rounds.{cause_of};
 ghost use Rattle.vote_count.specs.Rules.{IsKept};
-ghost use Rattle.vote_sheet.specs.Sheet.{Text, casting_note, cause_name, causes_text, column_text, count_text, decision_text, default_text, defeat_line, defeat_lines, defeats_text, defeats_by, drop_line, drops_of, each, ending, tie_text, winner_text, dropped_line, dropped_text, head_text, last_text, name_of, numbers, option_text, options_text, right, round_text, rounds_from, row_text, table_head_text, table_text, totals_text, votes_text, when, wording_text};
+ghost use Rattle.vote_sheet.specs.Sheet.{Text, casting_note, cause_name, causes_text, column_text, count_text, counted_text, decision_text, default_text, defeat_line, defeat_lines, defeats_text, defeats_by, drop_line, drops_of, each, ending, tie_text, winner_text, dropped_line, dropped_text, head_text, last_text, name_of, numbers, option_text, options_text, right, round_text, rounds_from, row_text, table_head_text, table_text, totals_text, votes_text, when, wording_text};
 
 use std::alloc::AllocError;
 use vote_count::{Cause, Decision, Defeats, Matrix, OptionSet, Round, Verdict};
@@ -400,7 +400,7 @@ fn push_ending(
 
 /// The last line: how the final set is decided.
 #[tactic(auto, unfolding(crate::specs::Sheet::decision_text))]
-fn push_decision(
+pub(crate) fn push_decision(
     text: &mut String,
     poll: &Poll,
     set: &OptionSet,
@@ -411,6 +411,23 @@ fn push_decision(
 {
     push_ending(text, poll, set, decision)?;
     writeln!(text)
+}
+
+/// What the votes come to, before the decision: the votes themselves, who is dropped, the defeats and the rounds.
+#[tactic(auto, unfolding(crate::specs::Sheet::counted_text))]
+pub(crate) fn push_counted(
+    text: &mut String,
+    options: u8,
+    matrix: &Matrix,
+    verdict: &Verdict,
+) -> Result<(), AllocError>
+    requires { options ≤ MAX_OPTIONS }
+    ensures { OnOk result (string_bytes text.new ≡ string_bytes text.old ++ counted_text options matrix.now verdict.now) }
+{
+    push_table(text, matrix)?;
+    push_dropped(text, options, verdict)?;
+    push_defeats(text, matrix, &verdict.defeats())?;
+    push_rounds(text, options, verdict.rounds())
 }
 
 /// What the votes come to: the votes themselves, who is dropped, the defeats, the rounds and the decision.
@@ -426,10 +443,6 @@ pub(crate) fn push_count(
     requires winner { (o : ℕ) → decision ≡ Decision.Winner o → IsKept poll.now matrix.now o }
     ensures { OnOk result (string_bytes text.new ≡ string_bytes text.old ++ count_text poll.now.options matrix.now verdict.now decision) }
 {
-    let options = poll.options();
-    push_table(text, matrix)?;
-    push_dropped(text, options, verdict)?;
-    push_defeats(text, matrix, &verdict.defeats())?;
-    push_rounds(text, options, verdict.rounds())?;
+    push_counted(text, poll.options(), matrix, verdict)?;
     push_decision(text, poll, &verdict.final_set(), decision)
 }

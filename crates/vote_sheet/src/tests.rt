@@ -1,6 +1,8 @@
 //! A whole sheet and the texts of `steps`, `standing` and `check`, each call with its memory refused in turn (tests/refused-memory).
 
-use crate::{check_text, picture_of_box, sheet_of_box, standing_text, steps_text};
+use crate::{
+    Verification, check_text, picture_of_box, sheet_of_box, standing_text, steps_text, verify_sheet,
+};
 use std::alloc::{AllocError, Global};
 use std::process::Abort;
 use std::test::Fail;
@@ -94,6 +96,33 @@ fn memory_of_picture_of_box(rt: HostRuntime) -> Result<(), Fail> {
         Ok((text, decision)) => {
             assert!(rt; text.as_str() == A_PICTURE, "{}", text);
             assert_eq!(rt; decision, Decision::Winner(1));
+            Ok(())
+        }
+        Err(AllocError) => Err(Fail::from("refused")),
+    }
+}
+
+/// How a text compares with the sheets of the lines.
+fn verified(
+    alloc: Global,
+    poll: &Poll,
+    lines: &Lines<'_>,
+    text: &str,
+) -> Result<(String, Verification), AllocError> {
+    let ballot_box = cast_all(alloc, poll, lines)?;
+    verify_sheet(alloc, poll, lines, &ballot_box, text.as_bytes())
+}
+
+#[test]
+fn memory_of_verify_sheet(rt: HostRuntime) -> Result<(), Fail> {
+    let alloc = rt.alloc();
+    let poll = poll_of(&rt, alloc, NINE_ELECTORS)?;
+    let lines = lines_of(&rt, alloc, A_CYCLE_OF_NINE)?;
+    match verified(alloc, &poll, &lines, "Poll: A cycle\nElectors: 9\n\r") {
+        Ok((words, verification)) => {
+            let whole = "differs at line 3\nsheet: \\x0D\ncount: Quorum: 3Q, 5 votes\n";
+            assert!(rt; words.as_str() == whole, "{}", words);
+            assert_eq!(rt; verification, Verification::Differs);
             Ok(())
         }
         Err(AllocError) => Err(Fail::from("refused")),

@@ -1,0 +1,7 @@
+use Rattle.std.proofs.Common.{arith, drop}
+use Rattle.vote_sheet.proofs.FileLines.{over_here}
+use Rattle.vote_sheet.proofs.verify.agreement.Goals as goal
+
+pub returns-else-count-other-clause-agree : goal.returns-else-count-other-clause-agree
+returns-else-count-other-clause-agree c =
+    omega (arith, c.loop-count.invariant.agree, over_here (drop c.loop-count.count c.args.text.now) c.args.other.now c.loop-count.count (omega arith))

@@ -1,0 +1,76 @@
+-- What comparing a text with the sheets of a poll and its lines says.
+use Rattle.std.specs.Prelude.{◌≡◌, ◌≢◌, ℕ, zero, suc, ◌+◌, ◌<◌, ◌≤◌, ◌==◌, if◌then◌else◌, List, [], ◌∷◌, count_by, take, Option, Some, None, slice_get, codes, decimal}
+use Rattle.std.specs.List.{concat}
+use Rattle.vote_poll.specs.Lines.{lines_of}
+use Rattle.vote_poll.specs.Options.{IsOption}
+use Rattle.vote_poll.specs.PollContent.{PollContent, option_count}
+use Rattle.vote_poll.specs.Shown.{shown}
+use Rattle.vote_sheet.specs.Sheet.{name_of}
+use Rattle.vote_sheet.specs.SheetOf.{IsSheet}
+use Rattle.vote_sheet.specs.Texts.{Text, line}
+use Rattle.vote_sheet.specs.declared.verify.Verification.{Verification}
+use Rattle.vote_sheet.specs.declared.verify.Verification.TheVariants.{Matches, MatchesCasting, Differs}
+
+-- It is the sheet without a casting vote; or it is not that one, and of the sheets with one it is that of this option, the first if there are several; or it is none.
+abbrev pub IsVerification : PollContent → List Text → Text → Verification → Type 0
+IsVerification poll lines text Matches = IsSheet poll lines None text
+IsVerification poll lines text (MatchesCasting o) =
+    ¬ IsSheet poll lines None text × IsOption (option_count poll) o × IsSheet poll lines (Some o) text × ((p : ℕ) → IsOption (option_count poll) p → p < o → ¬ IsSheet poll lines (Some p) text)
+IsVerification poll lines text Differs =
+    ¬ IsSheet poll lines None text × ((o : ℕ) → IsOption (option_count poll) o → ¬ IsSheet poll lines (Some o) text)
+
+-- ---- the sheet that agrees longest
+
+-- the casting votes by number: 0 is none, and another number that of the option with this number
+abbrev pub casting_vote : ℕ → Option ℕ
+casting_vote zero = None
+casting_vote (suc o) = Some (suc o)
+
+-- how many bytes at their fronts two texts have in common
+abbrev pub agreement : Text → Text → ℕ
+agreement [] other = 0
+agreement (b ∷ bs) [] = 0
+agreement (b ∷ bs) (c ∷ cs) = if b == c then agreement bs cs + 1 else 0
+
+-- the text is this sheet, or it is not, and so many bytes at their fronts agree
+abbrev pub IsComparison : Text → Text → Option ℕ → Type 0
+IsComparison text sheet None = text ≡ sheet
+IsComparison text sheet (Some agrees) = (text ≢ sheet) × (agrees ≡ agreement text sheet)
+
+-- It is a sheet of the poll and the lines, with the casting vote of this number. None agrees longer with the text, and none with a smaller number as long.
+pub record AgreesLongest (poll : PollContent) (lines : List Text) (text : Text) (number : ℕ) (sheet : Text) : Type 0 where
+  pub option : number ≤ option_count poll
+  pub is_sheet : IsSheet poll lines (casting_vote number) sheet
+  pub longest : (n : ℕ) (other : Text) → n ≤ option_count poll → IsSheet poll lines (casting_vote n) other → agreement text other ≤ agreement text sheet
+  pub first : (n : ℕ) (other : Text) → n < number → IsSheet poll lines (casting_vote n) other → agreement text other < agreement text sheet
+
+-- ---- the words
+
+unfoldable pub verified_text : List Text → ℕ → Text
+verified_text names zero = codes "verified\n"
+verified_text names (suc o) = line (codes "verified, casting vote " ∷ decimal (suc o) ∷ codes " " ∷ name_of names (suc o) ∷ [])
+
+-- how many lines are over before a place of the text
+abbrev pub lines_before : ℕ → Text → ℕ
+lines_before place text = count_by (λ byte. byte == 10) (take place text)
+
+-- a line, of which 120 bytes are shown at most, or that the text has ended
+abbrev pub shown_line : Option Text → Text
+shown_line None = codes "(end)"
+shown_line (Some text) = shown 120 text
+
+-- the line, from 1, that has the first byte at which the text leaves the sheet, and this line of both
+unfoldable pub difference_text : Text → Text → Text
+difference_text text sheet =
+    let before = lines_before (agreement text sheet) text in
+    concat (
+    line (codes "differs at line " ∷ decimal (before + 1) ∷ [])
+    ∷ line (codes "sheet: " ∷ shown_line (slice_get (lines_of text) before) ∷ [])
+    ∷ line (codes "count: " ∷ shown_line (slice_get (lines_of sheet) before) ∷ [])
+    ∷ [])
+
+-- the words say so, and where it is none of the sheets, how the text differs from the one that agrees longest with it
+abbrev pub AreVerificationWords : PollContent → List Text → Text → Verification → Text → Type 0
+AreVerificationWords poll lines text Matches words = words ≡ verified_text poll.options 0
+AreVerificationWords poll lines text (MatchesCasting o) words = words ≡ verified_text poll.options o
+AreVerificationWords poll lines text Differs words = (number : ℕ) × (sheet : Text) × AgreesLongest poll lines text number sheet × (words ≡ difference_text text sheet)
