@@ -8,7 +8,7 @@ use Rattle.vote_count.specs.declared.Decision.{Decision}
 use Rattle.vote_steps.specs.declared.Totals.{Totals}
 use Rattle.vote_sheet.specs.Sheet.{Sheet, Text, count_text, decision_text, line, name_of, shared_text, sheet_text}
 use Rattle.vote_sheet.specs.SheetOf.{IsSheet, IsSheetOf, sheet_with}
-use Rattle.vote_sheet.specs.Verify.{AgreesLongest, IsVerification, agreement, casting_vote, verified_text}
+use Rattle.vote_sheet.specs.Verify.{AgreesLongest, IsVerification, common_lines, casting_vote, verified_text}
 use Rattle.vote_sheet.specs.declared.verify.Verification.{Verification}
 use Rattle.vote_sheet.specs.declared.verify.Verification.TheVariants.{Differs, Matches, MatchesCasting}
 use mathlib.Core.List.{append-nil}
@@ -36,9 +36,9 @@ sheet_parts s = simp (append_assoc, append-nil)
 -- What is known of the sheets before a number: the text is none of them, and of those that agree longest with it the first has the number `closest`, and agrees so long.
 pub record Searched (S : ℕ → Text → Type 0) (text : Text) (upto closest longest : ℕ) : Type 0 where
   pub none : (n : ℕ) → n < upto → ¬ S n text
-  pub most : (n : ℕ) (t : Text) → n < upto → S n t → agreement text t ≤ longest
-  pub less : (n : ℕ) (t : Text) → n < closest → S n t → agreement text t < longest
-  pub here : (t : Text) → 0 < upto → S closest t → agreement text t ≡ longest
+  pub most : (n : ℕ) (t : Text) → n < upto → S n t → common_lines text t ≤ longest
+  pub less : (n : ℕ) (t : Text) → n < closest → S n t → common_lines text t < longest
+  pub here : (t : Text) → 0 < upto → S closest t → common_lines text t ≡ longest
   pub start : upto ≡ 0 → (closest ≡ 0) × (longest ≡ 0)
   pub within : 0 < upto → closest < upto
 
@@ -53,8 +53,8 @@ nothing_searched S text = record {
 }
 
 module _ (S : ℕ → Text → Type 0) (unique : (n : ℕ) (a b : Text) → S n a → S n b → a ≡ b) (text : Text) (upto closest longest : ℕ) (before : Searched S text upto closest longest) (t : Text) (is_next : S upto t) (other : text ≢ t) where
-  same_length : (u : Text) → S upto u → agreement text u ≡ agreement text t
-  same_length u is = ap (agreement text) (unique upto u t is is_next)
+  same_length : (u : Text) → S upto u → common_lines text u ≡ common_lines text t
+  same_length u is = ap (common_lines text) (unique upto u t is is_next)
 
   none_more : (n : ℕ) → n < upto + 1 → ¬ S n text
   none_more n below is =
@@ -64,7 +64,7 @@ module _ (S : ℕ → Text → Type 0) (unique : (n : ℕ) (a b : Text) → S n 
       ]
 
   -- the next sheet agrees longer
-  pub longer : longest < agreement text t → Searched S text (upto + 1) upto (agreement text t)
+  pub longer : longest < common_lines text t → Searched S text (upto + 1) upto (common_lines text t)
   longer more = record {
     none = none_more;
     most = λ n u below is.
@@ -79,7 +79,7 @@ module _ (S : ℕ → Text → Type 0) (unique : (n : ℕ) (a b : Text) → S n 
   }
 
   -- the next sheet agrees no longer
-  pub no_longer : agreement text t ≤ longest → Searched S text (upto + 1) closest longest
+  pub no_longer : common_lines text t ≤ longest → Searched S text (upto + 1) closest longest
   no_longer most = record {
     none = none_more;
     most = λ n u below is.
@@ -120,14 +120,14 @@ agrees_longest poll lines text upto closest longest sheet all searched is =
 
 -- the search goes on, with the closer one
 pub next_searched : (S : ℕ → Text → Type 0) (unique : (n : ℕ) (a b : Text) → S n a → S n b → a ≡ b) (text : Text) (upto closest longest : ℕ) → Searched S text upto closest longest
-    → (t : Text) → S upto t → text ≢ t → (agrees number far : ℕ) → agrees ≡ agreement text t
+    → (t : Text) → S upto t → text ≢ t → (agrees number far : ℕ) → agrees ≡ common_lines text t
     → (longest < agrees → (number ≡ upto) × (far ≡ agrees)) → (agrees ≤ longest → (number ≡ closest) × (far ≡ longest)) → Searched S text (upto + 1) number far
 next_searched S unique text upto closest longest before t is_next other agrees number far same more less =
     let P : ℕ → Type 0 = λ k. Searched S text (upto + 1) number k in
     elim (cases_lt longest agrees) [
       | inl is ↦
           let new = more is in
-          let Q : ℕ → Type 0 = λ k. Searched S text (upto + 1) k (agreement text t) in
+          let Q : ℕ → Type 0 = λ k. Searched S text (upto + 1) k (common_lines text t) in
           subst P (sym (new.1 ∙ same)) (subst Q (sym new.0) (longer S unique text upto closest longest before t is_next other (omega arith)))
       | inr is ↦
           let old = less is in

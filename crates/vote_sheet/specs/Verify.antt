@@ -32,17 +32,21 @@ agreement [] other = 0
 agreement (b ∷ bs) [] = 0
 agreement (b ∷ bs) (c ∷ cs) = if b == c then agreement bs cs + 1 else 0
 
--- the text is this sheet, or it is not, and so many bytes at their fronts agree
+-- how many lines at their fronts two texts have in common, each with its line feed
+abbrev pub common_lines : Text → Text → ℕ
+common_lines text other = count_by (λ byte. byte == 10) (take (agreement text other) text)
+
+-- the text is this sheet, or it is not, and so many lines at their fronts agree
 abbrev pub IsComparison : Text → Text → Option ℕ → Type 0
 IsComparison text sheet None = text ≡ sheet
-IsComparison text sheet (Some agrees) = (text ≢ sheet) × (agrees ≡ agreement text sheet)
+IsComparison text sheet (Some agrees) = (text ≢ sheet) × (agrees ≡ common_lines text sheet)
 
--- It is a sheet of the poll and the lines, with the casting vote of this number. None agrees longer with the text, and none with a smaller number as long.
+-- It is a sheet of the poll and the lines, with the casting vote of this number. None agrees with the text for more lines, and none with a smaller number for as many.
 pub record AgreesLongest (poll : PollContent) (lines : List Text) (text : Text) (number : ℕ) (sheet : Text) : Type 0 where
   pub option : number ≤ option_count poll
   pub is_sheet : IsSheet poll lines (casting_vote number) sheet
-  pub longest : (n : ℕ) (other : Text) → n ≤ option_count poll → IsSheet poll lines (casting_vote n) other → agreement text other ≤ agreement text sheet
-  pub first : (n : ℕ) (other : Text) → n < number → IsSheet poll lines (casting_vote n) other → agreement text other < agreement text sheet
+  pub longest : (n : ℕ) (other : Text) → n ≤ option_count poll → IsSheet poll lines (casting_vote n) other → common_lines text other ≤ common_lines text sheet
+  pub first : (n : ℕ) (other : Text) → n < number → IsSheet poll lines (casting_vote n) other → common_lines text other < common_lines text sheet
 
 -- ---- the words
 
@@ -50,19 +54,15 @@ unfoldable pub verified_text : List Text → ℕ → Text
 verified_text names zero = codes "verified\n"
 verified_text names (suc o) = line (codes "verified, casting vote " ∷ decimal (suc o) ∷ codes " " ∷ name_of names (suc o) ∷ [])
 
--- how many lines are over before a place of the text
-abbrev pub lines_before : ℕ → Text → ℕ
-lines_before place text = count_by (λ byte. byte == 10) (take place text)
-
 -- a line, of which 120 bytes are shown at most, or that the text has ended
 abbrev pub shown_line : Option Text → Text
 shown_line None = codes "(end)"
 shown_line (Some text) = shown 120 text
 
--- the line, from 1, that has the first byte at which the text leaves the sheet, and this line of both
+-- the first line, from 1, in which the text leaves the sheet, and this line of both; a last line that lacks its line feed is another
 unfoldable pub difference_text : Text → Text → Text
 difference_text text sheet =
-    let before = lines_before (agreement text sheet) text in
+    let before = common_lines text sheet in
     concat (
     line (codes "differs at line " ∷ decimal (before + 1) ∷ [])
     ∷ line (codes "sheet: " ∷ shown_line (slice_get (lines_of text) before) ∷ [])

@@ -11,7 +11,7 @@ ghost use Rattle.vote_count.specs.Sets.{In};
 ghost use Rattle.vote_steps.specs.Casting.{HoldsLines};
 ghost use Rattle.vote_sheet.specs.Sheet.{decision_text, shared_text};
 ghost use Rattle.vote_sheet.specs.SheetOf.{sheet_with};
-ghost use Rattle.vote_sheet.specs.Verify.{AreVerificationWords, IsComparison, IsVerification, agreement, casting_vote, difference_text, shown_line, verified_text};
+ghost use Rattle.vote_sheet.specs.Verify.{AreVerificationWords, IsComparison, IsVerification, agreement, casting_vote, common_lines, difference_text, shown_line, verified_text};
 
 use crate::sheet::{Count, count_of_box, sheet_is_unique};
 use crate::sheet_text::{
@@ -59,6 +59,13 @@ fn count_feeds(text: &[u8]) -> usize
         }
     }
     feeds
+}
+
+/// How many lines at their fronts two texts have in common, each with its line feed.
+fn common_lines(text: &[u8], other: &[u8]) -> usize
+    ensures { result ≡ common_lines text.now other.now }
+{
+    count_feeds(&text[..agreement(text, other)])
 }
 
 /// The text without a line feed at its end.
@@ -112,12 +119,12 @@ fn push_shown_line(words: &mut String, text: &[u8], place: usize) -> Result<(), 
     }
 }
 
-/// The line, from 1, that has the first byte at which a text leaves a sheet, and this line of both.
+/// The first line, from 1, in which a text leaves a sheet, and this line of both.
 #[tactic(auto, unfolding(crate::specs::Verify::difference_text))]
 fn difference_text(alloc: Global, text: &[u8], sheet: &[u8]) -> Result<String, AllocError>
     ensures { IfOk result (λ words. string_bytes words ≡ difference_text text.now sheet.now) }
 {
-    let before = count_feeds(&text[..agreement(text, sheet)]);
+    let before = common_lines(text, sheet);
     let mut words = String::new(alloc);
     write!(words, "differs at line {}\nsheet: ", before + 1)?;
     push_shown_line(&mut words, text, before)?;
@@ -192,7 +199,7 @@ fn sheet_with_vote(
     Ok(sheet)
 }
 
-/// How long the text agrees with the sheet with the casting vote of this number, or none where the text is that sheet.
+/// For how many lines the text agrees with the sheet with the casting vote of this number, or none where the text is that sheet.
 fn compare(
     alloc: Global,
     poll: &Poll,
@@ -208,10 +215,10 @@ fn compare(
     if sheet.as_bytes() == text {
         return Ok(None);
     }
-    Ok(Some(agreement(text, sheet.as_bytes())))
+    Ok(Some(common_lines(text, sheet.as_bytes())))
 }
 
-/// Of the sheets so far the first that agrees longest with the text: the number of its casting vote, and how many bytes agree.
+/// Of the sheets so far the first that agrees longest with the text: the number of its casting vote, and how many lines agree.
 #[derive(Clone, Copy)]
 struct Closest {
     number: u8,
