@@ -9,6 +9,9 @@ use Rattle.vote_poll.specs.PollFile.{poll_in}
 use Rattle.vote_sheet.specs.Picture.{IsPictureAndDecision}
 use Rattle.vote_sheet.specs.SheetOf.{IsSheetAndDecision}
 use Rattle.vote_sheet.specs.Texts.{Text}
+use Rattle.vote_sheet.specs.Verify.{AreVerificationWords, IsVerification}
+use Rattle.vote_sheet.specs.declared.Verification.{Verification}
+use Rattle.vote_sheet.specs.declared.Verification.TheVariants as found
 use Rattle.vote_runs.specs.declared.fault.Ended.{Ended}
 use Rattle.vote_runs.specs.declared.fault.Ended.TheVariants as ended
 use Rattle.vote_runs.specs.declared.counting.Purpose.{Purpose}
@@ -37,10 +40,18 @@ ended_of (decision.Winner option) = ended.Decided option
 ended_of decision.Tie = ended.Tie
 ended_of (decision.CastingOutside option) = ended.CastingOutside option
 
+-- a published sheet differs, or it is one of the count
+abbrev pub ended_by : Verification → Ended
+ended_by found.Differs = ended.Differs
+ended_by found.Matches = ended.Done
+ended_by (found.MatchesCasting option) = ended.Done
+
 -- what a count is made for: the text of the poll, the lines and the casting vote, and how the run ends by it
 abbrev pub IsMade : Purpose → PollContent → List Text → Option ℕ → Text → Ended → Type 0
 IsMade purpose.Picture poll lines casting text end = (decision : Decision) × IsPictureAndDecision poll lines casting text decision × (end ≡ ended_of decision)
 IsMade purpose.Sheet poll lines casting text end = (decision : Decision) × IsSheetAndDecision poll lines casting text decision × (end ≡ ended_of decision)
+IsMade (purpose.Verification sheet) poll lines casting text end =
+    (verification : Verification) × IsVerification poll lines sheet.now verification × AreVerificationWords poll lines sheet.now verification text × (end ≡ ended_by verification)
 
 -- the same of two files and the name of an option
 abbrev pub IsCountFor : Purpose → Text → Text → Option Text → Text → Ended → Type 0

@@ -1,5 +1,5 @@
 -- What the program does with the bytes of its inputs, job by job.
-use Rattle.std.specs.Prelude.{◌≡◌, ◌≢◌, ◌≤◌, ℕ, Option, Some, option_map, Result, IfOk}
+use Rattle.std.specs.Prelude.{◌≡◌, ◌≢◌, ◌≤◌, ℕ, Option, Some, None, option_map, Result, IfOk}
 use Rattle.std.specs.Result.{result_err}
 use Rattle.vote_poll.specs.Lines.{lines_of}
 use Rattle.vote_poll.specs.declared.lines.LinesFault.{LinesFault}
@@ -20,7 +20,7 @@ use Rattle.vote_runs.specs.declared.fault.Ended.TheVariants as ended
 use Rattle.vote_runs.specs.declared.fault.RunFault.{RunFault}
 use Rattle.vote_runs.specs.declared.fault.RunFault.TheVariants as run
 use Rattle.vote_runs.specs.declared.jobs.Job.{Job}
-use Rattle.vote_runs.specs.declared.jobs.Job.TheVariants.{Count, Steps, Standing, Check, Joined, Picture, Explain}
+use Rattle.vote_runs.specs.declared.jobs.Job.TheVariants.{Count, Steps, Standing, Check, Joined, Picture, Verify, Explain}
 
 -- a count has a number of desks that a box can have
 abbrev pub HasDesks : Job → Type 0
@@ -29,6 +29,7 @@ HasDesks (Steps poll ballots) = Unit {0}
 HasDesks (Standing poll ballots) = Unit {0}
 HasDesks (Check poll) = Unit {0}
 HasDesks (Joined input) = Unit {0}
+HasDesks (Verify poll ballots sheet desks) = (1 ≤ desks) × (desks ≤ MAX_DESKS)
 HasDesks (Explain poll ballots) = Unit {0}
 HasDesks (Picture poll ballots desks casting) = (1 ≤ desks) × (desks ≤ MAX_DESKS)
 
@@ -67,4 +68,5 @@ Performs (Standing poll ballots) old new result = Lists listing.Standing poll.no
 Performs (Check poll) old new result = Checks poll.now old new result
 Performs (Joined input) old new result = Lists listing.Steps (joined_parts input.now).0 (joined_parts input.now).1 old new result
 Performs (Picture poll ballots desks casting) old new result = Counts purpose.Picture poll.now ballots.now desks (option_map (λ name. name.now) casting) old new result
+Performs (Verify poll ballots sheet desks) old new result = Counts (purpose.Verification sheet) poll.now ballots.now desks None old new result
 Performs (Explain poll ballots) old new result = Explains poll.now (option_map (λ bytes. bytes.now) ballots) old new result

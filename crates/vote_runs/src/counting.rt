@@ -7,11 +7,11 @@ ghost use Rattle.vote_poll.specs.Options.{IsOption};
 ghost use Rattle.vote_poll.specs.PollContent.{option_count};
 ghost use Rattle.vote_desks.specs.Audit.{IsAudited};
 ghost use Rattle.vote_desks.specs.Faults.{CanStopVotes, IsOfDesk};
-ghost use Rattle.vote_runs.specs.Counting.{AnswersCasting, IsCount, IsMade, ended_of};
+ghost use Rattle.vote_runs.specs.Counting.{AnswersCasting, IsCount, IsMade, ended_by, ended_of};
 ghost use Rattle.vote_runs.specs.Runs.{AnswersLines, AnswersPoll, Writes};
 ghost use Rattle.vote_runs.specs.declared.fault.InputFault.{InputFault};
 
-use crate::audited::{picture_and_decision, sheet_and_decision};
+use crate::audited::{picture_and_decision, sheet_and_decision, verification};
 use crate::fault::{Ended, RunFault};
 use crate::output::write_run;
 use crate::taking::{Taken, take};
@@ -21,15 +21,18 @@ use std::thread::Threads;
 use vote_count::Decision;
 use vote_desks::{Gate, VoteFault};
 use vote_files::Sink;
+use vote_sheet::Verification;
 use vote_steps::MAX_DESKS;
 
 /// What a count is made for.
 #[derive(Clone, Copy, Debug)]
-pub enum Purpose {
+pub enum Purpose<'s> {
     /// The result sheet.
     Sheet,
     /// The outcome as a graph for Graphviz.
     Picture,
+    /// Whether these bytes are a sheet of the count, whatever the casting vote.
+    Verification(&'s [u8]),
 }
 
 /// How a count ends that is decided so.
@@ -43,11 +46,21 @@ fn ended_of(decision: Decision) -> Ended
     }
 }
 
+/// How a run ends that finds this of a published sheet.
+fn ended_by(found: Verification) -> Ended
+    ensures { result ≡ ended_by found }
+{
+    match found {
+        Verification::Matches | Verification::MatchesCasting(_) => Ended::Done,
+        Verification::Differs => Ended::Differs,
+    }
+}
+
 /// The text that the votes were taken for, and how the run ends by it.
-fn make(alloc: Global, taken: &Taken<'_>, purpose: Purpose) -> Result<(String, Ended), AllocError>
+fn make(alloc: Global, taken: &Taken<'_>, purpose: Purpose<'_>) -> Result<(String, Ended), AllocError>
     requires audited { IsAudited taken.now.poll taken.now.lines taken.now.audited.ballot_box taken.now.audited.sheets }
     requires casting { IfSome taken.now.casting (IsOption (option_count taken.now.poll)) }
-    ensures { IfOk result (λ made. IsMade purpose taken.now.poll taken.now.lines taken.now.casting (string_bytes made.0) made.1) }
+    ensures { IfOk result (λ made. IsMade purpose.entry taken.now.poll taken.now.lines taken.now.casting (string_bytes made.0) made.1) }
 {
     let Taken {
         poll,
@@ -64,6 +77,10 @@ fn make(alloc: Global, taken: &Taken<'_>, purpose: Purpose) -> Result<(String, E
             let (text, decision) = picture_and_decision(alloc, poll, lines, audited, *casting)?;
             Ok((text, ended_of(decision)))
         }
+        Purpose::Verification(sheet) => {
+            let (text, found) = verification(alloc, poll, lines, audited, sheet)?;
+            Ok((text, ended_by(found)))
+        }
     }
 }
 
@@ -76,7 +93,7 @@ pub fn count_for<G: Gate + Sync, W: Sink, R: Threads + Wait + Sync>(
     ballots: &[u8],
     desks: u8,
     casting: Option<&[u8]>,
-    purpose: Purpose,
+    purpose: Purpose<'_>,
     gate: &G,
     sink: &mut W,
 ) -> Result<Ended, RunFault>
@@ -85,7 +102,7 @@ pub fn count_for<G: Gate + Sync, W: Sink, R: Threads + Wait + Sync>(
     ensures poll { AnswersPoll poll_text.now (result_err result) }
     ensures casting { AnswersCasting poll_text.now (option_map (λ name. name.now) casting.entry) (result_err result) }
     ensures lines { AnswersLines (lines_of ballots.now) (result_err result) }
-    ensures writes { Writes (IsCount purpose poll_text.now ballots.now (option_map (λ name. name.now) casting.entry) result) (W.contents sink.old) (W.contents sink.new) (result_err result) }
+    ensures writes { Writes (IsCount purpose.entry poll_text.now ballots.now (option_map (λ name. name.now) casting.entry) result) (W.contents sink.old) (W.contents sink.new) (result_err result) }
     ensures votes { (fault : VoteFault) → result ≡ Err (RunFault.Vote fault) → CanStopVotes fault × IsOfDesk desks fault }
     ensures output { IsErrOf result RunFault.Output ↔ (W.faults sink.old < W.faults sink.new) }
     ensures flushed { OnOk result (W.flushed sink.new ≡ true) }

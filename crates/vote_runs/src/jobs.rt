@@ -58,6 +58,14 @@ pub enum Job<'a> {
         /// The name of the option that the casting vote chooses in a tie.
         casting: Option<&'a [u8]>,
     },
+    /// Count the ballots, and write whether a published sheet is that of the count.
+    Verify {
+        poll: &'a [u8],
+        ballots: &'a [u8],
+        sheet: &'a [u8],
+        /// From 1 to [`MAX_DESKS`](vote_steps::MAX_DESKS).
+        desks: u8,
+    },
     /// Write all that is wrong with the poll, and with the ballots where they are given.
     Explain {
         poll: &'a [u8],
@@ -122,6 +130,12 @@ pub fn perform<G: Gate + Sync, W: Sink, R: Threads + Wait + Sync>(
             sink,
         )),
         Job::Check { poll } => done(check_poll(alloc, poll, sink)),
+        Job::Verify {
+            poll,
+            ballots,
+            sheet,
+            desks,
+        } => count_for(rt, alloc, poll, ballots, *desks, None, Purpose::Verification(sheet), gate, sink),
         Job::Explain { poll, ballots } => explain(alloc, poll, *ballots, sink),
         Job::Joined { input } => done(steps_joined(alloc, input, sink)),
         Job::Picture {
