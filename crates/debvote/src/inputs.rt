@@ -4,8 +4,10 @@ ghost use Rattle.std.specs.Prelude.{◌≡◌, IfErr};
 ghost use Rattle.vote_files.specs.declared.ReadFault.{ReadFault};
 ghost use Rattle.vote_runs.specs.Status.{ballots_unread, poll_unread, sheet_unread};
 
+use crate::tasks::{ballots_name, poll_name};
 use std::fs::File;
 use std::rt::Files;
+use vote_command::Task;
 use vote_files::{ReadFault, read_all};
 use vote_runs::{RunFault, ballots_unread, poll_unread, sheet_unread};
 
@@ -34,7 +36,7 @@ fn read_file<R: Files + AllocGlobal>(
 }
 
 /// All bytes of a poll file.
-pub fn read_poll<R: Files + AllocGlobal>(rt: &R, name: &str) -> Result<Vec<u8>, RunFault>
+fn read_poll<R: Files + AllocGlobal>(rt: &R, name: &str) -> Result<Vec<u8>, RunFault>
     ensures { IfErr result (λ fault. (read : ReadFault) × (fault ≡ poll_unread read)) }
 {
     match read_file(rt, name, POLL_LIMIT) {
@@ -44,7 +46,7 @@ pub fn read_poll<R: Files + AllocGlobal>(rt: &R, name: &str) -> Result<Vec<u8>, 
 }
 
 /// All bytes of a ballot file.
-pub fn read_ballots<R: Files + AllocGlobal>(rt: &R, name: &str) -> Result<Vec<u8>, RunFault>
+fn read_ballots<R: Files + AllocGlobal>(rt: &R, name: &str) -> Result<Vec<u8>, RunFault>
     ensures { IfErr result (λ fault. (read : ReadFault) × (fault ≡ ballots_unread read)) }
 {
     match read_file(rt, name, BALLOTS_LIMIT) {
@@ -54,13 +56,39 @@ pub fn read_ballots<R: Files + AllocGlobal>(rt: &R, name: &str) -> Result<Vec<u8
 }
 
 /// All bytes of a published sheet.
-pub fn read_sheet<R: Files + AllocGlobal>(rt: &R, name: &str) -> Result<Vec<u8>, RunFault>
+fn read_sheet<R: Files + AllocGlobal>(rt: &R, name: &str) -> Result<Vec<u8>, RunFault>
     ensures { IfErr result (λ fault. (read : ReadFault) × (fault ≡ sheet_unread read)) }
 {
     match read_file(rt, name, SHEET_LIMIT) {
         Ok(bytes) => Ok(bytes),
         Err(fault) => Err(sheet_unread(fault)),
     }
+}
+
+/// The files of a task. One that it does not name has no bytes.
+#[derive(Drop)]
+pub struct Inputs {
+    pub poll: Vec<u8>,
+    pub ballots: Vec<u8>,
+    pub sheet: Vec<u8>,
+}
+
+/// Reads the files of a task: the poll, then the ballots, then a published sheet.
+pub fn read_inputs<R: Files + AllocGlobal>(rt: &R, task: &Task<'_>) -> Result<Inputs, RunFault> {
+    let poll = read_poll(rt, poll_name(task))?;
+    let ballots = match ballots_name(task) {
+        Some(name) => read_ballots(rt, name)?,
+        None => Vec::new(rt.alloc()),
+    };
+    let sheet = match task {
+        Task::Verify { sheet, .. } => read_sheet(rt, sheet)?,
+        _ => Vec::new(rt.alloc()),
+    };
+    Ok(Inputs {
+        poll,
+        ballots,
+        sheet,
+    })
 }
 
 /// All bytes of standard input, a joined input. One that can't be read is as a ballot file that can't be.

@@ -17,10 +17,10 @@ ghost use Rattle.std.specs.Prelude.{◌≡◌, ◌⊎◌, Err};
 ghost use Rattle.vote_command.specs.Order.{DesksFit, order_status};
 ghost use Rattle.vote_runs.specs.Status.{status};
 
-use crate::inputs::{read_ballots, read_joined, read_poll, read_sheet};
-use crate::tasks::{ballots_name, job_of, poll_name};
-use std::process::ExitCode;
+use crate::inputs::{Inputs, read_inputs, read_joined};
+use crate::tasks::job_of;
 use std::io::{ErrorKind, IsTerminal};
+use std::process::ExitCode;
 use std::rt::{Env, Files};
 use std::sync::Wait;
 use std::thread::Threads;
@@ -29,29 +29,35 @@ use vote_command::{OrderFault, Task, order, order_status};
 use vote_desks::NoGate;
 use vote_runs::{Ended, Job, RunFault, perform_on, status};
 
-/// What is said at a terminal before a joined input is read.
-const TERMINAL_HINT: &str =
-    "debvote: reading a poll and its ballots from the terminal; see debvote --help";
+const TERMINAL_HINT: &str = "reading a poll and its ballots from the terminal; see debvote --help";
 
-/// Reads the files of a task before anything is checked, the poll first and a published sheet last, and does its job.
+/// Does the job of a task, whose files are read.
+fn do_job<R: Print + AllocGlobal + Threads + Wait + Sync>(
+    rt: &R,
+    task: &Task<'_>,
+    inputs: &Inputs,
+) -> Result<Ended, RunFault>
+    requires { DesksFit task.now }
+{
+    let job = job_of(
+        task,
+        inputs.poll.as_slice(),
+        inputs.ballots.as_slice(),
+        inputs.sheet.as_slice(),
+    );
+    let (_, outcome) = perform_on(rt, rt.alloc(), &job, &NoGate, io::writer(rt));
+    outcome
+}
+
+/// Reads the files of a task, before anything is checked, and does its job.
 fn carry_out<R: Files + Print + AllocGlobal + Threads + Wait + Sync>(
     rt: &R,
     task: &Task<'_>,
 ) -> Result<Ended, RunFault>
     requires { DesksFit task.now }
 {
-    let poll = read_poll(rt, poll_name(task))?;
-    let ballots = match ballots_name(task) {
-        Some(name) => read_ballots(rt, name)?,
-        None => Vec::new(rt.alloc()),
-    };
-    let sheet = match task {
-        Task::Verify { sheet, .. } => read_sheet(rt, sheet)?,
-        _ => Vec::new(rt.alloc()),
-    };
-    let job = job_of(task, poll.as_slice(), ballots.as_slice(), sheet.as_slice());
-    let (_, outcome) = perform_on(rt, rt.alloc(), &job, &NoGate, io::writer(rt));
-    outcome
+    let inputs = read_inputs(rt, task)?;
+    do_job(rt, task, &inputs)
 }
 
 /// Writes the reply to each ballot of standard input, a poll and its ballots joined by a line `%%`.
@@ -105,7 +111,7 @@ fn act<R: Files + Input + Print + Eprint + AllocGlobal + Threads + Wait + Sync>(
 ) -> u8 {
     if words.is_empty() {
         if at_terminal {
-            let _ = eprintln!(rt; "{TERMINAL_HINT}");
+            let _ = eprintln!(rt; "debvote: {TERMINAL_HINT}");
         }
         return report(rt, &print_joined(rt));
     }

@@ -39,12 +39,7 @@ pub fn ballots_name<'a>(task: &Task<'a>) -> Option<&'a str>
 }
 
 /// The job of a task whose files have these bytes. A file that the task does not name has none.
-pub fn job_of<'a>(
-    task: &Task<'a>,
-    poll: &'a [u8],
-    ballots: &'a [u8],
-    sheet: &'a [u8],
-) -> Job<'a>
+pub fn job_of<'a>(task: &Task<'a>, poll: &'a [u8], ballots: &'a [u8], sheet: &'a [u8]) -> Job<'a>
     requires { DesksFit task.now }
     ensures job { IsJobOf task.now (record { poll = poll.now; ballots = ballots.now; sheet = sheet.now }) result }
     ensures desks { HasDesks result }
@@ -63,7 +58,8 @@ pub fn job_of<'a>(
             ballots: None,
         },
         Task::Explain {
-            ballots: Some(_), ..
+            ballots: Some(_),
+            ..
         } => Job::Explain {
             poll,
             ballots: Some(ballots),
