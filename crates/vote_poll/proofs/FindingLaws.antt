@@ -1,7 +1,7 @@
 -- Texts of findings, one after another.
-use Rattle.std.proofs.Common.{◌≡◌, ◌≢◌, ◌<◌, ◌≤◌, ◌+◌, ◌-◌, ◌/◌, ◌%◌, ◌==◌, ◌∷◌, ◌++◌, [], ℕ, zero, suc, List, Bool, true, false, map, take, length, filter, Ok, Err, Result, refl, ap, sym, subst, ◌∙◌, arith, append_assoc, append-nil, nat_lt, codes, OnOk, Option, Some, None, inl, inr}
-use Rattle.std.specs.List.{All, concat, flat_map, range_with_len}
-use Rattle.std.specs.Prelude.{◌||◌, not, if◌then◌else◌}
+use Rattle.std.proofs.Common.{◌≡◌, ◌≢◌, ◌+◌, ◌/◌, ◌%◌, ◌∷◌, ◌++◌, [], ℕ, zero, suc, List, Bool, true, false, map, take, length, filter, Ok, Err, Result, refl, ap, sym, subst, ◌∙◌, arith, append_assoc, append-nil, nat_lt, codes, OnOk, inl, inr}
+use Rattle.std.specs.List.{concat, flat_map, range_with_len}
+use Rattle.std.specs.Prelude.{not}
 use Rattle.std.proofs.lemmas.Bool.{cases_Bool}
 use Rattle.std.proofs.lemmas.Bool.Decides.{nat_tests}
 use Rattle.std.proofs.lemmas.List.Elements.{All-nil, All-cons, All-append, filter-append}

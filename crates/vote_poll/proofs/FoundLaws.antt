@@ -1,5 +1,5 @@
 -- What was found at a key.
-use Rattle.std.proofs.Common.{◌≡◌, Option, Some, None, Ok, Err, Result, refl, ap, sym, ◌∙◌}
+use Rattle.std.proofs.Common.{◌≡◌, Option, Some, None, Ok, Err, Result, refl}
 use Rattle.std.specs.Option.{option_map, ok_or}
 use Rattle.vote_poll.specs.FoundView.{IsKnown}
 use Rattle.vote_poll.specs.PollFile.{Gives}

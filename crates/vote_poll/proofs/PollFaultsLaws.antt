@@ -1,5 +1,5 @@
 -- The first of all faults is the one that is told.
-use Rattle.std.proofs.Common.{◌≡◌, ◌<◌, ◌≤◌, ◌+◌, ◌∷◌, ◌++◌, [], zero, suc, ℕ, ℤ, List, Bool, true, false, cond, filter, map, length, Option, Some, None, Ok, Err, Result, refl, ap, sym, ◌∙◌, arith, length-append, slice_get, append_assoc, inl, inr, ◌⊎◌}
+use Rattle.std.proofs.Common.{◌≡◌, ◌<◌, ◌≤◌, ◌+◌, ◌∷◌, ◌++◌, [], zero, suc, ℕ, ℤ, List, Bool, true, false, filter, map, length, Option, Some, None, Ok, Err, Result, refl, ap, sym, ◌∙◌, arith, length-append, slice_get, append_assoc, inl, inr, ◌⊎◌}
 use Rattle.std.specs.Prelude.{is_some, is_none, ◌||◌, if◌then◌else◌}
 use Rattle.std.specs.Option.{option_map, option_and_then, ok_or}
 use Rattle.std.specs.List.{range_with_len}
@@ -10,7 +10,7 @@ use Rattle.vote_poll.specs.PollContent.{PollContent}
 use Rattle.vote_poll.specs.PollFile.{◌>>=◌, Fields, document, err_or, fields_of, last_envelope_in, list_of, of_kind_or_none, poll_in, poll_of, quorum_in, ratios_in, title_in, wording_in}
 use Rattle.vote_poll.specs.PollFaults.{Found, bad_places, fault_of, fault_told, fault_unless, faults_in, found, found_in, of_contents, of_key, of_keys, of_last_envelope, of_option_count, of_option_names, of_quorum, of_ratios, of_roll_size, of_title, of_voter_names, of_wording, where_found, FirstIsTold}
 use Rattle.vote_poll.proofs.FirstBad.{first_bad-some, first_bad-none}
-use Rattle.vote_poll.specs.declared.TheConstants.{MAX_OPTIONS, MAX_ELECTORS}
+use Rattle.vote_poll.specs.declared.TheConstants.{MAX_OPTIONS}
 use Rattle.vote_poll.specs.declared.wording.Wording.{Wording}
 use Rattle.vote_poll.specs.declared.fault.PollKey.{PollKey}
 use Rattle.vote_poll.specs.declared.fault.PollKey.TheVariants as key

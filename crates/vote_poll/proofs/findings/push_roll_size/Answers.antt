@@ -1,4 +1,4 @@
-use Rattle.std.proofs.Common.{◌≡◌, ◌+◌, ◌∷◌, [], false, length, map, refl, codes, Some}
+use Rattle.std.proofs.Common.{◌≡◌, ◌∷◌, [], false, length, map, refl, codes, Some}
 use Rattle.std.proofs.lemmas.List.{length-map}
 use Rattle.vote_poll.proofs.FirstBad.{now}
 use Rattle.vote_poll.specs.Names.{is_within}

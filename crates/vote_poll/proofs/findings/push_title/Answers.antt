@@ -1,4 +1,4 @@
-use Rattle.std.proofs.Common.{◌≡◌, ◌+◌, ◌∷◌, [], false, length, map, refl, codes, Some}
+use Rattle.std.proofs.Common.{◌≡◌, ◌∷◌, [], false, refl, codes, Some}
 use Rattle.vote_poll.specs.Names.{is_title}
 use Rattle.vote_poll.specs.FoundView.{found_view}
 use Rattle.vote_poll.specs.PollFaults.{of_title}

@@ -1,4 +1,4 @@
-use Rattle.std.proofs.Common.{◌≡◌, ◌+◌, ◌∷◌, [], false, length, map, refl, codes, Some, ◌||◌}
+use Rattle.std.proofs.Common.{◌≡◌, ◌∷◌, [], false, refl, codes, Some, ◌||◌}
 use Rattle.std.specs.Str.{bytes_eq}
 use Rattle.std.proofs.lemmas.Bool.{or_parts}
 use Rattle.vote_poll.specs.FoundView.{found_view}

@@ -1,4 +1,4 @@
-use Rattle.std.proofs.Common.{◌≡◌, ◌<◌, [], map, get_or, length, sym, ◌∙◌, arith}
+use Rattle.std.proofs.Common.{◌<◌, [], map, length, sym, ◌∙◌, arith}
 use Rattle.std.proofs.lemmas.List.{length-map, get_or-map}
 use Rattle.vote_poll.proofs.FirstBad.{now, no_text}
 use Rattle.vote_poll.proofs.SeenLaws.{judged_more, seen_more}
