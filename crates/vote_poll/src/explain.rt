@@ -1,10 +1,11 @@
 //! A poll file read once, for the poll and for all that is wrong with it.
-ghost use Rattle.std.specs.Prelude.{◌≡◌, ◌++◌, Ok, IfOk, OnOk, codes, decimal, string_bytes};
+ghost use Rattle.std.specs.Prelude.{◌≡◌, ◌≢◌, ◌++◌, Ok, Err, IfOk, OnOk, codes, decimal, string_bytes};
 ghost use Rattle.toml.specs.View.{table_view};
 ghost use Rattle.vote_poll.specs.Findings.{AreFindingsOf, IsSyntaxFinding};
 ghost use Rattle.vote_poll.specs.FoundView.{IsTold};
 ghost use Rattle.vote_poll.specs.PollFaults.{FirstIsTold};
 ghost use Rattle.vote_poll.specs.PollFile.{document, poll_in, poll_in_table};
+ghost use Rattle.vote_poll.specs.declared.fault.PollFault.TheVariants.{Memory};
 
 use crate::fault::PollFault;
 use crate::findings::{push_contents, push_hint};
@@ -79,7 +80,8 @@ fn findings_of(alloc: Global, table: &Table) -> Result<String, AllocError>
 
 /// The poll, or its first fault, where memory was not what was wrong.
 fn told(read: Result<Poll, PollFault>) -> Result<Result<Poll, PollFault>, AllocError>
-    ensures { IfOk result (IsTold read) }
+    ensures read { IfOk result (IsTold read) }
+    ensures known { IfOk result (λ told. told ≢ Err Memory) }
 {
     match read {
         Ok(poll) => Ok(Ok(poll)),
@@ -90,7 +92,8 @@ fn told(read: Result<Poll, PollFault>) -> Result<Result<Poll, PollFault>, AllocE
 
 /// The poll of a table, or its first fault.
 fn outcome_of(alloc: Global, table: &Table) -> Result<Result<Poll, PollFault>, AllocError>
-    ensures { IfOk result (λ outcome. outcome ≡ poll_in_table (table_view table.now)) }
+    ensures read { IfOk result (λ outcome. outcome ≡ poll_in_table (table_view table.now)) }
+    ensures known { IfOk result (λ outcome. outcome ≢ Err Memory) }
 {
     told(poll_of_table(alloc, table))
 }
@@ -101,10 +104,10 @@ fn outcome_of(alloc: Global, table: &Table) -> Result<Result<Poll, PollFault>, A
 /// # Errors
 ///
 /// Memory ran out.
-#[tactic(auto, unfolding(crate::specs::PollFile::poll_in))]
 pub fn explain_poll(alloc: Global, text: &[u8]) -> Result<ExplainedPoll, AllocError>
     ensures findings { IfOk result (λ explained. AreFindingsOf (document text.now) (string_bytes explained.findings)) }
     ensures outcome { IfOk result (λ explained. explained.outcome ≡ poll_in text.now) }
+    ensures known { IfOk result (λ explained. explained.outcome ≢ Err Memory) }
 {
     match toml::table_from_slice(alloc, text) {
         Ok(table) => Ok(ExplainedPoll {

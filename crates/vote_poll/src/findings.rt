@@ -1,19 +1,16 @@
 //! The faults of what the keys of a poll file say.
-ghost use Rattle.std.specs.Prelude.{◌≡◌, ◌+◌, ◌++◌, ◌&&◌, ◌||◌, ◌==◌, IfOk, OnOk, codes, length, map, option_copied, option_to_list, is_none, string_bytes, not};
-ghost use Rattle.std.specs.List.{list_all, list_any};
+ghost use Rattle.std.specs.Prelude.{◌≡◌, ◌+◌, ◌++◌, ◌&&◌, ◌||◌, ◌==◌, IfOk, OnOk, codes, length, map, option_copied, option_to_list, string_bytes};
+ghost use Rattle.std.specs.List.{list_all};
 ghost use Rattle.std.specs.Str.{bytes_eq};
-ghost use Rattle.toml.specs.View.{table_view};
-ghost use Rattle.vote_poll.specs.Findings.{AddsFindings, AddsKeyLines, AreFindingsOf, IsSyntaxFinding};
+ghost use Rattle.vote_poll.specs.Findings.{AddsFindings};
 ghost use Rattle.vote_poll.specs.FoundView.{found_view};
 ghost use Rattle.vote_poll.specs.Lines.{line_feed};
 ghost use Rattle.vote_poll.specs.Names.{is_within};
-ghost use Rattle.vote_poll.specs.PollFaults.{FirstIsTold, fault_unless, of_contents, of_keys, of_last_envelope, of_option_count, of_option_names, of_quorum, of_ratios, of_roll_size, of_title, of_voter_names, of_wording, value_at};
-ghost use Rattle.vote_poll.specs.PollFile.{document, is_integer_within, poll_in};
+ghost use Rattle.vote_poll.specs.PollFaults.{of_contents, of_last_envelope, of_option_count, of_option_names, of_quorum, of_ratios, of_roll_size, of_title, of_voter_names, of_wording};
+ghost use Rattle.vote_poll.specs.PollFile.{is_integer_within};
 ghost use Rattle.vote_poll.specs.Shown.{shown};
 ghost use Rattle.vote_poll.specs.declared.TheConstants.{MAX_ELECTORS, MAX_OPTIONS, MAX_RATIO};
-ghost use Rattle.vote_poll.specs.declared.fault.PollFault.TheVariants as fault;
 
-use crate::fault::{PollFault, PollKey};
 use crate::found::Found;
 use crate::hints::{
     Named, options_hint, range_hint, ratios_hint, roll_hint, shape_hint, wording_hint,
@@ -21,13 +18,9 @@ use crate::hints::{
 use crate::lines::MAX_LINES;
 use crate::name_findings::{NameList, push_bad_names};
 use crate::names::is_title;
-use crate::poll::Poll;
-use crate::poll_file::value_at;
 use crate::shown::push_shown;
-use crate::unread::{UnreadKey, UnreadKeys};
-use crate::{MAX_ELECTORS, MAX_OPTIONS, MAX_QUORUM_MULTIPLE, MAX_RATIO, MAX_SHOWN};
+use crate::{MAX_ELECTORS, MAX_OPTIONS, MAX_QUORUM_MULTIPLE, MAX_RATIO};
 use std::alloc::{AllocError, Global};
-use toml::Table;
 
 /// Ends the line of a fault with a hint.
 pub(crate) fn push_hint(text: &mut String, hint: &str) -> Result<(), AllocError>
@@ -240,7 +233,6 @@ fn push_wording(alloc: Global, text: &mut String, found: &Found<'_>) -> Result<(
 }
 
 /// What the keys say, in the order of the faults.
-#[tactic(auto, unfolding(crate::specs::PollFaults::of_contents))]
 pub(crate) fn push_contents(
     alloc: Global,
     text: &mut String,

@@ -51,7 +51,6 @@ fn is_right_or_missing(table: &Table, found: &Found<'_>, key: PollKey) -> bool
 }
 
 /// The keys of a table, in the order of the faults.
-#[tactic(auto, unfolding(crate::specs::PollFaults::of_keys))]
 pub(crate) fn push_keys(
     text: &mut String,
     table: &Table,

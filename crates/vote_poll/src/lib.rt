@@ -5,7 +5,8 @@
 //!   default option, a majority ratio for each other option, the multiple of Q that is its quorum, and the
 //!   roll of its electors. It may have a last envelope, and those after it are then late, and a [`Wording`] of
 //!   its majorities.
-//!   [`Poll::from_text`] reads it, or answers the first [`PollFault`].
+//!   [`Poll::from_text`] reads it, or answers the first [`PollFault`]. [`explain_poll`] does the same, and says in words
+//!   all that is wrong with the file, and which of its keys are not read.
 //! - [`Lines`]: the lines of a ballot file, each an envelope. [`Lines::split`] makes them.
 //! - [`Ranks`]: what one ballot says of the options, and which option it prefers to which.
 //! - [`Reading`]: what a poll reads in a line, by [`read_line`]: a ballot of an elector, or a [`LineFault`].
@@ -19,6 +20,9 @@
 //! What is promised, memory aside:
 //! - A poll file means one poll or one fault (`specs/PollFile.antt`), and `from_text` answers just that. Where
 //!   several faults hold it is the first in the order of [`PollFault`].
+//! - All faults of a poll file, each judged by itself, are those of `specs/PollFaults.antt`, and the one that is answered is
+//!   the first of them ([`first_fault_is_told`]). `explain_poll` has a line for each (`specs/Findings.antt`); what the line
+//!   says behind the words of the fault is open.
 //! - A text has one list of lines (`specs/Lines.antt`, [`lines_are_unique`]), and `split` answers that list, or
 //!   that it is too long.
 //! - A poll reads one thing in a line (`specs/Readings.antt`, [`readings_are_unique`]), by a grammar that says

@@ -1,5 +1,5 @@
 //! The names of a poll file that are misshapen or double.
-ghost use Rattle.std.specs.Prelude.{◌≡◌, ◌<◌, ◌^◌, ◌++◌, ◌∷◌, [], ℕ, List, IfOk, OnOk, codes, decimal, map, not, string_bytes, ◌+◌, ◌||◌, length};
+ghost use Rattle.std.specs.Prelude.{◌≡◌, ◌<◌, ◌^◌, ◌++◌, ℕ, List, IfOk, OnOk, codes, decimal, map, not, string_bytes, ◌+◌, ◌||◌, length};
 ghost use Rattle.std.specs.List.{list_any};
 ghost use Rattle.std.specs.Str.{bytes_eq};
 ghost use Rattle.vote_poll.specs.Findings.{AddsFindings, fault_words};

@@ -14,7 +14,7 @@ pub returns-in_ok-outcome_of-in-Ok-clause-outcome : goal.returns-in_ok-outcome_o
 unfolding poll_in
 returns-in_ok-outcome_of-in-Ok-clause-outcome c =
     let read : document c.args.text.now ≡ Ok (table_view c.in-Ok.table) = document-table _ _ c.in-Ok.ensures.ok.0 c.in-Ok.ensures.ok.1 in
-    rw read c.in_ok-outcome_of-in-Ok.ensures
+    rw read c.in_ok-outcome_of-in-Ok.ensures.read
 
 pub returns-in_ok-syntax_finding-in-Err-clause-findings : goal.returns-in_ok-syntax_finding-in-Err-clause-findings
 returns-in_ok-syntax_finding-in-Err-clause-findings c =
