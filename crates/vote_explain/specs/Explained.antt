@@ -1,5 +1,5 @@
 -- What `explain` says of the lines of a ballot file.
-use Rattle.std.specs.Prelude.{◌≡◌, ℕ, ◌+◌, ◌⊎◌, ◌==◌, ◌&&◌, nat_eq, nat_lt, Bool, true, false, if◌then◌else◌, List, [], ◌∷◌, ◌++◌, length, drop, count_by, slice_get, Option, Some, None, option_map, option_to_list, codes, decimal}
+use Rattle.std.specs.Prelude.{◌≡◌, ℕ, ◌+◌, ◌⊎◌, ◌==◌, ◌&&◌, nat_eq, nat_lt, Bool, true, false, if◌then◌else◌, List, [], ◌∷◌, ◌++◌, length, drop, count_by, Option, Some, None, option_map, option_to_list, codes, decimal}
 use Rattle.std.specs.List.{before_first, concat, ends_with, list_all}
 use Rattle.std.specs.Str.{byte}
 use Rattle.vote_poll.specs.PollContent.{PollContent, elector_count, last_in_time, option_count}
@@ -15,6 +15,7 @@ use Rattle.vote_sheet.specs.LastBallots.{refused_count, valid_count, voter_count
 use Rattle.vote_sheet.specs.Steps.{reply_words}
 use Rattle.vote_sheet.specs.Texts.{Text, line}
 use Rattle.vote_explain.specs.Column.{IsColumnHint}
+use Rattle.vote_explain.specs.Nearest.{IsNearest}
 use Rattle.vote_explain.specs.declared.TheConstants.{MOST_SHOWN}
 
 -- ---- which lines are refused, and why
@@ -57,19 +58,23 @@ last_words last = codes "the last envelope is " ++ decimal last
 unfoldable pub suggestion_words : Text → Text
 suggestion_words name = concat (codes "; did you mean " ∷ shown MOST_SHOWN name ∷ codes "?" ∷ [])
 
--- nothing, or the question whether a name on the roll was meant
-abbrev pub IsSuggestion : PollContent → Text → Type 0
-IsSuggestion poll text = (text ≡ []) ⊎ ((place : ℕ) × (name : Text) × (slice_get poll.roll place ≡ Some name) × (text ≡ suggestion_words name))
+-- the question whether the nearest name on the roll was meant, or nothing
+abbrev pub IsSuggestion : PollContent → Text → Text → Type 0
+IsSuggestion poll name text = (text ≡ []) ⊎ ((place : ℕ) × (near : Text) × IsNearest name poll.roll place near × (text ≡ suggestion_words near))
 
--- the name of a line, and a suggestion
+-- a name, and a suggestion
 unfoldable pub not_on_roll_words : Text → Text → Text
-not_on_roll_words bytes suggestion = concat (shown MOST_SHOWN (before_first is_space bytes) ∷ codes " is not on the roll" ∷ suggestion ∷ [])
+not_on_roll_words name suggestion = concat (shown MOST_SHOWN name ∷ codes " is not on the roll" ∷ suggestion ∷ [])
+
+-- the text before the first space of a line
+abbrev pub name_of : Text → Text
+name_of bytes = before_first is_space bytes
 
 -- what is said behind the words of the reply; no other reply refuses a line
 abbrev pub IsHint : PollContent → Text → Reply → Text → Type 0
 IsHint poll bytes (BadLine Shape) hint = IsColumnHint bytes hint
 IsHint poll bytes (BadLine RankCount) hint = hint ≡ rank_count_words (rank_count bytes) (option_count poll)
-IsHint poll bytes (BadLine Roll) hint = (suggestion : Text) × IsSuggestion poll suggestion × (hint ≡ not_on_roll_words bytes suggestion)
+IsHint poll bytes (BadLine Roll) hint = (suggestion : Text) × IsSuggestion poll (name_of bytes) suggestion × (hint ≡ not_on_roll_words (name_of bytes) suggestion)
 IsHint poll bytes Late hint = hint ≡ last_words (last_in_time poll)
 IsHint poll bytes other hint = hint ≡ []
 

@@ -1,5 +1,6 @@
 -- what the contracts of public calls say
 pub mod Column
+pub mod Nearest
 pub mod Explained
 -- what private functions say of their parts
 pub mod Fronts

@@ -1,9 +1,9 @@
 //! What is said of a line that is refused, behind the words of its reply.
 
 ghost use Rattle.std.specs.Prelude.{◌≡◌, ◌++◌, List, ℕ, OnOk, string_bytes};
-ghost use Rattle.std.specs.List.{before_first, position, position_or_len};
+ghost use Rattle.std.specs.List.{position, position_or_len};
 ghost use Rattle.vote_poll.specs.Readings.{is_space};
-ghost use Rattle.vote_explain.specs.Explained.{IsSuggestion, last_words, not_on_roll_words, rank_count, rank_count_words};
+ghost use Rattle.vote_explain.specs.Explained.{IsSuggestion, last_words, name_of, not_on_roll_words, rank_count, rank_count_words};
 ghost use Rattle.vote_explain.specs.Answers.{AddsHint};
 
 use crate::MOST_SHOWN;
@@ -38,7 +38,7 @@ fn end_of_name(line: &[u8]) -> usize
 /// The text before the first space of a line.
 #[tactic(auto, using(crate::proofs::Texts::first_is_within))]
 fn name_of(line: &[u8]) -> &[u8]
-    ensures { result.now ≡ before_first is_space line.now }
+    ensures { result.now ≡ name_of line.now }
 {
     &line[..end_of_name(line)]
 }
@@ -67,7 +67,7 @@ fn push_not_on_roll(
     poll: &Poll,
     line: &[u8],
 ) -> Result<(), AllocError>
-    ensures { OnOk result ((suggestion : List ℕ) × IsSuggestion poll.now suggestion × (string_bytes text.new ≡ string_bytes text.old ++ not_on_roll_words line.now suggestion)) }
+    ensures { OnOk result ((suggestion : List ℕ) × IsSuggestion poll.now (name_of line.now) suggestion × (string_bytes text.new ≡ string_bytes text.old ++ not_on_roll_words (name_of line.now) suggestion)) }
 {
     let name = name_of(line);
     push_shown(text, name, MOST_SHOWN)?;
