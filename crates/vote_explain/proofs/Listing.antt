@@ -7,8 +7,8 @@ use Rattle.vote_poll.specs.Readings.{reading}
 use Rattle.vote_steps.specs.History.{is_valid}
 use Rattle.vote_steps.specs.declared.Reply.{Reply}
 use Rattle.vote_sheet.specs.Texts.{Text}
-use Rattle.vote_explain.specs.Explained.{AreFindings, Refusal, ends_with_return, finding_line, refusals, refusals_from, refusing_reply}
-use Rattle.vote_explain.specs.Answers.{AddsFindings, finding_head, if_refusing, refused_by}
+use Rattle.vote_explain.specs.Explained.{AreFindings, Refusal, ends_with_return, finding_line, left_behind, refusals, refusals_from, refusing_reply}
+use Rattle.vote_explain.specs.Answers.{AddsFindings, finding_head, if_refusing, left_after, refused_by}
 
 -- ---- a finding
 pub finding_by : (refusal : Refusal) (hint t0 t1 t2 t3 : Text) → t1 ≡ t0 ++ finding_head refusal.number refusal.reply → t2 ≡ t1 ++ hint → t3 ≡ t2 ++ codes "\n" → t3 ≡ t0 ++ finding_line refusal hint
@@ -23,10 +23,11 @@ pub one_refused : (number : ℕ) (bytes : Text) (reply : Reply) → is_valid rep
 one_refused number bytes reply invalid = rw invalid
 
 -- ---- findings, one after another
-pub findings_append : (poll : PollContent) (front back : List Refusal) (text rest : Text) → AreFindings poll front text → AreFindings poll back rest → AreFindings poll (front ++ back) (text ++ rest)
-findings_append poll [] back text rest are others = subst (AreFindings poll back) (sym (ap (λ t. t ++ rest) are)) others
-findings_append poll (refusal ∷ front) back text rest (hint, left, is, are, same) others =
-    (hint, left ++ rest, is, findings_append poll front back left rest are others, ap (λ t. t ++ rest) same ∙ append_assoc (finding_line refusal hint) left rest)
+pub findings_append : (poll : PollContent) (left : ℕ) (front back : List Refusal) (text rest : Text) → AreFindings poll left front text → AreFindings poll (left_after front left) back rest
+    → AreFindings poll left (front ++ back) (text ++ rest)
+findings_append poll left [] back text rest are others = subst (AreFindings poll left back) (sym (ap (λ t. t ++ rest) are)) others
+findings_append poll left (refusal ∷ front) back text rest (hint, later, is, are, same) others =
+    (hint, later ++ rest, is, findings_append poll (left_behind refusal.reply left) front back later rest are others, ap (λ t. t ++ rest) same ∙ append_assoc (finding_line refusal hint) later rest)
 
 pub and_assoc : (a b c : Bool) → a && (b && c) ≡ (a && b) && c
 and_assoc true b c = refl
@@ -50,23 +51,25 @@ refusals_at poll lines place bytes reply at same =
     ∙ ap (λ answer. option_to_list (option_map (λ answer. record { number = place + 1; bytes = bytes; reply = answer }) answer) ++ refusals_from poll (place + 1 + 1) (drop (place + 1) lines)) (sym same)
 
 -- ---- the loop over the lines
--- the text and the findings of the lines that are left make up the whole
-abbrev pub GoesWith : PollContent → List Text → ℕ → Text → Type 0
-GoesWith poll lines place text =
-    (rest : Text) → AreFindings poll (refusals_from poll (place + 1) (drop place lines)) rest → AreFindings poll (refusals poll lines) (text ++ rest)
+-- the text and the findings of the lines that are left, with the searches that are left, make up the whole
+abbrev pub GoesWith : PollContent → List Text → ℕ → ℕ → Text → Type 0
+GoesWith poll lines place left text =
+    (rest : Text) → AreFindings poll left (refusals_from poll (place + 1) (drop place lines)) rest → AreFindings poll 100 (refusals poll lines) (text ++ rest)
 
-pub goes_on : (poll : PollContent) (lines : List Text) (place : ℕ) (bytes : Text) (reply : Reply) (before after : Text) → slice_get lines place ≡ Some bytes
-    → if_refusing reply ≡ refusing_reply (last_in_time poll) (place + 1) (reading poll bytes)
-    → AddsFindings poll (refused_by (place + 1) bytes reply) before after → GoesWith poll lines place before → GoesWith poll lines (place + 1) after
-goes_on poll lines place bytes reply before after at same (findings, are, text) goes rest others =
-    let whole = findings_append poll (refused_by (place + 1) bytes reply) (refusals_from poll (place + 1 + 1) (drop (place + 1) lines)) findings rest are others in
-    let both = goes (findings ++ rest) (subst (λ list. AreFindings poll list (findings ++ rest)) (sym (refusals_at poll lines place bytes reply at same)) whole) in
-    subst (AreFindings poll (refusals poll lines)) (sym (append_assoc before findings rest) ∙ ap (λ t. t ++ rest) (sym text)) both
+pub goes_on : (poll : PollContent) (lines : List Text) (place left next : ℕ) (bytes : Text) (reply : Reply) (before after : Text) → slice_get lines place ≡ Some bytes
+    → if_refusing reply ≡ refusing_reply (last_in_time poll) (place + 1) (reading poll bytes) → next ≡ left_after (refused_by (place + 1) bytes reply) left
+    → AddsFindings poll left (refused_by (place + 1) bytes reply) before after → GoesWith poll lines place left before → GoesWith poll lines (place + 1) next after
+goes_on poll lines place left next bytes reply before after at same count (findings, are, text) goes rest others =
+    let here = refused_by (place + 1) bytes reply in
+    let later = refusals_from poll (place + 1 + 1) (drop (place + 1) lines) in
+    let whole = findings_append poll left here later findings rest are (subst (λ n. AreFindings poll n later rest) count others) in
+    let both = goes (findings ++ rest) (subst (λ list. AreFindings poll left list (findings ++ rest)) (sym (refusals_at poll lines place bytes reply at same)) whole) in
+    subst (AreFindings poll 100 (refusals poll lines)) (sym (append_assoc before findings rest) ∙ ap (λ t. t ++ rest) (sym text)) both
 
-pub ends : (poll : PollContent) (lines : List Text) (place : ℕ) (text : Text) → length lines ≤ place → GoesWith poll lines place text → AreFindings poll (refusals poll lines) text
-ends poll lines place text all goes =
+pub ends : (poll : PollContent) (lines : List Text) (place left : ℕ) (text : Text) → length lines ≤ place → GoesWith poll lines place left text → AreFindings poll 100 (refusals poll lines) text
+ends poll lines place left text all goes =
     let none : drop place lines ≡ [] = drop_all place lines all in
-    subst (AreFindings poll (refusals poll lines)) (append-nil text) (goes [] (subst (λ left. AreFindings poll (refusals_from poll (place + 1) left) []) (sym none) refl))
+    subst (AreFindings poll 100 (refusals poll lines)) (append-nil text) (goes [] (subst (λ lines. AreFindings poll left (refusals_from poll (place + 1) lines) []) (sym none) refl))
 
 -- whether all so far and all that are left end with a carriage return
 abbrev pub TellsWith : PollContent → List Text → ℕ → Bool → Type 0

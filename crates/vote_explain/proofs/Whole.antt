@@ -15,7 +15,7 @@ pub closes : (poll : PollContent) (lines : List Text) (count valid refused late 
     → late ≡ late_count poll lines → voters ≡ voter_count poll lines → electors ≡ elector_count poll → totals_text count valid refused late voters electors ≡ closing_text poll lines
 closes poll lines count valid refused late voters electors a b c d e f = rw (a, b, c, d, e, f)
 
-pub whole : (poll : PollContent) (lines : List Text) (b : Bool) (findings closing t1 t2 : Text) → AreFindings poll (refusals poll lines) findings → b ≡ is_from_windows (refusals poll lines)
+pub whole : (poll : PollContent) (lines : List Text) (b : Bool) (findings closing t1 t2 : Text) → AreFindings poll 100 (refusals poll lines) findings → b ≡ is_from_windows (refusals poll lines)
     → closing ≡ closing_text poll lines → t1 ≡ findings ++ windows_line b → t2 ≡ t1 ++ closing → IsExplained poll lines t2
 whole poll lines b findings closing t1 t2 are tells closed first second =
     let windows : windows_line b ≡ windows_line (is_from_windows (refusals poll lines)) = ap windows_line tells in

@@ -10,7 +10,7 @@ use Rattle.vote_steps.specs.declared.Step.{Step}
 use Rattle.vote_steps.specs.declared.Step.TheVariants.{Cast}
 use Rattle.vote_sheet.specs.Texts.{Text}
 use Rattle.vote_sheet.specs.Steps.{reply_words}
-use Rattle.vote_explain.specs.Explained.{AreFindings, IsHint, Refusal, refusing_reply}
+use Rattle.vote_explain.specs.Explained.{AreFindings, IsHint, Refusal, left_behind, refusing_reply}
 
 -- the reply, where it refuses a line
 abbrev pub if_refusing : Reply → Option Reply
@@ -28,9 +28,9 @@ abbrev pub AreAnswers : PollContent → List Text → List Step → Type 0
 AreAnswers poll lines steps = (place : ℕ) (bytes : Text) → slice_get lines place ≡ Some bytes
     → (answer : Reply) × HasReplyAt steps place answer × (if_refusing answer ≡ refusing_reply (last_in_time poll) (place + 1) (reading poll bytes))
 
--- a hint was added to the text
-abbrev pub AddsHint : PollContent → Text → Reply → Text → Text → Type 0
-AddsHint poll bytes reply before after = (hint : Text) × IsHint poll bytes reply hint × (after ≡ before ++ hint)
+-- a hint was added to the text, where so many searches were left
+abbrev pub AddsHint : PollContent → ℕ → Text → Reply → Text → Text → Type 0
+AddsHint poll left bytes reply before after = (hint : Text) × IsHint poll left bytes reply hint × (after ≡ before ++ hint)
 
 -- a finding up to its hint
 unfoldable pub finding_head : ℕ → Reply → Text
@@ -41,5 +41,10 @@ abbrev pub refused_by : ℕ → Text → Reply → List Refusal
 refused_by number bytes reply = option_to_list (option_map (λ answer. record { number = number; bytes = bytes; reply = answer }) (if_refusing reply))
 
 -- the findings of these lines were added to the text
-abbrev pub AddsFindings : PollContent → List Refusal → Text → Text → Type 0
-AddsFindings poll refusals before after = (findings : Text) × AreFindings poll refusals findings × (after ≡ before ++ findings)
+abbrev pub AddsFindings : PollContent → ℕ → List Refusal → Text → Text → Type 0
+AddsFindings poll left refusals before after = (findings : Text) × AreFindings poll left refusals findings × (after ≡ before ++ findings)
+
+-- the searches that are left behind these lines
+abbrev pub left_after : List Refusal → ℕ → ℕ
+left_after [] left = left
+left_after (refusal ∷ refusals) left = left_after refusals (left_behind refusal.reply left)

@@ -1,5 +1,5 @@
 -- What `explain` says of the lines of a ballot file.
-use Rattle.std.specs.Prelude.{◌≡◌, ℕ, ◌+◌, ◌⊎◌, ◌==◌, ◌&&◌, nat_eq, nat_lt, Bool, true, false, if◌then◌else◌, List, [], ◌∷◌, ◌++◌, length, drop, count_by, Option, Some, None, option_map, option_to_list, codes, decimal}
+use Rattle.std.specs.Prelude.{◌≡◌, ℕ, zero, suc, ◌+◌, ◌-◌, ◌==◌, ◌&&◌, nat_eq, nat_lt, Bool, true, false, if◌then◌else◌, List, [], ◌∷◌, ◌++◌, length, drop, count_by, Option, Some, None, option_map, option_to_list, codes, decimal}
 use Rattle.std.specs.List.{before_first, concat, ends_with, list_all}
 use Rattle.std.specs.Str.{byte}
 use Rattle.vote_poll.specs.PollContent.{PollContent, elector_count, last_in_time, option_count}
@@ -15,8 +15,8 @@ use Rattle.vote_sheet.specs.LastBallots.{refused_count, valid_count, voter_count
 use Rattle.vote_sheet.specs.Steps.{reply_words}
 use Rattle.vote_sheet.specs.Texts.{Text, line}
 use Rattle.vote_explain.specs.Column.{IsColumnHint}
-use Rattle.vote_explain.specs.Nearest.{IsNearest}
-use Rattle.vote_explain.specs.declared.TheConstants.{MOST_SHOWN}
+use Rattle.vote_explain.specs.Nearest.{IsFound}
+use Rattle.vote_explain.specs.declared.TheConstants.{MOST_SEARCHES, MOST_SHOWN}
 
 -- ---- which lines are refused, and why
 -- a line that is refused: the number of its envelope, from 1, its bytes, and its reply
@@ -58,9 +58,14 @@ last_words last = codes "the last envelope is " ++ decimal last
 unfoldable pub suggestion_words : Text → Text
 suggestion_words name = concat (codes "; did you mean " ∷ shown MOST_SHOWN name ∷ codes "?" ∷ [])
 
--- the question whether the nearest name on the roll was meant, or nothing
-abbrev pub IsSuggestion : PollContent → Text → Text → Type 0
-IsSuggestion poll name text = (text ≡ []) ⊎ ((place : ℕ) × (near : Text) × IsNearest name poll.roll place near × (text ≡ suggestion_words near))
+abbrev pub suggestion_text : Option Text → Text
+suggestion_text None = []
+suggestion_text (Some near) = suggestion_words near
+
+-- what is suggested for a name: the nearest on the roll, where one is near, as long as searches are left
+abbrev pub IsSuggestion : PollContent → ℕ → Text → Text → Type 0
+IsSuggestion poll zero name text = text ≡ []
+IsSuggestion poll (suc left) name text = (found : Option Text) × IsFound name poll.roll found × (text ≡ suggestion_text found)
 
 -- a name, and a suggestion
 unfoldable pub not_on_roll_words : Text → Text → Text
@@ -70,22 +75,27 @@ not_on_roll_words name suggestion = concat (shown MOST_SHOWN name ∷ codes " is
 abbrev pub name_of : Text → Text
 name_of bytes = before_first is_space bytes
 
--- what is said behind the words of the reply; no other reply refuses a line
-abbrev pub IsHint : PollContent → Text → Reply → Text → Type 0
-IsHint poll bytes (BadLine Shape) hint = IsColumnHint bytes hint
-IsHint poll bytes (BadLine RankCount) hint = hint ≡ rank_count_words (rank_count bytes) (option_count poll)
-IsHint poll bytes (BadLine Roll) hint = (suggestion : Text) × IsSuggestion poll (name_of bytes) suggestion × (hint ≡ not_on_roll_words (name_of bytes) suggestion)
-IsHint poll bytes Late hint = hint ≡ last_words (last_in_time poll)
-IsHint poll bytes other hint = hint ≡ []
+-- what is said behind the words of the reply, where so many searches are left; no other reply refuses a line
+abbrev pub IsHint : PollContent → ℕ → Text → Reply → Text → Type 0
+IsHint poll left bytes (BadLine Shape) hint = IsColumnHint bytes hint
+IsHint poll left bytes (BadLine RankCount) hint = hint ≡ rank_count_words (rank_count bytes) (option_count poll)
+IsHint poll left bytes (BadLine Roll) hint = (suggestion : Text) × IsSuggestion poll left (name_of bytes) suggestion × (hint ≡ not_on_roll_words (name_of bytes) suggestion)
+IsHint poll left bytes Late hint = hint ≡ last_words (last_in_time poll)
+IsHint poll left bytes other hint = hint ≡ []
 
 unfoldable pub finding_line : Refusal → Text → Text
 finding_line refusal hint = line (codes "ballots:" ∷ decimal refusal.number ∷ codes ": " ∷ reply_words refusal.reply ∷ codes ": " ∷ hint ∷ [])
 
--- a line for each refusal, in their order, with a hint
-abbrev pub AreFindings : PollContent → List Refusal → Text → Type 0
-AreFindings poll [] text = text ≡ []
-AreFindings poll (refusal ∷ refusals) text =
-    (hint : Text) × (others : Text) × IsHint poll refusal.bytes refusal.reply hint × AreFindings poll refusals others
+-- the searches that are left behind a line with this reply
+abbrev pub left_behind : Reply → ℕ → ℕ
+left_behind (BadLine Roll) left = left - 1
+left_behind other left = left
+
+-- a line for each refusal, in their order, with a hint, where so many searches are left
+abbrev pub AreFindings : PollContent → ℕ → List Refusal → Text → Type 0
+AreFindings poll left [] text = text ≡ []
+AreFindings poll left (refusal ∷ refusals) text =
+    (hint : Text) × (others : Text) × IsHint poll left refusal.bytes refusal.reply hint × AreFindings poll (left_behind refusal.reply left) refusals others
     × (text ≡ finding_line refusal hint ++ others)
 
 -- ---- what is said at the end
@@ -117,7 +127,7 @@ closing_text poll lines =
 -- ---- the whole
 abbrev pub IsExplained : PollContent → List Text → Text → Type 0
 IsExplained poll lines text =
-    (findings : Text) × AreFindings poll (refusals poll lines) findings
+    (findings : Text) × AreFindings poll MOST_SEARCHES (refusals poll lines) findings
     × (text ≡ concat (findings ∷ windows_line (is_from_windows (refusals poll lines)) ∷ closing_text poll lines ∷ []))
 
 -- as many lines are listed as the result sheet has refused lines

@@ -7,8 +7,9 @@ ghost use Rattle.vote_steps.specs.Casting.{AreCastInOrder, HoldsLines};
 ghost use Rattle.vote_poll.specs.PollContent.{last_in_time};
 ghost use Rattle.vote_poll.specs.Readings.{readings};
 ghost use Rattle.vote_sheet.specs.LastBallots.{refused_count, valid_count, voter_count};
-ghost use Rattle.vote_explain.specs.Explained.{AreFindings, EachRefusalIsListed, IsExplained, IsHint, closing_text, ends_with_return, finding_line, late_count, refusals, totals_text, windows_line};
-ghost use Rattle.vote_explain.specs.Answers.{AddsFindings, AreAnswers, HasReplyAt, IsCastAt, finding_head, refused_by};
+ghost use Rattle.vote_explain.specs.Explained.{AreFindings, EachRefusalIsListed, IsExplained, IsHint, closing_text, ends_with_return, finding_line, late_count, left_behind, refusals, totals_text, windows_line};
+ghost use Rattle.vote_explain.specs.declared.TheConstants.{MOST_SEARCHES};
+ghost use Rattle.vote_explain.specs.Answers.{AddsFindings, AreAnswers, HasReplyAt, IsCastAt, finding_head, left_after, refused_by};
 
 use crate::hints::push_hint;
 use crate::nearest::Searches;
@@ -75,7 +76,8 @@ impl Findings {
         line: &[u8],
         reply: Reply,
     ) -> Result<(), AllocError>
-        ensures line { OnOk result ((hint : List ℕ) × IsHint poll.now line.now reply hint × (string_bytes self.new.text ≡ string_bytes self.old.text ++ finding_line (record { number = number; bytes = line.now; reply = reply }) hint)) }
+        ensures line { OnOk result ((hint : List ℕ) × IsHint poll.now self.old.searches.left line.now reply hint × (string_bytes self.new.text ≡ string_bytes self.old.text ++ finding_line (record { number = number; bytes = line.now; reply = reply }) hint)) }
+        ensures left { OnOk result (self.new.searches.left ≡ left_behind reply self.old.searches.left) }
         ensures returns { OnOk result (self.new.all_end_with_return ≡ self.old.all_end_with_return && ends_with_return (record { number = number; bytes = line.now; reply = reply })) }
     {
         push_head(&mut self.text, number, reply)?;
@@ -93,7 +95,8 @@ impl Findings {
         line: &[u8],
         reply: Reply,
     ) -> Result<(), AllocError>
-        ensures line { OnOk result (AddsFindings poll.now (refused_by number line.now reply) (string_bytes self.old.text) (string_bytes self.new.text)) }
+        ensures line { OnOk result (AddsFindings poll.now self.old.searches.left (refused_by number line.now reply) (string_bytes self.old.text) (string_bytes self.new.text)) }
+        ensures left { OnOk result (self.new.searches.left ≡ left_after (refused_by number line.now reply) self.old.searches.left) }
         ensures returns { OnOk result (self.new.all_end_with_return ≡ self.old.all_end_with_return && list_all ends_with_return (refused_by number line.now reply)) }
     {
         if !is_refusing(reply) {
@@ -111,7 +114,7 @@ fn findings_of(
     steps: &[Step],
 ) -> Result<Findings, AllocError>
     requires { AreAnswers poll.now lines.now steps.now }
-    ensures text { IfOk result (λ findings. AreFindings poll.now (refusals poll.now lines.now) (string_bytes findings.text)) }
+    ensures text { IfOk result (λ findings. AreFindings poll.now MOST_SEARCHES (refusals poll.now lines.now) (string_bytes findings.text)) }
     ensures returns { IfOk result (λ findings. findings.all_end_with_return ≡ list_all ends_with_return (refusals poll.now lines.now)) }
 {
     let mut findings = Findings {

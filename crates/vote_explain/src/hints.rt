@@ -1,9 +1,9 @@
 //! What is said of a line that is refused, behind the words of its reply.
 
-ghost use Rattle.std.specs.Prelude.{◌≡◌, ◌++◌, List, ℕ, OnOk, string_bytes};
+ghost use Rattle.std.specs.Prelude.{◌≡◌, ◌++◌, ◌-◌, List, ℕ, OnOk, string_bytes};
 ghost use Rattle.std.specs.List.{position, position_or_len};
 ghost use Rattle.vote_poll.specs.Readings.{is_space};
-ghost use Rattle.vote_explain.specs.Explained.{IsSuggestion, last_words, name_of, not_on_roll_words, rank_count, rank_count_words};
+ghost use Rattle.vote_explain.specs.Explained.{IsSuggestion, last_words, left_behind, name_of, not_on_roll_words, rank_count, rank_count_words};
 ghost use Rattle.vote_explain.specs.Answers.{AddsHint};
 
 use crate::MOST_SHOWN;
@@ -67,7 +67,8 @@ fn push_not_on_roll(
     poll: &Poll,
     line: &[u8],
 ) -> Result<(), AllocError>
-    ensures { OnOk result ((suggestion : List ℕ) × IsSuggestion poll.now (name_of line.now) suggestion × (string_bytes text.new ≡ string_bytes text.old ++ not_on_roll_words (name_of line.now) suggestion)) }
+    ensures left { OnOk result (searches.new.left ≡ searches.old.left - 1) }
+    ensures text { OnOk result ((suggestion : List ℕ) × IsSuggestion poll.now searches.old.left (name_of line.now) suggestion × (string_bytes text.new ≡ string_bytes text.old ++ not_on_roll_words (name_of line.now) suggestion)) }
 {
     let name = name_of(line);
     push_shown(text, name, MOST_SHOWN)?;
@@ -83,7 +84,8 @@ pub(crate) fn push_hint(
     line: &[u8],
     reply: Reply,
 ) -> Result<(), AllocError>
-    ensures { OnOk result (AddsHint poll.now line.now reply (string_bytes text.old) (string_bytes text.new)) }
+    ensures hint { OnOk result (AddsHint poll.now searches.old.left line.now reply (string_bytes text.old) (string_bytes text.new)) }
+    ensures left { OnOk result (searches.new.left ≡ left_behind reply searches.old.left) }
 {
     match reply {
         Reply::BadLine(LineFault::Shape) => push_column(text, line),

@@ -9,9 +9,8 @@
 //! **What is promised** (`specs/Explained.antt`, `specs/Column.antt`). Which lines are listed is said by the poll, the lines and
 //! the last envelope alone: those that are late, and of the others those that are no ballot. As many are listed as the sheet
 //! has refused lines ([`each_refusal_is_listed`]). The column is that of the grammar (`vote_poll`'s `IsBallotLine`), which knows no
-//! reading from the left, and a line has one ([`columns_are_unique`]). Each hint is pinned; a name that is suggested is the nearest
-//! on the roll, the first of equals, and at most two edits away (`specs/Nearest.antt`). That one is suggested where there is one is
-//! shown by tests.
+//! reading from the left, and a line has one ([`columns_are_unique`]). Each hint is pinned: the name that
+//! is suggested is the nearest on the roll, of equals the first, and at most two edits away (`specs/Nearest.antt`).
 //!
 //! The lines are cast at one desk, as `steps` casts them. Nothing is allocated for a line, and of a line that is no ballot the
 //! first 201 bytes at most are looked at once more. The search of a near name reads the whole roll, so it is made for the first
@@ -35,6 +34,9 @@ pub const MOST_SHOWN: usize = 60;
 
 /// The most edits between a name and one that is suggested for it. An edit adds, drops or changes a byte.
 pub const MOST_EDITS: usize = 2;
+
+/// For how many names a near one is searched: each search reads the whole roll.
+pub const MOST_SEARCHES: u8 = 100;
 
 #[cfg(test)]
 mod tests;
