@@ -4,6 +4,7 @@ pub mod Listing
 pub mod Answering
 pub mod Counting
 pub mod Whole
+pub mod Determined
 pub mod RankTexts
 pub mod Parts
 pub mod Steps

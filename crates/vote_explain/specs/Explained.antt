@@ -133,3 +133,7 @@ IsExplained poll lines text =
 -- as many lines are listed as the result sheet has refused lines
 abbrev pub EachRefusalIsListed : Type 0
 EachRefusalIsListed = (poll : PollContent) (lines : List Text) → length (refusals poll lines) ≡ refused_count poll lines
+
+-- the poll and the lines leave no choice in the text
+abbrev pub FindingsAreDetermined : Type 0
+FindingsAreDetermined = (poll : PollContent) (lines : List Text) (text other : Text) → IsExplained poll lines text → IsExplained poll lines other → text ≡ other

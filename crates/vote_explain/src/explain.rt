@@ -7,7 +7,7 @@ ghost use Rattle.vote_steps.specs.Casting.{AreCastInOrder, HoldsLines};
 ghost use Rattle.vote_poll.specs.PollContent.{last_in_time};
 ghost use Rattle.vote_poll.specs.Readings.{readings};
 ghost use Rattle.vote_sheet.specs.LastBallots.{refused_count, valid_count, voter_count};
-ghost use Rattle.vote_explain.specs.Explained.{AreFindings, EachRefusalIsListed, IsExplained, IsHint, closing_text, ends_with_return, finding_line, late_count, left_behind, refusals, totals_text, windows_line};
+ghost use Rattle.vote_explain.specs.Explained.{AreFindings, EachRefusalIsListed, FindingsAreDetermined, IsExplained, IsHint, closing_text, ends_with_return, finding_line, late_count, left_behind, refusals, totals_text, windows_line};
 ghost use Rattle.vote_explain.specs.declared.TheConstants.{MOST_SEARCHES};
 ghost use Rattle.vote_explain.specs.Answers.{AddsFindings, AreAnswers, HasReplyAt, IsCastAt, finding_head, left_after, refused_by};
 
@@ -213,4 +213,9 @@ pub fn explain_ballots(
 /// A law: as many lines are listed as the result sheet has refused lines.
 pub fn each_refusal_is_listed()
     ensures { EachRefusalIsListed }
+{}
+
+/// A law: the lines of a poll have one such text.
+pub fn findings_are_determined()
+    ensures { FindingsAreDetermined }
 {}

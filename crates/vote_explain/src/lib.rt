@@ -26,7 +26,7 @@ mod hints;
 mod nearest;
 mod words;
 
-pub use explain::{Explained, each_refusal_is_listed, explain_ballots};
+pub use explain::{Explained, each_refusal_is_listed, explain_ballots, findings_are_determined};
 pub use fronts::{column, columns_are_unique};
 
 /// The most bytes of a voter's name that are shown.
