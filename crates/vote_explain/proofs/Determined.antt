@@ -1,5 +1,5 @@
 -- The poll and the lines leave no choice in what is said.
-use Rattle.std.proofs.Common.{◌≡◌, ◌+◌, ◌-◌, ◌<◌, ◌≤◌, ◌++◌, ◌∙◌, ◌⊎◌, inl, inr, ℕ, zero, suc, List, [], ◌∷◌, refl, ap, ap₂, sym, subst, Option, Some, None, Bool, arith, nat_lt, nat_eq, slice_get}
+use Rattle.std.proofs.Common.{◌≡◌, ◌<◌, ◌++◌, ◌∙◌, inl, inr, ℕ, zero, suc, List, [], ◌∷◌, refl, ap, ap₂, sym, Option, Some, None, arith, nat_lt, slice_get}
 use Rattle.std.proofs.lemmas.Bool.{cases_Bool}
 use Rattle.std.proofs.lemmas.Bool.Decides.{nat_tests}
 use Rattle.vote_poll.specs.PollContent.{PollContent}
@@ -9,7 +9,7 @@ use Rattle.vote_steps.specs.declared.Reply.TheVariants.{BadLine, BoxClosed, Coun
 use Rattle.vote_sheet.specs.Texts.{Text}
 use Rattle.vote_explain.specs.Column.{IsColumnHint, column_words}
 use Rattle.vote_explain.specs.Explained.{AreFindings, IsExplained, IsHint, IsSuggestion, Refusal, closing_text, finding_line, is_from_windows, left_behind, name_of, not_on_roll_words, refusals, suggestion_text, windows_line}
-use Rattle.vote_explain.specs.Nearest.{IsAlone, IsFound, IsNearest, edits}
+use Rattle.vote_explain.specs.Nearest.{IsFound, IsNearest}
 use Rattle.vote_explain.proofs.LineFronts.{columns_are_one}
 
 -- ---- the nearest name
@@ -21,9 +21,9 @@ same_place name roll p q near other one two =
     elim (cases_Bool (nat_lt p q)) [
       | inl before ↦ absurd (not_before name roll p q near other one two (grind (arith, nat_tests)))
       | inr not_less ↦ elim (cases_Bool (nat_lt q p)) [
-          | inl behind ↦ absurd (not_before name roll q p other near two one (grind (arith, nat_tests)))
-          | inr not_more ↦ grind (arith, nat_tests)
-        ]
+        | inl behind ↦ absurd (not_before name roll q p other near two one (grind (arith, nat_tests)))
+        | inr not_more ↦ grind (arith, nat_tests)
+      ]
     ]
 
 pub found_is_one : (name : List ℕ) (roll : List (List ℕ)) (a b : Option Text) → IsFound name roll a → IsFound name roll b → a ≡ b

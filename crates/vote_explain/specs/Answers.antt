@@ -1,9 +1,11 @@
--- What private functions say of a box that holds the lines, and of the texts that they add to.
+-- What the box of `steps` answers to the lines, and what private functions say of the texts that they add to.
 use Rattle.std.specs.Prelude.{◌≡◌, ℕ, ◌+◌, ◌++◌, List, [], ◌∷◌, Option, Some, None, if◌then◌else◌, slice_get, option_map, option_to_list, codes, decimal}
 use Rattle.std.specs.List.{concat}
 use Rattle.vote_poll.specs.PollContent.{PollContent, last_in_time}
-use Rattle.vote_poll.specs.Readings.{reading}
+use Rattle.vote_poll.specs.Readings.{reading, readings}
 use Rattle.vote_poll.specs.declared.Reading.{Reading}
+use Rattle.vote_steps.specs.Boxes.{BoxState}
+use Rattle.vote_steps.specs.Casting.{AreCastInOrder, HoldsLines}
 use Rattle.vote_steps.specs.History.{is_valid}
 use Rattle.vote_steps.specs.declared.Reply.{Reply}
 use Rattle.vote_steps.specs.declared.Step.{Step}
@@ -27,6 +29,10 @@ IsCastAt steps place = (reply : Reply) × HasReplyAt steps place reply
 abbrev pub AreAnswers : PollContent → List Text → List Step → Type 0
 AreAnswers poll lines steps = (place : ℕ) (bytes : Text) → slice_get lines place ≡ Some bytes
     → (answer : Reply) × HasReplyAt steps place answer × (if_refusing answer ≡ refusing_reply (last_in_time poll) (place + 1) (reading poll bytes))
+
+-- the box of `steps` refuses the lines that are listed, and no others, each with the reply that is told
+abbrev pub RefusedAsBySteps : Type 0
+RefusedAsBySteps = (poll : PollContent) (lines : List Text) (b : BoxState) → HoldsLines poll lines b → AreCastInOrder (readings poll lines) b.steps → AreAnswers poll lines b.steps
 
 -- a hint was added to the text, where so many searches were left
 abbrev pub AddsHint : PollContent → ℕ → Text → Reply → Text → Text → Type 0

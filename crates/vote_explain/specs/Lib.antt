@@ -2,6 +2,6 @@
 pub mod Column
 pub mod Nearest
 pub mod Explained
+pub mod Answers
 -- what private functions say of their parts
 pub mod Fronts
-pub mod Answers

@@ -9,7 +9,7 @@ ghost use Rattle.vote_poll.specs.Readings.{readings};
 ghost use Rattle.vote_sheet.specs.LastBallots.{refused_count, valid_count, voter_count};
 ghost use Rattle.vote_explain.specs.Explained.{AreFindings, EachRefusalIsListed, FindingsAreDetermined, IsExplained, IsHint, closing_text, ends_with_return, finding_line, late_count, left_behind, refusals, totals_text, windows_line};
 ghost use Rattle.vote_explain.specs.declared.TheConstants.{MOST_SEARCHES};
-ghost use Rattle.vote_explain.specs.Answers.{AddsFindings, AreAnswers, HasReplyAt, IsCastAt, finding_head, left_after, refused_by};
+ghost use Rattle.vote_explain.specs.Answers.{AddsFindings, AreAnswers, HasReplyAt, IsCastAt, RefusedAsBySteps, finding_head, left_after, refused_by};
 
 use crate::hints::push_hint;
 use crate::nearest::Searches;
@@ -213,6 +213,11 @@ pub fn explain_ballots(
 /// A law: as many lines are listed as the result sheet has refused lines.
 pub fn each_refusal_is_listed()
     ensures { EachRefusalIsListed }
+{}
+
+/// A law: the box of `steps` refuses the lines that are listed, and no others, each with the reply that is told.
+pub fn refused_as_by_steps()
+    ensures { RefusedAsBySteps }
 {}
 
 /// A law: the lines of a poll have one such text.

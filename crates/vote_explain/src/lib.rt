@@ -6,18 +6,22 @@
 //! - [`column`] gives the column in which a line leaves the grammar of ballot lines: the bytes before it are the longest front
 //!   of the line that is also the front of a ballot line.
 //!
-//! **What is promised** (`specs/Explained.antt`, `specs/Column.antt`). Which lines are listed is said by the poll, the lines and
-//! the last envelope alone: those that are late, and of the others those that are no ballot. As many are listed as the sheet
-//! has refused lines ([`each_refusal_is_listed`]). The column is that of the grammar (`vote_poll`'s `IsBallotLine`), which knows no
-//! reading from the left, and a line has one ([`columns_are_unique`]). Each hint is pinned: the name that
-//! is suggested is the nearest on the roll, of equals the first, and at most two edits away (`specs/Nearest.antt`).
+//! **What is promised** (`specs/Explained.antt`, `specs/Column.antt`, `specs/Nearest.antt`):
 //!
-//! The lines are cast at one desk, as `steps` casts them. Nothing is allocated for a line, and of a line that is no ballot the
-//! first 201 bytes at most are looked at once more. The search of a near name reads the whole roll, so it is made for the first
-//! hundred names only.
+//! - Which lines are listed is said by the poll, the lines and the last envelope alone: those that are late, and of the others
+//!   those that are no ballot. As many are listed as the sheet has refused lines ([`each_refusal_is_listed`]), and they are those
+//!   that the box of `steps` refuses, each with its reply ([`refused_as_by_steps`]).
+//! - The column is that of the grammar (`IsBallotLine` of vote_poll), which knows no reading from the left. A line has one
+//!   ([`columns_are_unique`]).
+//! - The name that is suggested is the nearest on the roll, of equals the first, and at most two edits away.
+//! - The poll and the lines leave no choice in the text ([`findings_are_determined`]).
 //!
-//! The modules: `explain` has the text, `hints` what is said of one line, `fronts` the column, `words` its name, and `nearest` the
-//! near name.
+//! The lines are cast at one desk, as `steps` casts them. Of a line that is no ballot at most the first 201 bytes are read once
+//! more, and no memory is taken for it beside the text. The search of a near name reads the whole roll and takes memory, so it is
+//! made for the first hundred names only.
+//!
+//! The modules: `explain` has the text, `hints` what is said of one line, `fronts` the column, `words` what stands in it, and
+//! `nearest` the near name.
 #![tactic(auto)]
 
 mod explain;
@@ -26,7 +30,10 @@ mod hints;
 mod nearest;
 mod words;
 
-pub use explain::{Explained, each_refusal_is_listed, explain_ballots, findings_are_determined};
+pub use explain::{
+    Explained, each_refusal_is_listed, explain_ballots, findings_are_determined,
+    refused_as_by_steps,
+};
 pub use fronts::{column, columns_are_unique};
 
 /// The most bytes of a voter's name that are shown.
