@@ -15,7 +15,7 @@ abbrev pub IsFront : List ℕ → Type 0
 IsFront front = (rest : List ℕ) × IsBallotText (front ++ rest)
 
 -- The column of the first byte with which no ballot line goes on, from 1: the bytes before it are the front of a ballot line, and
--- no longer front of the line is. Where the whole line is one, the column is that of its end.
+-- no longer front of the line is. Where the whole line is one, the column is the next one behind it.
 pub record IsColumn (line : List ℕ) (column : ℕ) : Type 0 where
   pub from_one : 1 ≤ column
   pub within : column ≤ length line + 1

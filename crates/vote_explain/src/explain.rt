@@ -1,13 +1,11 @@
 //! What is wrong with the lines of a ballot file, as a text.
 
-ghost use Rattle.std.specs.Prelude.{◌≡◌, ◌++◌, ◌&&◌, ◌+◌, ◌<◌, List, ℕ, Some, not, length, slice_get, IfOk, OnOk, if◌then◌else◌, nat_lt, string_bytes};
+ghost use Rattle.std.specs.Prelude.{◌≡◌, ◌++◌, ◌&&◌, ◌+◌, List, ℕ, not, IfOk, OnOk, nat_lt, string_bytes};
 ghost use Rattle.std.specs.List.{list_all};
 ghost use Rattle.vote_steps.specs.History.{is_valid};
-ghost use Rattle.vote_steps.specs.Casting.{AreCastInOrder, HoldsLines};
-ghost use Rattle.vote_poll.specs.PollContent.{last_in_time};
-ghost use Rattle.vote_poll.specs.Readings.{readings};
+ghost use Rattle.vote_steps.specs.Casting.{HoldsLines};
 ghost use Rattle.vote_sheet.specs.LastBallots.{refused_count, valid_count, voter_count};
-ghost use Rattle.vote_explain.specs.Explained.{AreFindings, EachRefusalIsListed, FindingsAreDetermined, IsExplained, IsHint, closing_text, ends_with_return, finding_line, late_count, left_behind, refusals, totals_text, windows_line};
+ghost use Rattle.vote_explain.specs.Explained.{AreFindings, EachRefusalIsListed, FindingsAreDetermined, IsExplained, IsHint, ends_with_return, finding_line, late_count, left_behind, refusals, totals_text, windows_line};
 ghost use Rattle.vote_explain.specs.declared.TheConstants.{MOST_SEARCHES};
 ghost use Rattle.vote_explain.specs.Answers.{AddsFindings, AreAnswers, HasReplyAt, IsCastAt, RefusedAsBySteps, finding_head, left_after, refused_by};
 

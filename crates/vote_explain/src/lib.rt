@@ -16,9 +16,9 @@
 //! - The name that is suggested is the nearest on the roll, of equals the first, and at most two edits away.
 //! - The poll and the lines leave no choice in the text ([`findings_are_determined`]).
 //!
-//! The lines are cast at one desk, as `steps` casts them. Of a line that is no ballot at most the first 201 bytes are read once
-//! more, and no memory is taken for it beside the text. The search of a near name reads the whole roll and takes memory, so it is
-//! made for the first hundred names only.
+//! The lines are cast at one desk, as `steps` casts them. A line that is no ballot is read once more, up to the byte behind its
+//! first 200, and no memory is taken for it beside the text. The search of a near name reads the whole roll and takes memory, so
+//! it is made for the first hundred names only.
 //!
 //! The modules: `explain` has the text, `hints` what is said of one line, `fronts` the column, `words` what stands in it, and
 //! `nearest` the near name.
