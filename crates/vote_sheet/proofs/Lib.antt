@@ -7,4 +7,5 @@ pub mod BallotTexts
 pub mod Quoting
 pub mod FileLines
 pub mod Verifying
+pub mod Differences
 pub mod StandingLemmas

@@ -1,7 +1,7 @@
 -- What comparing a text with the sheets of a poll and its lines says.
-use Rattle.std.specs.Prelude.{◌≡◌, ◌≢◌, ℕ, zero, suc, ◌+◌, ◌<◌, ◌≤◌, ◌==◌, if◌then◌else◌, List, [], ◌∷◌, count_by, take, Option, Some, None, slice_get, codes, decimal}
-use Rattle.std.specs.List.{concat}
-use Rattle.vote_poll.specs.Lines.{lines_of}
+use Rattle.std.specs.Prelude.{◌≡◌, ◌≢◌, ℕ, zero, suc, ◌+◌, ◌<◌, ◌≤◌, ◌==◌, if◌then◌else◌, List, [], ◌∷◌, ◌++◌, length, count_by, take, Option, Some, None, slice_get, codes, decimal}
+use Rattle.std.specs.List.{All, concat}
+use Rattle.vote_poll.specs.Lines.{IsUnbroken, lines_of, text_of_lines}
 use Rattle.vote_poll.specs.Options.{IsOption}
 use Rattle.vote_poll.specs.PollContent.{PollContent, option_count}
 use Rattle.vote_poll.specs.Shown.{shown}
@@ -68,6 +68,26 @@ difference_text text sheet =
     ∷ line (codes "sheet: " ∷ shown_line (slice_get (lines_of text) before) ∷ [])
     ∷ line (codes "count: " ∷ shown_line (slice_get (lines_of sheet) before) ∷ [])
     ∷ [])
+
+-- the first line of a text, with its line feed where it has one
+abbrev pub first_line : Text → Text
+first_line [] = []
+first_line (b ∷ bs) = if b == 10 then b ∷ [] else b ∷ first_line bs
+
+-- Two texts have so many lines in common at their fronts, and the next line of one is not that of the other: it has another byte, or lacks the line feed, or is not there.
+pub record DifferFirstBehind (text sheet : Text) (before : ℕ) : Type 0 where
+  pub lines : List Text
+  pub unbroken : All IsUnbroken lines
+  pub count : length lines ≡ before
+  pub rest : Text
+  pub other : Text
+  pub is_text : text ≡ text_of_lines lines ++ rest
+  pub is_sheet : sheet ≡ text_of_lines lines ++ other
+  pub differ : first_line rest ≢ first_line other
+
+-- a law: the lines that two texts have in common are all those before the first in which they differ
+abbrev pub NamesTheFirstLine : Type 0
+NamesTheFirstLine = (text sheet : Text) → text ≢ sheet → DifferFirstBehind text sheet (common_lines text sheet)
 
 -- the words say so, and where it is none of the sheets, how the text differs from the one that agrees longest with it
 abbrev pub AreVerificationWords : PollContent → List Text → Text → Verification → Text → Type 0

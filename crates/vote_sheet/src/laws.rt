@@ -2,6 +2,7 @@
 //! of the count that it stands on: its contract is the law, and that is proved.
 ghost use Rattle.vote_sheet.specs.SheetLaws.{CondorcetWinnersAreNamed, LikedOptionsStay, LikedWinnersStay, UnanimityRules};
 ghost use Rattle.vote_sheet.specs.Standing.{StandingHasTheSameSheet, StandingSaysTheSame};
+ghost use Rattle.vote_sheet.specs.Verify.{NamesTheFirstLine};
 
 use crate::sheet::sheet_is_unique;
 use vote_count::{
@@ -58,3 +59,9 @@ pub fn standing_has_the_same_sheet()
     sheet_is_unique();
     standing_says_the_same();
 }
+
+/// The line that the words of a difference name is the first in which the two texts differ, where a line feed belongs to its line.
+#[tactic(auto, using(crate::proofs::Differences::names_the_first_line))]
+pub fn the_first_line_is_named()
+    ensures { NamesTheFirstLine }
+{}
