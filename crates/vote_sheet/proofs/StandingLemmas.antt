@@ -26,7 +26,10 @@ use Rattle.vote_sheet.specs.LastBallots.{last_valid_ballots, readings_in_time, r
 use Rattle.vote_count.specs.Ballots.{entry_prefers}
 use Rattle.vote_sheet.specs.Sheet.{Sheet, Text, count_text, head_text, last_text, line, options_text, sheet_text, totals_text}
 use Rattle.vote_sheet.specs.SheetOf.{IsSheetOf, SheetIsUnique}
-use Rattle.vote_sheet.specs.Standing.{EachLineIsRead, SaysTheSame, StandingHasTheSameSheet, StandingSaysTheSame, ballot_line, ballot_lines, standing_lines, standing_text}
+use Rattle.vote_sheet.specs.Standing.{SaysTheSame, StandingHasTheSameSheet, StandingSaysTheSame, ballot_line, ballot_lines, standing_lines, standing_text}
+
+abbrev EachLineIsRead : Type 0
+EachLineIsRead = (poll : PollContent) (line : List ℕ) → IsReading poll line (reading poll line)
 
 abbrev Entry : Type 0
 Entry = Option (List (Option ℕ))
@@ -380,7 +383,7 @@ standing_says_the_same read poll lines =
       last = same_last read poll lines;
     }
 
-pub says_the_same : LinesAreUnique → StandingSaysTheSame
+pub says_the_same : LinesAreUnique → EachLineIsRead → StandingSaysTheSame
 says_the_same unique read poll lines again are =
     let same : again ≡ standing_lines poll lines = unique (standing_text poll lines) again (standing_lines poll lines) are (standing_are_lines read poll lines) in
     subst (SaysTheSame poll lines) (sym same) (standing_says_the_same read poll lines)
@@ -400,8 +403,8 @@ at_voters s = simp append_assoc
 
 pub same_sheets : SheetIsUnique → StandingSaysTheSame → StandingHasTheSameSheet
 unfolding rest_of
-same_sheets unique says read poll lines again casting text other are h k =
-    let same = (says read poll lines again are).last in
+same_sheets unique says poll lines again casting text other are h k =
+    let same = (says poll lines again are).last in
     let t = k.0 in
     let is = k.1 in
     let u : Sheet = record t { line_count = length lines; valid = valid_count poll lines; refused = refused_count poll lines } in

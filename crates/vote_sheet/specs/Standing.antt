@@ -3,7 +3,6 @@ use Rattle.std.specs.Prelude.{◌≡◌, ℕ, List, [], ◌∷◌, ◌++◌, len
 use Rattle.vote_poll.specs.BallotLine.{line_text}
 use Rattle.vote_poll.specs.Lines.{AreLines, text_of_lines}
 use Rattle.vote_poll.specs.PollContent.{PollContent}
-use Rattle.vote_poll.specs.Readings.{IsReading, reading}
 use Rattle.vote_sheet.specs.LastBallots.{last_valid_ballots, refused_count, valid_count, voter_count}
 use Rattle.vote_sheet.specs.SheetOf.{IsSheet}
 use Rattle.vote_sheet.specs.Texts.{Text}
@@ -35,13 +34,9 @@ pub record SaysTheSame (poll : PollContent) (lines again : List Text) : Type 0 w
   pub refused : refused_count poll again ≡ 0
   pub last : last_valid_ballots poll again ≡ last_valid_ballots poll lines
 
--- what is read in each line is what the grammar of a ballot line says; `read_line` of vote_poll promises it of each line that it reads
-abbrev pub EachLineIsRead : Type 0
-EachLineIsRead = (poll : PollContent) (line : Text) → IsReading poll line (reading poll line)
-
 -- a law: the text of `standing` is a ballot file of the same poll that says the same
 abbrev pub StandingSaysTheSame : Type 0
-StandingSaysTheSame = EachLineIsRead → (poll : PollContent) (lines again : List Text) → AreLines (standing_text poll lines) again → SaysTheSame poll lines again
+StandingSaysTheSame = (poll : PollContent) (lines again : List Text) → AreLines (standing_text poll lines) again → SaysTheSame poll lines again
 
 -- from the line `Voters:` on two texts are the same
 abbrev pub AreSameFromVoters : Text → Text → Type 0
@@ -51,5 +46,5 @@ AreSameFromVoters text other =
 -- a law: for every casting vote the sheet of a ballot file and the sheet of its text of `standing` are the same from the line `Voters:` on
 abbrev pub StandingHasTheSameSheet : Type 0
 StandingHasTheSameSheet =
-    EachLineIsRead → (poll : PollContent) (lines again : List Text) (casting : Option ℕ) (text other : Text) →
+    (poll : PollContent) (lines again : List Text) (casting : Option ℕ) (text other : Text) →
     AreLines (standing_text poll lines) again → IsSheet poll lines casting text → IsSheet poll again casting other → AreSameFromVoters text other

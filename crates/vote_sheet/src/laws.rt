@@ -9,7 +9,7 @@ use vote_count::{
     condorcet_winners_win, final_set_is_pareto, final_set_is_schulze, raised_ballots_raise,
     raised_winners_win, winners_are_in_the_set,
 };
-use vote_poll::lines_are_unique;
+use vote_poll::{each_line_is_read, lines_are_unique};
 
 /// Monotonicity: where the electors come to like an option more and change nothing else, it stays in the last round.
 pub fn liked_options_stay()
@@ -49,6 +49,7 @@ pub fn standing_says_the_same()
     ensures { StandingSaysTheSame }
 {
     lines_are_unique();
+    each_line_is_read();
 }
 
 /// For every casting vote the sheet of a ballot file and the sheet of its text of `standing` are the same from the line `Voters:`
