@@ -38,6 +38,13 @@ pub fn ballots_name<'a>(task: &Task<'a>) -> Option<&'a str>
     }
 }
 
+/// The bytes of the name of a casting vote, where there is one.
+fn bytes_of(casting: Option<&str>) -> Option<&[u8]>
+    ensures { option_map (λ bytes. bytes.now) result ≡ option_map (λ name. name.now) casting.entry }
+{
+    casting.map(|name| name.as_bytes())
+}
+
 /// The job of a task whose files have these bytes. A file that the task does not name has none.
 pub fn job_of<'a>(task: &Task<'a>, poll: &'a [u8], ballots: &'a [u8], sheet: &'a [u8]) -> Job<'a>
     requires { DesksFit task.now }
@@ -49,7 +56,7 @@ pub fn job_of<'a>(task: &Task<'a>, poll: &'a [u8], ballots: &'a [u8], sheet: &'a
             poll,
             ballots,
             desks: *desks,
-            casting: casting.map(|name| name.as_bytes()),
+            casting: bytes_of(*casting),
         },
         Task::Steps { .. } => Job::Steps { poll, ballots },
         Task::Check { .. } => Job::Check { poll },
@@ -75,7 +82,7 @@ pub fn job_of<'a>(task: &Task<'a>, poll: &'a [u8], ballots: &'a [u8], sheet: &'a
             poll,
             ballots,
             desks: *desks,
-            casting: casting.map(|name| name.as_bytes()),
+            casting: bytes_of(*casting),
         },
     }
 }
