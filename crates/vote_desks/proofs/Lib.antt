@@ -1,4 +1,5 @@
 pub mod AuditLemmas
+pub mod StretchLemmas
 pub mod ClosingLemmas
 pub mod Joined
 pub mod SlipLemmas

@@ -1,5 +1,6 @@
 //! Reading the lines once more, and comparing them with what the desks did.
 ghost use Rattle.std.specs.Prelude.{◌≡◌, ◌≤◌, ◌↔◌, Err, length, map, count_by, position, vec_items, IsTrue, IsOk, IfOk, MatchOption, All};
+ghost use Rattle.std.specs.Thread.{IsSync};
 ghost use Rattle.vote_poll.specs.Readings.{readings};
 ghost use Rattle.vote_steps.specs.History.{is_cast, is_close, is_closed};
 ghost use Rattle.vote_steps.specs.Recasts.{HasOwnReading};
@@ -13,6 +14,8 @@ use crate::sealed::Sealed;
 use crate::sheets::first_other_sheet;
 use crate::slip::Slip;
 use std::marker::Model;
+use std::thread;
+use std::thread::Threads;
 use vote_poll::{Lines, Poll, is_reading};
 use vote_steps::{BallotBox, MAX_DESKS, Step};
 
@@ -62,6 +65,45 @@ fn first_other_reading(poll: &Poll, lines: &Lines<'_>, steps: &[Step]) -> Option
     None
 }
 
+/// The fewest steps for which a thread is started: a start takes about as long as to compare some hundred steps.
+const STRETCH: usize = 2_000;
+
+/// The number of the first step that has not the reading of its line, found by this many threads.
+///
+/// Each thread takes a stretch of the steps, and the calling thread is one of them. It takes all that no thread can be had for.
+#[cycle(stretches)]
+fn first_other_reading_by<R: Threads + Sync>(
+    rt: &R,
+    poll: &Poll,
+    lines: &Lines<'_>,
+    steps: &[Step],
+    threads: usize,
+) -> Option<u64>
+    requires { All (HasEnvelope (length lines.now)) steps.now }
+    ensures { MatchOption result (HasOwnReadings poll.now lines.now steps.now) (DiffersFirst poll.now lines.now steps.now) }
+{
+    if threads < 2 || steps.len() < 2 * STRETCH {
+        return first_other_reading(poll, lines, steps);
+    }
+    let low = threads / 2;
+    let high = threads - low;
+    let (front, back) = steps.split_at(steps.len() / threads * low);
+    let left = move || -> Option<u64>
+        requires { IsSync R.row × All (HasEnvelope (length lines.now)) front.now }
+        ensures { MatchOption result (HasOwnReadings poll.entry.now lines.entry.now front.entry.now) (DiffersFirst poll.entry.now lines.entry.now front.entry.now) }
+    { first_other_reading_by(rt, poll, lines, front, low) };
+    let right = move || -> Option<u64>
+        requires { IsSync R.row × All (HasEnvelope (length lines.now)) back.now }
+        ensures { MatchOption result (HasOwnReadings poll.entry.now lines.entry.now back.entry.now) (DiffersFirst poll.entry.now lines.entry.now back.entry.now) }
+    { first_other_reading_by(rt, poll, lines, back, high) };
+    let (first, second) = thread::join(rt, left, right);
+    match (first, second) {
+        (Some(number), _) => Some(number),
+        (None, Some(number)) => Some(number + front.len() as u64),
+        (None, None) => None,
+    }
+}
+
 /// The place of the close.
 fn close_place(steps: &[Step]) -> Option<usize>
     ensures { result ≡ position is_close steps.now }
@@ -72,7 +114,8 @@ fn close_place(steps: &[Step]) -> Option<usize>
 /// Compares a closed box and the sheets of its desks, that of desk `d` at place `d - 1`, with the lines.
 ///
 /// Each line is read once, and the steps are gone through once for each kind of fault. It takes no memory.
-pub fn compare(
+pub fn compare<R: Threads + Sync>(
+    rt: &R,
     poll: &Poll,
     lines: &Lines<'_>,
     ballot_box: &BallotBox,
@@ -90,7 +133,7 @@ pub fn compare(
     if count_casts(steps) != lines.len() {
         return Err(AuditFault::CountDiffers);
     }
-    if let Some(number) = first_other_reading(poll, lines, steps) {
+    if let Some(number) = first_other_reading_by(rt, poll, lines, steps, sheets.len()) {
         return Err(AuditFault::StepDiffers(number));
     }
     if let Some((desk, place)) = first_other_sheet(steps, sheets) {
@@ -141,12 +184,23 @@ impl Audited {
 }
 
 /// Compares a sealed box and its sheets with the lines, as `compare` does. On a fault the sealed box is given up.
-pub fn audit(poll: &Poll, lines: &Lines<'_>, sealed: Sealed) -> Result<Audited, AuditFault>
+pub fn audit<R: Threads + Sync>(
+    rt: &R,
+    poll: &Poll,
+    lines: &Lines<'_>,
+    sealed: Sealed,
+) -> Result<Audited, AuditFault>
     ensures same { IfOk result (λ audited. audited ≡ sealed) }
     ensures ok { IsOk result ↔ IsAudited poll.now lines.now sealed.ballot_box sealed.sheets }
     ensures fault { (fault : AuditFault) → (result ≡ Err fault) ↔ IsFaultOf poll.now lines.now sealed.ballot_box sealed.sheets fault }
 {
-    match compare(poll, lines, &sealed.ballot_box, sealed.sheets.as_slice()) {
+    match compare(
+        rt,
+        poll,
+        lines,
+        &sealed.ballot_box,
+        sealed.sheets.as_slice(),
+    ) {
         Ok(()) => Ok(Audited { sealed }),
         Err(fault) => Err(fault),
     }

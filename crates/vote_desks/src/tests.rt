@@ -222,20 +222,20 @@ const LATE: [Deed; 2] = [
 ];
 
 /// What is found in a sealed box by itself, without the sheets of its desks.
-fn found_without_sheets(
-    rt: &impl Abort,
+fn found_without_sheets<R: Threads + Abort + Sync>(
+    rt: &R,
     poll: &Poll,
     lines: &Lines<'_>,
     sealed: &Sealed,
 ) -> Option<AuditFault> {
     let ballot_box = sealed.ballot_box();
     assert!(rt; !ballot_box.is_open());
-    compare(poll, lines, ballot_box, &[]).err()
+    compare(rt, poll, lines, ballot_box, &[]).err()
 }
 
 /// Does the deeds at one desk of a box for a poll, and answers what is found for another poll and two lines, with the sheet of
 /// the desk and without it.
-fn found_after<R: Wait + Abort>(
+fn found_after<R: Threads + Wait + Abort + Sync>(
     rt: &R,
     alloc: Global,
     opened: &str,
@@ -246,7 +246,7 @@ fn found_after<R: Wait + Abort>(
     let poll = Poll::from_text(alloc, poll.as_bytes())?;
     let lines = Lines::split(alloc, TWO_LINES.as_bytes())?;
     let without = found_without_sheets(rt, &poll, &lines, &sealed);
-    Ok((audit(&poll, &lines, sealed).err(), without))
+    Ok((audit(rt, &poll, &lines, sealed).err(), without))
 }
 
 const SIZE: Option<AuditFault> = Some(AuditFault::SizeDiffers);

@@ -128,7 +128,7 @@ fn serve<
         Err(DeskFault::MissingDesk) => unreachable!(),
         Err(DeskFault::Memory) => return Err(VoteFault::Memory),
     };
-    match audit(poll, lines, sealed) {
+    match audit(rt, poll, lines, sealed) {
         Ok(audited) => Ok(audited),
         Err(fault) => Err(VoteFault::Audit(fault)),
     }

@@ -7,7 +7,7 @@ use Rattle.vote_desks.proofs.AuditLemmas.{ok_moved, err_moved}
 use Rattle.vote_desks.proofs.auditing.audit.Goals as goal
 
 pub returns-in-Ok-clause-fault : goal.returns-in-Ok-clause-fault
-returns-in-Ok-clause-fault c = λ fault.
+returns-in-Ok-clause-fault g c = λ fault.
     let of_items : List (Vec Slip Global) → SealedState = λ xs. record { ballot_box = c.sealed.inside.ballot_box; sheets = map vec_items xs } in
     let is : of_items c.as_slice.result.now ≡ c.args.sealed = ap of_items c.as_slice.ensures.value ∙ c.sealed.view_is in
     let P : SealedState → AuditFault → Type 0 = λ s f. IsFaultOf c.args.poll.now c.args.lines.now s.ballot_box s.sheets f in
@@ -15,7 +15,7 @@ returns-in-Ok-clause-fault c = λ fault.
     subst Q is (ok_moved (P (of_items c.as_slice.result.now)) c.in-Ok.field-0 c.args.sealed c.in-Ok.ensures.fault fault)
 
 pub returns-in-Err-clause-fault : goal.returns-in-Err-clause-fault
-returns-in-Err-clause-fault c = λ fault.
+returns-in-Err-clause-fault g c = λ fault.
     let of_items : List (Vec Slip Global) → SealedState = λ xs. record { ballot_box = c.sealed.inside.ballot_box; sheets = map vec_items xs } in
     let is : of_items c.as_slice.result.now ≡ c.args.sealed = ap of_items c.as_slice.ensures.value ∙ c.sealed.view_is in
     let P : SealedState → AuditFault → Type 0 = λ s f. IsFaultOf c.args.poll.now c.args.lines.now s.ballot_box s.sheets f in

@@ -11,18 +11,19 @@ use Rattle.vote_desks.specs.Comparing.{HasDesk, HasEnvelope}
 use Rattle.vote_desks.proofs.AuditLemmas.{legal_desks, legal_envelopes, Found, ok_exact, fault_exact, close_found, closed_last_at, early_at}
 use Rattle.vote_desks.proofs.auditing.compare.Goals as goal
 
-pub first_other_reading-requires : goal.first_other_reading-requires
-first_other_reading-requires c =
+pub first_other_reading_by-requires-after_bounds : goal.first_other_reading_by-requires-after_bounds
+first_other_reading_by-requires-after_bounds g c =
     let sizes = c.has_sizes.ensures.0 c.if-not-has_sizes.false in
-    subst (λ n. All (HasEnvelope n) c.steps-steps.result.now) sizes.2
-    (subst (λ (xs : List Step). All (HasEnvelope c.args.ballot_box.now.limit) xs) (sym c.steps-steps.ensures.steps) (legal_envelopes c.args.ballot_box.now c.steps-steps.ensures.legal))
+    let all : All (HasEnvelope (length c.args.lines.now)) c.steps-steps.result.now = subst (λ n. All (HasEnvelope n) c.steps-steps.result.now) sizes.2
+    (subst (λ (xs : List Step). All (HasEnvelope c.args.ballot_box.now.limit) xs) (sym c.steps-steps.ensures.steps) (legal_envelopes c.args.ballot_box.now c.steps-steps.ensures.legal)) in
+    λ _ _. all
 
 pub first_other_sheet-requires : goal.first_other_sheet-requires
-first_other_sheet-requires c =
+first_other_sheet-requires g c =
     subst (λ (xs : List Step). All HasDesk xs) (sym c.steps-steps.ensures.steps) (legal_desks c.args.ballot_box.now c.steps-steps.ensures.legal)
 
 pub returns-in-Some : goal.returns-in-Some
-returns-in-Some c =
+returns-in-Some g c =
     let poll = c.args.poll.now in
     let lines = c.args.lines.now in
     let b = c.args.ballot_box.now in
@@ -34,7 +35,7 @@ returns-in-Some c =
     record { ok = ok_exact poll lines b sheets (Err (StepDiffers c.in-Some.number)) found; fault = fault_exact poll lines b sheets (Err (StepDiffers c.in-Some.number)) found }
 
 pub returns-in-Some-first_other_sheet : goal.returns-in-Some-first_other_sheet
-returns-in-Some-first_other_sheet c =
+returns-in-Some-first_other_sheet g c =
     let poll = c.args.poll.now in
     let lines = c.args.lines.now in
     let b = c.args.ballot_box.now in
@@ -47,7 +48,7 @@ returns-in-Some-first_other_sheet c =
     record { ok = ok_exact poll lines b sheets (Err (SlipDiffers c.in-Some-first_other_sheet.desk c.in-Some-first_other_sheet.place)) found; fault = fault_exact poll lines b sheets (Err (SlipDiffers c.in-Some-first_other_sheet.desk c.in-Some-first_other_sheet.place)) found }
 
 pub returns-in-Some-close_place : goal.returns-in-Some-close_place
-returns-in-Some-close_place c =
+returns-in-Some-close_place g c =
     let poll = c.args.poll.now in
     let lines = c.args.lines.now in
     let b = c.args.ballot_box.now in
@@ -63,7 +64,7 @@ returns-in-Some-close_place c =
     record { ok = ok_exact poll lines b sheets (Err (ClosedEarly (c.in-Some-close_place.place + 1))) found; fault = fault_exact poll lines b sheets (Err (ClosedEarly (c.in-Some-close_place.place + 1))) found }
 
 pub returns-in_default-close_place : goal.returns-in_default-close_place
-returns-in_default-close_place c =
+returns-in_default-close_place g c =
     let poll = c.args.poll.now in
     let lines = c.args.lines.now in
     let b = c.args.ballot_box.now in
@@ -80,7 +81,7 @@ returns-in_default-close_place c =
     record { ok = ok_exact poll lines b sheets (Ok tt) found; fault = fault_exact poll lines b sheets (Ok tt) found }
 
 pub returns-in_default-close_place-2 : goal.returns-in_default-close_place-2
-returns-in_default-close_place-2 c =
+returns-in_default-close_place-2 g c =
     let poll = c.args.poll.now in
     let lines = c.args.lines.now in
     let b = c.args.ballot_box.now in
