@@ -47,7 +47,7 @@ fn has_own_reading(poll: &Poll, lines: &Lines<'_>, step: &Step) -> bool
     match step {
         Step::Close => true,
         Step::Cast { stamp, reading, .. } => {
-            is_reading(poll, lines.line(*stamp as usize - 1), reading)
+            is_reading(poll, lines.line(*stamp as usize - 1), &reading.reading())
         }
     }
 }

@@ -33,7 +33,7 @@ pub fn enter<VL: Tally, RL: Tally>(
     if desk.sheet.len() >= desk.limit as usize {
         return Err(EnterFault::SheetFull);
     }
-    let number = held.ballot_box.steps().len() as u64 + 1;
+    let number = held.ballot_box.steps().len() as u32 + 1;
     let reply = match held.ballot_box.cast(desk.number, stamp, reading) {
         Ok(reply) => reply,
         Err(StepFault::StampRange) => return Err(EnterFault::StampRange),

@@ -1,5 +1,5 @@
 //! Comparing the sheets of all desks with the slips of their casts, in one pass over the steps.
-ghost use Rattle.std.specs.Prelude.{◌≡◌, ◌+◌, ◌≤◌, ◌↔◌, ◌∷◌, ◌++◌, [], length, map, slice_get, Some, vec_items, IsTrue, MatchOption, All, List};
+ghost use Rattle.std.specs.Prelude.{◌≡◌, ◌+◌, ◌^◌, ◌<◌, ◌≤◌, ◌↔◌, ◌∷◌, ◌++◌, [], length, map, slice_get, Some, vec_items, IsTrue, MatchOption, All, List};
 ghost use Rattle.vote_desks.specs.Desks.{sheet_at};
 ghost use Rattle.vote_desks.specs.Audit.{HasSlips, PartAt, SheetDiffers};
 ghost use Rattle.vote_desks.specs.Comparing.{AgreesWith, AgreeWith, AreWithin, HasDesk};
@@ -73,7 +73,7 @@ fn sheet_of(sheets: &[Vec<Slip>], desk: u8) -> &[Slip]
 }
 
 /// Compares the slip that a step gives with the sheet of its desk.
-fn compare_step(compared: &mut [Compared], sheets: &[Vec<Slip>], number: u64, step: &Step)
+fn compare_step(compared: &mut [Compared], sheets: &[Vec<Slip>], number: u32, step: &Step)
     requires all { length compared.old ≡ MAX_DESKS }
     requires within { AreWithin (map vec_items sheets.now) compared.old }
     requires desk { HasDesk step.now }
@@ -99,7 +99,8 @@ fn compare_step(compared: &mut [Compared], sheets: &[Vec<Slip>], number: u64, st
 
 /// Compares the slips that the steps give with the sheets of all desks.
 fn compare_steps(steps: &[Step], sheets: &[Vec<Slip>]) -> [Compared; ALL_DESKS]
-    requires { All HasDesk steps.now }
+    requires few { length steps.now < 2 ^ 32 }
+    requires desks { All HasDesk steps.now }
     ensures { AgreeWith (map vec_items sheets.now) steps.now result }
 {
     let mut compared = [Compared {
@@ -107,14 +108,15 @@ fn compare_steps(steps: &[Step], sheets: &[Vec<Slip>]) -> [Compared; ALL_DESKS]
         differs: false,
     }; ALL_DESKS];
     for (place, step) in steps.iter().enumerate() {
-        compare_step(&mut compared, sheets, place as u64 + 1, step);
+        compare_step(&mut compared, sheets, place as u32 + 1, step);
     }
     compared
 }
 
 /// The least desk whose sheet is not the slips of its casts, and the first place, from 1, where they differ.
 pub(crate) fn first_other_sheet(steps: &[Step], sheets: &[Vec<Slip>]) -> Option<(u8, u64)>
-    requires { All HasDesk steps.now }
+    requires few { length steps.now < 2 ^ 32 }
+    requires desks { All HasDesk steps.now }
     ensures { MatchOption result (HasSlips steps.now (map vec_items sheets.now)) (λ at. SheetDiffers steps.now (map vec_items sheets.now) at.0 at.1) }
 {
     let compared = compare_steps(steps, sheets);

@@ -6,5 +6,6 @@ pub mod Laws
 pub mod Casting
 pub mod Standing
 -- what types stand for, and what private functions say of their parts
+pub mod KeptReadings
 pub mod Keeping
 pub mod Receiving

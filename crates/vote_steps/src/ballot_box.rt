@@ -8,6 +8,7 @@ ghost use Rattle.vote_poll.specs.Readings.{ReadingFits};
 ghost use Rattle.vote_steps.specs.Boxes.{IsLegal, UsesAll, box_of};
 
 use crate::MAX_DESKS;
+use crate::kept::KeptReading;
 use crate::roll::Roll;
 use crate::step::{Received, Reply, Step};
 use std::alloc::{AllocError, Global};
@@ -169,7 +170,7 @@ impl BallotBox {
         let step = Step::Cast {
             desk,
             stamp,
-            reading,
+            reading: KeptReading::of(&reading),
             reply,
         };
         push_step(&mut self.steps, step);
@@ -230,6 +231,7 @@ impl BallotBox {
         // What every legal history has.
         ensures legal { IsLegal self.now }
         ensures len { length self.now.steps ≤ self.now.limit + 1 }
+        ensures at_most { length self.now.steps ≤ MAX_LINES + 1 }
         ensures all_used { UsesAll self.now }
     {
         self.steps.as_slice()

@@ -1,5 +1,6 @@
 //! The steps of a ballot box, and the replies to its casts.
-use vote_poll::{LineFault, Ranks, Reading};
+use crate::kept::KeptReading;
+use vote_poll::{LineFault, Ranks};
 
 /// What a cast is answered: the first of these that fits, in the order `BoxClosed`, `Late`, `BadLine`, `Superseded`,
 /// `Replaced`, `Counted`.
@@ -21,7 +22,7 @@ pub enum Reply {
 }
 
 /// One step of a ballot box. The steps of a box are numbered from 1.
-#[derive(Clone, Copy, Debug, PartialEq, Eq)]
+#[derive(Clone, Copy, Debug)]
 pub enum Step {
     /// An envelope was cast.
     Cast {
@@ -30,7 +31,7 @@ pub enum Step {
         /// Its stamp, from 1 to the limit of the box.
         stamp: u32,
         /// What the poll reads in its line.
-        reading: Reading,
+        reading: KeptReading,
         /// What the cast was answered.
         reply: Reply,
     },

@@ -18,8 +18,8 @@ first_other_reading_by-requires-after_bounds g c =
     (subst (λ (xs : List Step). All (HasEnvelope c.args.ballot_box.now.limit) xs) (sym c.steps-steps.ensures.steps) (legal_envelopes c.args.ballot_box.now c.steps-steps.ensures.legal)) in
     λ _ _. all
 
-pub first_other_sheet-requires : goal.first_other_sheet-requires
-first_other_sheet-requires g c =
+pub first_other_sheet-requires-clause-desks : goal.first_other_sheet-requires-clause-desks
+first_other_sheet-requires-clause-desks g c =
     subst (λ (xs : List Step). All HasDesk xs) (sym c.steps-steps.ensures.steps) (legal_desks c.args.ballot_box.now c.steps-steps.ensures.legal)
 
 pub returns-in-Some : goal.returns-in-Some

@@ -1,4 +1,5 @@
-use Rattle.std.proofs.Common.{◌+◌, ◌≤◌, length, subst}
+use Rattle.std.proofs.Common.{◌+◌, ◌≤◌, length, subst, arith}
+use Rattle.vote_poll.specs.declared.lines.TheConstants.{MAX_LINES}
 use Rattle.vote_steps.specs.Boxes.{BoxState, UsesAll}
 use Rattle.vote_steps.specs.Keeping.{state_of}
 use Rattle.vote_steps.proofs.LegalLemmas.{has_room_for_all_lem, each_stamp_is_used_lem}
@@ -10,3 +11,10 @@ returns-clause-len c =
 
 pub returns-clause-all_used : goal.returns-clause-all_used
 returns-clause-all_used c = let P : BoxState → Type 0 = λ b. UsesAll b in subst P c.self.view_is (each_stamp_is_used_lem (state_of c.self.inside) c.self.invariant.legal)
+
+pub returns-clause-at_most : goal.returns-clause-at_most
+returns-clause-at_most c =
+    let P : BoxState → Type 0 = λ b. length b.steps ≤ MAX_LINES + 1 in
+    let len = has_room_for_all_lem (state_of c.self.inside) c.self.invariant.legal in
+    let limit = c.self.invariant.limit_fits in
+    subst P c.self.view_is (omega arith)
