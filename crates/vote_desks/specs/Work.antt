@@ -1,5 +1,6 @@
 -- What a worker is given, and what it gives back.
-use Rattle.std.specs.Prelude.{◌≡◌, ℕ, ◌+◌, List, [], map}
+use Rattle.std.specs.Prelude.{◌≡◌, ℕ, ◌+◌, ◌≤◌, List, [], map, length, All}
+use Rattle.std.specs.List.Sorted.{IsStrictlyIncreasing}
 use Rattle.vote_tray.specs.Passes.{TrayId, PassState}
 use Rattle.vote_desks.specs.Slips.{Rises, stamps_of}
 use Rattle.vote_desks.specs.Desks.{DeskState}
@@ -23,3 +24,18 @@ pub record HasCastAll (desk : DeskState) (pass : PassState) : Type 0 where
 -- what a pass keeps, whatever it takes
 abbrev pub tray_and_parts : PassState → TrayId × List ℕ
 tray_and_parts pass = (pass.tray, pass.parts)
+
+-- the stamp of one of so many lines, which are numbered from 1
+abbrev pub IsStampOf : ℕ → ℕ → Type 0
+IsStampOf lines stamp = (1 ≤ stamp) × (stamp ≤ lines)
+
+-- the envelopes of the places that a pass took, in the order in which it took them
+abbrev pub stamps_taken : PassState → List ℕ
+stamps_taken pass = map (λ place. place + 1) pass.places
+
+-- the pass took its places in rising order, all of them below the number that it has seen
+pub record IsRising (pass : PassState) : Type 0 where
+  pub rising : IsStrictlyIncreasing (stamps_taken pass)
+  pub below : All (λ stamp. stamp ≤ pass.seen) (stamps_taken pass)
+  pub few : length (stamps_taken pass) ≤ pass.seen
+  pub within : pass.seen ≤ pass.tray.size

@@ -31,6 +31,7 @@ mod desk;
 mod entry;
 mod fault;
 pub mod laws;
+mod run;
 mod sealed;
 mod shared;
 mod sheets;

@@ -1,12 +1,15 @@
 //! Workers, each of which serves a desk in a thread of its own.
-ghost use Rattle.std.specs.Prelude.{◌≡◌, ◌<◌, ◌^◌, [], IsTrue, IfOk, IfErr, map, length, vec_len};
+ghost use Rattle.std.specs.Prelude.{◌≡◌, ◌+◌, ◌<◌, ◌≤◌, ◌^◌, ◌++◌, [], Some, All, IsTrue, IsNone, IfOk, IfErr, map, length, vec_len};
 ghost use Rattle.std.specs.List.{AllByRecursion};
 ghost use Rattle.vote_steps.specs.Boxes.{box_of};
-ghost use Rattle.vote_desks.specs.Work.{IsFresh, IsUnused, tray_and_parts};
+ghost use Rattle.vote_desks.specs.Slips.{stamps_of};
+ghost use Rattle.vote_desks.specs.Desks.{FitsBox};
+ghost use Rattle.vote_desks.specs.Work.{IsFresh, IsStampOf, IsUnused, tray_and_parts};
 ghost use Rattle.vote_desks.specs.Faults.{IsStartFault};
 
 use crate::desk::{Desk, Tally};
-use crate::fault::VoteFault;
+use crate::fault::{EnterFault, VoteFault};
+use crate::run::{RUN, read_run, run_length, take_run};
 use crate::shared::SharedBox;
 use crate::slip::Slip;
 use crate::worked::{Stop, WorkerResult};
@@ -15,7 +18,7 @@ use std::snapshot::Snapshot;
 use std::sync::Wait;
 use std::thread;
 use std::thread::{Promise, PromisedHandle, Scope, Threads};
-use vote_poll::{Lines, Poll, read_line};
+use vote_poll::{LineFault, Lines, Poll, Reading};
 use vote_tray::{Pass, Tray};
 
 /// Lets envelopes pass to the box, or stops their desks. All workers share it, and the box is not locked while it is asked.
@@ -64,7 +67,38 @@ impl<VL: Tally, RL: Tally> Promise<WorkerResult<VL, RL>> for WorkerPromise {
     ghost kept_by = { λ promise worked. (worked.desk.number ≡ promise.number) × (worked.pass.tray ≡ promise.pass.value.tray) × (worked.pass.parts ≡ promise.pass.value.parts) };
 }
 
+/// Casts the envelopes of a run, each as one step, until the gate or the box stops the desk.
+fn cast_run<VL: Tally, RL: Tally, G: Gate, R: Wait>(
+    rt: &R,
+    workplace: &Workplace<'_, '_, VL, RL, G>,
+    desk: &mut Desk<VL, RL>,
+    stamps: &[u32],
+    readings: &[Reading],
+) -> Option<Stop>
+    requires stamps { All (IsStampOf (length workplace.now.lines.now)) stamps.now }
+    requires readings { (length stamps.now ≤ length readings.now) × All (FitsBox workplace.now.shared.now.opened) readings.now }
+    requires room { length desk.old.slips + length stamps.now ≤ desk.old.limit }
+    ensures same { (desk.new.number ≡ desk.old.number) × (desk.new.limit ≡ desk.old.limit) }
+    ensures cast { IsNone result → stamps_of desk.new.slips ≡ stamps_of desk.old.slips ++ stamps.now }
+    ensures refused { (fault : EnterFault) → result ≡ Some (Stop.Refused fault) → fault ≡ EnterFault.StampUsed }
+{
+    for place in 0..stamps.len() {
+        let stamp = stamps[place];
+        if !workplace.gate.before(desk.number(), stamp) {
+            return Some(Stop::Barred);
+        }
+        match workplace.shared.cast(rt, desk, stamp, readings[place]) {
+            Ok(slip) => workplace.gate.after(desk.number(), &slip),
+            Err(fault) => return Some(Stop::Refused(fault)),
+        }
+    }
+    None
+}
+
 /// Serves one desk until the tray is empty, or the gate or the box stops it. It takes no memory.
+///
+/// It takes a run of envelopes at once, and reads all their lines before it casts the first. A cast waits for the lock, and
+/// the processor waits with it; between two readings it can look up one voter while it reads the next line.
 fn work<VL: Tally, RL: Tally, G: Gate, R: Wait>(
     rt: &R,
     workplace: &Workplace<'_, '_, VL, RL, G>,
@@ -76,31 +110,30 @@ fn work<VL: Tally, RL: Tally, G: Gate, R: Wait>(
     ensures desk { result.desk.number ≡ desk.number }
     ensures pass { (result.pass.tray ≡ pass.tray) × (result.pass.parts ≡ pass.parts) }
 {
-    while let Some(index) = workplace.tray.take(&mut pass) {
-        let stamp = index as u32 + 1;
-        if !workplace.gate.before(desk.number(), stamp) {
+    let lines = workplace.lines.len();
+    let mut stamps = [0; RUN];
+    let mut readings = [Reading::Bad(LineFault::Shape); RUN];
+    let mut most = run_length(lines);
+    loop {
+        let count = take_run(workplace.tray, &mut pass, most, &mut stamps);
+        if count == 0 {
             return WorkerResult {
                 desk,
                 pass,
-                stopped: Some(Stop::Barred),
+                stopped: None,
             };
         }
-        let reading = read_line(workplace.poll, workplace.lines.line(index as usize));
-        match workplace.shared.cast(rt, &mut desk, stamp, reading) {
-            Ok(slip) => workplace.gate.after(desk.number(), &slip),
-            Err(fault) => {
-                return WorkerResult {
-                    desk,
-                    pass,
-                    stopped: Some(Stop::Refused(fault)),
-                };
-            }
+        let run = &stamps[..count];
+        read_run(workplace.poll, workplace.lines, run, &mut readings);
+        let stopped = cast_run(rt, workplace, &mut desk, run, &readings);
+        if stopped.is_some() {
+            return WorkerResult {
+                desk,
+                pass,
+                stopped,
+            };
         }
-    }
-    WorkerResult {
-        desk,
-        pass,
-        stopped: None,
+        most = run_length(lines.saturating_sub(stamps[count - 1] as usize));
     }
 }
 

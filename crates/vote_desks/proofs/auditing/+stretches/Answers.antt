@@ -1,4 +1,4 @@
-use Rattle.std.proofs.Common.{length, subst, ◌+◌}
+use Rattle.std.proofs.Common.{subst}
 use Rattle.std.specs.Prelude.{MatchOption}
 use Rattle.vote_steps.specs.Casting.{HasOwnReadings}
 use Rattle.vote_desks.specs.Audit.{DiffersFirst}

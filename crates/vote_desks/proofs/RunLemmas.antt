@@ -1,0 +1,34 @@
+-- What a pass has once it has taken one more place.
+use Rattle.std.proofs.Common.{◌≡◌, ℕ, ◌+◌, ◌<◌, ◌≤◌, List, [], ◌∷◌, ◌++◌, length, get_or, sym, ap, ◌∙◌, subst, ⊎_elim, arith}
+use Rattle.std.specs.List.{All}
+use Rattle.std.specs.List.Sorted.{IsStrictlyIncreasing}
+use Rattle.std.proofs.lemmas.Bool.{cases_lt}
+use Rattle.std.proofs.Math.Seq.{get_or-append_seam}
+use Rattle.std.proofs.lemmas.List.{get_or_append_left, length_push, map_push}
+use Rattle.std.proofs.lemmas.List.Elements.{All-push}
+use Rattle.vote_tray.specs.Passes.{PassState, with_place}
+use Rattle.vote_desks.specs.Work.{IsRising, stamps_taken}
+
+increasing_push : (xs : List ℕ) (y : ℕ) → IsStrictlyIncreasing xs → All (λ x. x < y) xs → IsStrictlyIncreasing (xs ++ y ∷ [])
+increasing_push xs y up below = λ k lt.
+    let len = length_push xs y in
+    let here = get_or_append_left xs (y ∷ []) 0 in
+    ⊎_elim
+    (λ (inside : k + 1 < length xs). let less = up k inside in omega (arith, here k (omega arith), here (k + 1) inside, less))
+    (λ (last : length xs ≤ k + 1).
+    let end : k + 1 ≡ length xs = omega arith in
+    let less : get_or xs k 0 < y = below k 0 (omega arith) in
+    let seam : get_or (xs ++ y ∷ []) (k + 1) 0 ≡ y = ap (λ i. get_or (xs ++ y ∷ []) i 0) end ∙ get_or-append_seam xs y [] 0 in
+    omega (arith, less, seam, get_or_append_left xs (y ∷ []) k 0 (omega arith)))
+    (cases_lt (k + 1) (length xs))
+
+pub rising_with : (pass : PassState) (place : ℕ) → IsRising pass → pass.seen ≤ place → place < pass.tray.size → IsRising (with_place pass place)
+rising_with pass place h seen inside =
+    let more : stamps_taken (with_place pass place) ≡ stamps_taken pass ++ (place + 1) ∷ [] = map_push (λ p. p + 1) pass.places place in
+    let few = h.few in
+    record {
+      rising = subst IsStrictlyIncreasing (sym more) (increasing_push (stamps_taken pass) (place + 1) h.rising (λ k d lt. let le = h.below k d lt in omega arith));
+      below = subst (All (λ stamp. stamp ≤ place + 1)) (sym more) (All-push (λ stamp. stamp ≤ place + 1) (stamps_taken pass) (place + 1) (λ k d lt. let le = h.below k d lt in omega arith) (omega arith));
+      few = (let len = ap length more ∙ length_push (stamps_taken pass) (place + 1) in omega arith);
+      within = omega arith;
+    }

@@ -1,0 +1,61 @@
+//! Runs of envelopes, which a worker takes at once.
+ghost use Rattle.std.specs.Prelude.{◌≡◌, ◌+◌, ◌<◌, ◌≤◌, ◌^◌, ◌++◌, All, length, map, take};
+ghost use Rattle.vote_poll.specs.PollContent.{elector_count, option_count};
+ghost use Rattle.vote_poll.specs.Readings.{ReadingFits};
+ghost use Rattle.vote_desks.specs.Work.{IsRising, IsStampOf};
+
+use vote_poll::{Lines, Poll, Reading, read_line};
+use vote_tray::{Pass, Tray};
+
+/// The most envelopes of a run.
+pub(crate) const RUN: usize = 8;
+
+/// How many envelopes must be left for each further one of a run.
+const LEFT_FOR_EACH: usize = 512;
+
+/// How many envelopes a worker takes at once where this many are left. Towards the end it takes them one by one, so that no desk
+/// has some to cast while others have none; and of few lines a desk never holds one that a gate might wait for at another desk.
+pub(crate) fn run_length(left: usize) -> usize
+    ensures { (1 ≤ result) × (result ≤ RUN) }
+{
+    if left / LEFT_FOR_EACH < RUN {
+        left / LEFT_FOR_EACH + 1
+    } else {
+        RUN
+    }
+}
+
+/// Takes the places of the next envelopes, and notes their stamps. There are fewer than wanted only where no place is left.
+pub(crate) fn take_run(tray: &Tray, pass: &mut Pass, most: usize, stamps: &mut [u32]) -> usize
+    requires tray { (pass.old.tray ≡ tray.now) × (tray.now.size < 2 ^ 32) }
+    requires most { (1 ≤ most) × (most ≤ length stamps.old) }
+    requires rising { IsRising pass.old }
+    ensures kept { (pass.new.tray ≡ pass.old.tray) × (pass.new.parts ≡ pass.old.parts) }
+    ensures rising { IsRising pass.new }
+    ensures room { (result ≤ most) × (length stamps.new ≡ length stamps.old) }
+    ensures taken { map (λ place. place + 1) pass.new.places ≡ map (λ place. place + 1) pass.old.places ++ take result stamps.new }
+    ensures stamps { All (IsStampOf tray.now.size) (take result stamps.new) }
+    ensures further { pass.old.seen + result ≤ pass.new.seen }
+    ensures none { result ≡ 0 → pass.new.seen ≡ tray.now.size }
+{
+    for count in 0..most {
+        let Some(place) = tray.take(pass) else {
+            return count;
+        };
+        stamps[count] = place as u32 + 1;
+    }
+    most
+}
+
+/// Reads the lines of the envelopes with these stamps, each to the place that its stamp has.
+pub(crate) fn read_run(poll: &Poll, lines: &Lines<'_>, stamps: &[u32], readings: &mut [Reading])
+    requires stamps { All (IsStampOf (length lines.now)) stamps.now }
+    requires room { length stamps.now ≤ length readings.old }
+    requires fit { All (ReadingFits (option_count poll.now) (elector_count poll.now)) readings.old }
+    ensures room { length readings.new ≡ length readings.old }
+    ensures fit { All (ReadingFits (option_count poll.now) (elector_count poll.now)) readings.new }
+{
+    for place in 0..stamps.len() {
+        readings[place] = read_line(poll, lines.line(stamps[place] as usize - 1));
+    }
+}
