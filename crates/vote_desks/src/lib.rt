@@ -31,6 +31,7 @@ mod desk;
 mod entry;
 mod fault;
 pub mod laws;
+mod no_gate;
 mod run;
 mod sealed;
 mod shared;
@@ -44,11 +45,12 @@ pub use auditing::{Audited, audit, compare};
 pub use desk::{Desk, Held, Tally};
 pub use entry::enter;
 pub use fault::{AuditFault, DeskFault, EnterFault, NoVoter, VoteFault};
+pub use no_gate::NoGate;
 pub use sealed::{Sealed, gather};
 pub use shared::{SharedBox, open_desks};
 pub use slip::Slip;
 pub use votes::take_votes;
-pub use work::{Gate, NoGate};
+pub use work::Gate;
 
 #[cfg(test)]
 mod tests;

@@ -8,17 +8,19 @@ use vote_poll::{Lines, Poll, Reading, read_line};
 use vote_tray::{Pass, Tray};
 
 /// The most envelopes of a run.
-pub(crate) const RUN: usize = 8;
+pub(crate) const RUN: usize = 32;
 
 /// How many envelopes must be left for each further one of a run.
-const LEFT_FOR_EACH: usize = 512;
+const LEFT_FOR_EACH: usize = 128;
 
-/// How many envelopes a worker takes at once where this many are left. Towards the end it takes them one by one, so that no desk
-/// has some to cast while others have none; and of few lines a desk never holds one that a gate might wait for at another desk.
-pub(crate) fn run_length(left: usize) -> usize
+/// How many envelopes a worker takes at once where this many are left: one, where its gate may wait for another desk. Towards the
+/// end runs get shorter, so that no desk has many to cast while others have none.
+pub(crate) fn run_length(may_wait: bool, left: usize) -> usize
     ensures { (1 ≤ result) × (result ≤ RUN) }
 {
-    if left / LEFT_FOR_EACH < RUN {
+    if may_wait {
+        1
+    } else if left / LEFT_FOR_EACH < RUN {
         left / LEFT_FOR_EACH + 1
     } else {
         RUN

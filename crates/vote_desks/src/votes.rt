@@ -17,8 +17,8 @@ use crate::work::{Gate, Workplace, work_all};
 use crate::worked::{Stop, WorkerResult};
 use std::alloc::{AllocError, Global};
 use std::marker::Brand;
-use std::sync::Wait;
 use std::sync::ledger::Blank;
+use std::sync::{Mutex, Wait};
 use std::thread::Threads;
 use vote_poll::{Lines, Poll};
 use vote_steps::MAX_DESKS;
@@ -110,14 +110,18 @@ fn serve<
         Ok(made) => made,
         Err(_) => return Err(VoteFault::Memory),
     };
-    let workplace = Workplace {
-        poll,
-        lines,
-        shared: &shared,
-        gate,
-        tray: &tray,
+    let all = {
+        let turn = Mutex::new(());
+        let workplace = Workplace {
+            poll,
+            lines,
+            shared: &shared,
+            gate,
+            tray: &tray,
+            turn: &turn,
+        };
+        work_all(rt, alloc, &workplace, opened, passes)?
     };
-    let all = work_all(rt, alloc, &workplace, opened, passes)?;
     if let Some(fault) = first_stop(&all) {
         return Err(fault);
     }

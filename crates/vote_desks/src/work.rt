@@ -1,5 +1,5 @@
 //! Workers, each of which serves a desk in a thread of its own.
-ghost use Rattle.std.specs.Prelude.{◌≡◌, ◌+◌, ◌<◌, ◌≤◌, ◌^◌, ◌++◌, [], Some, All, IsTrue, IsNone, IfOk, IfErr, map, length, vec_len};
+ghost use Rattle.std.specs.Prelude.{◌≡◌, ◌+◌, ◌<◌, ◌≤◌, ◌^◌, ◌++◌, [], Some, All, IsNone, IfOk, IfErr, map, length, vec_len};
 ghost use Rattle.std.specs.List.{AllByRecursion};
 ghost use Rattle.vote_steps.specs.Boxes.{box_of};
 ghost use Rattle.vote_desks.specs.Slips.{stamps_of};
@@ -15,7 +15,7 @@ use crate::slip::Slip;
 use crate::worked::{Stop, WorkerResult};
 use std::alloc::Global;
 use std::snapshot::Snapshot;
-use std::sync::Wait;
+use std::sync::{Mutex, Wait};
 use std::thread;
 use std::thread::{Promise, PromisedHandle, Scope, Threads};
 use vote_poll::{LineFault, Lines, Poll, Reading};
@@ -28,22 +28,16 @@ pub trait Gate {
 
     /// Takes note that this desk has cast an envelope, with the slip that the cast gave.
     fn after(&self, desk: u8, slip: &Slip);
-}
 
-/// Lets every envelope pass.
-pub struct NoGate;
-
-impl Gate for NoGate {
-    fn before(&self, _desk: u8, _stamp: u32) -> bool
-        ensures { IsTrue result }
-    {
+    /// Whether a call may wait for what another desk does. If so, a worker takes an envelope from the tray only when it has cast
+    /// the one before. If not, it may take some at once, and asks for each right before its cast.
+    fn may_wait(&self) -> bool {
         true
     }
-
-    fn after(&self, _desk: u8, _slip: &Slip) {}
 }
 
-/// What all workers share: the poll and its lines, the box, the gate, and the tray, whose places are the lines from 0.
+/// What all workers share: the poll and its lines, the box, the gate, the tray, whose places are the lines from 0, and a lock of
+/// nothing, by which a desk keeps the others away from the box while it casts a run.
 #[derive(Drop)]
 pub(crate) struct Workplace<'h, 't, VL: Tally, RL: Tally, G> {
     pub poll: &'h Poll,
@@ -51,6 +45,7 @@ pub(crate) struct Workplace<'h, 't, VL: Tally, RL: Tally, G> {
     pub shared: &'h SharedBox<VL, RL>,
     pub gate: &'h G,
     pub tray: &'h Tray,
+    pub turn: &'h Mutex<()>,
     ghost stamps: { length lines.now < 2 ^ 32 },
     ghost opened: { shared.now.opened ≡ box_of poll.now (length lines.now) [] },
     ghost places: { tray.now.size ≡ length lines.now },
@@ -68,6 +63,9 @@ impl<VL: Tally, RL: Tally> Promise<WorkerResult<VL, RL>> for WorkerPromise {
 }
 
 /// Casts the envelopes of a run, each as one step, until the gate or the box stops the desk.
+///
+/// Each cast takes the lock of the box anew. Around a longer run the desk takes its turn, so that the others wait once for
+/// the run and not for each cast: what they wait for is the costly part, and the matrix stays with one processor meanwhile.
 fn cast_run<VL: Tally, RL: Tally, G: Gate, R: Wait>(
     rt: &R,
     workplace: &Workplace<'_, '_, VL, RL, G>,
@@ -82,6 +80,11 @@ fn cast_run<VL: Tally, RL: Tally, G: Gate, R: Wait>(
     ensures cast { IsNone result → stamps_of desk.new.slips ≡ stamps_of desk.old.slips ++ stamps.now }
     ensures refused { (fault : EnterFault) → result ≡ Some (Stop.Refused fault) → fault ≡ EnterFault.StampUsed }
 {
+    let _turn = if stamps.len() > 1 {
+        Some(workplace.turn.lock(rt))
+    } else {
+        None
+    };
     for place in 0..stamps.len() {
         let stamp = stamps[place];
         if !workplace.gate.before(desk.number(), stamp) {
@@ -97,8 +100,7 @@ fn cast_run<VL: Tally, RL: Tally, G: Gate, R: Wait>(
 
 /// Serves one desk until the tray is empty, or the gate or the box stops it. It takes no memory.
 ///
-/// It takes a run of envelopes at once, and reads all their lines before it casts the first. A cast waits for the lock, and
-/// the processor waits with it; between two readings it can look up one voter while it reads the next line.
+/// It takes a run of envelopes at once, and reads all their lines before it casts the first.
 fn work<VL: Tally, RL: Tally, G: Gate, R: Wait>(
     rt: &R,
     workplace: &Workplace<'_, '_, VL, RL, G>,
@@ -113,7 +115,8 @@ fn work<VL: Tally, RL: Tally, G: Gate, R: Wait>(
     let lines = workplace.lines.len();
     let mut stamps = [0; RUN];
     let mut readings = [Reading::Bad(LineFault::Shape); RUN];
-    let mut most = run_length(lines);
+    let may_wait = workplace.gate.may_wait();
+    let mut most = run_length(may_wait, lines);
     loop {
         let count = take_run(workplace.tray, &mut pass, most, &mut stamps);
         if count == 0 {
@@ -133,7 +136,7 @@ fn work<VL: Tally, RL: Tally, G: Gate, R: Wait>(
                 stopped,
             };
         }
-        most = run_length(lines.saturating_sub(stamps[count - 1] as usize));
+        most = run_length(may_wait, lines.saturating_sub(stamps[count - 1] as usize));
     }
 }
 

@@ -1,0 +1,13 @@
+use Rattle.std.proofs.Common.{replicate, rules}
+use Rattle.std.specs.List.{All}
+use Rattle.std.proofs.lemmas.List.Elements.{All-replicate}
+use Rattle.vote_poll.specs.declared.reading.Reading.TheVariants.{Bad}
+use Rattle.vote_poll.specs.declared.reading.LineFault.TheVariants.{Shape}
+use Rattle.vote_desks.specs.declared.run.TheConstants.{RUN}
+use Rattle.vote_desks.specs.Desks.{FitsBox}
+use Rattle.vote_desks.proofs.work.work.Goals as goal
+
+pub loop-stamps-init : goal.loop-stamps-init
+loop-stamps-init g c =
+    let fit : All (FitsBox c.args.workplace.now.shared.now.opened) (replicate RUN (Bad Shape)) = All-replicate (FitsBox c.args.workplace.now.shared.now.opened) RUN (Bad Shape) tt in
+    search rules

@@ -1,0 +1,22 @@
+//! The gate that bars nothing.
+ghost use Rattle.std.specs.Prelude.{IsTrue};
+
+use crate::slip::Slip;
+use crate::work::Gate;
+
+/// Lets every envelope pass.
+pub struct NoGate;
+
+impl Gate for NoGate {
+    fn before(&self, _desk: u8, _stamp: u32) -> bool
+        ensures { IsTrue result }
+    {
+        true
+    }
+
+    fn after(&self, _desk: u8, _slip: &Slip) {}
+
+    fn may_wait(&self) -> bool {
+        false
+    }
+}
