@@ -1,5 +1,6 @@
 pub mod AuditLemmas
 pub mod StretchLemmas
+pub mod CountLemmas
 pub mod RunLemmas
 pub mod ClosingLemmas
 pub mod Joined

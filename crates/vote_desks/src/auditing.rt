@@ -17,6 +17,7 @@ use std::marker::Model;
 use std::thread;
 use std::thread::Threads;
 use vote_poll::{Lines, Poll, is_reading};
+use vote_steps::laws::closes_once;
 use vote_steps::{BallotBox, MAX_DESKS, Step};
 
 /// Whether the box is of the poll's size and has its last envelope, and has a number for each line.
@@ -29,14 +30,13 @@ fn has_sizes(poll: &Poll, lines: &Lines<'_>, ballot_box: &BallotBox) -> bool
         && ballot_box.last_envelope() == poll.last_in_time()
 }
 
-/// The number of casts.
-fn count_casts(steps: &[Step]) -> usize
-    ensures { result ≡ count_by is_cast steps.now }
+/// The number of casts of a closed box: it was closed once, and each other step is a cast.
+fn count_casts(ballot_box: &BallotBox) -> usize
+    requires { IsTrue (is_closed ballot_box.now.steps) }
+    ensures { result ≡ count_by is_cast ballot_box.now.steps }
 {
-    steps
-        .iter()
-        .filter(|step| matches!(step, Step::Cast { .. }))
-        .count()
+    closes_once();
+    ballot_box.steps().len() - 1
 }
 
 /// Whether a cast has the reading of the line with its stamp.
@@ -104,10 +104,15 @@ fn first_other_reading_by<R: Threads + Sync>(
     }
 }
 
-/// The place of the close.
-fn close_place(steps: &[Step]) -> Option<usize>
-    ensures { result ≡ position is_close steps.now }
+/// The place of the close. It is mostly the last, so that is where it is looked for first: a box is closed once.
+fn close_place(ballot_box: &BallotBox) -> Option<usize>
+    ensures { result ≡ position is_close ballot_box.now.steps }
 {
+    closes_once();
+    let steps = ballot_box.steps();
+    if let Some(Step::Close) = steps.last() {
+        return Some(steps.len() - 1);
+    }
     steps.iter().position(|step| matches!(step, Step::Close))
 }
 
@@ -130,7 +135,7 @@ pub fn compare<R: Threads + Sync>(
         return Err(AuditFault::SizeDiffers);
     }
     let steps = ballot_box.steps();
-    if count_casts(steps) != lines.len() {
+    if count_casts(ballot_box) != lines.len() {
         return Err(AuditFault::CountDiffers);
     }
     if let Some(number) = first_other_reading_by(rt, poll, lines, steps, sheets.len()) {
@@ -139,7 +144,7 @@ pub fn compare<R: Threads + Sync>(
     if let Some((desk, place)) = first_other_sheet(steps, sheets) {
         return Err(AuditFault::SlipDiffers(desk, place));
     }
-    match close_place(steps) {
+    match close_place(ballot_box) {
         Some(place) if place + 1 < steps.len() => Err(AuditFault::ClosedEarly(place as u64 + 1)),
         _ => Ok(()),
     }

@@ -1,12 +1,11 @@
 use Rattle.std.proofs.Common.{◌≡◌, ◌+◌, List, [], ◌∷◌, ◌++◌, Ok, Err, length, map, vec_items, sym, ap, ◌∙◌, subst, arith}
-use Rattle.std.specs.Prelude.{position}
-use Rattle.std.specs.List.{All, count_by}
+use Rattle.std.specs.List.{All}
 use Rattle.vote_desks.specs.declared.fault.AuditFault.TheVariants.{StepDiffers, SlipDiffers, ClosedEarly}
 use Rattle.vote_steps.specs.declared.Step.{Step}
 use Rattle.vote_steps.specs.declared.Step.TheVariants.{Close}
-use Rattle.vote_steps.specs.History.{is_cast, is_close, before_close}
+use Rattle.vote_steps.specs.History.{before_close}
 use Rattle.vote_steps.specs.Casting.{HasOwnReadings, HoldsLines}
-use Rattle.vote_desks.specs.Audit.{DiffersFirst, SheetDiffers, HasSlips, IsEarlyClose, IsAudited}
+use Rattle.vote_desks.specs.Audit.{DiffersFirst, SheetDiffers, HasSlips, IsAudited}
 use Rattle.vote_desks.specs.Comparing.{HasDesk, HasEnvelope}
 use Rattle.vote_desks.proofs.AuditLemmas.{legal_desks, legal_envelopes, Found, ok_exact, fault_exact, close_found, closed_last_at, early_at}
 use Rattle.vote_desks.proofs.auditing.compare.Goals as goal
@@ -30,7 +29,7 @@ returns-in-Some g c =
     let sheets = map vec_items c.args.sheets.now in
     let here = c.steps-steps.ensures.steps in
     let sizes = c.has_sizes.ensures.0 c.if-not-has_sizes.false in
-    let casts = ap (count_by is_cast) (sym here) ∙ sym c.count_casts.ensures ∙ c.if-count_casts-len.false ∙ c.len.ensures.number in
+    let casts = sym c.count_casts.ensures ∙ c.if-count_casts-len.false ∙ c.len.ensures.number in
     let found : Found poll lines b sheets (Err (StepDiffers c.in-Some.number)) = (sizes, casts, subst (λ (xs : List Step). DiffersFirst poll lines xs c.in-Some.number) here c.in-Some.ensures) in
     record { ok = ok_exact poll lines b sheets (Err (StepDiffers c.in-Some.number)) found; fault = fault_exact poll lines b sheets (Err (StepDiffers c.in-Some.number)) found }
 
@@ -42,7 +41,7 @@ returns-in-Some-first_other_sheet g c =
     let sheets = map vec_items c.args.sheets.now in
     let here = c.steps-steps.ensures.steps in
     let sizes = c.has_sizes.ensures.0 c.if-not-has_sizes.false in
-    let casts = ap (count_by is_cast) (sym here) ∙ sym c.count_casts.ensures ∙ c.if-count_casts-len.false ∙ c.len.ensures.number in
+    let casts = sym c.count_casts.ensures ∙ c.if-count_casts-len.false ∙ c.len.ensures.number in
     let readings = subst (λ (xs : List Step). HasOwnReadings poll lines xs) here c.in_default.ensures in
     let found : Found poll lines b sheets (Err (SlipDiffers c.in-Some-first_other_sheet.desk c.in-Some-first_other_sheet.place)) = (sizes, casts, readings, subst (λ (xs : List Step). SheetDiffers xs sheets c.in-Some-first_other_sheet.desk c.in-Some-first_other_sheet.place) here c.in-Some-first_other_sheet.ensures) in
     record { ok = ok_exact poll lines b sheets (Err (SlipDiffers c.in-Some-first_other_sheet.desk c.in-Some-first_other_sheet.place)) found; fault = fault_exact poll lines b sheets (Err (SlipDiffers c.in-Some-first_other_sheet.desk c.in-Some-first_other_sheet.place)) found }
@@ -55,11 +54,11 @@ returns-in-Some-close_place g c =
     let sheets = map vec_items c.args.sheets.now in
     let here = c.steps-steps.ensures.steps in
     let sizes = c.has_sizes.ensures.0 c.if-not-has_sizes.false in
-    let casts = ap (count_by is_cast) (sym here) ∙ sym c.count_casts.ensures ∙ c.if-count_casts-len.false ∙ c.len.ensures.number in
+    let casts = sym c.count_casts.ensures ∙ c.if-count_casts-len.false ∙ c.len.ensures.number in
     let readings = subst (λ (xs : List Step). HasOwnReadings poll lines xs) here c.in_default.ensures in
     let slips = subst (λ (xs : List Step). HasSlips xs sheets) here c.in_default-first_other_sheet.ensures in
     let at = sym c.in-Some-close_place.ensures in
-    let early = subst (λ (xs : List Step). IsEarlyClose xs (c.in-Some-close_place.place + 1)) here (early_at c.steps-steps.result.now c.in-Some-close_place.place at c.if-place-steps.true) in
+    let early = early_at b.steps c.in-Some-close_place.place at (let long = ap length here in omega (arith, long, c.if-place-steps.true)) in
     let found : Found poll lines b sheets (Err (ClosedEarly (c.in-Some-close_place.place + 1))) = (sizes, casts, readings, slips, early) in
     record { ok = ok_exact poll lines b sheets (Err (ClosedEarly (c.in-Some-close_place.place + 1))) found; fault = fault_exact poll lines b sheets (Err (ClosedEarly (c.in-Some-close_place.place + 1))) found }
 
@@ -71,10 +70,10 @@ returns-in_default-close_place g c =
     let sheets = map vec_items c.args.sheets.now in
     let here = c.steps-steps.ensures.steps in
     let sizes = c.has_sizes.ensures.0 c.if-not-has_sizes.false in
-    let casts = ap (count_by is_cast) (sym here) ∙ sym c.count_casts.ensures ∙ c.if-count_casts-len.false ∙ c.len.ensures.number in
+    let casts = sym c.count_casts.ensures ∙ c.if-count_casts-len.false ∙ c.len.ensures.number in
     let readings = subst (λ (xs : List Step). HasOwnReadings poll lines xs) here c.in_default.ensures in
     let slips = subst (λ (xs : List Step). HasSlips xs sheets) here c.in_default-first_other_sheet.ensures in
-    let at = ap (position is_close) (sym here) ∙ sym c.in-Some-close_place.ensures in
+    let at = sym c.in-Some-close_place.ensures in
     let long = ap length here in
     let last = closed_last_at b.steps c.in-Some-close_place.place c.requires.closed at (omega (arith, long, c.if-place-steps.false)) in
     let found : Found poll lines b sheets (Ok tt) = (let held : HoldsLines poll lines b = record { sizes = sizes; casts = casts; legal = c.steps-steps.ensures.legal; closed_last = last; own_readings = readings } in let a : IsAudited poll lines b sheets = record { holds = held; sheets_are = slips } in a) in
@@ -88,10 +87,10 @@ returns-in_default-close_place-2 g c =
     let sheets = map vec_items c.args.sheets.now in
     let here = c.steps-steps.ensures.steps in
     let sizes = c.has_sizes.ensures.0 c.if-not-has_sizes.false in
-    let casts = ap (count_by is_cast) (sym here) ∙ sym c.count_casts.ensures ∙ c.if-count_casts-len.false ∙ c.len.ensures.number in
+    let casts = sym c.count_casts.ensures ∙ c.if-count_casts-len.false ∙ c.len.ensures.number in
     let readings = subst (λ (xs : List Step). HasOwnReadings poll lines xs) here c.in_default.ensures in
     let slips = subst (λ (xs : List Step). HasSlips xs sheets) here c.in_default-first_other_sheet.ensures in
-    let at = ap (position is_close) (sym here) ∙ sym c.in_default-close_place.ensures in
+    let at = sym c.in_default-close_place.ensures in
     let last : b.steps ≡ before_close b.steps ++ Close ∷ [] = absurd (close_found b.steps at c.requires.closed) in
     let found : Found poll lines b sheets (Ok tt) = (let held : HoldsLines poll lines b = record { sizes = sizes; casts = casts; legal = c.steps-steps.ensures.legal; closed_last = last; own_readings = readings } in let a : IsAudited poll lines b sheets = record { holds = held; sheets_are = slips } in a) in
     record { ok = ok_exact poll lines b sheets (Ok tt) found; fault = fault_exact poll lines b sheets (Ok tt) found }
