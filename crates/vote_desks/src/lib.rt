@@ -9,7 +9,8 @@
 //! **What is shared, and who writes it.** The box and its two books of valid and refused lines stand behind one lock, and
 //! change by one cast or one close at a time. A desk, with its sheet and its shares of the books, belongs to one thread at a
 //! time. The tray says which worker casts which line; it is no part of the lock. The poll, the lines and the gate are read
-//! by all. A worker takes no memory: `open_desks` reserves the box and every sheet.
+//! by all. A worker takes no memory: `open_desks` reserves the box and every sheet. Where its gate never waits for another
+//! desk, it takes and reads some envelopes at once, and then casts them one by one.
 //!
 //! **What is promised.** Whenever the lock is free, the box is a legal history, it has the sizes, the limit and the last
 //! envelope with which it was opened, and its books are the numbers of valid and refused lines in it. `enter` says the whole
