@@ -1,24 +1,28 @@
 //! From bytes to bytes: the runs of the program, each of which reads its texts, works on them and writes what is meant into a
 //! sink.
 //!
-//! - [`run`] counts the ballots of a file by a poll file and writes the result sheet.
-//! - [`print_steps`] writes the reply of the ballot box to each line, and [`steps_joined`] does so for a poll and its ballots in
-//!   one input. [`check_poll`] reads a poll file and writes how many options and electors it has.
+//! - [`count_for`] counts the ballots of a file by a poll file and writes what the count is made for, its [`Purpose`]: the result
+//!   sheet, the picture, or how a published sheet compares. [`run`] is it for the sheet.
+//! - [`print_listing`] casts the ballots and writes a [`Listing`]: the reply to each line, or the ballots that stand.
+//!   [`print_steps`] is it for the replies, and [`steps_joined`] does so for a poll and its ballots in one input.
+//! - [`check_poll`] reads a poll file and writes how many options and electors it has, and [`explain`] writes all that is wrong
+//!   with it and with its ballots.
 //! - [`perform`] does whichever of them a [`Job`] asks for, and [`perform_on`] does so on a writer of std: it is the one call
 //!   that the program makes once its inputs are read.
-//! - [`sheet`] and [`sheet_and_decision`] give the result sheet of an audited box as a text.
+//! - [`sheet`], [`sheet_and_decision`], [`picture_and_decision`] and [`verification`] make the texts of an audited box.
 //! - [`status`] and [`fault_status`] are the exit status of a run, by how it ended ([`Ended`]) or why it did not ([`RunFault`],
-//!   whose `Display` is the program's fault line). [`poll_unread`] and [`ballots_unread`] name the fault of an input that was
-//!   not read.
+//!   whose `Display` is the program's fault line). [`poll_unread`], [`ballots_unread`] and [`sheet_unread`] name the fault of an
+//!   input that was not read.
 //!
 //! **What is promised.** A run writes the text that is meant, once, and nothing else; where its output fails, a front of that
 //! text; and after any other fault nothing. It answers each fault just where it is so, in the order of the inputs, but that want
 //! of memory can come at any growth and want of a thread at any start. Where it answers that all is well, its sink was flushed.
 //! The clauses hold over every [`Sink`](vote_files::Sink), whatever it answers and whenever it fails.
 //!
-//! The modules: `joined` parts a joined input, and [`laws`] says what its parts are; `steps` and `counting` are the runs, `jobs`
-//! does whichever is asked for, `audited` is the sheet of an audited box, `output` writes the text of a run, and `fault` says
-//! how a run ends.
+//! The modules: `joined` parts a joined input, and [`laws`] says what its parts are; `taking` takes the votes of two files, and
+//! `counting` makes of them what they are taken for; `listing`, `checking` and `explaining` are the other runs, `jobs` does
+//! whichever is asked for, `audited` has the texts of an audited box, `output` writes the text of a run, and `fault` says how a
+//! run ends.
 #![tactic(auto)]
 
 mod audited;
@@ -33,7 +37,7 @@ mod listing;
 mod output;
 mod taking;
 
-pub use audited::{sheet, sheet_and_decision};
+pub use audited::{picture_and_decision, sheet, sheet_and_decision, verification};
 pub use checking::check_poll;
 pub use counting::{Purpose, count_for, run};
 pub use explaining::explain;
