@@ -57,7 +57,11 @@ fn ended_by(found: Verification) -> Ended
 }
 
 /// The text that the votes were taken for, and how the run ends by it.
-fn make(alloc: Global, taken: &Taken<'_>, purpose: Purpose<'_>) -> Result<(String, Ended), AllocError>
+fn make(
+    alloc: Global,
+    taken: &Taken<'_>,
+    purpose: Purpose<'_>,
+) -> Result<(String, Ended), AllocError>
     requires audited { IsAudited taken.now.poll taken.now.lines taken.now.audited.ballot_box taken.now.audited.sheets }
     requires casting { IfSome taken.now.casting (IsOption (option_count taken.now.poll)) }
     ensures { IfOk result (λ made. IsMade purpose.entry taken.now.poll taken.now.lines taken.now.casting (string_bytes made.0) made.1) }

@@ -50,7 +50,10 @@ fn explanation(
         Ok(lines) => lines,
         Err(fault) => return Err(RunFault::Lines(fault)),
     };
-    let Explained { text: said, refused } = explain_ballots(alloc, &poll, &lines)?;
+    let Explained {
+        text: said,
+        refused,
+    } = explain_ballots(alloc, &poll, &lines)?;
     let ended = ended_by(&text, refused);
     text.push_str(said.as_str())?;
     Ok((text, ended))

@@ -135,7 +135,17 @@ pub fn perform<G: Gate + Sync, W: Sink, R: Threads + Wait + Sync>(
             ballots,
             sheet,
             desks,
-        } => count_for(rt, alloc, poll, ballots, *desks, None, Purpose::Verification(sheet), gate, sink),
+        } => count_for(
+            rt,
+            alloc,
+            poll,
+            ballots,
+            *desks,
+            None,
+            Purpose::Verification(sheet),
+            gate,
+            sink,
+        ),
         Job::Explain { poll, ballots } => explain(alloc, poll, *ballots, sink),
         Job::Joined { input } => done(steps_joined(alloc, input, sink)),
         Job::Picture {
