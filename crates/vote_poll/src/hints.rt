@@ -152,9 +152,7 @@ pub(crate) fn ratios_hint(
     let count = ratios.len();
     let most = u32::from(MAX_RATIO);
     if count != options {
-        let of_ratios = if count == 1 { "ratio" } else { "ratios" };
-        let of_options = if options == 1 { "option" } else { "options" };
-        return format!(in alloc; "{count} {of_ratios} for {options} {of_options}");
+        return format!(in alloc; "{count} ratios for {options} options");
     }
     match ratios
         .iter()
