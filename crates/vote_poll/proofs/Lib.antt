@@ -1,14 +1,11 @@
 mod Assembly
 pub mod Equality
 mod BallotLaws
-mod FindingLaws
 mod FirstBad
-mod FoundLaws
 mod GrammarLaws
 mod LinesLaws
 mod NamesLaws
 mod OneReading
-mod SeenLaws
 mod SortKeys
 mod PollFileLaws
 mod PollFaultsLaws

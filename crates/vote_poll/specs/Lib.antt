@@ -5,7 +5,6 @@ pub mod Names
 pub mod PollContent
 pub mod PollFile
 pub mod PollFaults
-pub mod Findings
 pub mod BallotLine
 pub mod Readings
 pub mod Comparisons
@@ -16,6 +15,4 @@ pub mod SortKeys
 -- what types stand for, and what private functions say of their parts
 pub mod PollView
 pub mod FieldsView
-pub mod FoundView
-pub mod NameFindings
 pub mod Parsing

@@ -1,11 +1,11 @@
 -- All faults of a poll file, in their order. Each is judged by itself: wherever the keys that it speaks of are there and of their
 -- kind, whatever else is wrong.
-use Rattle.std.specs.Prelude.{◌≡◌, ℕ, ◌+◌, List, [], ◌∷◌, ◌++◌, map, filter, length, Bool, ◌||◌, if◌then◌else◌, ℤ, Option, Some, None, is_some, is_none, option_and_then, option_to_list, slice_get, Result, Ok, Err, codes}
+use Rattle.std.specs.Prelude.{◌≡◌, ℕ, ◌+◌, List, [], ◌∷◌, ◌++◌, map, filter, length, Bool, ◌||◌, if◌then◌else◌, ℤ, Option, Some, None, is_some, is_none, option_to_list, slice_get, Result, Ok, Err}
 use Rattle.std.specs.List.{range_with_len}
-use Rattle.toml.specs.Data.{Data, Members, get_member, as_str, as_integer}
+use Rattle.toml.specs.Data.{Members, as_str, as_integer}
 use Rattle.vote_poll.specs.Names.{is_bad_at, is_option_name, is_voter_name, is_within}
 use Rattle.vote_poll.specs.PollContent.{PollContent}
-use Rattle.vote_poll.specs.PollFile.{document, last_envelope_in, list_of, poll_in, quorum_in, ratios_in, title_in, wording_in}
+use Rattle.vote_poll.specs.PollFile.{document, found, last_envelope_in, list_of, poll_in, quorum_in, ratios_in, title_in, value_at, wording_in}
 use Rattle.vote_poll.specs.declared.TheConstants.{MAX_OPTIONS, MAX_ELECTORS}
 use Rattle.vote_poll.specs.declared.fault.PollKey.{PollKey}
 use Rattle.vote_poll.specs.declared.fault.PollKey.TheVariants as key
@@ -13,24 +13,6 @@ use Rattle.vote_poll.specs.declared.fault.PollFault.{PollFault}
 use Rattle.vote_poll.specs.declared.fault.PollFault.TheVariants as fault
 
 -- ---- the keys
--- a key as it stands in the file
-abbrev pub key_name : PollKey → List ℕ
-key_name key.Title = codes "title"
-key_name key.Options = codes "options"
-key_name key.Ratios = codes "ratios"
-key_name key.DefaultOption = codes "default"
-key_name key.Quorum = codes "quorum"
-key_name key.Roll = codes "roll"
-key_name key.LastEnvelope = codes "last_envelope"
-key_name key.Wording = codes "wording"
-
-abbrev pub value_at : PollKey → Members → Option Data
-value_at name table = get_member (key_name name) table
-
--- the value of a key, where it is there and of the kind
-abbrev pub found : {X : Type 0} → PollKey → (Data → Option X) → Members → Option X
-found name kind table = option_and_then kind (value_at name table)
-
 -- the keys, each where it is there and of its kind
 pub record Found : Type 0 where
   pub title : Option (List ℕ)

@@ -41,9 +41,27 @@ each_of kind items = all_some (map kind (items_list items))
 abbrev pub list_of : {X : Type 0} → (Data → Option X) → Data → Option (List X)
 list_of kind value = option_and_then (each_of kind) (as_array value)
 
+-- a key as it stands in the file
+abbrev pub key_name : PollKey → List ℕ
+key_name key.Title = codes "title"
+key_name key.Options = codes "options"
+key_name key.Ratios = codes "ratios"
+key_name key.DefaultOption = codes "default"
+key_name key.Quorum = codes "quorum"
+key_name key.Roll = codes "roll"
+key_name key.LastEnvelope = codes "last_envelope"
+key_name key.Wording = codes "wording"
+
+abbrev pub value_at : PollKey → Members → Option Data
+value_at name table = get_member (key_name name) table
+
 -- the value of a key, where it is there and of the kind
-abbrev pub field : {X : Type 0} → PollKey → List ℕ → (Data → Option X) → Members → Result X PollFault
-field name text kind table = ok_or (option_and_then kind (get_member text table)) (fault.Key name)
+abbrev pub found : {X : Type 0} → PollKey → (Data → Option X) → Members → Option X
+found name kind table = option_and_then kind (value_at name table)
+
+-- the same of a key that has to be there
+abbrev pub field : {X : Type 0} → PollKey → (Data → Option X) → Members → Result X PollFault
+field name kind table = ok_or (found name kind table) (fault.Key name)
 
 -- the value, where there is one; it is of the kind
 abbrev pub of_kind_or_none : {X : Type 0} → PollKey → (Data → Option X) → Option Data → Result (Option X) PollFault
@@ -51,8 +69,8 @@ of_kind_or_none name kind None = Ok None
 of_kind_or_none name kind (Some value) = ok_or (option_map Some (kind value)) (fault.Key name)
 
 -- the value of a key that may be missing
-abbrev pub optional_field : {X : Type 0} → PollKey → List ℕ → (Data → Option X) → Members → Result (Option X) PollFault
-optional_field name text kind table = of_kind_or_none name kind (get_member text table)
+abbrev pub optional_field : {X : Type 0} → PollKey → (Data → Option X) → Members → Result (Option X) PollFault
+optional_field name kind table = of_kind_or_none name kind (value_at name table)
 
 infixl 10 ◌>>=◌
 abbrev pub ◌>>=◌ : {A B : Type 0} → Result A PollFault → (A → Result B PollFault) → Result B PollFault
@@ -61,14 +79,14 @@ abbrev pub ◌>>=◌ : {A B : Type 0} → Result A PollFault → (A → Result B
 
 unfoldable pub fields_of : Members → Result Fields PollFault
 fields_of table = do
-  title ← field key.Title (codes "title") as_str table
-  options ← field key.Options (codes "options") (list_of as_str) table
-  ratios ← field key.Ratios (codes "ratios") (list_of as_integer) table
-  default_option ← field key.DefaultOption (codes "default") as_str table
-  quorum ← field key.Quorum (codes "quorum") as_integer table
-  roll ← field key.Roll (codes "roll") (list_of as_str) table
-  last_envelope ← optional_field key.LastEnvelope (codes "last_envelope") as_integer table
-  wording ← optional_field key.Wording (codes "wording") as_str table
+  title ← field key.Title as_str table
+  options ← field key.Options (list_of as_str) table
+  ratios ← field key.Ratios (list_of as_integer) table
+  default_option ← field key.DefaultOption as_str table
+  quorum ← field key.Quorum as_integer table
+  roll ← field key.Roll (list_of as_str) table
+  last_envelope ← optional_field key.LastEnvelope as_integer table
+  wording ← optional_field key.Wording as_str table
   Ok (record { title = title; options = options; ratios = ratios; default_option = default_option; quorum = quorum; roll = roll; last_envelope = last_envelope; wording = wording })
 
 -- ---- what each key gives, or its fault

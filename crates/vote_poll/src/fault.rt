@@ -1,6 +1,6 @@
 //! Why a poll file is refused, and the words for it.
 ghost use Rattle.std.specs.Prelude.{◌≡◌};
-ghost use Rattle.vote_poll.specs.PollFaults.{key_name};
+ghost use Rattle.vote_poll.specs.PollFile.{key_name};
 ghost use Rattle.vote_poll.specs.declared.fault.PollFault.TheVariants.{Memory};
 
 use std::alloc::{AllocError, AllocFailed};
@@ -29,8 +29,20 @@ pub enum PollKey {
 }
 
 impl PollKey {
+    /// The keys, in the order in which they are looked for.
+    pub const ALL: [PollKey; 8] = [
+        PollKey::Title,
+        PollKey::Options,
+        PollKey::Ratios,
+        PollKey::DefaultOption,
+        PollKey::Quorum,
+        PollKey::Roll,
+        PollKey::LastEnvelope,
+        PollKey::Wording,
+    ];
+
     /// The key as it stands in the file.
-    pub(crate) fn name(self) -> &'static str
+    pub fn name(self) -> &'static str
         ensures { result.now ≡ key_name self }
     {
         match self {
@@ -43,25 +55,6 @@ impl PollKey {
             PollKey::LastEnvelope => "last_envelope",
             PollKey::Wording => "wording",
         }
-    }
-}
-
-impl PollKey {
-    /// The keys, in the order in which they are looked for.
-    pub(crate) const ALL: [PollKey; 8] = [
-        PollKey::Title,
-        PollKey::Options,
-        PollKey::Ratios,
-        PollKey::DefaultOption,
-        PollKey::Quorum,
-        PollKey::Roll,
-        PollKey::LastEnvelope,
-        PollKey::Wording,
-    ];
-
-    /// The key that is written like this.
-    pub(crate) fn of_name(name: &str) -> Option<PollKey> {
-        PollKey::ALL.iter().copied().find(|key| key.name() == name)
     }
 }
 

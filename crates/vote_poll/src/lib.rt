@@ -5,13 +5,16 @@
 //!   default option, a majority ratio for each other option, the multiple of Q that is its quorum, and the
 //!   roll of its electors. It may have a last envelope, and those after it are then late, and a [`Wording`] of
 //!   its majorities.
-//!   [`Poll::from_text`] reads it, or answers the first [`PollFault`]. [`explain_poll`] does the same, and says in words
-//!   all that is wrong with the file, and which of its keys are not read.
+//!   [`Poll::from_text`] reads it, or answers the first [`PollFault`], and [`Poll::from_table`] does so for a table of TOML.
 //! - [`Lines`]: the lines of a ballot file, each an envelope. [`Lines::split`] makes them.
 //! - [`Ranks`]: what one ballot says of the options, and which option it prefers to which.
 //! - [`Reading`]: what a poll reads in a line, by [`read_line`]: a ballot of an elector, or a [`LineFault`].
 //!   [`is_reading`] says whether a reading is that of a line.
 //! - [`push_shown`]: adds bytes of a file to a text, so that what is no printable ASCII is seen by its number.
+//!
+//! The crates that say what is wrong with a file judge its parts by the same calls as this one: a name by [`is_title`],
+//! [`is_option_name`] and [`is_voter_name`], its bytes by [`is_printable`] and [`is_voter_byte`], and the list at a [`PollKey`]
+//! by [`texts_at`] and [`integers_at`].
 //!
 //! Options are numbered from 1, as in the file, and the default option has the greatest number. Voters are
 //! numbered from 0, by their place on the roll. Places of lines are numbered from 0; the line at place `i` is
@@ -21,8 +24,7 @@
 //! - A poll file means one poll or one fault (`specs/PollFile.antt`), and `from_text` answers just that. Where
 //!   several faults hold it is the first in the order of [`PollFault`].
 //! - All faults of a poll file, each judged by itself, are those of `specs/PollFaults.antt`, and the one that is answered is
-//!   the first of them ([`first_fault_is_told`]). `explain_poll` has a line for each (`specs/Findings.antt`); what the line
-//!   says behind the words of the fault is open.
+//!   the first of them ([`first_fault_is_told`]).
 //! - A text has one list of lines (`specs/Lines.antt`, [`lines_are_unique`]), and `split` answers that list, or
 //!   that it is too long.
 //! - A poll reads one thing in a line (`specs/Readings.antt`, [`readings_are_unique`]), by a grammar that says
@@ -35,14 +37,8 @@
 //! so are that envelopes can be late and that a majority can be worded as more than its ratio.
 #![tactic(auto)]
 
-mod explain;
 mod fault;
-mod findings;
-mod found;
-mod hints;
-mod key_findings;
 mod lines;
-mod name_findings;
 mod names;
 mod poll;
 mod poll_file;
@@ -50,13 +46,13 @@ mod rank_key;
 mod ranks;
 mod reading;
 mod shown;
-mod unread;
 mod wording;
 
-pub use explain::{ExplainedPoll, explain_poll, first_fault_is_told};
 pub use fault::{PollFault, PollKey};
 pub use lines::{Lines, LinesFault, MAX_LINES, lines_are_unique};
+pub use names::{is_option_name, is_printable, is_title, is_voter_byte, is_voter_name};
 pub use poll::Poll;
+pub use poll_file::{first_fault_is_told, integers_at, texts_at};
 pub use ranks::Ranks;
 pub use reading::{
     LineFault, Reading, each_line_is_read, is_reading, read_line, readings_are_unique,
@@ -87,9 +83,6 @@ pub const MAX_LINE: usize = 200;
 
 /// The most bytes that the name of a voter can have.
 pub const MAX_VOTER_NAME: usize = 32;
-
-/// The most bytes of a name or text of a file that a finding shows.
-pub const MAX_SHOWN: usize = 60;
 
 /// The most bytes that the title of a poll can have.
 pub const MAX_TITLE: usize = 80;

@@ -11,8 +11,8 @@ use crate::{MAX_OPTION_NAME, MAX_OPTIONS, MAX_TITLE, MAX_VOTER_NAME};
 use indexmap::IndexSet;
 use std::alloc::Global;
 
-/// Whether a voter's name may have this byte.
-pub(crate) fn is_voter_byte(byte: u8) -> bool
+/// Whether a voter's name may have this byte: `a` to `z`, `0` to `9`, `.` or `-`.
+pub fn is_voter_byte(byte: u8) -> bool
     ensures { result ≡ is_voter_byte byte }
 {
     matches!(byte, b'a'..=b'z' | b'0'..=b'9' | b'.' | b'-')
@@ -25,15 +25,15 @@ fn are_voter_bytes(text: &[u8]) -> bool
     text.iter().all(|byte| is_voter_byte(*byte))
 }
 
-/// Whether a text is a voter's name.
-pub(crate) fn is_voter_name(text: &[u8]) -> bool
+/// Whether a text is a voter's name: 1 to [`MAX_VOTER_NAME`] of the bytes that [`is_voter_byte`] admits.
+pub fn is_voter_name(text: &[u8]) -> bool
     ensures { result ≡ is_voter_name text.now }
 {
     1 <= text.len() && text.len() <= MAX_VOTER_NAME && are_voter_bytes(text)
 }
 
-/// Whether a byte is a printable ASCII character or a space.
-pub(crate) fn is_printable(byte: u8) -> bool
+/// Whether a byte is a printable ASCII character or a space: one from 0x20 to 0x7E.
+pub fn is_printable(byte: u8) -> bool
     ensures { result ≡ is_printable byte }
 {
     matches!(byte, 0x20..=0x7E)
@@ -46,8 +46,8 @@ fn are_printable(text: &[u8]) -> bool
     text.iter().all(|byte| is_printable(*byte))
 }
 
-/// Whether a text is a title.
-pub(crate) fn is_title(text: &[u8]) -> bool
+/// Whether a text is a title: 1 to [`MAX_TITLE`] of the bytes that [`is_printable`] admits.
+pub fn is_title(text: &[u8]) -> bool
     ensures { result ≡ is_title text.now }
 {
     1 <= text.len() && text.len() <= MAX_TITLE && are_printable(text)
@@ -60,8 +60,9 @@ fn has_outer_space(name: &[u8]) -> bool
     matches!(name, [b' ', ..] | [.., b' '])
 }
 
-/// Whether a text is the name of an option.
-pub(crate) fn is_option_name(name: &[u8]) -> bool
+/// Whether a text is the name of an option: 1 to [`MAX_OPTION_NAME`] of the bytes that [`is_printable`] admits, no space first
+/// or last.
+pub fn is_option_name(name: &[u8]) -> bool
     ensures { result ≡ is_option_name name.now }
 {
     1 <= name.len()

@@ -3,9 +3,10 @@ ghost use Rattle.std.specs.Prelude.{◌≡◌, [], ◌∷◌, ◌++◌, map, opt
 ghost use Rattle.std.specs.Option.{ok_or, option_copied};
 ghost use Rattle.vote_poll.specs.FieldsView.{fields_view};
 ghost use Rattle.vote_poll.specs.declared.fault.PollFault.TheVariants as fault;
-ghost use Rattle.toml.specs.Data.{get_member, as_array, as_str, as_integer};
+ghost use Rattle.toml.specs.Data.{as_array, as_str, as_integer};
 ghost use Rattle.toml.specs.View.{items_view, view, table_view};
-ghost use Rattle.vote_poll.specs.PollFile.{Gives, document, each_of, field, fields_of, last_envelope_in, list_of, option_names_in, optional_field, poll_in, poll_in_table, poll_of, quorum_in, ratios_in, roll_in, title_in};
+ghost use Rattle.vote_poll.specs.PollFaults.{FirstIsTold};
+ghost use Rattle.vote_poll.specs.PollFile.{Gives, document, each_of, field, fields_of, last_envelope_in, list_of, option_names_in, optional_field, poll_in, poll_in_table, poll_of, quorum_in, ratios_in, roll_in, title_in, value_at};
 
 use crate::fault::{PollFault, PollKey};
 use crate::lines::MAX_LINES;
@@ -33,31 +34,27 @@ fn document(alloc: Global, text: &[u8]) -> Result<Table, PollFault>
 }
 
 /// The value at a key of the table.
-pub(crate) fn value_at<'t>(table: &'t Table, name: &str) -> Option<&'t Value>
-    ensures { option_map (λ value. view value.now) result ≡ get_member name.now (table_view table.now) }
+fn value_at<'t>(table: &'t Table, key: PollKey) -> Option<&'t Value>
+    ensures { option_map (λ value. view value.now) result ≡ value_at key (table_view table.now) }
 {
-    table.get(name)
+    table.get(key.name())
 }
 
 /// The text at a key.
-fn text_at<'t>(table: &'t Table, name: &str, key: PollKey) -> Result<&'t str, PollFault>
-    ensures { Gives (λ text. text.now) result (field key name.now as_str (table_view table.now)) }
+fn text_at<'t>(table: &'t Table, key: PollKey) -> Result<&'t str, PollFault>
+    ensures { Gives (λ text. text.now) result (field key as_str (table_view table.now)) }
 {
-    match value_at(table, name) {
+    match value_at(table, key) {
         Some(Value::String(text)) => Ok(text.as_str()),
         _ => Err(PollFault::Key(key)),
     }
 }
 
 /// The text at a key that may be missing.
-fn optional_text_at<'t>(
-    table: &'t Table,
-    name: &str,
-    key: PollKey,
-) -> Result<Option<&'t str>, PollFault>
-    ensures { Gives option_copied result (optional_field key name.now as_str (table_view table.now)) }
+fn optional_text_at<'t>(table: &'t Table, key: PollKey) -> Result<Option<&'t str>, PollFault>
+    ensures { Gives option_copied result (optional_field key as_str (table_view table.now)) }
 {
-    match value_at(table, name) {
+    match value_at(table, key) {
         None => Ok(None),
         Some(Value::String(text)) => Ok(Some(text.as_str())),
         Some(_) => Err(PollFault::Key(key)),
@@ -65,20 +62,20 @@ fn optional_text_at<'t>(
 }
 
 /// The whole number at a key.
-fn integer_at(table: &Table, name: &str, key: PollKey) -> Result<i64, PollFault>
-    ensures { Gives (λ number. number) result (field key name.now as_integer (table_view table.now)) }
+fn integer_at(table: &Table, key: PollKey) -> Result<i64, PollFault>
+    ensures { Gives (λ number. number) result (field key as_integer (table_view table.now)) }
 {
-    match value_at(table, name) {
+    match value_at(table, key) {
         Some(Value::Integer(number)) => Ok(*number),
         _ => Err(PollFault::Key(key)),
     }
 }
 
 /// The whole number at a key that may be missing.
-fn optional_integer_at(table: &Table, name: &str, key: PollKey) -> Result<Option<i64>, PollFault>
-    ensures { Gives (λ number. number) result (optional_field key name.now as_integer (table_view table.now)) }
+fn optional_integer_at(table: &Table, key: PollKey) -> Result<Option<i64>, PollFault>
+    ensures { Gives (λ number. number) result (optional_field key as_integer (table_view table.now)) }
 {
-    match value_at(table, name) {
+    match value_at(table, key) {
         None => Ok(None),
         Some(Value::Integer(number)) => Ok(Some(*number)),
         Some(_) => Err(PollFault::Key(key)),
@@ -86,17 +83,17 @@ fn optional_integer_at(table: &Table, name: &str, key: PollKey) -> Result<Option
 }
 
 /// The list at a key.
-fn items_at<'t>(table: &'t Table, name: &str, key: PollKey) -> Result<&'t [Value], PollFault>
-    ensures { Gives (λ items. items_view items.now) result (field key name.now as_array (table_view table.now)) }
+fn items_at<'t>(table: &'t Table, key: PollKey) -> Result<&'t [Value], PollFault>
+    ensures { Gives (λ items. items_view items.now) result (field key as_array (table_view table.now)) }
 {
-    match value_at(table, name) {
+    match value_at(table, key) {
         Some(Value::Array(items)) => Ok(items.as_slice()),
         _ => Err(PollFault::Key(key)),
     }
 }
 
 /// The texts of a list.
-pub(crate) fn texts_of(alloc: Global, items: &[Value], key: PollKey) -> Result<Vec<&str>, PollFault>
+fn texts_of(alloc: Global, items: &[Value], key: PollKey) -> Result<Vec<&str>, PollFault>
     ensures { Gives (λ texts. map (λ text. text.now) texts.items) result (ok_or (each_of as_str (items_view items.now)) (fault.Key key)) }
 {
     let mut texts = Vec::new(alloc);
@@ -110,11 +107,7 @@ pub(crate) fn texts_of(alloc: Global, items: &[Value], key: PollKey) -> Result<V
 }
 
 /// The whole numbers of a list.
-pub(crate) fn integers_of(
-    alloc: Global,
-    items: &[Value],
-    key: PollKey,
-) -> Result<Vec<i64>, PollFault>
+fn integers_of(alloc: Global, items: &[Value], key: PollKey) -> Result<Vec<i64>, PollFault>
     ensures { Gives (λ numbers. numbers.items) result (ok_or (each_of as_integer (items_view items.now)) (fault.Key key)) }
 {
     let mut numbers = Vec::new(alloc);
@@ -127,29 +120,29 @@ pub(crate) fn integers_of(
     Ok(numbers)
 }
 
-/// The texts of the list at a key.
-fn texts_at<'t>(
-    alloc: Global,
-    table: &'t Table,
-    name: &str,
-    key: PollKey,
-) -> Result<Vec<&'t str>, PollFault>
-    ensures { Gives (λ texts. map (λ text. text.now) texts.items) result (field key name.now (list_of as_str) (table_view table.now)) }
+/// The texts of the list at a key of a poll file's table, in their order.
+///
+/// # Errors
+///
+/// [`PollFault::Key`] with the key, where it is missing or no list, or an entry of its list is no text; or
+/// [`PollFault::Memory`].
+pub fn texts_at(alloc: Global, table: &Table, key: PollKey) -> Result<Vec<&str>, PollFault>
+    ensures { Gives (λ texts. map (λ text. text.now) texts.items) result (field key (list_of as_str) (table_view table.now)) }
 {
-    let items = items_at(table, name, key)?;
+    let items = items_at(table, key)?;
     texts_of(alloc, items, key)
 }
 
-/// The whole numbers of the list at a key.
-fn integers_at(
-    alloc: Global,
-    table: &Table,
-    name: &str,
-    key: PollKey,
-) -> Result<Vec<i64>, PollFault>
-    ensures { Gives (λ numbers. numbers.items) result (field key name.now (list_of as_integer) (table_view table.now)) }
+/// The whole numbers of the list at a key of a poll file's table, in their order.
+///
+/// # Errors
+///
+/// [`PollFault::Key`] with the key, where it is missing or no list, or an entry of its list is no whole number; or
+/// [`PollFault::Memory`].
+pub fn integers_at(alloc: Global, table: &Table, key: PollKey) -> Result<Vec<i64>, PollFault>
+    ensures { Gives (λ numbers. numbers.items) result (field key (list_of as_integer) (table_view table.now)) }
 {
-    let items = items_at(table, name, key)?;
+    let items = items_at(table, key)?;
     integers_of(alloc, items, key)
 }
 
@@ -171,14 +164,14 @@ struct Fields<'t> {
 fn fields_of(alloc: Global, table: &Table) -> Result<Fields<'_>, PollFault>
     ensures { Gives fields_view result (fields_of (table_view table.now)) }
 {
-    let title = text_at(table, "title", PollKey::Title)?;
-    let options = texts_at(alloc, table, "options", PollKey::Options)?;
-    let ratios = integers_at(alloc, table, "ratios", PollKey::Ratios)?;
-    let default_option = text_at(table, "default", PollKey::DefaultOption)?;
-    let quorum = integer_at(table, "quorum", PollKey::Quorum)?;
-    let roll = texts_at(alloc, table, "roll", PollKey::Roll)?;
-    let last_envelope = optional_integer_at(table, "last_envelope", PollKey::LastEnvelope)?;
-    let wording = optional_text_at(table, "wording", PollKey::Wording)?;
+    let title = text_at(table, PollKey::Title)?;
+    let options = texts_at(alloc, table, PollKey::Options)?;
+    let ratios = integers_at(alloc, table, PollKey::Ratios)?;
+    let default_option = text_at(table, PollKey::DefaultOption)?;
+    let quorum = integer_at(table, PollKey::Quorum)?;
+    let roll = texts_at(alloc, table, PollKey::Roll)?;
+    let last_envelope = optional_integer_at(table, PollKey::LastEnvelope)?;
+    let wording = optional_text_at(table, PollKey::Wording)?;
     Ok(Fields {
         title,
         options,
@@ -301,17 +294,23 @@ fn poll_of(alloc: Global, fields: Fields<'_>) -> Result<Poll, PollFault>
     })
 }
 
-/// The poll of a table, or its first fault.
-pub(crate) fn poll_of_table(alloc: Global, table: &Table) -> Result<Poll, PollFault>
-    ensures { Gives (λ poll. poll) result (poll_in_table (table_view table.now)) }
-{
-    let fields = fields_of(alloc, table)?;
-    poll_of(alloc, fields)
-}
-
 impl Poll {
-    /// The poll that the text of a poll file means, or the first of its faults. The text is TOML with the keys of
-    /// [`PollKey`], of which the last two may be missing; other keys are passed over.
+    /// The poll that the table of a poll file means, or the first of its faults. The table has the keys of [`PollKey`], of
+    /// which the last two may be missing; other keys are passed over.
+    ///
+    /// # Errors
+    ///
+    /// The first [`PollFault`] that holds, in the order of that type, each just where it holds, but for
+    /// [`PollFault::Syntax`]; or [`PollFault::Memory`].
+    pub fn from_table(alloc: Global, table: &Table) -> Result<Poll, PollFault>
+        ensures { Gives (λ poll. poll) result (poll_in_table (table_view table.now)) }
+    {
+        let fields = fields_of(alloc, table)?;
+        poll_of(alloc, fields)
+    }
+
+    /// The poll that the text of a poll file means, or the first of its faults. The text is TOML, and its table is read as by
+    /// [`Poll::from_table`].
     ///
     /// # Errors
     ///
@@ -322,6 +321,13 @@ impl Poll {
         ensures { Gives (λ poll. poll) result (poll_in text.now) }
     {
         let table = document(alloc, text)?;
-        poll_of_table(alloc, &table)
+        Poll::from_table(alloc, &table)
     }
 }
+
+/// A law: the fault that [`Poll::from_text`] answers is the first of all faults of its text, and it answers a poll just where
+/// there is none.
+#[tactic(auto, using(crate::proofs::PollFaultsLaws::first_is_told))]
+pub fn first_fault_is_told()
+    ensures { FirstIsTold }
+{}

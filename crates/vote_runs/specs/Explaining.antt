@@ -1,7 +1,7 @@
 -- What `explain` writes, and how it ends.
 use Rattle.std.specs.Prelude.{◌≡◌, ◌≢◌, ◌≤◌, ℕ, ◌==◌, ◌&&◌, if◌then◌else◌, Bool, List, [], ◌++◌, length, Option, Some, None, Result, Ok, Err, IfOk}
 use Rattle.std.specs.Result.{result_err}
-use Rattle.vote_poll.specs.Findings.{AreFindingsOf}
+use Rattle.vote_findings.specs.Findings.{AreFindingsOf}
 use Rattle.vote_poll.specs.Lines.{lines_of}
 use Rattle.vote_poll.specs.PollContent.{PollContent}
 use Rattle.vote_poll.specs.PollFile.{document, poll_in}

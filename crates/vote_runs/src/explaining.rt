@@ -11,7 +11,8 @@ use crate::output::write_run;
 use std::alloc::Global;
 use vote_explain::{Explained, explain_ballots};
 use vote_files::Sink;
-use vote_poll::{ExplainedPoll, Lines, explain_poll};
+use vote_findings::{ExplainedPoll, explain_poll};
+use vote_poll::Lines;
 use vote_sheet::check_text;
 
 /// How a run ends by its findings.

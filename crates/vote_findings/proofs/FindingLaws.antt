@@ -1,0 +1,143 @@
+-- Texts of findings, one after another.
+use Rattle.std.proofs.Common.{◌≡◌, ◌≢◌, ◌+◌, ◌/◌, ◌%◌, ◌∷◌, ◌++◌, [], ℕ, zero, suc, List, Bool, true, false, map, take, length, filter, Ok, Err, Result, refl, ap, sym, subst, ◌∙◌, arith, append_assoc, append-nil, nat_lt, codes, OnOk, inl, inr, Bor}
+use Rattle.std.specs.List.{concat, flat_map, range_with_len}
+use Rattle.std.specs.Prelude.{not}
+use Rattle.std.proofs.lemmas.Bool.{cases_Bool}
+use Rattle.std.proofs.lemmas.Bool.Decides.{nat_tests}
+use Rattle.std.proofs.lemmas.List.Elements.{All-nil, All-cons, All-append, filter-append}
+use Rattle.std.proofs.lemmas.List.{map-append}
+use Rattle.std.proofs.lemmas.List.Concat.{concat_is, flat_map-append}
+use Rattle.vote_findings.specs.Findings.{AddsFindings, AddsKeyLines, AreFindings, IsKeyLine, fault_words, finding}
+use Rattle.vote_poll.specs.Lines.{IsUnbroken, line_feed}
+use Rattle.vote_poll.specs.Names.{is_printable}
+use Rattle.vote_poll.specs.PollFaults.{fault_unless}
+use Rattle.vote_poll.specs.Shown.{hex_digit, shown, shown_byte}
+use Rattle.vote_poll.specs.declared.fault.PollFault.{PollFault}
+
+-- ---- bytes as they are shown break no line
+abbrev Stays : ℕ → Type 0
+Stays byte = byte ≢ 10
+
+hex_digit_stays : (value : ℕ) → hex_digit value ≢ 10
+hex_digit_stays value = elim (cases_Bool (nat_lt value 10)) [
+  | inl small ↦ rw small (λ same. absurd (omega (arith, same)))
+  | inr great ↦ rw great (λ same. absurd (omega (arith, same)))
+]
+
+shown_byte_unbroken : (b : ℕ) → IsUnbroken (shown_byte b)
+unfolding shown_byte
+shown_byte_unbroken b = elim (cases_Bool (is_printable b)) [
+  | inl printable ↦
+      let stays : b ≢ 10 = λ same. grind (arith, nat_tests) in
+      rw printable (All-cons Stays b [] stays (All-nil Stays))
+  | inr other ↦
+      let digits = All-cons Stays (hex_digit (b / 16)) (hex_digit (b % 16) ∷ []) (hex_digit_stays (b / 16))
+      (All-cons Stays (hex_digit (b % 16)) [] (hex_digit_stays (b % 16)) (All-nil Stays)) in
+      rw other (All-cons Stays 92 (120 ∷ hex_digit (b / 16) ∷ hex_digit (b % 16) ∷ []) (λ same. omega (arith, same))
+      (All-cons Stays 120 (hex_digit (b / 16) ∷ hex_digit (b % 16) ∷ []) (λ same. omega (arith, same)) digits))
+]
+
+shown_bytes_unbroken : (bytes : List ℕ) → IsUnbroken (flat_map shown_byte bytes)
+shown_bytes_unbroken [] = All-nil Stays
+shown_bytes_unbroken (b ∷ bytes) = All-append Stays (shown_byte b) (flat_map shown_byte bytes) (shown_byte_unbroken b) (shown_bytes_unbroken bytes)
+
+pub shown_unbroken : (most : ℕ) (text : List ℕ) → IsUnbroken (shown most text)
+shown_unbroken most text = shown_bytes_unbroken (take most text)
+
+-- ---- findings, one after another
+findings_append : (xs ys : List PollFault) (s t : List ℕ) → AreFindings xs s → AreFindings ys t → AreFindings (xs ++ ys) (s ++ t)
+findings_append [] ys s t none more = subst (λ (u : List ℕ). AreFindings ys (u ++ t)) (sym none) more
+findings_append (e ∷ xs) ys s t first more =
+    (first.0, first.1 ++ t, first.2, findings_append xs ys first.1 t first.3 more, ap (λ u. u ++ t) first.4 ∙ append_assoc (finding e first.0) first.1 t)
+
+pub none_added : (text : List ℕ) → AddsFindings [] text text
+none_added text = ([], refl, sym (append-nil text))
+
+pub adds_then : (xs ys : List PollFault) (before between after : List ℕ) → AddsFindings xs before between → AddsFindings ys between after → AddsFindings (xs ++ ys) before after
+adds_then xs ys before between after first more =
+    (first.0 ++ more.0, findings_append xs ys first.0 more.0 first.1 more.1, more.2 ∙ ap (λ t. t ++ more.0) first.2 ∙ append_assoc before first.0 more.0)
+
+-- five texts behind one
+pub five_behind : (text a b c d e : List ℕ) → text ++ a ++ b ++ c ++ d ++ e ≡ text ++ (a ++ b ++ c ++ d ++ e)
+five_behind text a b c d e =
+    ap (λ t. t ++ c ++ d ++ e) (append_assoc text a b)
+    ∙ ap (λ t. t ++ d ++ e) (append_assoc text (a ++ b) c)
+    ∙ ap (λ t. t ++ e) (append_assoc text (a ++ b ++ c) d)
+    ∙ append_assoc text (a ++ b ++ c ++ d) e
+
+-- the line of a fault
+pub adds_one : (e : PollFault) (faults : List PollFault) (words hint before after : List ℕ) → faults ≡ e ∷ [] → fault_words e ≡ words
+    → after ≡ before ++ codes "poll: " ++ words ++ codes ": " ++ shown (length hint) hint ++ line_feed → AddsFindings faults before after
+adds_one e faults words hint before after one worded added =
+    let said : List ℕ = shown (length hint) hint in
+    let are : AreFindings (e ∷ []) (finding e said) = (said, [], shown_unbroken (length hint) hint, refl, sym (append-nil (finding e said))) in
+    let same : after ≡ before ++ finding e said = rw worded (added ∙ five_behind before (codes "poll: ") words (codes ": ") said line_feed) in
+    (finding e said, subst (λ (es : List PollFault). AreFindings es (finding e said)) (sym one) are, same)
+
+pub on_finding : {X E : Type 0} (r : Result X E) (e : PollFault) (faults : List PollFault) (words hint before after : List ℕ) → faults ≡ e ∷ [] → fault_words e ≡ words
+    → OnOk r (after ≡ before ++ codes "poll: " ++ words ++ codes ": " ++ shown (length hint) hint ++ line_feed) → OnOk r (AddsFindings faults before after)
+on_finding (Ok x) e faults words hint before after one worded added = adds_one e faults words hint before after one worded added
+on_finding (Err x) e faults words hint before after one worded added = tt
+
+pub on_then : {X E : Type 0} (r : Result X E) (xs ys : List PollFault) (before between after : List ℕ) → AddsFindings xs before between → OnOk r (AddsFindings ys between after) → OnOk r (AddsFindings (xs ++ ys) before after)
+on_then (Ok x) xs ys before between after first more = adds_then xs ys before between after first more
+on_then (Err x) xs ys before between after first more = tt
+
+-- the same test by another name
+pub judged : (b d : Bool) (e : PollFault) (before after : List ℕ) → b ≡ d → AddsFindings (fault_unless b e) before after → AddsFindings (fault_unless d e) before after
+judged b d e before after same h = subst (λ (r : Bool). AddsFindings (fault_unless r e) before after) same h
+
+pub on_judged : {X E : Type 0} (r : Result X E) (b d : Bool) (e : PollFault) (before after : List ℕ) → b ≡ d → OnOk r (AddsFindings (fault_unless b e) before after) → OnOk r (AddsFindings (fault_unless d e) before after)
+on_judged (Ok x) b d e before after same h = judged b d e before after same h
+on_judged (Err x) b d e before after same h = tt
+
+-- ---- places that pass a test
+range_more : (a n : ℕ) → range_with_len a (suc n) ≡ range_with_len a n ++ (a + n) ∷ []
+range_more a zero = ap (λ k. k ∷ []) (omega arith)
+range_more a (suc n) =
+    let last : a + 1 + n ≡ a + suc n = omega arith in
+    ap (λ ks. a ∷ ks) (range_more (a + 1) n ∙ ap (λ k. range_with_len (a + 1) n ++ k ∷ []) last)
+
+pub places_more : (p : ℕ → Bool) (naming : ℕ → PollFault) (n : ℕ) → map naming (filter p (range_with_len 0 (n + 1))) ≡ map naming (filter p (range_with_len 0 n)) ++ fault_unless (not (p n)) (naming n)
+places_more p naming n =
+    let next : n + 1 ≡ suc n = omega arith in
+    let first : 0 + n ≡ n = omega arith in
+    let longer : range_with_len 0 (n + 1) ≡ range_with_len 0 n ++ n ∷ [] = ap (range_with_len 0) next ∙ range_more 0 n ∙ ap (λ k. range_with_len 0 n ++ k ∷ []) first in
+    ap (λ ks. map naming (filter p ks)) longer ∙ ap (map naming) (filter-append p (range_with_len 0 n) (n ∷ []))
+    ∙ map-append naming (filter p (range_with_len 0 n)) (filter p (n ∷ [])) ∙ ap (λ xs. map naming (filter p (range_with_len 0 n)) ++ xs) (one (p n) refl)
+  where
+    one : (b : Bool) → p n ≡ b → map naming (filter p (n ∷ [])) ≡ fault_unless (not (p n)) (naming n)
+    one true e = rw e refl
+    one false e = rw e refl
+
+-- ---- lines of keys
+pub no_key_lines : (text : List ℕ) → AddsKeyLines text text
+no_key_lines text = ([], All-nil IsKeyLine, sym (append-nil text))
+
+pub one_key_line : (path remark before between after : List ℕ) (most n : ℕ) → AddsKeyLines before between
+    → after ≡ between ++ codes "poll: key " ++ shown most path ++ codes " is not read" ++ shown n remark ++ line_feed → AddsKeyLines before after
+one_key_line path remark before between after most n first added =
+    let text : List ℕ = codes "poll: key " ++ shown most path ++ codes " is not read" ++ shown n remark ++ line_feed in
+    let is : IsKeyLine text = record { path = shown most path; remark = shown n remark; path_unbroken = shown_unbroken most path; remark_unbroken = shown_unbroken n remark; is_text = refl } in
+    let lines : List (List ℕ) = first.0 ++ text ∷ [] in
+    let joined : concat (first.0 ++ text ∷ []) ≡ concat first.0 ++ text =
+    concat_is (first.0 ++ text ∷ []) ∙ flat_map-append (λ x. x) first.0 (text ∷ []) ∙ ap (λ t. t ++ (text ++ [])) (sym (concat_is first.0)) ∙ ap (λ t. concat first.0 ++ t) (append-nil text) in (
+      lines,
+      All-append IsKeyLine first.0 (text ∷ []) first.1 (All-cons IsKeyLine text [] is (All-nil IsKeyLine)),
+      added ∙ five_behind between (codes "poll: key ") (shown most path) (codes " is not read") (shown n remark) line_feed ∙ ap (λ t. t ++ text) first.2
+          ∙ append_assoc before (concat first.0) text ∙ ap (λ t. before ++ t) (sym joined),
+    )
+
+-- ---- all findings
+pub all_findings : (faults : List PollFault) (before between after : List ℕ) → before ≡ [] → AddsFindings faults before between → AddsKeyLines between after
+    → (lines : List ℕ) × AreFindings faults lines × AddsKeyLines lines after
+all_findings faults before between after none first keys =
+    let is : between ≡ first.0 = first.2 ∙ ap (λ t. t ++ first.0) none in
+    (between, subst (λ (t : List ℕ). AreFindings faults t) (sym is) first.1, keys)
+
+-- ---- texts that are lent
+abbrev pub now : Bor (List ℕ) → List ℕ
+now text = text.now
+
+abbrev pub no_text : Bor (List ℕ)
+no_text = record { ref_ptr = (0, 0); now = [] }

@@ -1,0 +1,3 @@
+mod FindingLaws
+mod FoundLaws
+mod SeenLaws

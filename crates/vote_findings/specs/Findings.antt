@@ -1,0 +1,64 @@
+-- The text of all that is wrong with a poll file: a line for each fault and each key that is not read. What a hint says, and what
+-- is remarked of a key, is open; but it does not break the line.
+use Rattle.std.specs.Prelude.{◌≡◌, ℕ, List, [], ◌∷◌, ◌++◌, Result, Ok, Err, codes}
+use Rattle.std.specs.List.{All, concat}
+use Rattle.std.specs.Fmt.{decimal}
+use Rattle.toml.specs.Data.{Members}
+use Rattle.vote_poll.specs.Lines.{IsUnbroken, line_feed}
+use Rattle.vote_poll.specs.PollFaults.{faults_in}
+use Rattle.vote_poll.specs.PollFile.{key_name}
+use Rattle.vote_poll.specs.declared.fault.PollFault.{PollFault}
+use Rattle.vote_poll.specs.declared.fault.PollFault.TheVariants as fault
+
+-- what the fault line of a fault says behind `poll refused: `
+abbrev pub fault_words : PollFault → List ℕ
+fault_words fault.Syntax = codes "syntax"
+fault_words (fault.Key name) = codes "key " ++ key_name name
+fault_words fault.Title = codes "title"
+fault_words fault.OptionCount = codes "number of options"
+fault_words (fault.OptionName option) = codes "name of option " ++ decimal option
+fault_words fault.Ratio = codes "ratios"
+fault_words fault.Quorum = codes "quorum"
+fault_words fault.RollSize = codes "size of roll"
+fault_words (fault.VoterName place) = codes "voter at position " ++ decimal place
+fault_words fault.LastEnvelope = codes "last envelope"
+fault_words fault.Wording = codes "wording"
+fault_words fault.Memory = codes "out of memory"
+
+-- the line of a fault
+abbrev pub finding : PollFault → List ℕ → List ℕ
+finding e hint = codes "poll: " ++ fault_words e ++ codes ": " ++ hint ++ line_feed
+
+-- a line for each of the faults, in their order
+abbrev pub AreFindings : List PollFault → List ℕ → Type 0
+AreFindings [] text = text ≡ []
+AreFindings (e ∷ es) text = (hint : List ℕ) × (rest : List ℕ) × IsUnbroken hint × AreFindings es rest × (text ≡ finding e hint ++ rest)
+
+-- the line of a key that is not read
+pub record IsKeyLine (text : List ℕ) : Type 0 where
+  pub path : List ℕ
+  pub remark : List ℕ
+  pub path_unbroken : IsUnbroken path
+  pub remark_unbroken : IsUnbroken remark
+  pub is_text : text ≡ codes "poll: key " ++ path ++ codes " is not read" ++ remark ++ line_feed
+
+-- the line of a text that is no TOML
+pub record IsSyntaxFinding (text : List ℕ) : Type 0 where
+  pub line : ℕ
+  pub column : ℕ
+  pub message : List ℕ
+  pub unbroken : IsUnbroken message
+  pub is_text : text ≡ codes "poll:" ++ decimal line ++ codes ":" ++ decimal column ++ codes ": " ++ message ++ line_feed
+
+-- the findings of these faults were added to a text
+abbrev pub AddsFindings : List PollFault → List ℕ → List ℕ → Type 0
+AddsFindings faults before after = (lines : List ℕ) × AreFindings faults lines × (after ≡ before ++ lines)
+
+-- lines of keys were added to a text
+abbrev pub AddsKeyLines : List ℕ → List ℕ → Type 0
+AddsKeyLines before after = (lines : List (List ℕ)) × All IsKeyLine lines × (after ≡ before ++ concat lines)
+
+-- the findings of a text whose table, or whose only fault, is this
+abbrev pub AreFindingsOf : Result Members PollFault → List ℕ → Type 0
+AreFindingsOf (Ok table) text = (faults : List ℕ) × AreFindings (faults_in (Ok table)) faults × AddsKeyLines faults text
+AreFindingsOf (Err e) text = IsSyntaxFinding text

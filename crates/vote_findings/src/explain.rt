@@ -1,0 +1,117 @@
+//! A poll file read once, for the poll and for all that is wrong with it.
+ghost use Rattle.std.specs.Prelude.{◌≡◌, ◌≢◌, ◌++◌, Ok, Err, IfOk, OnOk, codes, decimal, string_bytes};
+ghost use Rattle.toml.specs.View.{table_view};
+ghost use Rattle.vote_findings.specs.Findings.{AreFindingsOf, IsSyntaxFinding};
+ghost use Rattle.vote_findings.specs.FoundView.{IsTold};
+ghost use Rattle.vote_poll.specs.PollFile.{document, poll_in, poll_in_table};
+ghost use Rattle.vote_poll.specs.declared.fault.PollFault.TheVariants.{Memory};
+
+use crate::findings::{push_contents, push_hint};
+use crate::found::Found;
+use crate::key_findings::{push_keys, push_unread_keys};
+use crate::unread::UnreadKeys;
+use std::alloc::{AllocError, Global};
+use toml::Table;
+use vote_poll::{Poll, PollFault};
+
+/// What a poll file says, and all that is wrong with it.
+#[derive(Drop)]
+pub struct ExplainedPoll {
+    /// A line for each finding; it is empty where there is none. `docs/FORMATS.md` has the lines.
+    pub findings: String,
+    /// The poll, or the first of its faults, which is never [`PollFault::Memory`].
+    pub outcome: Result<Poll, PollFault>,
+}
+
+/// The line and the column behind a text, both from 1. Columns count characters.
+fn line_and_column(before: &[u8]) -> (usize, usize) {
+    let (mut line, mut column) = (1usize, 1usize);
+    for byte in before {
+        if *byte == b'\n' {
+            (line, column) = (line.saturating_add(1), 1);
+        } else if *byte & 0xC0 != 0x80 {
+            column = column.saturating_add(1);
+        }
+    }
+    (line, column)
+}
+
+/// Adds that a finding is at this line and column of the poll.
+fn push_place(text: &mut String, line: usize, column: usize) -> Result<(), AllocError>
+    ensures { OnOk result (string_bytes text.new ≡ string_bytes text.old ++ codes "poll:" ++ decimal line ++ codes ":" ++ decimal column) }
+{
+    write!(text, "poll:{line}:{column}")
+}
+
+/// The finding on a text that is no TOML, in the words of `toml`.
+fn syntax_finding(alloc: Global, text: &[u8], error: &toml::de::Error) -> Result<String, AllocError>
+    ensures { IfOk result (λ finding. IsSyntaxFinding (string_bytes finding)) }
+{
+    let start = error.span().map_or(0, |span| span.start);
+    let (line, column) = line_and_column(text.get(..start).unwrap_or(text));
+    let mut finding = String::new(alloc);
+    push_place(&mut finding, line, column)?;
+    push_hint(&mut finding, error.message())?;
+    Ok(finding)
+}
+
+/// The findings of a table: on its keys, on what they say, and the keys that are not read.
+fn findings_of(alloc: Global, table: &Table) -> Result<String, AllocError>
+    ensures { IfOk result (λ findings. AreFindingsOf (Ok (table_view table.now)) (string_bytes findings)) }
+{
+    let found = Found::of_table(alloc, table)?;
+    let unread = UnreadKeys::of_table(alloc, table)?;
+    let mut findings = String::new(alloc);
+    push_keys(&mut findings, table, &found, &unread)?;
+    push_contents(alloc, &mut findings, &found)?;
+    push_unread_keys(&mut findings, &unread)?;
+    Ok(findings)
+}
+
+/// The poll, or its first fault, where memory was not what was wrong.
+fn told(read: Result<Poll, PollFault>) -> Result<Result<Poll, PollFault>, AllocError>
+    ensures read { IfOk result (IsTold read) }
+    ensures known { IfOk result (λ told. told ≢ Err Memory) }
+{
+    match read {
+        Ok(poll) => Ok(Ok(poll)),
+        Err(PollFault::Memory) => Err(AllocError),
+        Err(fault) => Ok(Err(fault)),
+    }
+}
+
+/// The poll of a table, or its first fault.
+fn outcome_of(alloc: Global, table: &Table) -> Result<Result<Poll, PollFault>, AllocError>
+    ensures read { IfOk result (λ outcome. outcome ≡ poll_in_table (table_view table.now)) }
+    ensures known { IfOk result (λ outcome. outcome ≢ Err Memory) }
+{
+    told(Poll::from_table(alloc, table))
+}
+
+/// Reads a poll file as [`Poll::from_text`] does, and says all that is wrong with it: each fault, judged by itself, with what was
+/// found; and each key that is not read.
+///
+/// # Errors
+///
+/// Memory ran out.
+pub fn explain_poll(alloc: Global, text: &[u8]) -> Result<ExplainedPoll, AllocError>
+    ensures findings { IfOk result (λ explained. AreFindingsOf (document text.now) (string_bytes explained.findings)) }
+    ensures outcome { IfOk result (λ explained. explained.outcome ≡ poll_in text.now) }
+    ensures known { IfOk result (λ explained. explained.outcome ≢ Err Memory) }
+{
+    match toml::table_from_slice(alloc, text) {
+        Ok(table) => Ok(ExplainedPoll {
+            findings: findings_of(alloc, &table)?,
+            outcome: outcome_of(alloc, &table)?,
+        }),
+        Err(error) => {
+            if error.is_memory() {
+                return Err(AllocError);
+            }
+            Ok(ExplainedPoll {
+                findings: syntax_finding(alloc, text, &error)?,
+                outcome: Err(PollFault::Syntax),
+            })
+        }
+    }
+}

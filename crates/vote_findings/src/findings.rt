@@ -1,0 +1,251 @@
+//! The faults of what the keys of a poll file say.
+ghost use Rattle.std.specs.Prelude.{◌≡◌, ◌+◌, ◌++◌, ◌&&◌, ◌||◌, ◌==◌, IfOk, OnOk, codes, length, map, option_copied, option_to_list, string_bytes};
+ghost use Rattle.std.specs.List.{list_all};
+ghost use Rattle.std.specs.Str.{bytes_eq};
+ghost use Rattle.vote_findings.specs.Findings.{AddsFindings};
+ghost use Rattle.vote_findings.specs.FoundView.{found_view};
+ghost use Rattle.vote_poll.specs.Lines.{line_feed};
+ghost use Rattle.vote_poll.specs.Names.{is_within};
+ghost use Rattle.vote_poll.specs.PollFaults.{of_contents, of_last_envelope, of_option_count, of_option_names, of_quorum, of_ratios, of_roll_size, of_title, of_voter_names, of_wording};
+ghost use Rattle.vote_poll.specs.PollFile.{is_integer_within};
+ghost use Rattle.vote_poll.specs.Shown.{shown};
+ghost use Rattle.vote_poll.specs.declared.TheConstants.{MAX_ELECTORS, MAX_OPTIONS, MAX_RATIO};
+
+use crate::found::Found;
+use crate::hints::{
+    Named, options_hint, range_hint, ratios_hint, roll_hint, shape_hint, wording_hint,
+};
+use crate::name_findings::{NameList, push_bad_names};
+use std::alloc::{AllocError, Global};
+use vote_poll::{
+    MAX_ELECTORS, MAX_LINES, MAX_OPTIONS, MAX_QUORUM_MULTIPLE, MAX_RATIO, is_title, push_shown,
+};
+
+/// Ends the line of a fault with a hint.
+pub(crate) fn push_hint(text: &mut String, hint: &str) -> Result<(), AllocError>
+    ensures { OnOk result (string_bytes text.new ≡ string_bytes text.old ++ codes ": " ++ shown (length hint.now) hint.now ++ line_feed) }
+{
+    text.push_str(": ")?;
+    push_shown(text, hint.as_bytes(), hint.len())?;
+    text.push('\n')
+}
+
+/// Adds the line of a fault that has these words.
+fn push_finding(text: &mut String, words: &str, hint: &str) -> Result<(), AllocError>
+    ensures { OnOk result (string_bytes text.new ≡ string_bytes text.old ++ codes "poll: " ++ words.now ++ codes ": " ++ shown (length hint.now) hint.now ++ line_feed) }
+{
+    text.push_str("poll: ")?;
+    text.push_str(words)?;
+    push_hint(text, hint)
+}
+
+/// The title.
+#[tactic(auto, unfolding(vote_poll::specs::PollFaults::of_title))]
+fn push_title(alloc: Global, text: &mut String, found: &Found<'_>) -> Result<(), AllocError>
+    ensures { OnOk result (AddsFindings (of_title (found_view found.now)) (string_bytes text.old) (string_bytes text.new)) }
+{
+    let Some(title) = found.title else {
+        return Ok(());
+    };
+    if is_title(title.as_bytes()) {
+        return Ok(());
+    }
+    push_finding(text, "title", &shape_hint(alloc, Named::Poll, title)?)
+}
+
+/// Whether a poll can have so many options but the default.
+fn is_option_count(options: usize) -> bool
+    ensures { result ≡ is_within 2 MAX_OPTIONS (options + 1) }
+{
+    1 <= options && options < MAX_OPTIONS
+}
+
+/// The number of options, with the default.
+#[tactic(auto, unfolding(vote_poll::specs::PollFaults::of_option_count))]
+fn push_option_count(alloc: Global, text: &mut String, found: &Found<'_>) -> Result<(), AllocError>
+    ensures { OnOk result (AddsFindings (of_option_count (found_view found.now)) (string_bytes text.old) (string_bytes text.new)) }
+{
+    let Some(options) = &found.options else {
+        return Ok(());
+    };
+    if is_option_count(options.len()) {
+        return Ok(());
+    }
+    let hint = options_hint(alloc, options.len())?;
+    push_finding(text, "number of options", &hint)
+}
+
+/// The options but the default, and then the default, where it is there.
+fn option_names<'t>(
+    alloc: Global,
+    options: &[&'t str],
+    default_option: Option<&'t str>,
+) -> Result<Vec<&'t str>, AllocError>
+    ensures { IfOk result (λ names. map (λ name. name.now) names.items ≡ map (λ option. option.now) options.now ++ option_to_list (option_copied default_option.entry)) }
+{
+    let mut names = Vec::from_slice(alloc, options)?;
+    if let Some(name) = default_option {
+        names.push(name)?;
+    }
+    Ok(names)
+}
+
+/// The names of the options.
+#[tactic(auto, unfolding(vote_poll::specs::PollFaults::of_option_names))]
+fn push_option_names(alloc: Global, text: &mut String, found: &Found<'_>) -> Result<(), AllocError>
+    ensures { OnOk result (AddsFindings (of_option_names (found_view found.now)) (string_bytes text.old) (string_bytes text.new)) }
+{
+    let Some(options) = &found.options else {
+        return Ok(());
+    };
+    let names = option_names(alloc, options, found.default_option)?;
+    push_bad_names(alloc, text, NameList::Options, &names)
+}
+
+/// Whether a number is a majority ratio.
+fn is_ratio(number: i64) -> bool
+    ensures { result ≡ is_integer_within 1 MAX_RATIO number }
+{
+    1 <= number && number <= i64::from(MAX_RATIO)
+}
+
+/// Whether each number is a majority ratio.
+fn are_all_ratios(numbers: &[i64]) -> bool
+    ensures { result ≡ list_all (is_integer_within 1 MAX_RATIO) numbers.now }
+{
+    numbers.iter().all(|number| is_ratio(*number))
+}
+
+/// Whether there are so many numbers, each a majority ratio.
+fn are_ratios(numbers: &[i64], count: usize) -> bool
+    ensures { result ≡ ((length numbers.now == count) && list_all (is_integer_within 1 MAX_RATIO) numbers.now) }
+{
+    numbers.len() == count && are_all_ratios(numbers)
+}
+
+/// The ratios.
+#[tactic(auto, unfolding(vote_poll::specs::PollFaults::of_ratios))]
+fn push_ratios(alloc: Global, text: &mut String, found: &Found<'_>) -> Result<(), AllocError>
+    ensures { OnOk result (AddsFindings (of_ratios (found_view found.now)) (string_bytes text.old) (string_bytes text.new)) }
+{
+    let Some(options) = &found.options else {
+        return Ok(());
+    };
+    let Some(ratios) = &found.ratios else {
+        return Ok(());
+    };
+    if are_ratios(ratios, options.len()) {
+        return Ok(());
+    }
+    let hint = ratios_hint(alloc, ratios, options.len())?;
+    push_finding(text, "ratios", &hint)
+}
+
+/// Whether a number is one from low to high.
+fn is_from(number: i64, low: u32, high: u32) -> bool
+    ensures { result ≡ is_integer_within low high number }
+{
+    i64::from(low) <= number && number <= i64::from(high)
+}
+
+/// The multiple of Q.
+#[tactic(auto, unfolding(vote_poll::specs::PollFaults::of_quorum))]
+fn push_quorum(alloc: Global, text: &mut String, found: &Found<'_>) -> Result<(), AllocError>
+    ensures { OnOk result (AddsFindings (of_quorum (found_view found.now)) (string_bytes text.old) (string_bytes text.new)) }
+{
+    let Some(quorum) = found.quorum else {
+        return Ok(());
+    };
+    let most = u32::from(MAX_QUORUM_MULTIPLE);
+    if is_from(quorum, 0, most) {
+        return Ok(());
+    }
+    push_finding(text, "quorum", &range_hint(alloc, quorum, 0, most)?)
+}
+
+/// Whether a roll can have so many names.
+fn is_roll_size(electors: usize) -> bool
+    ensures { result ≡ is_within 1 MAX_ELECTORS electors }
+{
+    1 <= electors && electors <= MAX_ELECTORS
+}
+
+/// The number of electors.
+#[tactic(auto, unfolding(vote_poll::specs::PollFaults::of_roll_size))]
+fn push_roll_size(alloc: Global, text: &mut String, found: &Found<'_>) -> Result<(), AllocError>
+    ensures { OnOk result (AddsFindings (of_roll_size (found_view found.now)) (string_bytes text.old) (string_bytes text.new)) }
+{
+    let Some(roll) = &found.roll else {
+        return Ok(());
+    };
+    if is_roll_size(roll.len()) {
+        return Ok(());
+    }
+    push_finding(text, "size of roll", &roll_hint(alloc, roll.len())?)
+}
+
+/// The names of the voters.
+#[tactic(auto, unfolding(vote_poll::specs::PollFaults::of_voter_names))]
+fn push_voter_names(alloc: Global, text: &mut String, found: &Found<'_>) -> Result<(), AllocError>
+    ensures { OnOk result (AddsFindings (of_voter_names (found_view found.now)) (string_bytes text.old) (string_bytes text.new)) }
+{
+    match &found.roll {
+        Some(roll) => push_bad_names(alloc, text, NameList::Roll, roll),
+        None => Ok(()),
+    }
+}
+
+/// The last envelope.
+#[tactic(auto, unfolding(vote_poll::specs::PollFaults::of_last_envelope))]
+fn push_last_envelope(alloc: Global, text: &mut String, found: &Found<'_>) -> Result<(), AllocError>
+    ensures { OnOk result (AddsFindings (of_last_envelope (found_view found.now)) (string_bytes text.old) (string_bytes text.new)) }
+{
+    let Some(last) = found.last_envelope else {
+        return Ok(());
+    };
+    let most = MAX_LINES as u32;
+    if is_from(last, 0, most) {
+        return Ok(());
+    }
+    push_finding(text, "last envelope", &range_hint(alloc, last, 0, most)?)
+}
+
+/// Whether a text names a wording.
+fn is_wording(text: &str) -> bool
+    ensures { result ≡ (bytes_eq text.now (codes "at_least") || bytes_eq text.now (codes "more_than")) }
+{
+    text == "at_least" || text == "more_than"
+}
+
+/// The wording.
+#[tactic(auto, unfolding(vote_poll::specs::PollFaults::of_wording))]
+fn push_wording(alloc: Global, text: &mut String, found: &Found<'_>) -> Result<(), AllocError>
+    ensures { OnOk result (AddsFindings (of_wording (found_view found.now)) (string_bytes text.old) (string_bytes text.new)) }
+{
+    let Some(wording) = found.wording else {
+        return Ok(());
+    };
+    if is_wording(wording) {
+        return Ok(());
+    }
+    push_finding(text, "wording", &wording_hint(alloc, wording)?)
+}
+
+/// What the keys say, in the order of the faults.
+pub(crate) fn push_contents(
+    alloc: Global,
+    text: &mut String,
+    found: &Found<'_>,
+) -> Result<(), AllocError>
+    ensures { OnOk result (AddsFindings (of_contents (found_view found.now)) (string_bytes text.old) (string_bytes text.new)) }
+{
+    push_title(alloc, text, found)?;
+    push_option_count(alloc, text, found)?;
+    push_option_names(alloc, text, found)?;
+    push_ratios(alloc, text, found)?;
+    push_quorum(alloc, text, found)?;
+    push_roll_size(alloc, text, found)?;
+    push_voter_names(alloc, text, found)?;
+    push_last_envelope(alloc, text, found)?;
+    push_wording(alloc, text, found)
+}

@@ -1,0 +1,38 @@
+//! All that is wrong with a poll file, in words.
+//!
+//! - [`explain_poll`] reads a poll file as [`Poll::from_text`](vote_poll::Poll::from_text) does, and gives beside the poll, or its first
+//!   fault, a text of findings: a line for each fault of the file, with what was found there, and a line for each key that is
+//!   not read. Of a text that is no TOML it says where.
+//!
+//! Options are numbered from 1, the default among them, and voters from 0, by their place on the roll; lines and columns of the
+//! file from 1.
+//!
+//! **What is promised** (`specs/Findings.antt`), memory aside:
+//!
+//! - The faults that have a line are all faults of the file, each judged by itself, in their order (`specs/PollFaults.antt` of
+//!   vote_poll); each line has the words that the fault line of its fault has.
+//! - The poll that comes beside them, or the fault, is that of `from_text`. So the fault is the first that has a line
+//!   ([`first_fault_is_told`](vote_poll::first_fault_is_told)), and where none has one there is a poll.
+//! - What a line says behind the words of its fault is open, and so is which keys have a line that they are not read; but no
+//!   line breaks, whatever is in the file.
+//!
+//! The modules: `explain` has the call, `found` the keys that are there and of their kind, `key_findings` the faults of keys,
+//! `findings` those of what keys say, `name_findings` those of names, `unread` the keys that are not read, and `hints` what is
+//! said of a fault behind its words.
+#![tactic(auto)]
+
+mod explain;
+mod findings;
+mod found;
+mod hints;
+mod key_findings;
+mod name_findings;
+mod unread;
+
+pub use explain::{ExplainedPoll, explain_poll};
+
+/// The most bytes of a name or text of a file that a finding shows.
+pub const MAX_SHOWN: usize = 60;
+
+#[cfg(test)]
+mod tests;

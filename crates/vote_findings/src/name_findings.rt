@@ -1,0 +1,142 @@
+//! The names of a poll file that are misshapen or double.
+ghost use Rattle.std.specs.Prelude.{◌≡◌, ◌<◌, ◌^◌, ◌++◌, ℕ, List, IfOk, OnOk, codes, decimal, map, not, string_bytes, ◌+◌, ◌||◌, length};
+ghost use Rattle.std.specs.List.{list_any};
+ghost use Rattle.std.specs.Str.{bytes_eq};
+ghost use Rattle.vote_findings.specs.Findings.{AddsFindings, fault_words};
+ghost use Rattle.vote_poll.specs.Lines.{line_feed};
+ghost use Rattle.vote_findings.specs.NameFindings.{bad_name, has_shape};
+ghost use Rattle.vote_poll.specs.PollFaults.{bad_places, fault_unless};
+ghost use Rattle.vote_poll.specs.Shown.{shown};
+
+use crate::findings::push_hint;
+use crate::hints::{Named, double_hint, shape_hint};
+use indexmap::IndexSet;
+use std::alloc::{AllocError, Global};
+use vote_poll::{is_option_name, is_voter_name};
+
+/// A list of names in a poll file.
+#[derive(Clone, Copy, Debug, PartialEq, Eq)]
+pub(crate) enum NameList {
+    /// The options, numbered from 1.
+    Options,
+    /// The roll, numbered from 0.
+    Roll,
+}
+
+impl NameList {
+    /// What a name of the list is the name of.
+    fn named(self) -> Named {
+        match self {
+            NameList::Options => Named::Option,
+            NameList::Roll => Named::Voter,
+        }
+    }
+
+    /// Whether a text is a name for the list.
+    fn has_shape(self, name: &[u8]) -> bool
+        ensures { result ≡ has_shape self name.now }
+    {
+        match self {
+            NameList::Options => is_option_name(name),
+            NameList::Roll => is_voter_name(name),
+        }
+    }
+}
+
+/// Names that were seen, and where each was first seen.
+#[derive(Drop)]
+struct SeenNames<'t> {
+    names: IndexSet<&'t str>,
+    places: Vec<usize>,
+}
+
+impl<'t> SeenNames<'t> {
+    /// Notes the name at a place. Answers whether it was seen before, and the place where it was first seen.
+    fn note(&mut self, name: &'t str, place: usize) -> Result<(bool, usize), AllocError>
+        ensures double { IfOk result (λ seen. seen.0 ≡ list_any (λ n. bytes_eq name.now n.now) self.old.names.keys) }
+        ensures noted { OnOk result ((other : List ℕ) → list_any (λ n. bytes_eq other n.now) self.new.names.keys ≡ (list_any (λ n. bytes_eq other n.now) self.old.names.keys || bytes_eq other name.now)) }
+    {
+        let (index, is_new) = self.names.insert_full(name)?;
+        if is_new {
+            self.places.push(place)?;
+            return Ok((false, place));
+        }
+        let first = self.places.get(index).copied().unwrap_or(place);
+        Ok((true, first))
+    }
+}
+
+/// Adds that the name of an option is bad.
+fn push_bad_option(text: &mut String, option: usize, hint: &str) -> Result<(), AllocError>
+    ensures { OnOk result (string_bytes text.new ≡ string_bytes text.old ++ codes "poll: " ++ (codes "name of option " ++ decimal option) ++ codes ": " ++ shown (length hint.now) hint.now ++ line_feed) }
+{
+    write!(text, "poll: name of option {option}")?;
+    push_hint(text, hint)
+}
+
+/// Adds that the name of the voter at a place is bad.
+fn push_bad_voter(text: &mut String, place: usize, hint: &str) -> Result<(), AllocError>
+    ensures { OnOk result (string_bytes text.new ≡ string_bytes text.old ++ codes "poll: " ++ (codes "voter at position " ++ decimal place) ++ codes ": " ++ shown (length hint.now) hint.now ++ line_feed) }
+{
+    write!(text, "poll: voter at position {place}")?;
+    push_hint(text, hint)
+}
+
+/// Adds that the name at a place is misshapen or double.
+fn push_bad_name(
+    text: &mut String,
+    list: NameList,
+    place: usize,
+    hint: &str,
+) -> Result<(), AllocError>
+    requires { place + 1 < 2 ^ 64 }
+    ensures { OnOk result (string_bytes text.new ≡ string_bytes text.old ++ codes "poll: " ++ fault_words (bad_name list place) ++ codes ": " ++ shown (length hint.now) hint.now ++ line_feed) }
+{
+    match list {
+        NameList::Options => push_bad_option(text, place + 1, hint),
+        NameList::Roll => push_bad_voter(text, place, hint),
+    }
+}
+
+/// Judges the name at a place, which was seen before or not, and where.
+fn judge_name(
+    alloc: Global,
+    text: &mut String,
+    list: NameList,
+    name: &str,
+    place: usize,
+    seen: (bool, usize),
+) -> Result<(), AllocError>
+    requires { place + 1 < 2 ^ 64 }
+    ensures { OnOk result (AddsFindings (fault_unless (not (not (has_shape list name.now) || seen.0)) (bad_name list place)) (string_bytes text.old) (string_bytes text.new)) }
+{
+    let (is_double, first) = seen;
+    let named = list.named();
+    if !list.has_shape(name.as_bytes()) {
+        return push_bad_name(text, list, place, &shape_hint(alloc, named, name)?);
+    }
+    if is_double {
+        return push_bad_name(text, list, place, &double_hint(alloc, named, name, first)?);
+    }
+    Ok(())
+}
+
+/// Adds the findings on the names of a list.
+pub(crate) fn push_bad_names(
+    alloc: Global,
+    text: &mut String,
+    list: NameList,
+    names: &[&str],
+) -> Result<(), AllocError>
+    ensures { OnOk result (AddsFindings (map (bad_name list) (bad_places (has_shape list) (map (λ name. name.now) names.now))) (string_bytes text.old) (string_bytes text.new)) }
+{
+    let mut seen = SeenNames {
+        names: IndexSet::new(alloc),
+        places: Vec::new(alloc),
+    };
+    for (place, name) in names.iter().enumerate() {
+        let earlier = seen.note(name, place)?;
+        judge_name(alloc, text, list, name, place, earlier)?;
+    }
+    Ok(())
+}
