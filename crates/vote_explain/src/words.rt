@@ -1,27 +1,14 @@
 //! What stands in a column of a line, in words.
 
-ghost use Rattle.std.specs.Prelude.{◌≡◌, ◌++◌, ◌<◌, List, ℕ, OnOk, string_bytes};
-ghost use Rattle.vote_poll.specs.Shown.{hex_digit};
+ghost use Rattle.std.specs.Prelude.{◌≡◌, ◌++◌, List, ℕ, OnOk, string_bytes};
 ghost use Rattle.vote_explain.specs.Column.{IsColumnHint, byte_words, first_words, number_words};
 
 use crate::fronts::column;
 use std::alloc::AllocError;
+use vote_poll::hex_digit;
 
 /// What a text in UTF-8 may begin with, as editors for Windows write it.
 const BYTE_ORDER_MARK: &[u8] = b"\xEF\xBB\xBF";
-
-/// The digit of base 16 with this value.
-fn hex_digit(value: u8) -> u8
-    requires { value < 16 }
-    ensures digit { result ≡ hex_digit value }
-    ensures ascii { result < 128 }
-{
-    if value < 10 {
-        b'0' + value
-    } else {
-        b'A' + (value - 10)
-    }
-}
 
 /// Adds a byte by its number, as `byte 0x0B`.
 fn push_number(text: &mut String, byte: u8) -> Result<(), AllocError>

@@ -10,7 +10,8 @@
 //! - [`Ranks`]: what one ballot says of the options, and which option it prefers to which.
 //! - [`Reading`]: what a poll reads in a line, by [`read_line`]: a ballot of an elector, or a [`LineFault`].
 //!   [`is_reading`] says whether a reading is that of a line.
-//! - [`push_shown`]: adds bytes of a file to a text, so that what is no printable ASCII is seen by its number.
+//! - [`push_shown`]: adds bytes of a file to a text, so that what is no printable ASCII is seen by its number, in the digits of
+//!   [`hex_digit`].
 //!
 //! The crates that say what is wrong with a file judge its parts by the same calls as this one: a name by [`is_title`],
 //! [`is_option_name`] and [`is_voter_name`], its bytes by [`is_printable`] and [`is_voter_byte`], and the list at a [`PollKey`]
@@ -57,7 +58,7 @@ pub use ranks::Ranks;
 pub use reading::{
     LineFault, Reading, each_line_is_read, is_reading, read_line, readings_are_unique,
 };
-pub use shown::push_shown;
+pub use shown::{hex_digit, push_shown};
 pub use wording::Wording;
 
 /// The most options that a poll can have, the default among them. It has two at least.

@@ -7,8 +7,8 @@ ghost use Rattle.vote_poll.specs.Shown.{hex_digit, shown, shown_byte};
 use crate::names::is_printable;
 use std::alloc::AllocError;
 
-/// The digit of base 16 with this value.
-fn hex_digit(value: u8) -> u8
+/// The digit of base 16 with this value: `0` to `9`, or `A` to `F`.
+pub fn hex_digit(value: u8) -> u8
     requires { value < 16 }
     ensures digit { result ≡ hex_digit value }
     ensures ascii { result < 128 }
