@@ -1,5 +1,5 @@
 -- The two tables by which a rank is read, and the rank that its bytes spell.
-use Rattle.std.proofs.Common.{◌≡◌, ◌≢◌, ◌+◌, ◌*◌, ◌/◌, ◌%◌, ◌-◌, ◌<◌, ◌≤◌, ℕ, List, [], ◌∷◌, map, refl, ap, sym, ◌∙◌, get_or, Option, Some, None, arith, true, false, cond, ◌==◌, ◌&&◌, inl, inr, nat_lt}
+use Rattle.std.proofs.Common.{◌≡◌, ◌≢◌, ◌+◌, ◌*◌, ◌/◌, ◌%◌, ◌-◌, ◌<◌, ◌≤◌, ℕ, List, [], ◌∷◌, map, refl, ap, ap₂, sym, ◌∙◌, get_or, Option, Some, None, arith, true, false, cond, ◌==◌, ◌&&◌, inl, inr, nat_lt}
 use Rattle.std.specs.List.{range_with_len}
 use Rattle.std.proofs.lemmas.List.FromFn.{get_or-map-range_with_len}
 use Rattle.std.proofs.lemmas.Bool.{cases_Bool}
@@ -8,7 +8,7 @@ use Rattle.vote_poll.specs.Names.{is_within}
 use Rattle.vote_poll.specs.Parsing.{kind_of}
 use Rattle.vote_poll.specs.Readings.{rank_in}
 use Rattle.vote_poll.specs.SortKeys.{rank_of_key}
-use Rattle.vote_poll.specs.declared.rank_key.TheConstants.{KINDS, KEYS}
+use Rattle.vote_poll.specs.declared.rank_key.TheConstants.{KEYS, KINDS, LENGTHS, PAIRS}
 use Rattle.vote_poll.proofs.NamesLaws.{within_bounds}
 
 kinds-table : KINDS ≡ map kind_of (range_with_len 0 256)
@@ -133,3 +133,31 @@ key-none a b i j first second zero = ap spelled (sym zero) ∙ key-found a b i j
 
 pub key-some : (a b i j : ℕ) → i ≡ kind_of a → j ≡ kind_of b → get_or KEYS (16 * i + j) 0 ≢ 0 → Some (rank_of_key (get_or KEYS (16 * i + j) 0)) ≡ rank_in (rank_bytes a b)
 key-some a b i j first second some = some-key (get_or KEYS (16 * i + j) 0) some ∙ key-found a b i j first second
+
+-- ---- the bytes that spell the rank of an option that stands somewhere
+-- the rank that the two bytes of a key spell, and what it is to be
+abbrev spelled_at : ℕ → Option (Option ℕ)
+spelled_at key = rank_in (rank_bytes (get_or PAIRS key 0 % 256) (get_or PAIRS key 0 / 256))
+
+abbrev wanted_at : ℕ → Option (Option ℕ)
+wanted_at key = cond (get_or PAIRS key 0 == 65536) (spelled_at key) (Some (rank_of_key key))
+
+pairs-table : map spelled_at (range_with_len 0 256) ≡ map wanted_at (range_with_len 0 256)
+pairs-table = refl
+
+lengths-table : LENGTHS ≡ map (λ key. cond (get_or PAIRS key 0 / 256 == 44) 1 2) (range_with_len 0 256)
+lengths-table = refl
+
+pub pair-rank : (key first second : ℕ) → key < 256 → first < 256 → second < 256 → first + 256 * second ≡ get_or PAIRS key 0 → rank_in (rank_bytes first second) ≡ Some (rank_of_key key)
+pair-rank key first second fits small few is =
+    let row : get_or PAIRS key 0 % 256 ≡ first = omega arith in
+    let column : get_or PAIRS key 0 / 256 ≡ second = omega arith in
+    let some : (get_or PAIRS key 0 == 65536) ≡ false = grind (arith, nat_tests) in
+    let same : spelled_at key ≡ wanted_at key =
+    sym (get_or-map-range_with_len spelled_at 0 256 key key None fits (omega arith)) ∙ ap (λ ranks. get_or ranks key None) pairs-table ∙ get_or-map-range_with_len wanted_at 0 256 key key None fits (omega arith) in
+    ap₂ (λ a b. rank_in (rank_bytes a b)) (sym row) (sym column) ∙ same ∙ ap (λ t. cond t (spelled_at key) (Some (rank_of_key key))) some
+
+pub pair-length : (key first second : ℕ) → key < 256 → first < 256 → second < 256 → first + 256 * second ≡ get_or PAIRS key 0 → get_or LENGTHS key 0 ≡ cond (second == 44) 1 2
+pair-length key first second fits small few is =
+    let column : get_or PAIRS key 0 / 256 ≡ second = omega arith in
+    ap (λ (xs : List ℕ). get_or xs key 0) lengths-table ∙ get_or-map-range_with_len (λ k. cond (get_or PAIRS k 0 / 256 == 44) 1 2) 0 256 key key 0 fits (omega arith) ∙ ap (λ b. cond (b == 44) 1 2) column

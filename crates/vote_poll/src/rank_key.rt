@@ -1,6 +1,6 @@
 //! Where an option stands whose rank a ballot line spells, by two look-ups in place of tests: which way a test of a
 //! rank's length goes is a coin toss, and a processor that guesses wrong loses the time of several ranks.
-ghost use Rattle.std.specs.Prelude.{◌≡◌, [], ◌∷◌, if◌then◌else◌, ◌==◌, option_map};
+ghost use Rattle.std.specs.Prelude.{◌≡◌, [], ◌∷◌, if◌then◌else◌, ◌==◌, IfSome, Some, option_map};
 ghost use Rattle.std.specs.Str.{byte};
 ghost use Rattle.vote_poll.specs.Parsing.{kind_of};
 ghost use Rattle.vote_poll.specs.Readings.{rank_in};
@@ -36,6 +36,43 @@ const KEYS: [u8; 208] = [
     0, 0, 0, 0, 0, 0, 0, 0, 0, 0, 0, 0, 0, 0, 0, 0, 0, 0, 0,
 ];
 
+/// The two bytes by which a text tells the rank of an option that stands here, as the first and 256 times the second; the
+/// second is the comma behind a rank of one byte. There is a number that no two bytes make where no rank is.
+const PAIRS: [u32; 256] = [
+    65536, 11313, 11314, 11315, 11316, 11317, 11318, 11319, 11320, 11321, 12337, 12593, 12849,
+    13105, 13361, 13617, 13873, 14129, 14385, 14641, 12338, 12594, 12850, 13106, 13362, 13618,
+    13874, 14130, 14386, 14642, 12339, 12595, 12851, 13107, 13363, 13619, 13875, 14131, 14387,
+    14643, 12340, 12596, 12852, 13108, 13364, 13620, 13876, 14132, 14388, 14644, 12341, 12597,
+    12853, 13109, 13365, 13621, 13877, 14133, 14389, 14645, 12342, 12598, 12854, 13110, 13366,
+    13622, 13878, 14134, 14390, 14646, 12343, 12599, 12855, 13111, 13367, 13623, 13879, 14135,
+    14391, 14647, 12344, 12600, 12856, 13112, 13368, 13624, 13880, 14136, 14392, 14648, 12345,
+    12601, 12857, 13113, 13369, 13625, 13881, 14137, 14393, 14649, 65536, 65536, 65536, 65536,
+    65536, 65536, 65536, 65536, 65536, 65536, 65536, 65536, 65536, 65536, 65536, 65536, 65536,
+    65536, 65536, 65536, 65536, 65536, 65536, 65536, 65536, 65536, 65536, 65536, 65536, 65536,
+    65536, 65536, 65536, 65536, 65536, 65536, 65536, 65536, 65536, 65536, 65536, 65536, 65536,
+    65536, 65536, 65536, 65536, 65536, 65536, 65536, 65536, 65536, 65536, 65536, 65536, 65536,
+    65536, 65536, 65536, 65536, 65536, 65536, 65536, 65536, 65536, 65536, 65536, 65536, 65536,
+    65536, 65536, 65536, 65536, 65536, 65536, 65536, 65536, 65536, 65536, 65536, 65536, 65536,
+    65536, 65536, 65536, 65536, 65536, 65536, 65536, 65536, 65536, 65536, 65536, 65536, 65536,
+    65536, 65536, 65536, 65536, 65536, 65536, 65536, 65536, 65536, 65536, 65536, 65536, 65536,
+    65536, 65536, 65536, 65536, 65536, 65536, 65536, 65536, 65536, 65536, 65536, 65536, 65536,
+    65536, 65536, 65536, 65536, 65536, 65536, 65536, 65536, 65536, 65536, 65536, 65536, 65536,
+    65536, 65536, 65536, 65536, 65536, 65536, 65536, 65536, 65536, 65536, 65536, 65536, 65536,
+    65536, 65536, 65536, 65536, 65536, 65536, 65536, 65536, 11309,
+];
+
+/// How many bytes spell the rank of an option that stands here, 2 where no rank is.
+const LENGTHS: [u8; 256] = [
+    2, 1, 1, 1, 1, 1, 1, 1, 1, 1, 2, 2, 2, 2, 2, 2, 2, 2, 2, 2, 2, 2, 2, 2, 2, 2, 2, 2, 2, 2, 2, 2,
+    2, 2, 2, 2, 2, 2, 2, 2, 2, 2, 2, 2, 2, 2, 2, 2, 2, 2, 2, 2, 2, 2, 2, 2, 2, 2, 2, 2, 2, 2, 2, 2,
+    2, 2, 2, 2, 2, 2, 2, 2, 2, 2, 2, 2, 2, 2, 2, 2, 2, 2, 2, 2, 2, 2, 2, 2, 2, 2, 2, 2, 2, 2, 2, 2,
+    2, 2, 2, 2, 2, 2, 2, 2, 2, 2, 2, 2, 2, 2, 2, 2, 2, 2, 2, 2, 2, 2, 2, 2, 2, 2, 2, 2, 2, 2, 2, 2,
+    2, 2, 2, 2, 2, 2, 2, 2, 2, 2, 2, 2, 2, 2, 2, 2, 2, 2, 2, 2, 2, 2, 2, 2, 2, 2, 2, 2, 2, 2, 2, 2,
+    2, 2, 2, 2, 2, 2, 2, 2, 2, 2, 2, 2, 2, 2, 2, 2, 2, 2, 2, 2, 2, 2, 2, 2, 2, 2, 2, 2, 2, 2, 2, 2,
+    2, 2, 2, 2, 2, 2, 2, 2, 2, 2, 2, 2, 2, 2, 2, 2, 2, 2, 2, 2, 2, 2, 2, 2, 2, 2, 2, 2, 2, 2, 2, 2,
+    2, 2, 2, 2, 2, 2, 2, 2, 2, 2, 2, 2, 2, 2, 2, 2, 2, 2, 2, 2, 2, 2, 2, 2, 2, 2, 2, 2, 2, 2, 2, 1,
+];
+
 /// What a byte is in a list of ranks.
 fn kind_of(byte: u8) -> u8
     ensures { result ≡ kind_of byte }
@@ -49,4 +86,16 @@ pub(crate) fn spelled_key(first: u8, second: u8) -> Option<u8>
 {
     let key = KEYS[16 * kind_of(first) as usize + kind_of(second) as usize];
     if key == 0 { None } else { Some(key) }
+}
+
+/// How many bytes spell the rank of an option that stands here, where a text with these two bytes in front may begin with this
+/// rank and a comma.
+pub(crate) fn spelled_length(first: u8, second: u8, key: u8) -> Option<usize>
+    ensures length { IfSome result (λ length. length ≡ (if second == byte "," then 1 else 2)) }
+    ensures rank { IfSome result (λ length. rank_in (if second == byte "," then first ∷ [] else first ∷ second ∷ []) ≡ Some (rank_of_key key)) }
+{
+    if u32::from(first) + 256 * u32::from(second) != PAIRS[key as usize] {
+        return None;
+    }
+    Some(LENGTHS[key as usize] as usize)
 }

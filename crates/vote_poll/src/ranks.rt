@@ -15,9 +15,10 @@ use std::marker::Model;
 /// ballots are the same for `==` just where they are equal for contracts.
 #[derive(Clone, Copy, Debug)]
 pub struct Ranks {
-    options: u8,
-    /// Where each option stands in the order of the ballot, as [`Ranks::sort_keys`] says.
+    /// Where each option stands in the order of the ballot, as [`Ranks::sort_keys`] says. They stand in front, so that what
+    /// was copied is read again from where a part of the copy began: otherwise a processor waits until the copy is done.
     sort_keys: [u8; MAX_OPTIONS],
+    options: u8,
 }
 
 impl Model for Ranks {
@@ -65,6 +66,13 @@ impl Ranks {
         ensures others { (k : ℕ) → length self.now ≤ k → slice_index_or result.now k 0 ≡ 0 }
     {
         &self.sort_keys
+    }
+
+    /// Where the options stand in the order of the ballot, and no zeros behind them.
+    pub(crate) fn keys(&self) -> &[u8]
+        ensures { map rank_of_key result.now ≡ self.now }
+    {
+        self.sort_keys.split_at(self.options as usize).0
     }
 
     /// The rank of an option, or none where the ballot leaves it unranked.

@@ -14,7 +14,7 @@ ghost use Rattle.std.specs.Cmp.Rules.{comparing};
 
 use crate::names::is_voter_name;
 use crate::poll::Poll;
-use crate::rank_key::spelled_key;
+use crate::rank_key::{spelled_key, spelled_length};
 use crate::ranks::Ranks;
 use crate::{MAX_LINE, MAX_OPTIONS, UNRANKED};
 
@@ -173,17 +173,37 @@ pub fn read_line(poll: &Poll, line: &[u8]) -> Reading
     }
 }
 
-/// The ranks that a text lists, where it lists this many.
-fn ranks_for(options: u8, text: &[u8]) -> Option<Ranks>
-    requires few { options ≤ MAX_OPTIONS }
-    requires short { length text.now ≤ MAX_LINE }
-    ensures { IfSome result (λ ranks. (ranks_in text.now ≡ Some ranks) × (length ranks ≡ options)) }
+/// The text behind a rank and its comma, where a text begins with the rank of an option that stands here.
+///
+/// How long the rank is, is known from where the option stands, so no look at the text has to wait for the one before.
+fn behind_rank(text: &[u8], key: u8) -> Option<&[u8]>
+    ensures { IfSome result (λ rest. ranks_in text.now ≡ option_map (λ ranks. rank_of_key key ∷ ranks) (ranks_in rest.now)) }
 {
-    let (ranks, count) = ranks_of(text)?;
-    if count != options as usize {
+    if text.len() < 3 {
         return None;
     }
-    Some(ranks)
+    let end = spelled_length(text[0], text[1], key)?;
+    if text[end] != b',' {
+        return None;
+    }
+    Some(&text[end + 1..])
+}
+
+/// Whether a text lists the ranks of a ballot.
+fn lists_ranks(text: &[u8], ranks: &Ranks) -> bool
+    ensures { IsTrue result → ranks_in text.now ≡ Some ranks.now }
+{
+    let Some((last, others)) = ranks.keys().split_last() else {
+        return false;
+    };
+    let mut left = text;
+    for key in others {
+        let Some(rest) = behind_rank(left, *key) else {
+            return false;
+        };
+        left = rest;
+    }
+    parse_rank(left) == Some(*last)
 }
 
 /// The text behind a name and a space.
@@ -197,28 +217,31 @@ fn behind_name<'t>(line: &'t [u8], name: &[u8]) -> Option<&'t [u8]>
     }
 }
 
-/// The ranks that a line gives, where it is a ballot of the voter at this place of the roll.
-fn ranks_by(poll: &Poll, line: &[u8], voter: usize) -> Option<Ranks>
-    ensures { IfSome result (λ ranks. reading poll.now line.now ≡ Ballot voter ranks) }
+/// Whether a line spells a ballot of the voter at this place of the roll, with these ranks.
+fn spells(poll: &Poll, line: &[u8], voter: usize, ranks: &Ranks) -> bool
+    ensures { IsTrue result → reading poll.now line.now ≡ Ballot voter ranks.now }
 {
-    if MAX_LINE < line.len() {
-        return None;
+    if MAX_LINE < line.len() || ranks.options() != poll.options() {
+        return false;
     }
-    let name = poll.voter_name(voter)?;
-    let text = behind_name(line, name)?;
-    let ranks = ranks_for(poll.options(), text)?;
-    Some(ranks)
+    let Some(name) = poll.voter_name(voter) else {
+        return false;
+    };
+    match behind_name(line, name) {
+        Some(text) => lists_ranks(text, ranks),
+        None => false,
+    }
 }
 
 /// Whether this is what the poll reads in a line, so what [`read_line`] answers. A ballot is compared with the line by the
-/// name at the voter's place on the roll, which takes no look-up.
+/// name at the voter's place on the roll, which takes no look-up, and by how its ranks are spelled.
 pub fn is_reading(poll: &Poll, line: &[u8], answer: &Reading) -> bool
     ensures { IsTrue result ↔ (answer.now ≡ reading poll.now line.now) }
 {
     if let Reading::Ballot { voter, ranks } = answer
-        && let Some(read) = ranks_by(poll, line, *voter)
+        && spells(poll, line, *voter, ranks)
     {
-        return read == *ranks;
+        return true;
     }
     read_line(poll, line) == *answer
 }

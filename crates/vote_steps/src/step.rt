@@ -42,8 +42,8 @@ pub enum Step {
 /// A ballot as it came.
 #[derive(Clone, Copy, Debug, PartialEq, Eq)]
 pub struct Received {
+    /// The rank that it gives each option, or none. It stands in front as the sort keys do in `Ranks`.
+    pub ranks: Ranks,
     /// The stamp of its envelope, from 1.
     pub stamp: u32,
-    /// The rank that it gives each option, or none.
-    pub ranks: Ranks,
 }
