@@ -51,7 +51,7 @@ impl Roll {
         ensures ballots { self.new.ballots.items ≡ slice_set self.old.ballots.items voter (Some (after_ballot (slice_index_or self.old.ballots.items voter None) ballot)) }
         ensures options { self.new.matrix.options ≡ self.old.matrix.options }
     {
-        match self.ballots[voter] {
+        match &self.ballots[voter] {
             Some(standing) if ballot.stamp < standing.stamp => Reply::Superseded,
             Some(standing) => {
                 self.matrix.exchange(&standing.ranks, &ballot.ranks);
