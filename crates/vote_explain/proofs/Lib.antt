@@ -8,4 +8,5 @@ pub mod Determined
 pub mod RankTexts
 pub mod Parts
 pub mod Steps
+pub mod NextStates
 pub mod LineFronts

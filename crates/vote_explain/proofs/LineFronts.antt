@@ -1,5 +1,5 @@
 -- The fronts of a line, and where the longest one ends that is the front of a ballot line.
-use Rattle.std.proofs.Common.{◌≡◌, ◌+◌, ◌-◌, ◌<◌, ◌≤◌, ◌++◌, ◌⊎◌, inl, inr, ◌↔◌, ℕ, List, [], ◌∷◌, map, length, take, drop, get_or, min, refl, ap, ap₂, sym, subst, ◌∙◌, Option, Some, None, true, false, nat_le, nat_lt, ◌&&◌, arith, append_assoc, append-nil, take-append-drop, length-take}
+use Rattle.std.proofs.Common.{◌≡◌, ◌+◌, ◌-◌, ◌<◌, ◌≤◌, ◌++◌, ◌⊎◌, inl, inr, ℕ, List, [], ◌∷◌, map, length, take, drop, get_or, min, refl, ap, ap₂, sym, subst, ◌∙◌, Option, Some, None, true, false, nat_le, nat_lt, ◌&&◌, arith, append_assoc, append-nil, take-append-drop, length-take}
 use Rattle.std.specs.List.{All, list_all, join_with_byte}
 use Rattle.std.proofs.lemmas.Bool.{cases_Bool, and_parts}
 use Rattle.std.proofs.lemmas.Bool.Decides.{nat_tests}
@@ -7,12 +7,10 @@ use Rattle.std.proofs.lemmas.List.Elements.{All-cons, All-head, All-tail}
 use Rattle.std.proofs.lemmas.List.{take_more, take-take, length-append}
 use Rattle.vote_poll.specs.BallotLine.{IsRank, rank_text}
 use Rattle.vote_poll.specs.Names.{is_voter_byte, is_within}
-use Rattle.vote_explain.specs.declared.fronts.Part.{Part}
-use Rattle.vote_explain.specs.declared.fronts.Part.TheVariants.{Name, Rank, Digit, Comma}
 use Rattle.vote_explain.specs.Column.{IsBallotText, IsColumn, IsFront}
-use Rattle.vote_explain.specs.Fronts.{AreRanks, Completes, HasRoom, IsNext, more_text}
+use Rattle.vote_explain.specs.Fronts.{AreRanks, Completes, IsIn, IsNext, IsNextState, IsState, Part, Name, Rank, Digit, Comma, more_text}
 use Rattle.vote_explain.proofs.RankTexts.{within_bounds, within_from}
-use Rattle.vote_explain.proofs.Parts.{more_ends, ranks_from_hyphen, named_from_space, named_from_byte}
+use Rattle.vote_explain.proofs.Parts.{more_ends, ranks_from_hyphen, ranks_have_byte, named_from_space, named_from_byte}
 
 -- ---- a whole line
 join_ranks : (rank : Option ℕ) (ranks : List (Option ℕ)) → join_with_byte 44 (map rank_text (rank ∷ ranks)) ≡ rank_text rank ++ more_text ranks
@@ -73,33 +71,32 @@ named_can_end place most =
           (97 ∷ 32 ∷ 45 ∷ [], (omega arith, named_from_byte place 97 (32 ∷ 45 ∷ []) refl (named_from_space (place + 1) (45 ∷ []) (omega arith) (omega arith) (ranks_from_hyphen [] more_ends))))
     ]
 
-pub can_end : (part : Part) (place : ℕ) → HasRoom part place → (rest : List ℕ) × Completes part place rest
+-- there is room for what can stand behind a front of so many bytes: a name is not too long yet, and a rank has a byte
+abbrev pub HasRoom : Part → ℕ → Type 0
+HasRoom Name place = place ≤ 32
+HasRoom Rank place = place < 200
+HasRoom Digit place = place ≤ 200
+HasRoom Comma place = place ≤ 200
+
+can_end : (part : Part) (place : ℕ) → HasRoom part place → (rest : List ℕ) × Completes part place rest
 can_end Name place room = named_can_end place room
 can_end Rank place room = (45 ∷ [], (omega arith, ranks_from_hyphen [] more_ends))
 can_end Digit place room = ([], (omega arith, inl more_ends))
 can_end Comma place room = ([], (omega arith, more_ends))
 
 -- ---- the fronts of a line
--- the first bytes of the line are a front that ends in this part
-pub record IsIn (part : Part) (place : ℕ) (line : List ℕ) : Type 0 where
-  pub room : HasRoom part place
-  pub same : (rest : List ℕ) → Completes part place rest ↔ IsBallotText (take place line ++ rest)
-
 pub begins_in_name : (line : List ℕ) → IsIn Name 0 line
-begins_in_name line = record { room = omega arith; same = λ rest. (line_from_whole rest, whole_from_line rest) }
+begins_in_name line rest = (line_from_whole rest, whole_from_line rest)
 
 one_byte_more : (line rest : List ℕ) (place : ℕ) → place < length line → take (place + 1) line ++ rest ≡ take place line ++ get_or line place 0 ∷ rest
 one_byte_more line rest place within =
     ap (λ t. t ++ rest) (take_more line place 0 within) ∙ append_assoc (take place line) (get_or line place 0 ∷ []) rest
 
 pub goes_on : (part next : Part) (place : ℕ) (line : List ℕ) → place < length line → IsIn part place line → IsNext part place (get_or line place 0) (Some next) → IsIn next (place + 1) line
-goes_on part next place line within is step = record {
-  room = step.0;
-  same = λ rest. (
-    λ h. subst IsBallotText (sym (one_byte_more line rest place within)) ((is.same (get_or line place 0 ∷ rest)).0 ((step.1 rest).1 h)),
-    λ h. (step.1 rest).0 ((is.same (get_or line place 0 ∷ rest)).1 (subst IsBallotText (one_byte_more line rest place within) h)),
-  );
-}
+goes_on part next place line within is step rest = (
+  λ h. subst IsBallotText (sym (one_byte_more line rest place within)) ((is (get_or line place 0 ∷ rest)).0 ((step rest).1 h)),
+  λ h. (step rest).0 ((is (get_or line place 0 ∷ rest)).1 (subst IsBallotText (one_byte_more line rest place within) h)),
+)
 
 shorter_front : (m n : ℕ) (line : List ℕ) → m ≤ n → IsFront (take n line) → IsFront (take m line)
 shorter_front m n line few (rest, is) =
@@ -110,11 +107,11 @@ shorter_front m n line few (rest, is) =
 short_front : (front : List ℕ) → IsFront front → length front ≤ 200
 short_front front (rest, (voter, ranks, is)) = omega (arith, length-append front rest, is.is_short)
 
-front_in : (part : Part) (place : ℕ) (line : List ℕ) → IsIn part place line → IsFront (take place line)
-front_in part place line is = let end = can_end part place is.room in (end.0, (is.same end.0).0 end.1)
+front_in : (part : Part) (place : ℕ) (line : List ℕ) → HasRoom part place → IsIn part place line → IsFront (take place line)
+front_in part place line room is = let end = can_end part place room in (end.0, (is end.0).0 end.1)
 
-front_before : (part : Part) (place : ℕ) (line : List ℕ) → IsIn part place line → IsFront (take (place + 1 - 1) line)
-front_before part place line is = let same : place + 1 - 1 ≡ place = omega arith in subst (λ n. IsFront (take n line)) (sym same) (front_in part place line is)
+pub front_before : (part : Part) (place : ℕ) (line : List ℕ) → HasRoom part place → IsIn part place line → IsFront (take (place + 1 - 1) line)
+front_before part place line room is = let same : place + 1 - 1 ≡ place = omega arith in subst (λ n. IsFront (take n line)) (sym same) (front_in part place line room is)
 
 no_longer : (part : Part) (place : ℕ) (line : List ℕ) → place < length line → IsIn part place line → IsNext part place (get_or line place 0) None
     → (n : ℕ) → IsFront (take n line) → (nat_le n place ≡ true) ⊎ (nat_le n place ≡ false) → n < place + 1
@@ -122,23 +119,112 @@ no_longer part place line within is step n front (inl few) = grind (arith, nat_t
 no_longer part place line within is step n front (inr more) =
     let longer : place + 1 ≤ n = grind (arith, nat_tests) in
     let (rest, text) = shorter_front (place + 1) n line longer front in
-    absurd (step rest ((is.same (get_or line place 0 ∷ rest)).1 (subst IsBallotText (one_byte_more line rest place within) text)))
+    absurd (step rest ((is (get_or line place 0 ∷ rest)).1 (subst IsBallotText (one_byte_more line rest place within) text)))
 
-pub stops : (part : Part) (place : ℕ) (line : List ℕ) → place < length line → IsIn part place line → IsNext part place (get_or line place 0) None → IsColumn line (place + 1)
-stops part place line within is step = record {
+pub stops : (part : Part) (place : ℕ) (line : List ℕ) → place < length line → HasRoom part place → IsIn part place line → IsNext part place (get_or line place 0) None → IsColumn line (place + 1)
+stops part place line within room is step = record {
   from_one = omega arith;
   within = omega arith;
-  is_front = front_before part place line is;
+  is_front = front_before part place line room is;
   longest = λ n most front. no_longer part place line within is step n front (cases_Bool (nat_le n place));
 }
 
-pub ends : (part : Part) (place : ℕ) (line : List ℕ) → place ≡ min (length line) 200 → IsIn part place line → IsColumn line (place + 1)
-ends part place line whole is = record {
+pub ends : (part : Part) (place : ℕ) (line : List ℕ) → place ≡ min (length line) 200 → HasRoom part place → IsIn part place line → IsColumn line (place + 1)
+ends part place line whole room is = record {
   from_one = omega arith;
   within = omega arith;
-  is_front = front_before part place line is;
+  is_front = front_before part place line room is;
   longest = λ n most front. omega (arith, short_front (take n line) front, length-take n line);
 }
+
+-- ---- where ranks are read
+-- the first bytes of the line are a front in this state, or would be with more room, and without the last of them they are one
+pub record IsReached (state place : ℕ) (line : List ℕ) : Type 0 where
+  pub part : Part
+  pub is_state : IsState state (Some part)
+  pub is_in : IsIn part place line
+  pub is_front : IsFront (take (place - 1) line)
+
+pub ranks_reached : (place : ℕ) (line : List ℕ) → place < 200 → IsIn Rank place line → IsReached 0 place line
+ranks_reached place line room is = record {
+  part = Rank;
+  is_state = refl;
+  is_in = is;
+  is_front = shorter_front (place - 1) place line (omega arith) (front_in Rank place line room is);
+}
+
+-- behind the name there is room before the last byte
+room_before : (part : Part) (state place : ℕ) → IsState state (Some part) → place < 200 → HasRoom part place
+room_before Name state place is short = absurd is
+room_before Rank state place is short = short
+room_before Digit state place is short = omega arith
+room_before Comma state place is short = omega arith
+
+-- the state of a part is a shift
+pub small_state : (part : Part) (state : ℕ) → IsState state (Some part) → state ≤ 16
+small_state Name state is = absurd is
+small_state Rank state is = omega (arith, is)
+small_state Digit state is = omega (arith, is)
+small_state Comma state is = omega (arith, is)
+
+reached_by : (part : Part) (state place : ℕ) (line : List ℕ) (next : Option Part) → place < length line → HasRoom part place → IsIn part place line → (state ≡ 24 → ⊥) → IsState state next
+    → IsNext part place (get_or line place 0) next → IsReached state (place + 1) line
+reached_by part state place line None within room is some is_state step = absurd (some is_state)
+reached_by part state place line (Some next) within room is some is_state step =
+    record { part = next; is_state = is_state; is_in = goes_on part next place line within is step; is_front = front_before part place line room is }
+
+pub reaches : (state next place : ℕ) (line : List ℕ) → place < length line → place < 200 → (next ≡ 24 → ⊥) → (is : IsReached state place line) → IsNextState is.part place (get_or line place 0) next
+    → IsReached next (place + 1) line
+reaches state next place line within short some is step =
+    reached_by is.part next place line step.0 within (room_before is.part state place is.is_state short) is.is_in some step.1 step.2
+
+no_next : (part : Part) (place b state : ℕ) (next : Option Part) → state ≡ 24 → IsState state next → IsNext part place b next → IsNext part place b None
+no_next part place b state None nowhere is step = step
+no_next part place b state (Some next) nowhere is step = let small : state ≤ 16 = small_state next state is in absurd (omega arith)
+
+pub stops_in_ranks : (state next place : ℕ) (line : List ℕ) → place < length line → place < 200 → next ≡ 24 → (is : IsReached state place line) → IsNextState is.part place (get_or line place 0) next
+    → IsColumn line (place + 1)
+stops_in_ranks state next place line within short nowhere is step =
+    stops is.part place line within (room_before is.part state place is.is_state short) is.is_in
+    (no_next is.part place (get_or line place 0) next step.0 nowhere step.1 step.2)
+
+-- there is no room for a rank behind the last byte
+no_rank_behind : (line : List ℕ) → IsIn Rank 200 line → IsFront (take 200 line) → ⊥
+no_rank_behind line is (rest, text) =
+    let (short, ranks) = (is rest).1 text in
+    omega (arith, short, ranks_have_byte rest ranks)
+
+rank_at_comma : (part : Part) (place : ℕ) (line : List ℕ) → IsState 0 (Some part) → IsIn part place line → IsIn Rank place line
+rank_at_comma Name place line state is = absurd state
+rank_at_comma Rank place line state is = is
+rank_at_comma Digit place line state is = absurd (omega (arith, state))
+rank_at_comma Comma place line state is = absurd (omega (arith, state))
+
+before_comma : (line : List ℕ) → IsIn Rank 200 line → (n : ℕ) → IsFront (take n line) → (nat_le 200 n ≡ true) ⊎ (nat_le 200 n ≡ false) → n < 200
+before_comma line is n front (inl all) = absurd (no_rank_behind line is (shorter_front 200 n line (grind (arith, nat_tests)) front))
+before_comma line is n front (inr few) = grind (arith, nat_tests)
+
+pub stops_at_comma : (line : List ℕ) → 200 ≤ length line → IsReached 0 200 line → IsColumn line 200
+stops_at_comma line whole is = record {
+  from_one = omega arith;
+  within = omega arith;
+  is_front = is.is_front;
+  longest = λ n most front. before_comma line (rank_at_comma is.part 200 line is.is_state is.is_in) n front (cases_Bool (nat_le 200 n));
+}
+
+room_at_end : (part : Part) (state place : ℕ) → IsState state (Some part) → place ≤ 200 → (state ≡ 0 → place ≡ 200 → ⊥) → HasRoom part place
+room_at_end Name state place is most no_comma = absurd is
+room_at_end Rank state place is most no_comma =
+    elim (cases_Bool (nat_lt place 200)) [
+      | inl room ↦ grind (arith, nat_tests)
+      | inr none ↦ absurd (no_comma is (grind (arith, nat_tests)))
+    ]
+room_at_end Digit state place is most no_comma = most
+room_at_end Comma state place is most no_comma = most
+
+pub ends_in_ranks : (state place : ℕ) (line : List ℕ) → place ≡ min (length line) 200 → (state ≡ 0 → place ≡ 200 → ⊥) → IsReached state place line → IsColumn line (place + 1)
+ends_in_ranks state place line whole no_comma is =
+    ends is.part place line whole (room_at_end is.part state place is.is_state (omega arith) no_comma) is.is_in
 
 -- of two columns neither is behind the other
 pub columns_are_one : (line : List ℕ) (a b : ℕ) → IsColumn line a → IsColumn line b → a ≡ b

@@ -1,10 +1,8 @@
 -- What a front of a ballot line is with one more byte.
 use Rattle.std.proofs.Common.{◌≡◌, ◌+◌, ◌<◌, ◌≤◌, ◌⊎◌, inl, inr, ◌↔◌, ℕ, List, ◌∷◌, length, refl, ap, sym, subst, ◌∙◌, Option, Some, None, true, false, arith}
 use Rattle.vote_poll.specs.Names.{is_voter_byte, is_within}
-use Rattle.vote_explain.specs.declared.fronts.Part.{Part}
-use Rattle.vote_explain.specs.declared.fronts.Part.TheVariants.{Name, Rank, Digit, Comma}
-use Rattle.vote_explain.specs.Fronts.{AreMore, AreRanks, IsDigit, IsNamed, IsNext}
-use Rattle.vote_explain.proofs.Parts.{more_begin, more_from, named_begins, named_from_byte, named_from_space, ranks_begin, ranks_from_digit, ranks_from_hyphen, ranks_have_byte}
+use Rattle.vote_explain.specs.Fronts.{AreMore, AreRanks, IsDigit, IsNamed, IsNext, Part, Name, Rank, Digit, Comma}
+use Rattle.vote_explain.proofs.Parts.{more_begin, more_from, named_begins, named_from_byte, named_from_space, ranks_begin, ranks_from_digit, ranks_from_hyphen}
 
 -- the byte counts toward the length, whichever side it is on
 with_byte : (A B : List ℕ → Type 0) (place b : ℕ) → ((rest : List ℕ) → A (b ∷ rest) → B rest) → ((rest : List ℕ) → B rest → A (b ∷ rest))
@@ -21,16 +19,16 @@ space_by place b rest is (inr name) = let wrong : is_voter_byte 32 ≡ true = ap
 
 pub space_ends_name : (place : ℕ) → 1 ≤ place → place ≤ 32 → IsNext Name place 32 (Some Rank)
 space_ends_name place least most =
-    (omega arith, with_byte (IsNamed place) AreRanks place 32 (λ rest h. space_by place 32 rest refl (named_begins place 32 rest h)) (λ rest h. named_from_space place rest least most h))
+    with_byte (IsNamed place) AreRanks place 32 (λ rest h. space_by place 32 rest refl (named_begins place 32 rest h)) (λ rest h. named_from_space place rest least most h)
 
 byte_by : (place b : ℕ) (rest : List ℕ) → is_voter_byte b ≡ true → ((b ≡ 32) × (1 ≤ place) × AreRanks rest) ⊎ ((is_voter_byte b ≡ true) × (place < 32) × IsNamed (place + 1) rest)
     → IsNamed (place + 1) rest
 byte_by place b rest is (inl space) = let wrong : is_voter_byte 32 ≡ true = ap is_voter_byte (sym space.0) ∙ is in cc
 byte_by place b rest is (inr name) = name.2
 
-pub byte_in_name : (place b : ℕ) → place < 32 → is_voter_byte b ≡ true → IsNext Name place b (Some Name)
-byte_in_name place b most is =
-    (omega arith, with_byte (IsNamed place) (IsNamed (place + 1)) place b (λ rest h. byte_by place b rest is (named_begins place b rest h)) (λ rest h. named_from_byte place b rest is h))
+pub byte_in_name : (place b : ℕ) → is_voter_byte b ≡ true → IsNext Name place b (Some Name)
+byte_in_name place b is =
+    with_byte (IsNamed place) (IsNamed (place + 1)) place b (λ rest h. byte_by place b rest is (named_begins place b rest h)) (λ rest h. named_from_byte place b rest is h)
 
 pub no_name : (place b : ℕ) → (b ≡ 32 → 1 ≤ place → ⊥) → (is_voter_byte b ≡ true → place < 32 → ⊥) → IsNext Name place b None
 no_name place b no_space no_byte rest h =
@@ -47,8 +45,8 @@ hyphen_by rest h =
       | inr first ↦ let wrong : is_within 49 57 45 ≡ true = first.is_byte in cc
     ]
 
-pub hyphen_is_rank : (place : ℕ) → place < 200 → IsNext Rank place 45 (Some Comma)
-hyphen_is_rank place room = (omega arith, with_byte AreRanks AreMore place 45 hyphen_by ranks_from_hyphen)
+pub hyphen_is_rank : (place : ℕ) → IsNext Rank place 45 (Some Comma)
+hyphen_is_rank place = with_byte AreRanks AreMore place 45 hyphen_by ranks_from_hyphen
 
 digit_by : (b : ℕ) (rest : List ℕ) → is_within 49 57 b ≡ true → AreRanks (b ∷ rest) → AreMore rest ⊎ IsDigit rest
 digit_by b rest is h =
@@ -57,9 +55,9 @@ digit_by b rest is h =
       | inr first ↦ first.goes_on
     ]
 
-pub digit_begins_rank : (place b : ℕ) → place < 200 → is_within 49 57 b ≡ true → IsNext Rank place b (Some Digit)
-digit_begins_rank place b room is =
-    (omega arith, with_byte AreRanks (λ rest. AreMore rest ⊎ IsDigit rest) place b (λ rest h. digit_by b rest is h) (λ rest h. ranks_from_digit b rest is h))
+pub digit_begins_rank : (place b : ℕ) → is_within 49 57 b ≡ true → IsNext Rank place b (Some Digit)
+digit_begins_rank place b is =
+    with_byte AreRanks (λ rest. AreMore rest ⊎ IsDigit rest) place b (λ rest h. digit_by b rest is h) (λ rest h. ranks_from_digit b rest is h)
 
 pub no_rank : (place b : ℕ) → (b ≡ 45 → ⊥) → (is_within 49 57 b ≡ true → ⊥) → IsNext Rank place b None
 no_rank place b no_hyphen no_digit rest h =
@@ -69,15 +67,11 @@ no_rank place b no_hyphen no_digit rest h =
     ]
 
 -- ---- behind a rank
-pub comma_goes_on : (place : ℕ) → place + 1 < 200 → IsNext Comma place 44 (Some Rank)
-comma_goes_on place room = (omega arith, with_byte AreMore AreRanks place 44 (λ rest h. (more_begin 44 rest h).1) more_from)
+pub comma_goes_on : (place : ℕ) → IsNext Comma place 44 (Some Rank)
+comma_goes_on place = with_byte AreMore AreRanks place 44 (λ rest h. (more_begin 44 rest h).1) more_from
 
-pub no_comma : (place b : ℕ) → (b ≡ 44 → place + 1 < 200 → ⊥) → IsNext Comma place b None
-no_comma place b no_room rest h =
-    let (is, ranks) = more_begin b rest h.1 in
-    let some : 1 ≤ length rest = ranks_have_byte rest ranks in
-    let short : place + length (b ∷ rest) ≤ 200 = h.0 in
-    no_room is (omega arith)
+pub no_comma : (place b : ℕ) → (b ≡ 44 → ⊥) → IsNext Comma place b None
+no_comma place b other rest h = other (more_begin b rest h.1).0
 
 -- ---- behind a digit
 second_by : (b : ℕ) (rest : List ℕ) → is_within 48 57 b ≡ true → AreMore (b ∷ rest) ⊎ IsDigit (b ∷ rest) → AreMore rest
@@ -87,9 +81,9 @@ second_by b rest is (inr digit) = let same : digit.more ≡ rest = cc digit.is_t
 second_from : (b : ℕ) (rest : List ℕ) → is_within 48 57 b ≡ true → AreMore rest → AreMore (b ∷ rest) ⊎ IsDigit (b ∷ rest)
 second_from b rest is are = inr (record { digit = b; more = rest; is_digit = is; are_more = are; is_text = refl })
 
-pub second_digit : (place b : ℕ) → place < 200 → is_within 48 57 b ≡ true → IsNext Digit place b (Some Comma)
-second_digit place b room is =
-    (omega arith, with_byte (λ rest. AreMore rest ⊎ IsDigit rest) AreMore place b (λ rest h. second_by b rest is h) (λ rest h. second_from b rest is h))
+pub second_digit : (place b : ℕ) → is_within 48 57 b ≡ true → IsNext Digit place b (Some Comma)
+second_digit place b is =
+    with_byte (λ rest. AreMore rest ⊎ IsDigit rest) AreMore place b (λ rest h. second_by b rest is h) (λ rest h. second_from b rest is h)
 
 -- a byte that is no digit does behind a digit what it does behind a rank
 one_digit_by : (b : ℕ) (rest : List ℕ) → (is_within 48 57 b ≡ true → ⊥) → AreMore (b ∷ rest) ⊎ IsDigit (b ∷ rest) → AreMore (b ∷ rest)
@@ -99,4 +93,4 @@ one_digit_by b rest no_digit (inr digit) = let same : b ≡ digit.digit = cc dig
 pub no_second_digit : (place b : ℕ) (next : Option Part) → (is_within 48 57 b ≡ true → ⊥) → IsNext Comma place b next → IsNext Digit place b next
 no_second_digit place b None no_digit step = λ rest h. step rest (h.0, one_digit_by b rest no_digit h.1)
 no_second_digit place b (Some next) no_digit step =
-    (step.0, λ rest. (λ h. (step.1 rest).0 (h.0, one_digit_by b rest no_digit h.1), λ h. let whole = (step.1 rest).1 h in (whole.0, inl whole.1)))
+    λ rest. (λ h. (step rest).0 (h.0, one_digit_by b rest no_digit h.1), λ h. let whole = (step rest).1 h in (whole.0, inl whole.1))

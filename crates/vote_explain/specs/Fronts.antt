@@ -1,12 +1,23 @@
 -- What can stand behind a front of a ballot line, by the part of the line in which the front ends.
-use Rattle.std.specs.Prelude.{◌≡◌, ℕ, ◌+◌, ◌<◌, ◌≤◌, ◌⊎◌, ◌↔◌, List, ◌∷◌, ◌++◌, length, Option, Some, None, IsTrue, codes}
+use Rattle.std.specs.Prelude.{◌≡◌, ℕ, ◌+◌, ◌≤◌, ◌⊎◌, ◌↔◌, List, ◌∷◌, ◌++◌, length, take, Option, Some, None, IsTrue, codes}
 use Rattle.std.specs.List.{All, flat_map, list_all}
 use Rattle.std.specs.Str.{byte}
 use Rattle.vote_poll.specs.BallotLine.{IsRank, rank_text}
 use Rattle.vote_poll.specs.Names.{is_voter_byte, is_within}
 use Rattle.vote_poll.specs.declared.TheConstants.{MAX_LINE, MAX_VOTER_NAME}
-use Rattle.vote_explain.specs.declared.fronts.Part.{Part}
-use Rattle.vote_explain.specs.declared.fronts.Part.TheVariants.{Name, Rank, Digit, Comma}
+use Rattle.vote_explain.specs.Column.{IsBallotText}
+use Rattle.vote_explain.specs.declared.fronts.TheConstants.{RANK, DIGIT, COMMA, NOWHERE}
+
+-- the part of a ballot line in which a front of it ends
+pub data Part : Type 0 where
+  -- in the voter's name, before the space
+  Name : Part
+  -- where a rank begins
+  Rank : Part
+  -- behind the first digit of a rank: a second one may follow, a comma, or the end
+  Digit : Part
+  -- behind a rank that gets no longer: a comma may follow, or the end
+  Comma : Part
 
 -- ranks, each behind a comma
 abbrev pub more_text : List (Option ℕ) → List ℕ
@@ -54,14 +65,23 @@ GoesOn Comma place rest = AreMore rest
 abbrev pub Completes : Part → ℕ → List ℕ → Type 0
 Completes part place rest = (place + length rest ≤ MAX_LINE) × GoesOn part place rest
 
--- whether something can stand behind a front of so many bytes: a name is not too long yet, and there is room for a rank
-abbrev pub HasRoom : Part → ℕ → Type 0
-HasRoom Name place = place ≤ MAX_VOTER_NAME
-HasRoom Rank place = place < MAX_LINE
-HasRoom Digit place = place ≤ MAX_LINE
-HasRoom Comma place = place ≤ MAX_LINE
-
 -- what a front of so many bytes that ends in this part is with one more byte: one that ends in the next part, or none
 abbrev pub IsNext : Part → ℕ → ℕ → Option Part → Type 0
-IsNext part place b (Some next) = HasRoom next (place + 1) × ((rest : List ℕ) → Completes part place (b ∷ rest) ↔ Completes next (place + 1) rest)
+IsNext part place b (Some next) = (rest : List ℕ) → Completes part place (b ∷ rest) ↔ Completes next (place + 1) rest
 IsNext part place b None = (rest : List ℕ) → Completes part place (b ∷ rest) → ⊥
+
+-- the first bytes of the line are a front that ends in this part
+abbrev pub IsIn : Part → ℕ → List ℕ → Type 0
+IsIn part place line = (rest : List ℕ) → Completes part place rest ↔ IsBallotText (take place line ++ rest)
+
+-- the number is the state of a front that ends in this part, or of what is no front
+abbrev pub IsState : ℕ → Option Part → Type 0
+IsState state None = state ≡ NOWHERE
+IsState state (Some Name) = ⊥
+IsState state (Some Rank) = state ≡ RANK
+IsState state (Some Digit) = state ≡ DIGIT
+IsState state (Some Comma) = state ≡ COMMA
+
+-- the state of a front of so many bytes with one more byte
+abbrev pub IsNextState : Part → ℕ → ℕ → ℕ → Type 0
+IsNextState part place b state = (next : Option Part) × IsState state next × IsNext part place b next

@@ -1,26 +1,66 @@
-//! Where a line leaves the grammar of ballot lines.
+//! Where a line leaves the grammar of ballot lines. The ranks are read by a table in place of tests: which way a test of a
+//! rank's length goes is a coin toss, and a processor that guesses wrong loses the time of several bytes.
 
-ghost use Rattle.std.specs.Prelude.{◌≡◌, ◌<◌, ◌≤◌, List, ℕ};
-ghost use Rattle.vote_poll.specs.Names.{is_voter_byte, is_within};
-ghost use Rattle.std.specs.Str.{byte};
+ghost use Rattle.std.specs.Prelude.{◌≡◌, ◌<◌, ◌≤◌, ◌+◌, List, ℕ, Some, IfOk, IfErr, length};
+ghost use Rattle.vote_poll.specs.Names.{is_voter_byte};
 ghost use Rattle.vote_explain.specs.Column.{IsColumn};
-ghost use Rattle.vote_explain.specs.Fronts.{HasRoom, IsNext};
-ghost use Rattle.vote_explain.specs.declared.fronts.Part.TheVariants.{Comma, Digit, Name, Rank};
+ghost use Rattle.vote_explain.specs.Fronts.{IsIn, IsNextState, IsState, Part, Rank};
 
 use vote_poll::{MAX_LINE, MAX_VOTER_NAME};
 
-/// In which part of a ballot line a front of it ends.
-#[derive(Clone, Copy, Debug)]
-enum Part {
-    /// In the voter's name, before the space.
-    Name,
-    /// Where a rank begins.
-    Rank,
-    /// Behind the first digit of a rank: a second one may follow, a comma, or the end.
-    Digit,
-    /// Behind a rank that gets no longer: a comma may follow, or the end.
-    Comma,
-}
+/// The state of a front behind which a rank begins.
+const RANK: u32 = 0;
+
+/// The state of a front that ends with the first digit of a rank: a second one may follow, a comma, or the end.
+const DIGIT: u32 = 8;
+
+/// The state of a front that ends with a rank that gets no longer: a comma may follow, or the end.
+const COMMA: u32 = 16;
+
+/// The state of what no ballot line begins with.
+const NOWHERE: u32 = 24;
+
+/// The row of a comma.
+const COMMAS: u32 = NOWHERE << RANK | RANK << DIGIT | RANK << COMMA;
+
+/// The row of a hyphen, which is a rank.
+const HYPHENS: u32 = COMMA << RANK | NOWHERE << DIGIT | NOWHERE << COMMA;
+
+/// The row of the digit 0, with which no rank begins.
+const ZEROS: u32 = NOWHERE << RANK | COMMA << DIGIT | NOWHERE << COMMA;
+
+/// The row of each other digit.
+const DIGITS: u32 = DIGIT << RANK | COMMA << DIGIT | NOWHERE << COMMA;
+
+/// The row of a byte that stands in no list of ranks.
+const OTHERS: u32 = NOWHERE << RANK | NOWHERE << DIGIT | NOWHERE << COMMA;
+
+/// The row of each byte. It has three numbers of 8 bits, the next state for each state of a front, and the state says how
+/// far to the right they are shifted: so a shift and a mask take the place of all tests of the byte.
+const NEXT: [u32; 256] = [
+    OTHERS, OTHERS, OTHERS, OTHERS, OTHERS, OTHERS, OTHERS, OTHERS, OTHERS, OTHERS, OTHERS, OTHERS,
+    OTHERS, OTHERS, OTHERS, OTHERS, OTHERS, OTHERS, OTHERS, OTHERS, OTHERS, OTHERS, OTHERS, OTHERS,
+    OTHERS, OTHERS, OTHERS, OTHERS, OTHERS, OTHERS, OTHERS, OTHERS, OTHERS, OTHERS, OTHERS, OTHERS,
+    OTHERS, OTHERS, OTHERS, OTHERS, OTHERS, OTHERS, OTHERS, OTHERS, COMMAS, HYPHENS, OTHERS,
+    OTHERS, ZEROS, DIGITS, DIGITS, DIGITS, DIGITS, DIGITS, DIGITS, DIGITS, DIGITS, DIGITS, OTHERS,
+    OTHERS, OTHERS, OTHERS, OTHERS, OTHERS, OTHERS, OTHERS, OTHERS, OTHERS, OTHERS, OTHERS, OTHERS,
+    OTHERS, OTHERS, OTHERS, OTHERS, OTHERS, OTHERS, OTHERS, OTHERS, OTHERS, OTHERS, OTHERS, OTHERS,
+    OTHERS, OTHERS, OTHERS, OTHERS, OTHERS, OTHERS, OTHERS, OTHERS, OTHERS, OTHERS, OTHERS, OTHERS,
+    OTHERS, OTHERS, OTHERS, OTHERS, OTHERS, OTHERS, OTHERS, OTHERS, OTHERS, OTHERS, OTHERS, OTHERS,
+    OTHERS, OTHERS, OTHERS, OTHERS, OTHERS, OTHERS, OTHERS, OTHERS, OTHERS, OTHERS, OTHERS, OTHERS,
+    OTHERS, OTHERS, OTHERS, OTHERS, OTHERS, OTHERS, OTHERS, OTHERS, OTHERS, OTHERS, OTHERS, OTHERS,
+    OTHERS, OTHERS, OTHERS, OTHERS, OTHERS, OTHERS, OTHERS, OTHERS, OTHERS, OTHERS, OTHERS, OTHERS,
+    OTHERS, OTHERS, OTHERS, OTHERS, OTHERS, OTHERS, OTHERS, OTHERS, OTHERS, OTHERS, OTHERS, OTHERS,
+    OTHERS, OTHERS, OTHERS, OTHERS, OTHERS, OTHERS, OTHERS, OTHERS, OTHERS, OTHERS, OTHERS, OTHERS,
+    OTHERS, OTHERS, OTHERS, OTHERS, OTHERS, OTHERS, OTHERS, OTHERS, OTHERS, OTHERS, OTHERS, OTHERS,
+    OTHERS, OTHERS, OTHERS, OTHERS, OTHERS, OTHERS, OTHERS, OTHERS, OTHERS, OTHERS, OTHERS, OTHERS,
+    OTHERS, OTHERS, OTHERS, OTHERS, OTHERS, OTHERS, OTHERS, OTHERS, OTHERS, OTHERS, OTHERS, OTHERS,
+    OTHERS, OTHERS, OTHERS, OTHERS, OTHERS, OTHERS, OTHERS, OTHERS, OTHERS, OTHERS, OTHERS, OTHERS,
+    OTHERS, OTHERS, OTHERS, OTHERS, OTHERS, OTHERS, OTHERS, OTHERS, OTHERS, OTHERS, OTHERS, OTHERS,
+    OTHERS, OTHERS, OTHERS, OTHERS, OTHERS, OTHERS, OTHERS, OTHERS, OTHERS, OTHERS, OTHERS, OTHERS,
+    OTHERS, OTHERS, OTHERS, OTHERS, OTHERS, OTHERS, OTHERS, OTHERS, OTHERS, OTHERS, OTHERS, OTHERS,
+    OTHERS, OTHERS, OTHERS, OTHERS, OTHERS,
+];
 
 /// Whether a byte is one of a voter's name.
 fn is_voter_byte(byte: u8) -> bool
@@ -29,82 +69,50 @@ fn is_voter_byte(byte: u8) -> bool
     matches!(byte, b'a'..=b'z' | b'0'..=b'9' | b'.' | b'-')
 }
 
-/// Whether a byte is the first digit of a rank.
-fn is_first_digit(digit: u8) -> bool
-    ensures { result ≡ is_within (byte "1") (byte "9") digit }
+/// The state of a front with one more byte.
+fn next_state(state: u32, byte: u8) -> u32
+    requires { state ≤ COMMA }
+    ensures { (part : Part) (place : ℕ) → IsState state (Some part) → IsNextState part place byte result }
 {
-    matches!(digit, b'1'..=b'9')
+    (NEXT[byte as usize] >> state) & 31
 }
 
-/// Whether a byte is the second digit of a rank.
-fn is_second_digit(digit: u8) -> bool
-    ensures { result ≡ is_within (byte "0") (byte "9") digit }
+/// The place of a line's first rank, or the column in which the line leaves the grammar before it.
+fn place_of_ranks(line: &[u8]) -> Result<usize, usize>
+    ensures place { IfOk result (λ place. (place ≤ length line.now) × (place ≤ MAX_VOTER_NAME + 1) × IsIn Rank place line.now) }
+    ensures column { IfErr result (λ column. IsColumn line.now column) }
 {
-    matches!(digit, b'0'..=b'9')
+    for place in 0..line.len().min(MAX_VOTER_NAME + 1) {
+        let byte = line[place];
+        if byte == b' ' && place > 0 {
+            return Ok(place + 1);
+        }
+        if !is_voter_byte(byte) || place == MAX_VOTER_NAME {
+            return Err(place + 1);
+        }
+    }
+    Err(line.len() + 1)
 }
 
-/// What a front is that ends in a name of so many bytes, with one more byte.
-fn next_in_name(place: usize, byte: u8) -> Option<Part>
-    requires { place ≤ MAX_VOTER_NAME }
-    ensures { IsNext Name place byte result }
+/// The column in which a line leaves the grammar whose ranks begin at this place. A comma wants room for a rank behind it.
+fn column_of_ranks(line: &[u8], begin: usize) -> usize
+    requires within { begin ≤ length line.now }
+    requires short { begin ≤ MAX_VOTER_NAME + 1 }
+    requires ranks { IsIn Rank begin line.now }
+    ensures { IsColumn line.now result }
 {
-    if byte == b' ' && place > 0 {
-        return Some(Part::Rank);
+    let most = line.len().min(MAX_LINE);
+    let mut state = RANK;
+    for place in begin..most {
+        state = next_state(state, line[place]);
+        if state == NOWHERE {
+            return place + 1;
+        }
     }
-    if is_voter_byte(byte) && place < MAX_VOTER_NAME {
-        return Some(Part::Name);
+    if state == RANK && most == MAX_LINE {
+        return MAX_LINE;
     }
-    None
-}
-
-/// What a front is that ends where a rank begins, with one more byte.
-fn next_in_rank(place: usize, byte: u8) -> Option<Part>
-    requires { place < MAX_LINE }
-    ensures { IsNext Rank place byte result }
-{
-    if byte == b'-' {
-        return Some(Part::Comma);
-    }
-    if is_first_digit(byte) {
-        return Some(Part::Digit);
-    }
-    None
-}
-
-/// What a front is that ends with a whole rank, with one more byte. A comma wants room for a rank behind it.
-fn next_behind_rank(place: usize, byte: u8) -> Option<Part>
-    requires { place < MAX_LINE }
-    ensures { IsNext Comma place byte result }
-{
-    if byte == b',' && place + 1 < MAX_LINE {
-        return Some(Part::Rank);
-    }
-    None
-}
-
-/// What a front is that ends with the first digit of a rank, with one more byte.
-fn next_behind_digit(place: usize, byte: u8) -> Option<Part>
-    requires { place < MAX_LINE }
-    ensures { IsNext Digit place byte result }
-{
-    if is_second_digit(byte) {
-        return Some(Part::Comma);
-    }
-    next_behind_rank(place, byte)
-}
-
-/// What a front of so many bytes is that ends in this part, with one more byte.
-fn next_part(part: Part, place: usize, byte: u8) -> Option<Part>
-    requires room { HasRoom part place }
-    requires place { place < MAX_LINE }
-    ensures { IsNext part place byte result }
-{
-    match part {
-        Part::Name => next_in_name(place, byte),
-        Part::Rank => next_in_rank(place, byte),
-        Part::Digit => next_behind_digit(place, byte),
-        Part::Comma => next_behind_rank(place, byte),
-    }
+    most + 1
 }
 
 /// The column, from 1, of the first byte of a line with which no ballot line goes on, or of the line's end. Of the bytes behind the
@@ -112,15 +120,10 @@ fn next_part(part: Part, place: usize, byte: u8) -> Option<Part>
 pub fn column(line: &[u8]) -> usize
     ensures { IsColumn line.now result }
 {
-    let most = line.len().min(MAX_LINE);
-    let mut part = Part::Name;
-    for place in 0..most {
-        let Some(next) = next_part(part, place, line[place]) else {
-            return place + 1;
-        };
-        part = next;
+    match place_of_ranks(line) {
+        Ok(begin) => column_of_ranks(line, begin),
+        Err(column) => column,
     }
-    most + 1
 }
 
 /// A law: a line leaves the grammar in one column.
