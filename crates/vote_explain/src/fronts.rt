@@ -2,11 +2,10 @@
 //! rank's length goes is a coin toss, and a processor that guesses wrong loses the time of several bytes.
 
 ghost use Rattle.std.specs.Prelude.{◌≡◌, ◌<◌, ◌≤◌, ◌+◌, List, ℕ, Some, IfOk, IfErr, length};
-ghost use Rattle.vote_poll.specs.Names.{is_voter_byte};
 ghost use Rattle.vote_explain.specs.Column.{IsColumn};
 ghost use Rattle.vote_explain.specs.Fronts.{IsIn, IsNextState, IsState, Part, Rank};
 
-use vote_poll::{MAX_LINE, MAX_VOTER_NAME};
+use vote_poll::{MAX_LINE, MAX_VOTER_NAME, is_voter_byte};
 
 /// The state of a front behind which a rank begins.
 const RANK: u32 = 0;
@@ -61,13 +60,6 @@ const NEXT: [u32; 256] = [
     OTHERS, OTHERS, OTHERS, OTHERS, OTHERS, OTHERS, OTHERS, OTHERS, OTHERS, OTHERS, OTHERS, OTHERS,
     OTHERS, OTHERS, OTHERS, OTHERS, OTHERS,
 ];
-
-/// Whether a byte is one of a voter's name.
-fn is_voter_byte(byte: u8) -> bool
-    ensures { result ≡ is_voter_byte byte }
-{
-    matches!(byte, b'a'..=b'z' | b'0'..=b'9' | b'.' | b'-')
-}
 
 /// The state of a front with one more byte.
 fn next_state(state: u32, byte: u8) -> u32

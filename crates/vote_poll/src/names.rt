@@ -107,7 +107,7 @@ pub(crate) fn parse_voter_names(
 ) -> Result<IndexSet<String>, PollFault>
     ensures { Gives (λ roll. map string_bytes roll.keys) result (err_or (option_map fault.VoterName (first_bad is_voter_name (map (λ text. text.now) texts.now))) (map (λ text. text.now) texts.now)) }
 {
-    let mut roll = IndexSet::new(alloc);
+    let mut roll = IndexSet::with_capacity(alloc, texts.len())?;
     for (place, text) in texts.iter().enumerate() {
         if !is_voter_name(text.as_bytes()) {
             return Err(PollFault::VoterName(place));
