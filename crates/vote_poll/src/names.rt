@@ -1,5 +1,5 @@
 //! The names of a poll: its title, its options and the voters on its roll.
-ghost use Rattle.std.specs.Prelude.{◌≡◌, ◌+◌, ◌<◌, ◌≤◌, ◌++◌, ◌∷◌, [], length, map, option_map, position, string_bytes};
+ghost use Rattle.std.specs.Prelude.{◌≡◌, ◌+◌, ◌<◌, ◌≤◌, length, map, option_map, position, string_bytes};
 ghost use Rattle.std.specs.List.{list_all, list_any};
 ghost use Rattle.std.specs.Str.{bytes_eq};
 ghost use Rattle.vote_poll.specs.Names.{first_bad, has_outer_space, is_bad_after, is_option_name, is_printable, is_title, is_voter_byte, is_voter_name};

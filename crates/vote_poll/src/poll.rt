@@ -1,6 +1,5 @@
 //! The poll: its options, its quorum and its roll of voters.
-ghost use Rattle.std.specs.Prelude.{◌≡◌, ◌≤◌, ◌<◌, ◌+◌, ◌-◌, Some, IfSome, IsTrue, length, slice_get, option_map, position, string_bytes};
-ghost use Rattle.std.specs.Str.{bytes_eq};
+ghost use Rattle.std.specs.Prelude.{◌≡◌, ◌≤◌, ◌<◌, ◌+◌, ◌-◌, Some, IfSome, IsTrue, slice_get, option_map};
 ghost use Rattle.vote_poll.specs.Names.{is_voter_name, place_of};
 ghost use Rattle.vote_poll.specs.Options.{IsOption};
 ghost use Rattle.vote_poll.specs.PollContent.{option_count, elector_count, last_in_time, ratio_of};

@@ -1,5 +1,5 @@
 //! Reading a line of the ballot file.
-ghost use Rattle.std.specs.Prelude.{◌≡◌, ◌==◌, ◌<◌, ◌≤◌, ◌↔◌, ℕ, List, length, take, position, option_map, IfSome, IsTrue, IfNone, Some, None, [], ◌∷◌, ◌++◌};
+ghost use Rattle.std.specs.Prelude.{◌≡◌, ◌==◌, ◌<◌, ◌≤◌, ◌↔◌, ℕ, List, length, position, option_map, IfSome, IsTrue, IfNone, Some, None, [], ◌∷◌, ◌++◌};
 ghost use Rattle.std.specs.List.{before_first, after_first};
 ghost use Rattle.std.specs.Str.{byte};
 ghost use Rattle.vote_poll.specs.Comparisons.{is_same_reading};
@@ -7,7 +7,7 @@ ghost use Rattle.vote_poll.specs.Names.{is_voter_name};
 ghost use Rattle.vote_poll.specs.Parsing.{kept_and_count, voter_kept_and_count, parts_in, reading_from};
 ghost use Rattle.vote_poll.specs.SortKeys.{rank_of_key, row_of};
 ghost use Rattle.vote_poll.specs.PollContent.{PollContent, elector_count, option_count};
-ghost use Rattle.vote_poll.specs.Readings.{IsReading, ReadingFits, reading, rank_in, ranks_in, ballot_in, is_space};
+ghost use Rattle.vote_poll.specs.Readings.{IsReading, ReadingFits, reading, rank_in, ranks_in, is_space};
 ghost use Rattle.vote_poll.specs.declared.reading.Reading.TheVariants.{Ballot};
 ghost use Rattle.std.proofs.Common.{rules};
 ghost use Rattle.std.specs.Cmp.Rules.{comparing};

@@ -1,5 +1,5 @@
 -- What a count is made of.
-use Rattle.std.proofs.Common.{◌≡◌, ◌∙◌, ℕ, List, Option, Ok, subst, sym}
+use Rattle.std.proofs.Common.{◌≡◌, ℕ, List, Option, Ok, subst, sym}
 use Rattle.vote_poll.specs.Lines.{lines_of}
 use Rattle.vote_poll.specs.PollContent.{PollContent}
 use Rattle.vote_poll.specs.PollFile.{poll_in}
