@@ -1,5 +1,5 @@
 -- The fronts of a line, and where the longest one ends that is the front of a ballot line.
-use Rattle.std.proofs.Common.{◌≡◌, ◌+◌, ◌-◌, ◌<◌, ◌≤◌, ◌++◌, ◌⊎◌, inl, inr, ℕ, List, [], ◌∷◌, map, length, take, drop, get_or, min, refl, ap, ap₂, sym, subst, ◌∙◌, Option, Some, None, true, false, nat_le, nat_lt, ◌&&◌, arith, append_assoc, append-nil, take-append-drop, length-take}
+use Rattle.std.proofs.Common.{◌≡◌, ◌+◌, ◌-◌, ◌<◌, ◌≤◌, ◌++◌, ◌⊎◌, inl, inr, ℕ, List, [], ◌∷◌, map, length, take, drop, get_or, min, refl, ap, ap₂, sym, subst, ◌∙◌, Option, Some, None, true, false, nat_le, nat_lt, ◌&&◌, ◌==◌, arith, append_assoc, append-nil, take-append-drop, length-take}
 use Rattle.std.specs.List.{All, list_all, join_with_byte}
 use Rattle.std.proofs.lemmas.Bool.{cases_Bool, and_parts}
 use Rattle.std.proofs.lemmas.Bool.Decides.{nat_tests}
@@ -8,7 +8,7 @@ use Rattle.std.proofs.lemmas.List.{take_more, take-take, length-append}
 use Rattle.vote_poll.specs.BallotLine.{IsRank, rank_text}
 use Rattle.vote_poll.specs.Names.{is_voter_byte, is_within}
 use Rattle.vote_explain.specs.Column.{IsBallotText, IsColumn, IsFront}
-use Rattle.vote_explain.specs.Fronts.{AreRanks, Completes, IsIn, IsNext, IsNextState, IsState, Part, Name, Rank, Digit, Comma, more_text}
+use Rattle.vote_explain.specs.Fronts.{AreRanks, Completes, IsIn, IsNext, IsNextState, IsReached, IsState, Part, Name, Rank, Digit, Comma, more_text}
 use Rattle.vote_explain.proofs.RankTexts.{within_bounds, within_from}
 use Rattle.vote_explain.proofs.Parts.{more_ends, ranks_from_hyphen, ranks_have_byte, named_from_space, named_from_byte}
 
@@ -138,13 +138,6 @@ ends part place line whole room is = record {
 }
 
 -- ---- where ranks are read
--- the first bytes of the line are a front in this state, or would be with more room, and without the last of them they are one
-pub record IsReached (state place : ℕ) (line : List ℕ) : Type 0 where
-  pub part : Part
-  pub is_state : IsState state (Some part)
-  pub is_in : IsIn part place line
-  pub is_front : IsFront (take (place - 1) line)
-
 pub ranks_reached : (place : ℕ) (line : List ℕ) → place < 200 → IsIn Rank place line → IsReached 0 place line
 ranks_reached place line room is = record {
   part = Rank;
@@ -177,6 +170,24 @@ pub reaches : (state next place : ℕ) (line : List ℕ) → place < length line
     → IsReached next (place + 1) line
 reaches state next place line within short some is step =
     reached_by is.part next place line step.0 within (room_before is.part state place is.is_state short) is.is_in some step.1 step.2
+
+-- in a block the state may be that of no front
+pub reaches_in_block : (state next place : ℕ) (line : List ℕ) → place < length line → place < 200 → (state ≡ 24 → next ≡ 24)
+    → ((part : Part) (n : ℕ) → IsState state (Some part) → IsNextState part n (get_or line place 0) next) → (state ≡ 24) ⊎ IsReached state place line → (next ≡ 24) ⊎ IsReached next (place + 1) line
+reaches_in_block state next place line within short stays step (inl nowhere) = inl (stays nowhere)
+reaches_in_block state next place line within short stays step (inr is) =
+    elim (cases_Bool (next == 24)) [
+      | inl nowhere ↦ inl (grind (arith, nat_tests))
+      | inr some ↦ inr (reaches state next place line within short (λ nowhere. grind (arith, nat_tests)) is (step is.part place is.is_state))
+    ]
+
+pub state_in_block : (state place : ℕ) (line : List ℕ) → (state ≡ 24) ⊎ IsReached state place line → state ≤ 24
+state_in_block state place line (inl nowhere) = omega arith
+state_in_block state place line (inr is) = let small : state ≤ 16 = small_state is.part state is.is_state in omega arith
+
+pub reached_in_block : (state place : ℕ) (line : List ℕ) → (state ≡ 24) ⊎ IsReached state place line → (state ≡ 24 → ⊥) → IsReached state place line
+reached_in_block state place line (inl nowhere) some = absurd (some nowhere)
+reached_in_block state place line (inr is) some = is
 
 no_next : (part : Part) (place b state : ℕ) (next : Option Part) → state ≡ 24 → IsState state next → IsNext part place b next → IsNext part place b None
 no_next part place b state None nowhere is step = step

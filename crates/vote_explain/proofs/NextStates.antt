@@ -87,3 +87,13 @@ step_by Comma place b state is = subst (λ s. IsNextState Comma place b (behind 
 pub step_in_table : (b state : ℕ) → b < 256 → (part : Part) (place : ℕ) → IsState state (Some part) → IsNextState part place b (bit_and (get_or NEXT b 0 / 2 ^ state) 31)
 step_in_table b state fits part place is =
     subst (λ row. IsNextState part place b (behind row state)) (sym (next-at b fits)) (step_by part place b state is)
+
+nowhere_by : (b row : ℕ) → Kind b row → behind row 24 ≡ 24
+nowhere_by b row (comma is same) = ap (λ r. behind r 24) same
+nowhere_by b row (hyphen is same) = ap (λ r. behind r 24) same
+nowhere_by b row (zero_digit is same) = ap (λ r. behind r 24) same
+nowhere_by b row (digit is same) = ap (λ r. behind r 24) same
+nowhere_by b row (other no_comma no_hyphen no_digit same) = ap (λ r. behind r 24) same
+
+pub stays_nowhere : (b state : ℕ) → b < 256 → state ≡ 24 → bit_and (get_or NEXT b 0 / 2 ^ state) 31 ≡ 24
+stays_nowhere b state fits is = ap (behind (get_or NEXT b 0)) is ∙ ap (λ row. behind row 24) (next-at b fits) ∙ nowhere_by b (row_of b) (kind_of b)

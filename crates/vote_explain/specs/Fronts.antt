@@ -1,11 +1,11 @@
 -- What can stand behind a front of a ballot line, by the part of the line in which the front ends.
-use Rattle.std.specs.Prelude.{◌≡◌, ℕ, ◌+◌, ◌≤◌, ◌⊎◌, ◌↔◌, List, ◌∷◌, ◌++◌, length, take, Option, Some, None, IsTrue, codes}
+use Rattle.std.specs.Prelude.{◌≡◌, ℕ, ◌+◌, ◌-◌, ◌≤◌, ◌⊎◌, ◌↔◌, List, ◌∷◌, ◌++◌, length, take, Option, Some, None, IsTrue, codes}
 use Rattle.std.specs.List.{All, flat_map, list_all}
 use Rattle.std.specs.Str.{byte}
 use Rattle.vote_poll.specs.BallotLine.{IsRank, rank_text}
 use Rattle.vote_poll.specs.Names.{is_voter_byte, is_within}
 use Rattle.vote_poll.specs.declared.TheConstants.{MAX_LINE, MAX_VOTER_NAME}
-use Rattle.vote_explain.specs.Column.{IsBallotText}
+use Rattle.vote_explain.specs.Column.{IsBallotText, IsFront}
 use Rattle.vote_explain.specs.declared.fronts.TheConstants.{RANK, DIGIT, COMMA, NOWHERE}
 
 -- the part of a ballot line in which a front of it ends
@@ -85,3 +85,11 @@ IsState state (Some Comma) = state ≡ COMMA
 -- the state of a front of so many bytes with one more byte
 abbrev pub IsNextState : Part → ℕ → ℕ → ℕ → Type 0
 IsNextState part place b state = (next : Option Part) × IsState state next × IsNext part place b next
+
+-- The first bytes of the line are a front in this state, or would be one if a line could be longer. Without the last of them they
+-- are one.
+pub record IsReached (state place : ℕ) (line : List ℕ) : Type 0 where
+  pub part : Part
+  pub is_state : IsState state (Some part)
+  pub is_in : IsIn part place line
+  pub is_front : IsFront (take (place - 1) line)

@@ -1,9 +1,9 @@
 //! Where a line leaves the grammar of ballot lines. The ranks are read by a table in place of tests: which way a test of a
 //! rank's length goes is a coin toss, and a processor that guesses wrong loses the time of several bytes.
 
-ghost use Rattle.std.specs.Prelude.{◌≡◌, ◌<◌, ◌≤◌, ◌+◌, List, ℕ, Some, IfOk, IfErr, length};
+ghost use Rattle.std.specs.Prelude.{◌≡◌, ◌≢◌, ◌≤◌, ◌+◌, List, ℕ, Some, IfOk, IfErr, length};
 ghost use Rattle.vote_explain.specs.Column.{IsColumn};
-ghost use Rattle.vote_explain.specs.Fronts.{IsIn, IsNextState, IsState, Part, Rank};
+ghost use Rattle.vote_explain.specs.Fronts.{IsNextState, IsReached, IsState, Part};
 
 use vote_poll::{MAX_LINE, MAX_VOTER_NAME, is_voter_byte};
 
@@ -20,22 +20,22 @@ const COMMA: u32 = 16;
 const NOWHERE: u32 = 24;
 
 /// The row of a comma.
-const COMMAS: u32 = NOWHERE << RANK | RANK << DIGIT | RANK << COMMA;
+const COMMAS: u32 = NOWHERE << RANK | RANK << DIGIT | RANK << COMMA | NOWHERE << NOWHERE;
 
 /// The row of a hyphen, which is a rank.
-const HYPHENS: u32 = COMMA << RANK | NOWHERE << DIGIT | NOWHERE << COMMA;
+const HYPHENS: u32 = COMMA << RANK | NOWHERE << DIGIT | NOWHERE << COMMA | NOWHERE << NOWHERE;
 
 /// The row of the digit 0, with which no rank begins.
-const ZEROS: u32 = NOWHERE << RANK | COMMA << DIGIT | NOWHERE << COMMA;
+const ZEROS: u32 = NOWHERE << RANK | COMMA << DIGIT | NOWHERE << COMMA | NOWHERE << NOWHERE;
 
 /// The row of each other digit.
-const DIGITS: u32 = DIGIT << RANK | COMMA << DIGIT | NOWHERE << COMMA;
+const DIGITS: u32 = DIGIT << RANK | COMMA << DIGIT | NOWHERE << COMMA | NOWHERE << NOWHERE;
 
 /// The row of a byte that stands in no list of ranks.
-const OTHERS: u32 = NOWHERE << RANK | NOWHERE << DIGIT | NOWHERE << COMMA;
+const OTHERS: u32 = NOWHERE << RANK | NOWHERE << DIGIT | NOWHERE << COMMA | NOWHERE << NOWHERE;
 
-/// The row of each byte. It has three numbers of 8 bits, the next state for each state of a front, and the state says how
-/// far to the right they are shifted: so a shift and a mask take the place of all tests of the byte.
+/// The row of each byte. It has four numbers of 8 bits, the next state for each state, and the state says how far to the
+/// right they are shifted: so a shift and a mask take the place of all tests of the byte.
 const NEXT: [u32; 256] = [
     OTHERS, OTHERS, OTHERS, OTHERS, OTHERS, OTHERS, OTHERS, OTHERS, OTHERS, OTHERS, OTHERS, OTHERS,
     OTHERS, OTHERS, OTHERS, OTHERS, OTHERS, OTHERS, OTHERS, OTHERS, OTHERS, OTHERS, OTHERS, OTHERS,
@@ -61,17 +61,57 @@ const NEXT: [u32; 256] = [
     OTHERS, OTHERS, OTHERS, OTHERS, OTHERS,
 ];
 
+/// How many bytes are read between two tests of the state. From [`NOWHERE`] no byte leads back.
+const BLOCK: usize = 4;
+
 /// The state of a front with one more byte.
 fn next_state(state: u32, byte: u8) -> u32
-    requires { state ≤ COMMA }
-    ensures { (part : Part) (place : ℕ) → IsState state (Some part) → IsNextState part place byte result }
+    requires { state ≤ NOWHERE }
+    ensures front { (part : Part) (place : ℕ) → IsState state (Some part) → IsNextState part place byte result }
+    ensures nowhere { state ≡ NOWHERE → result ≡ NOWHERE }
 {
     (NEXT[byte as usize] >> state) & 31
 }
 
+/// The state of a front with one block more.
+fn state_behind(state: u32, line: &[u8], place: usize) -> u32
+    requires within { place + BLOCK ≤ length line.now }
+    requires short { place + BLOCK ≤ MAX_LINE }
+    requires reached { IsReached state place line.now }
+    ensures { result ≢ NOWHERE → IsReached result (place + BLOCK) line.now }
+{
+    let mut behind = state;
+    for step in 0..BLOCK {
+        behind = next_state(behind, line[place + step]);
+    }
+    behind
+}
+
+/// A front of a line that ends before the block in which the line leaves the grammar: its place and its state.
+fn front_by_blocks(line: &[u8], begin: usize, most: usize) -> (usize, u32)
+    requires begin { begin ≤ most }
+    requires within { most ≤ length line.now }
+    requires short { most ≤ MAX_LINE }
+    requires reached { IsReached RANK begin line.now }
+    ensures within { result.0 ≤ most }
+    ensures reached { IsReached result.1 result.0 line.now }
+{
+    let blocks = (most - begin) / BLOCK;
+    let mut state = RANK;
+    for block in 0..blocks {
+        let place = begin + block * BLOCK;
+        let behind = state_behind(state, line, place);
+        if behind == NOWHERE {
+            return (place, state);
+        }
+        state = behind;
+    }
+    (begin + blocks * BLOCK, state)
+}
+
 /// The place of a line's first rank, or the column in which the line leaves the grammar before it.
 fn place_of_ranks(line: &[u8]) -> Result<usize, usize>
-    ensures place { IfOk result (λ place. (place ≤ length line.now) × (place ≤ MAX_VOTER_NAME + 1) × IsIn Rank place line.now) }
+    ensures place { IfOk result (λ place. (place ≤ length line.now) × (place ≤ MAX_VOTER_NAME + 1) × IsReached RANK place line.now) }
     ensures column { IfErr result (λ column. IsColumn line.now column) }
 {
     for place in 0..line.len().min(MAX_VOTER_NAME + 1) {
@@ -86,16 +126,17 @@ fn place_of_ranks(line: &[u8]) -> Result<usize, usize>
     Err(line.len() + 1)
 }
 
-/// The column in which a line leaves the grammar whose ranks begin at this place. A comma wants room for a rank behind it.
+/// The column in which a line leaves the grammar whose ranks begin at this place. A comma wants room for a rank behind it, which
+/// no state tells.
 fn column_of_ranks(line: &[u8], begin: usize) -> usize
     requires within { begin ≤ length line.now }
     requires short { begin ≤ MAX_VOTER_NAME + 1 }
-    requires ranks { IsIn Rank begin line.now }
+    requires reached { IsReached RANK begin line.now }
     ensures { IsColumn line.now result }
 {
     let most = line.len().min(MAX_LINE);
-    let mut state = RANK;
-    for place in begin..most {
+    let (reached, mut state) = front_by_blocks(line, begin, most);
+    for place in reached..most {
         state = next_state(state, line[place]);
         if state == NOWHERE {
             return place + 1;

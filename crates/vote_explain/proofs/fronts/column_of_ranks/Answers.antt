@@ -1,21 +1,22 @@
 use Rattle.std.proofs.Common.{◌≡◌, ◌+◌, arith, subst, ◌∙◌}
 use Rattle.vote_explain.specs.Column.{IsColumn}
-use Rattle.vote_explain.proofs.LineFronts.{IsReached, ends_in_ranks, ranks_reached, reaches, stops_at_comma, stops_in_ranks}
+use Rattle.vote_explain.specs.Fronts.{IsReached}
+use Rattle.vote_explain.proofs.LineFronts.{ends_in_ranks, reaches, stops_at_comma, stops_in_ranks}
 use Rattle.vote_explain.proofs.fronts.column_of_ranks.Goals as goal
 use Rattle.vote_explain.proofs.fronts.column_of_ranks.Goals.{else-state-eq-RANK-via-then-state-eq-RANK+else-most-eq-MAX_LINE, else-state-eq-RANK-via-else-state-eq-RANK}
 
 pub loop-place-init : goal.loop-place-init
-loop-place-init c = ranks_reached c.args.begin c.args.line.now (omega (arith, c.requires.short)) c.requires.ranks
+loop-place-init c = c.front_by_blocks-reached.ensures.reached
 
 pub returns-then-state-eq-NOWHERE : goal.returns-then-state-eq-NOWHERE
 returns-then-state-eq-NOWHERE c =
     let is = c.loop-place.invariant in
-    stops_in_ranks c.loop-place.state c.next_state-state.result c.loop-place.place c.args.line.now (omega arith) (omega arith) (omega arith) is (c.next_state-state.ensures is.part c.loop-place.place is.is_state)
+    stops_in_ranks c.loop-place.state c.next_state-state.result c.loop-place.place c.args.line.now (omega arith) (omega arith) (omega arith) is (c.next_state-state.ensures.front is.part c.loop-place.place is.is_state)
 
 pub loop-place-preserved : goal.loop-place-preserved
 loop-place-preserved c =
     let is = c.loop-place.invariant in
-    reaches c.loop-place.state c.next_state-state.result c.loop-place.place c.args.line.now (omega arith) (omega arith) (λ nowhere. absurd (omega arith)) is (c.next_state-state.ensures is.part c.loop-place.place is.is_state)
+    reaches c.loop-place.state c.next_state-state.result c.loop-place.place c.args.line.now (omega arith) (omega arith) (λ nowhere. absurd (omega arith)) is (c.next_state-state.ensures.front is.part c.loop-place.place is.is_state)
 
 pub returns-then-most-eq-MAX_LINE : goal.returns-then-most-eq-MAX_LINE
 returns-then-most-eq-MAX_LINE c =

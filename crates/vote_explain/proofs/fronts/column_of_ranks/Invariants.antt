@@ -1,4 +1,4 @@
-use Rattle.vote_explain.proofs.LineFronts.{IsReached}
+use Rattle.vote_explain.specs.Fronts.{IsReached}
 use Rattle.vote_explain.proofs.fronts.column_of_ranks.Given as goal
 
 abbrev pub invariant-loop-place : goal.invariant-loop-place

@@ -1,7 +1,7 @@
 use Rattle.std.proofs.Common.{◌≡◌, ◌∙◌, ◌+◌, ◌≤◌, inl, length, inr, get_or, arith, sym, subst, Some, true, false}
 use Rattle.vote_explain.specs.Column.{IsColumn}
 use Rattle.vote_explain.specs.Fronts.{IsNext, Name, Rank}
-use Rattle.vote_explain.proofs.LineFronts.{begins_in_name, ends, goes_on, stops}
+use Rattle.vote_explain.proofs.LineFronts.{begins_in_name, ends, goes_on, ranks_reached, stops}
 use Rattle.vote_explain.proofs.Steps.{byte_in_name, no_name, space_ends_name}
 use Rattle.vote_explain.proofs.fronts.place_of_ranks.Goals as goal
 
@@ -15,8 +15,9 @@ returns-then-place-gt0-clause-place c =
     let space : get_or line place 0 ≡ 32 = c.if-byte-eq32.true in (
       omega arith,
       omega arith,
-      goes_on Name Rank place line (omega arith) c.loop-place.invariant.1
-          (subst (λ b. IsNext Name place b (Some Rank)) (sym space) (space_ends_name place (omega arith) c.loop-place.invariant.0)),
+      ranks_reached (place + 1) line (omega arith)
+          (goes_on Name Rank place line (omega arith) c.loop-place.invariant.1
+          (subst (λ b. IsNext Name place b (Some Rank)) (sym space) (space_ends_name place (omega arith) c.loop-place.invariant.0))),
     )
 
 pub returns-then-not-is_voter_byte-clause-column : goal.returns-then-not-is_voter_byte-clause-column
