@@ -72,7 +72,7 @@ named_can_end place most =
     ]
 
 -- there is room for what can stand behind a front of so many bytes: a name is not too long yet, and a rank has a byte
-abbrev pub HasRoom : Part → ℕ → Type 0
+abbrev HasRoom : Part → ℕ → Type 0
 HasRoom Name place = place ≤ 32
 HasRoom Rank place = place < 200
 HasRoom Digit place = place ≤ 200
@@ -110,7 +110,7 @@ short_front front (rest, (voter, ranks, is)) = omega (arith, length-append front
 front_in : (part : Part) (place : ℕ) (line : List ℕ) → HasRoom part place → IsIn part place line → IsFront (take place line)
 front_in part place line room is = let end = can_end part place room in (end.0, (is end.0).0 end.1)
 
-pub front_before : (part : Part) (place : ℕ) (line : List ℕ) → HasRoom part place → IsIn part place line → IsFront (take (place + 1 - 1) line)
+front_before : (part : Part) (place : ℕ) (line : List ℕ) → HasRoom part place → IsIn part place line → IsFront (take (place + 1 - 1) line)
 front_before part place line room is = let same : place + 1 - 1 ≡ place = omega arith in subst (λ n. IsFront (take n line)) (sym same) (front_in part place line room is)
 
 no_longer : (part : Part) (place : ℕ) (line : List ℕ) → place < length line → IsIn part place line → IsNext part place (get_or line place 0) None
@@ -154,7 +154,7 @@ room_before Digit state place is short = omega arith
 room_before Comma state place is short = omega arith
 
 -- the state of a part is a shift
-pub small_state : (part : Part) (state : ℕ) → IsState state (Some part) → state ≤ 16
+small_state : (part : Part) (state : ℕ) → IsState state (Some part) → state ≤ 16
 small_state Name state is = absurd is
 small_state Rank state is = omega (arith, is)
 small_state Digit state is = omega (arith, is)
