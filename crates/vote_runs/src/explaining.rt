@@ -1,6 +1,6 @@
 //! The command `explain`.
 
-ghost use Rattle.std.specs.Prelude.{◌≡◌, ◌≢◌, ◌<◌, ◌↔◌, true, Err, IfErr, IfOk, IsErrOf, OnOk, option_map, string_bytes};
+ghost use Rattle.std.specs.Prelude.{◌≡◌, ◌≢◌, ◌<◌, ◌↔◌, true, Err, IfErr, IfOk, IsErrOf, OnOk, option_map, string_bytes, ◌++◌};
 ghost use Rattle.std.specs.Result.{result_err};
 ghost use Rattle.vote_poll.specs.PollFile.{poll_in};
 ghost use Rattle.vote_runs.specs.Explaining.{AnswersGiven, Explains, IsExplanation, IsGivenFault, ended_by};
@@ -8,7 +8,7 @@ ghost use Rattle.vote_runs.specs.declared.fault.InputFault.{InputFault};
 
 use crate::fault::{Ended, RunFault};
 use crate::output::write_run;
-use std::alloc::Global;
+use std::alloc::{AllocError, Global};
 use vote_explain::{Explained, explain_ballots};
 use vote_files::Sink;
 use vote_findings::{ExplainedPoll, explain_poll};
@@ -24,6 +24,18 @@ fn ended_by(findings: &String, refused: u64) -> Ended
     } else {
         Ended::Found
     }
+}
+
+/// A text and another one behind it. Of two texts of which the first is empty nothing is copied.
+fn appended(first: String, second: String) -> Result<String, AllocError>
+    ensures { IfOk result (λ both. string_bytes both ≡ string_bytes first ++ string_bytes second) }
+{
+    if first.is_empty() {
+        return Ok(second);
+    }
+    let mut both = first;
+    both.push_str(second.as_str())?;
+    Ok(both)
 }
 
 /// What is said of a poll and, where they are given, of its ballots, and how the run ends by it.
@@ -56,8 +68,7 @@ fn explanation(
         refused,
     } = explain_ballots(alloc, &poll, &lines)?;
     let ended = ended_by(&text, refused);
-    text.push_str(said.as_str())?;
-    Ok((text, ended))
+    Ok((appended(text, said)?, ended))
 }
 
 /// Writes all that is wrong with a poll file, and where it is in order with its ballots too, if they are given. Nothing is written
