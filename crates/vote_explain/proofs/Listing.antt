@@ -4,7 +4,6 @@ use Rattle.std.specs.List.{list_all}
 use Rattle.std.proofs.lemmas.List.{drop_all}
 use Rattle.vote_poll.specs.PollContent.{PollContent, last_in_time}
 use Rattle.vote_poll.specs.Readings.{reading}
-use Rattle.vote_steps.specs.History.{is_valid}
 use Rattle.vote_steps.specs.declared.Reply.{Reply}
 use Rattle.vote_sheet.specs.Texts.{Text}
 use Rattle.vote_explain.specs.Explained.{AreFindings, Refusal, ends_with_return, finding_line, left_behind, refusals, refusals_from, refusing_reply}
@@ -16,12 +15,6 @@ unfolding finding_head finding_line
 finding_by refusal hint t0 t1 t2 t3 e1 e2 e3 = rw (e3, e2, e1) (simp (append_assoc, append-nil))
 
 -- a reply that refuses nothing, and one that refuses its line
-pub nothing_refused : (number : ℕ) (bytes : Text) (reply : Reply) → is_valid reply ≡ true → refused_by number bytes reply ≡ []
-nothing_refused number bytes reply valid = rw valid
-
-pub one_refused : (number : ℕ) (bytes : Text) (reply : Reply) → is_valid reply ≡ false → refused_by number bytes reply ≡ record { number = number; bytes = bytes; reply = reply } ∷ []
-one_refused number bytes reply invalid = rw invalid
-
 -- ---- findings, one after another
 pub findings_append : (poll : PollContent) (left : ℕ) (front back : List Refusal) (text rest : Text) → AreFindings poll left front text → AreFindings poll (left_after front left) back rest
     → AreFindings poll left (front ++ back) (text ++ rest)

@@ -1,5 +1,5 @@
 -- What a front of a ballot line is with one more byte.
-use Rattle.std.proofs.Common.{◌≡◌, ◌+◌, ◌<◌, ◌≤◌, ◌⊎◌, inl, inr, ◌↔◌, ℕ, List, ◌∷◌, length, refl, ap, sym, subst, ◌∙◌, Option, Some, None, true, false, arith}
+use Rattle.std.proofs.Common.{◌≡◌, ◌+◌, ◌<◌, ◌≤◌, ◌⊎◌, inl, inr, ◌↔◌, ℕ, List, ◌∷◌, length, refl, ap, sym, subst, ◌∙◌, Option, Some, None, true, arith}
 use Rattle.vote_poll.specs.Names.{is_voter_byte, is_within}
 use Rattle.vote_explain.specs.Fronts.{AreMore, AreRanks, IsDigit, IsNamed, IsNext, Part, Name, Rank, Digit, Comma}
 use Rattle.vote_explain.proofs.Parts.{more_begin, more_from, named_begins, named_from_byte, named_from_space, ranks_begin, ranks_from_digit, ranks_from_hyphen}
@@ -10,9 +10,6 @@ with_byte : (A B : List ℕ → Type 0) (place b : ℕ) → ((rest : List ℕ) �
 with_byte A B place b forward backward rest = (λ h. (omega (arith, h.0), forward rest h.1), λ h. (omega (arith, h.0), backward rest h.1))
 
 -- ---- in a name
-space_is_no_name : is_voter_byte 32 ≡ false
-space_is_no_name = refl
-
 space_by : (place b : ℕ) (rest : List ℕ) → b ≡ 32 → ((b ≡ 32) × (1 ≤ place) × AreRanks rest) ⊎ ((is_voter_byte b ≡ true) × (place < 32) × IsNamed (place + 1) rest) → AreRanks rest
 space_by place b rest is (inl space) = space.2
 space_by place b rest is (inr name) = let wrong : is_voter_byte 32 ≡ true = ap is_voter_byte (sym is) ∙ name.0 in cc

@@ -50,9 +50,6 @@ findings_append [] ys s t none more = subst (λ (u : List ℕ). AreFindings ys (
 findings_append (e ∷ xs) ys s t first more =
     (first.0, first.1 ++ t, first.2, findings_append xs ys first.1 t first.3 more, ap (λ u. u ++ t) first.4 ∙ append_assoc (finding e first.0) first.1 t)
 
-pub none_added : (text : List ℕ) → AddsFindings [] text text
-none_added text = ([], refl, sym (append-nil text))
-
 pub adds_then : (xs ys : List PollFault) (before between after : List ℕ) → AddsFindings xs before between → AddsFindings ys between after → AddsFindings (xs ++ ys) before after
 adds_then xs ys before between after first more =
     (first.0 ++ more.0, findings_append xs ys first.0 more.0 first.1 more.1, more.2 ∙ ap (λ t. t ++ more.0) first.2 ∙ append_assoc before first.0 more.0)
@@ -111,9 +108,6 @@ places_more p naming n =
     one false e = rw e refl
 
 -- ---- lines of keys
-pub no_key_lines : (text : List ℕ) → AddsKeyLines text text
-no_key_lines text = ([], All-nil IsKeyLine, sym (append-nil text))
-
 pub one_key_line : (path remark before between after : List ℕ) (most n : ℕ) → AddsKeyLines before between
     → after ≡ between ++ codes "poll: key " ++ shown most path ++ codes " is not read" ++ shown n remark ++ line_feed → AddsKeyLines before after
 one_key_line path remark before between after most n first added =
