@@ -21,6 +21,3 @@ pub const VERSION: &str = "1.0.0";
 
 /// The most desks that the words can ask for.
 pub const MAX_DESKS: u8 = 8;
-
-#[cfg(test)]
-mod tests;

@@ -52,6 +52,3 @@ pub use pairs::{Chains, Defeats, reach};
 pub use rounds::{Cause, Decision, Round, Verdict, decide, outcome};
 pub use rules::{meets_majority, meets_quorum, quorum_votes, schwartz, standing_options, weakest};
 pub use tally::{Matrix, recount};
-
-#[cfg(test)]
-mod tests;

@@ -52,8 +52,3 @@ pub use shared::{SharedBox, open_desks};
 pub use slip::Slip;
 pub use votes::take_votes;
 pub use work::Gate;
-
-#[cfg(test)]
-mod tests;
-#[cfg(test)]
-mod vote_tests;

@@ -44,6 +44,3 @@ pub const MOST_EDITS: usize = 2;
 
 /// For how many names a near one is searched: each search reads the whole roll.
 pub const MOST_SEARCHES: u8 = 100;
-
-#[cfg(test)]
-mod tests;

@@ -25,6 +25,3 @@ pub use input::{ReadFault, read_limited};
 pub use meter::Meter;
 pub use output::write_text;
 pub use standard::{ReaderSource, WriterSink, read_all};
-
-#[cfg(test)]
-mod tests;

@@ -33,6 +33,3 @@ pub use explain::{ExplainedPoll, explain_poll};
 
 /// The most bytes of a name or text of a file that a finding shows.
 pub const MAX_SHOWN: usize = 60;
-
-#[cfg(test)]
-mod tests;

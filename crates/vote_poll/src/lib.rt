@@ -90,6 +90,3 @@ pub const MAX_TITLE: usize = 80;
 
 /// The most bytes that the name of an option can have.
 pub const MAX_OPTION_NAME: usize = 40;
-
-#[cfg(test)]
-mod tests;

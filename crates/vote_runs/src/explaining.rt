@@ -1,9 +1,13 @@
 //! The command `explain`.
 
-ghost use Rattle.std.specs.Prelude.{◌≡◌, ◌≢◌, ◌<◌, ◌↔◌, true, Err, IfErr, IfOk, IsErrOf, OnOk, option_map, string_bytes, ◌++◌};
+ghost use Rattle.std.specs.Prelude.{◌≡◌, ◌≢◌, ◌<◌, ◌↔◌, true, Ok, Err, IfErr, IfOk, IsErrOf, OnOk, option_map, string_bytes, ◌++◌};
 ghost use Rattle.std.specs.Result.{result_err};
 ghost use Rattle.vote_poll.specs.PollFile.{poll_in};
-ghost use Rattle.vote_runs.specs.Explaining.{AnswersGiven, Explains, IsExplanation, IsGivenFault, ended_by};
+ghost use Rattle.vote_explain.specs.Explained.{IsExplained};
+ghost use Rattle.vote_sheet.specs.LastBallots.{refused_count};
+ghost use Rattle.vote_sheet.specs.Steps.{check_text};
+ghost use Rattle.vote_sheet.specs.Texts.{Text};
+ghost use Rattle.vote_runs.specs.Explaining.{AnswersGiven, Explains, IsExplanation, IsGivenFault, IsRest, ended_by};
 ghost use Rattle.vote_runs.specs.declared.fault.InputFault.{InputFault};
 
 use crate::fault::{Ended, RunFault};
@@ -12,7 +16,7 @@ use std::alloc::{AllocError, Global};
 use vote_explain::{Explained, explain_ballots};
 use vote_files::Sink;
 use vote_findings::{ExplainedPoll, explain_poll};
-use vote_poll::Lines;
+use vote_poll::{Lines, Poll};
 use vote_sheet::check_text;
 
 /// How a run ends by its findings.
@@ -38,6 +42,49 @@ fn appended(first: String, second: String) -> Result<String, AllocError>
     Ok(both)
 }
 
+/// What is said of a poll in order behind its findings where no ballots are given: the line of `check`.
+fn with_sizes(alloc: Global, poll: &Poll, findings: String) -> Result<(String, Ended), AllocError>
+    ensures { IfOk result (λ explained. (string_bytes explained.0 ≡ string_bytes findings ++ check_text poll.now) × (explained.1 ≡ ended_by (string_bytes findings) 0)) }
+{
+    let ended = ended_by(&findings, 0);
+    let sizes = check_text(alloc, poll)?;
+    Ok((appended(findings, sizes)?, ended))
+}
+
+/// What is said of the lines of a poll in order behind its findings.
+fn with_lines(
+    alloc: Global,
+    poll: &Poll,
+    lines: &Lines<'_>,
+    findings: String,
+) -> Result<(String, Ended), AllocError>
+    ensures { IfOk result (λ explained. (rest : Text) × (string_bytes explained.0 ≡ string_bytes findings ++ rest) × IsExplained poll.now lines.now rest × (explained.1 ≡ ended_by (string_bytes findings) (refused_count poll.now lines.now))) }
+{
+    let Explained { text, refused } = explain_ballots(alloc, poll, lines)?;
+    let ended = ended_by(&findings, refused);
+    Ok((appended(findings, text)?, ended))
+}
+
+/// What is said of a poll in order behind its findings, and of its ballots where they are given.
+fn with_rest(
+    alloc: Global,
+    poll: &Poll,
+    ballots: Option<&[u8]>,
+    findings: String,
+) -> Result<(String, Ended), RunFault>
+    ensures text { IfOk result (λ explained. (rest : Text) × IsRest (Ok poll.now) (option_map (λ bytes. bytes.now) ballots.entry) (string_bytes findings) rest explained.1 × (string_bytes explained.0 ≡ string_bytes findings ++ rest)) }
+    ensures lines { AnswersGiven (Ok poll.now) (option_map (λ bytes. bytes.now) ballots.entry) (result_err result) }
+    ensures fault { IfErr result IsGivenFault }
+{
+    let Some(ballots) = ballots else {
+        return Ok(with_sizes(alloc, poll, findings)?);
+    };
+    match Lines::split(alloc, ballots) {
+        Ok(lines) => Ok(with_lines(alloc, poll, &lines, findings)?),
+        Err(fault) => Err(RunFault::Lines(fault)),
+    }
+}
+
 /// What is said of a poll and, where they are given, of its ballots, and how the run ends by it.
 fn explanation(
     alloc: Global,
@@ -49,26 +96,10 @@ fn explanation(
     ensures fault { IfErr result IsGivenFault }
 {
     let ExplainedPoll { findings, outcome } = explain_poll(alloc, poll_text)?;
-    let Ok(poll) = outcome else {
-        return Ok((findings, Ended::PollRefused));
-    };
-    let mut text = findings;
-    let Some(ballots) = ballots else {
-        let ended = ended_by(&text, 0);
-        let sizes = check_text(alloc, &poll)?;
-        text.push_str(sizes.as_str())?;
-        return Ok((text, ended));
-    };
-    let lines = match Lines::split(alloc, ballots) {
-        Ok(lines) => lines,
-        Err(fault) => return Err(RunFault::Lines(fault)),
-    };
-    let Explained {
-        text: said,
-        refused,
-    } = explain_ballots(alloc, &poll, &lines)?;
-    let ended = ended_by(&text, refused);
-    Ok((appended(text, said)?, ended))
+    match outcome {
+        Ok(poll) => with_rest(alloc, &poll, ballots, findings),
+        Err(_) => Ok((findings, Ended::PollRefused)),
+    }
 }
 
 /// Writes all that is wrong with a poll file, and where it is in order with its ballots too, if they are given. Nothing is written

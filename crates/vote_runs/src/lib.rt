@@ -47,8 +47,3 @@ pub use fault::{
 pub use jobs::{Job, perform, perform_on};
 pub use joined::split_joined;
 pub use listing::{Listing, print_listing, print_steps, steps_joined};
-
-#[cfg(test)]
-mod fault_tests;
-#[cfg(test)]
-mod tests;

@@ -30,6 +30,3 @@ pub use sheet::{sheet_is_unique, sheet_of_box};
 pub use standing::standing_text;
 pub use steps::{check_text, reply_words, steps_are_determined, steps_text};
 pub use verify::{Verification, verify_sheet};
-
-#[cfg(test)]
-mod tests;

@@ -38,6 +38,3 @@ pub use step::{Received, Reply, Step};
 
 /// The most desks at which envelopes are cast. Desks are numbered from 1.
 pub const MAX_DESKS: u8 = 8;
-
-#[cfg(test)]
-mod tests;

@@ -37,8 +37,6 @@ ghost use Rattle.vote_tray.specs.Passes.{new_pass, with_seen, with_place, joined
 ghost use Rattle.vote_tray.specs.Attempts.{Attempts};
 
 mod rule;
-#[cfg(test)]
-mod tests;
 
 use atomic_table::{Seat, Table};
 use rule::{Claim, Counts, Cut, Dealing, Glue, Look, View};

@@ -1,0 +1,375 @@
+//! Desks served by hand and in threads, audits that find a difference, and what a want of memory leaves.
+ghost use Rattle.std.specs.Prelude.{◌≡◌, ◌≤◌, []};
+ghost use Rattle.vote_steps.specs.Boxes.{box_of};
+
+use std::alloc::Global;
+use std::marker::Brand;
+use std::process::Abort;
+use std::sync::Wait;
+use std::sync::ledger::Blank;
+use std::test::Fail;
+use std::thread;
+use std::thread::Threads;
+use vote_desks::{
+    AuditFault, Desk, DeskFault, EnterFault, NoVoter, Sealed, SharedBox, Slip, Tally, audit,
+    compare, gather, open_desks,
+};
+use vote_poll::{Lines, Poll, Reading, read_line};
+use vote_steps::{AlreadyClosed, MAX_DESKS, Reply};
+
+const TWO_ELECTORS: &str =
+    "title = \"Two\"\noptions = [\"A\", \"B\"]\nratios = [1, 1]\ndefault = \"None\"\nquorum = 0\nroll = [\"ann\", \"bob\"]\n";
+
+const FIRST_IS_LAST: &str =
+    "title = \"First\"\noptions = [\"A\", \"B\"]\nratios = [1, 1]\ndefault = \"None\"\nquorum = 0\nroll = [\"ann\", \"bob\"]\nlast_envelope = 1\n";
+
+const TWO_LINES: &str = "ann 1,2,3\nbob 2,1,3\n";
+
+const ANN: &str = "ann 1,2,3";
+
+const BOB: &str = "bob 2,1,3";
+
+/// What is done at a shared box, and what it answers.
+#[derive(Clone, Copy)]
+enum Deed {
+    /// A cast at the desk at this index, of a stamp and a line.
+    Cast(usize, u32, &'static str, Result<Reply, EnterFault>),
+    /// A cast at the desk at this index, of a stamp and a ballot of a voter whom the box does not have.
+    Stranger(usize, u32),
+    Close(Result<(), AlreadyClosed>),
+    /// Whether a ballot of this voter stands.
+    Standing(usize, Result<bool, NoVoter>),
+}
+
+/// What a cast replied.
+fn reply_of(cast: Result<Slip, EnterFault>) -> Result<Reply, EnterFault> {
+    match cast {
+        Ok(slip) => Ok(slip.reply),
+        Err(fault) => Err(fault),
+    }
+}
+
+/// A ballot of the voter behind the last of two.
+fn strangers_ballot(poll: &Poll) -> Reading {
+    match read_line(poll, ANN.as_bytes()) {
+        Reading::Ballot { ranks, .. } => Reading::Ballot { voter: 2, ranks },
+        Reading::Bad(fault) => Reading::Bad(fault),
+    }
+}
+
+/// Does a deed, whose line is read by this poll, and asserts its answer.
+fn assert_done<VL: Tally, RL: Tally, R: Wait + Abort>(
+    rt: &R,
+    poll: &Poll,
+    shared: &SharedBox<VL, RL>,
+    desks: &mut [Desk<VL, RL>],
+    deed: Deed,
+) {
+    match deed {
+        Deed::Cast(index, stamp, line, answer) => {
+            let desk = desks.get_mut(index).expect(rt, "the desk");
+            let reading = read_line(poll, line.as_bytes());
+            let cast = shared.cast(rt, desk, stamp, reading);
+            assert_eq!(rt; reply_of(cast), answer, "at stamp {stamp}");
+        }
+        Deed::Stranger(index, stamp) => {
+            let desk = desks.get_mut(index).expect(rt, "the desk");
+            let cast = shared.cast(rt, desk, stamp, strangers_ballot(poll));
+            assert_eq!(rt; reply_of(cast), Err(EnterFault::Sizes));
+        }
+        Deed::Close(answer) => assert_eq!(rt; shared.close(rt), answer),
+        Deed::Standing(voter, answer) => {
+            let stands = match shared.standing(rt, voter) {
+                Ok(ranks) => Ok(ranks.is_some()),
+                Err(NoVoter) => Err(NoVoter),
+            };
+            assert_eq!(rt; stands, answer);
+        }
+    }
+}
+
+/// Does the deeds at a box for two lines, and gathers the desks from the last to the first, or all but the last.
+fn act<VL: Tally, RL: Tally, R: Wait + Abort>(
+    rt: &R,
+    alloc: Global,
+    poll: &Poll,
+    desks: u8,
+    deeds: &[Deed],
+    all: bool,
+    valid: Blank,
+    refused: Blank,
+) -> Result<Sealed, DeskFault>
+    requires desks { (1 ≤ desks) × (desks ≤ MAX_DESKS) }
+    requires valid { (valid.name ≡ VL.name) × (valid.parts ≡ VL.parts) × (VL.parts ≡ desks) × (VL.desks ≡ desks) }
+    requires refused { (refused.name ≡ RL.name) × (refused.parts ≡ RL.parts) × (RL.parts ≡ desks) × (RL.desks ≡ desks) }
+    requires opened { VL.opened ≡ box_of poll.now 2 [] }
+{
+    let (shared, mut opened) = open_desks::<VL, RL>(alloc, poll, 2, desks, valid, refused)?;
+    for deed in deeds {
+        assert_done(rt, poll, &shared, &mut opened, *deed);
+    }
+    if !all {
+        opened.pop();
+    }
+    opened.reverse();
+    gather(alloc, shared, opened)
+}
+
+/// Does the deeds at a box for the poll of a text.
+fn acted<R: Wait + Abort>(
+    rt: &R,
+    alloc: Global,
+    poll: &str,
+    desks: u8,
+    deeds: &[Deed],
+    all: bool,
+) -> Result<Result<Sealed, DeskFault>, Fail>
+    requires { (1 ≤ desks) × (desks ≤ MAX_DESKS) }
+{
+    let poll = Poll::from_text(alloc, poll.as_bytes())?;
+    let (valid, refused) = (Blank::new(u64::from(desks)), Blank::new(u64::from(desks)));
+    Ok(act::<Brand, Brand, R>(rt, alloc, &poll, desks, deeds, all, valid, refused))
+}
+
+/// How many steps a box has, how many of its lines are valid and refused, and how many desks it had.
+fn counts_of(sealed: &Sealed) -> (usize, u64, u64, u8) {
+    let ballot_box = sealed.ballot_box();
+    let totals = ballot_box.totals();
+    (
+        ballot_box.steps().len(),
+        totals.valid,
+        totals.refused,
+        sealed.desks(),
+    )
+}
+
+/// What a box of some desks counts after the deeds.
+fn counts_after<R: Wait + Abort>(
+    rt: &R,
+    alloc: Global,
+    desks: u8,
+    deeds: &[Deed],
+) -> Result<(usize, u64, u64, u8), Fail>
+    requires { (1 ≤ desks) × (desks ≤ MAX_DESKS) }
+{
+    let sealed = acted(rt, alloc, TWO_ELECTORS, desks, deeds, true)??;
+    Ok(counts_of(&sealed))
+}
+
+#[test]
+fn a_missing_desk_is_told(rt: HostRuntime) -> Result<(), Fail> {
+    let gathered = acted(&rt, rt.alloc(), TWO_ELECTORS, 2, &[], false)?;
+    assert_eq!(rt; gathered.err(), Some(DeskFault::MissingDesk));
+    Ok(())
+}
+
+const REFUSED_CASTS: [Deed; 7] = [
+    Deed::Stranger(0, 1),
+    Deed::Cast(0, 1, ANN, Ok(Reply::Counted)),
+    Deed::Cast(0, 1, ANN, Err(EnterFault::StampUsed)),
+    Deed::Cast(0, 0, ANN, Err(EnterFault::StampRange)),
+    Deed::Cast(0, 3, ANN, Err(EnterFault::StampRange)),
+    Deed::Cast(0, 2, BOB, Ok(Reply::Counted)),
+    Deed::Cast(0, 2, BOB, Err(EnterFault::SheetFull)),
+];
+
+#[test]
+fn refused_casts_change_nothing(rt: HostRuntime) -> Result<(), Fail> {
+    let counts = counts_after(&rt, rt.alloc(), 1, &REFUSED_CASTS)?;
+    assert_eq!(rt; counts, (3, 2, 0, 1));
+    Ok(())
+}
+
+const CLOSED: [Deed; 8] = [
+    Deed::Standing(2, Err(NoVoter)),
+    Deed::Standing(0, Ok(false)),
+    Deed::Cast(0, 1, ANN, Ok(Reply::Counted)),
+    Deed::Standing(0, Ok(true)),
+    Deed::Close(Ok(())),
+    Deed::Close(Err(AlreadyClosed)),
+    Deed::Cast(0, 2, BOB, Ok(Reply::BoxClosed)),
+    Deed::Standing(1, Ok(false)),
+];
+
+#[test]
+fn a_closed_box_refuses(rt: HostRuntime) -> Result<(), Fail> {
+    let counts = counts_after(&rt, rt.alloc(), 1, &CLOSED)?;
+    assert_eq!(rt; counts, (3, 1, 1, 1));
+    Ok(())
+}
+
+const BOTH: [Deed; 2] = [
+    Deed::Cast(0, 2, BOB, Ok(Reply::Counted)),
+    Deed::Cast(0, 1, ANN, Ok(Reply::Counted)),
+];
+
+const ONE: [Deed; 1] = [Deed::Cast(0, 1, ANN, Ok(Reply::Counted))];
+
+const MISTAKEN: [Deed; 2] = [
+    Deed::Cast(0, 1, BOB, Ok(Reply::Counted)),
+    Deed::Cast(0, 2, BOB, Ok(Reply::Replaced)),
+];
+
+const CLOSED_BETWEEN: [Deed; 3] = [
+    Deed::Cast(0, 1, ANN, Ok(Reply::Counted)),
+    Deed::Close(Ok(())),
+    Deed::Cast(0, 2, BOB, Ok(Reply::BoxClosed)),
+];
+
+const LATE: [Deed; 2] = [
+    Deed::Cast(0, 2, BOB, Ok(Reply::Late)),
+    Deed::Cast(0, 1, ANN, Ok(Reply::Counted)),
+];
+
+/// What is found in a sealed box by itself, without the sheets of its desks.
+fn found_without_sheets<R: Threads + Abort + Sync>(
+    rt: &R,
+    poll: &Poll,
+    lines: &Lines<'_>,
+    sealed: &Sealed,
+) -> Option<AuditFault> {
+    let ballot_box = sealed.ballot_box();
+    assert!(rt; !ballot_box.is_open());
+    compare(rt, poll, lines, ballot_box, &[]).err()
+}
+
+/// Does the deeds at one desk of a box for a poll, and answers what is found for another poll and two lines, with the sheet of
+/// the desk and without it.
+fn found_after<R: Threads + Wait + Abort + Sync>(
+    rt: &R,
+    alloc: Global,
+    opened: &str,
+    deeds: &[Deed],
+    poll: &str,
+) -> Result<(Option<AuditFault>, Option<AuditFault>), Fail> {
+    let sealed = acted(rt, alloc, opened, 1, deeds, true)??;
+    let poll = Poll::from_text(alloc, poll.as_bytes())?;
+    let lines = Lines::split(alloc, TWO_LINES.as_bytes())?;
+    let without = found_without_sheets(rt, &poll, &lines, &sealed);
+    Ok((audit(rt, &poll, &lines, sealed).err(), without))
+}
+
+const SIZE: Option<AuditFault> = Some(AuditFault::SizeDiffers);
+
+const COUNT: Option<AuditFault> = Some(AuditFault::CountDiffers);
+
+const STEP: Option<AuditFault> = Some(AuditFault::StepDiffers(1));
+
+const SLIP: Option<AuditFault> = Some(AuditFault::SlipDiffers(1, 1));
+
+const CLOSE: Option<AuditFault> = Some(AuditFault::ClosedEarly(2));
+
+/// The poll of a box, what is done at it, the poll for which it is audited, and what is found with the sheet and without it.
+const AUDITS: [(&str, &[Deed], &str, Option<AuditFault>, Option<AuditFault>); 6] = [
+    (TWO_ELECTORS, &BOTH, TWO_ELECTORS, None, SLIP),
+    (FIRST_IS_LAST, &LATE, FIRST_IS_LAST, None, SLIP),
+    (TWO_ELECTORS, &BOTH, FIRST_IS_LAST, SIZE, SIZE),
+    (TWO_ELECTORS, &ONE, TWO_ELECTORS, COUNT, COUNT),
+    (TWO_ELECTORS, &MISTAKEN, TWO_ELECTORS, STEP, STEP),
+    (TWO_ELECTORS, &CLOSED_BETWEEN, TWO_ELECTORS, CLOSE, SLIP),
+];
+
+#[test]
+fn audits_find_what_differs(rt: HostRuntime) -> Result<(), Fail> {
+    for (opened, deeds, poll, with, without) in AUDITS {
+        let found = found_after(&rt, rt.alloc(), opened, deeds, poll)?;
+        assert_eq!(rt; found, (with, without));
+    }
+    Ok(())
+}
+
+/// Casts ann's ballot fifty times at a desk, with the stamps from the first on.
+fn cast_fifty<VL: Tally, RL: Tally, R: Wait + Abort>(
+    rt: &R,
+    poll: &Poll,
+    shared: &SharedBox<VL, RL>,
+    mut desk: Desk<VL, RL>,
+    first: u32,
+) -> Desk<VL, RL>
+    requires { first ≤ 51 }
+{
+    for before in 0..50u32 {
+        let reading = read_line(poll, ANN.as_bytes());
+        let cast = shared.cast(rt, &mut desk, first + before, reading);
+        assert!(rt; cast.is_ok());
+    }
+    desk
+}
+
+/// Two desks in threads of their own, each of which casts fifty envelopes.
+fn act_at_once<VL: Tally + Send + Sync, RL: Tally + Send + Sync, R: Threads + Wait + Abort + Sync>(
+    rt: &R,
+    alloc: Global,
+    poll: &Poll,
+    valid: Blank,
+    refused: Blank,
+) -> Result<Sealed, DeskFault>
+    requires valid { (valid.name ≡ VL.name) × (valid.parts ≡ VL.parts) × (VL.parts ≡ 2) × (VL.desks ≡ 2) }
+    requires refused { (refused.name ≡ RL.name) × (refused.parts ≡ RL.parts) × (RL.parts ≡ 2) × (RL.desks ≡ 2) }
+    requires opened { VL.opened ≡ box_of poll.now 100 [] }
+{
+    let (shared, mut opened) = open_desks::<VL, RL>(alloc, poll, 100, 2, valid, refused)?;
+    let second = opened.pop().expect(rt, "the second desk");
+    let first = opened.pop().expect(rt, "the first desk");
+    let open = &shared;
+    let (first, second) = thread::join(
+        rt,
+        move || cast_fifty(rt, poll, open, first, 51),
+        move || cast_fifty(rt, poll, open, second, 1),
+    );
+    opened.push(first)?;
+    opened.push(second)?;
+    gather(alloc, shared, opened)
+}
+
+/// What a box counts at which two desks cast at once.
+fn counts_at_once<R: Threads + Wait + Abort + Sync>(
+    rt: &R,
+    alloc: Global,
+) -> Result<(usize, u64, u64, u8), Fail> {
+    let poll = Poll::from_text(alloc, TWO_ELECTORS.as_bytes())?;
+    let (valid, refused) = (Blank::new(2), Blank::new(2));
+    let sealed = act_at_once::<Brand, Brand, R>(rt, alloc, &poll, valid, refused)?;
+    Ok(counts_of(&sealed))
+}
+
+#[test]
+fn two_desks_in_threads(rt: HostRuntime) -> Result<(), Fail> {
+    assert_eq!(rt; counts_at_once(&rt, rt.alloc())?, (101, 100, 0, 2));
+    Ok(())
+}
+
+/// Opens two desks of a box for two lines, and answers their numbers.
+fn open_two<VL: Tally, RL: Tally>(
+    alloc: Global,
+    poll: &Poll,
+    valid: Blank,
+    refused: Blank,
+) -> Result<(u8, u8), DeskFault>
+    requires valid { (valid.name ≡ VL.name) × (valid.parts ≡ VL.parts) × (VL.parts ≡ 2) × (VL.desks ≡ 2) }
+    requires refused { (refused.name ≡ RL.name) × (refused.parts ≡ RL.parts) × (RL.parts ≡ 2) × (RL.desks ≡ 2) }
+    requires opened { VL.opened ≡ box_of poll.now 2 [] }
+{
+    let (_, desks) = open_desks::<VL, RL>(alloc, poll, 2, 2, valid, refused)?;
+    Ok((desks[0].number(), desks[1].number()))
+}
+
+#[test]
+fn memory_of_open_desks(rt: HostRuntime) -> Result<(), Fail> {
+    let poll = Poll::from_text(rt.alloc(), TWO_ELECTORS.as_bytes())?;
+    let numbers = open_two::<Brand, Brand>(rt.alloc(), &poll, Blank::new(2), Blank::new(2))?;
+    assert_eq!(rt; numbers, (1, 2));
+    Ok(())
+}
+
+const AT_TWO_DESKS: [Deed; 2] = [
+    Deed::Cast(0, 2, BOB, Ok(Reply::Counted)),
+    Deed::Cast(1, 1, ANN, Ok(Reply::Counted)),
+];
+
+#[test]
+fn memory_of_gather(rt: HostRuntime) -> Result<(), Fail> {
+    let counts = counts_after(&rt, rt.alloc(), 2, &AT_TWO_DESKS)?;
+    assert_eq!(rt; counts, (3, 2, 0, 2));
+    Ok(())
+}

@@ -1,0 +1,366 @@
+//! What no clause says: that runs succeed. And writers that fail, gates that stop a desk, and memory and threads that may be
+//! refused.
+//!
+//! Each test `memory_of_..` and `threads_of_..` makes its call once, on a writer with room. It ends well where the call gave its
+//! whole right answer, and says `refused` where the call answered its want of memory or of a thread, with nothing written. So
+//! whoever runs it with one growth or one start refused after another sees whether any other answer comes.
+
+ghost use Rattle.std.specs.Prelude.{◌≤◌};
+ghost use Rattle.vote_runs.specs.Performing.{HasDesks};
+
+use std::alloc::{AllocError, Global};
+use std::io::{self, ErrorKind, Write};
+use std::process::Abort;
+use std::sync::Wait;
+use std::test::Fail;
+use std::thread::Threads;
+use vote_desks::{Gate, NoGate, Slip, VoteFault, take_votes};
+use vote_poll::{Lines, LinesFault, Poll, PollFault};
+use vote_runs::{Ended, Job, RunFault, perform_on, sheet, status};
+
+/// A writer in memory that takes so many bytes at once, fails once it holds as many as its limit, and counts its flushes.
+#[derive(Drop)]
+struct Paper {
+    written: Vec<u8>,
+    at_once: usize,
+    limit: usize,
+    can_flush: bool,
+    flushes: u32,
+    /// Whether it was flushed after the last write.
+    is_flushed: bool,
+}
+
+impl Write for Paper {
+    fn write(&mut self, text: &[u8]) -> io::Result<usize> {
+        self.is_flushed = false;
+        let count = text.len().min(self.at_once);
+        if self.written.len() >= self.limit
+            || self.written.extend_from_slice(&text[..count]).is_err()
+        {
+            return Err(io::Error::from(ErrorKind::Other));
+        }
+        Ok(count)
+    }
+
+    fn flush(&mut self) -> io::Result<()> {
+        if !self.can_flush {
+            return Err(io::Error::from(ErrorKind::Other));
+        }
+        self.flushes = self.flushes.saturating_add(1);
+        self.is_flushed = true;
+        Ok(())
+    }
+}
+
+/// A paper that takes everything, with room for every text of these tests.
+fn endless(alloc: Global) -> Result<Paper, AllocError> {
+    Ok(Paper {
+        written: Vec::with_capacity(alloc, 4096)?,
+        at_once: usize::MAX,
+        limit: usize::MAX,
+        can_flush: true,
+        flushes: 0,
+        is_flushed: false,
+    })
+}
+
+/// A cycle among three options.
+const CYCLE: &[u8] =
+    b"title = \"A cycle\"\noptions = [\"A\", \"B\", \"C\"]\nratios = [1, 1, 1]\ndefault = \"None\"\nquorum = 3\nroll = [\"v0\", \"v1\", \"v2\", \"v3\", \"v4\", \"v5\", \"v6\", \"v7\", \"v8\"]\n";
+
+const BALLOTS: &[u8] =
+    b"v0 1,2,3,4\nv1 1,2,3,4\nv2 1,2,3,4\nv3 1,2,3,4\nv4 3,1,2,4\nv5 3,1,2,4\nv6 3,1,2,4\nv7 2,3,1,4\nv8 2,3,1,4\n";
+
+const SHEET: &str =
+    "Poll: A cycle\nElectors: 9\nQuorum: 3Q, 5 votes\nLines: 9\nValid: 9\nRefused: 0\nVoters: 9\nOptions:\n  1 ratio 1 A\n  2 ratio 1 B\n  3 ratio 1 C\n  4 default None\nVotes:\n        1     2     3     4\n  1     -     6     4     9\n  2     3     -     7     9\n  3     5     2     -     9\n  4     0     0     0     -\nDropped:\n  none\nDefeats:\n  1 over 2 by 6 to 3\n  1 over 4 by 9 to 0\n  2 over 3 by 7 to 2\n  2 over 4 by 9 to 0\n  3 over 1 by 5 to 4\n  3 over 4 by 9 to 0\nRound 1: 1 2 3\n  drop 3 over 1\nRound 2: 1\nWinner: 1 A\n";
+
+/// A count of the cycle at one desk on such a paper: whether what is written is a front of the sheet, how long it is, how often the
+/// paper was flushed, whether it was flushed at last, and how the count ends.
+fn written_of_cycle<R: Threads + Wait + Sync>(
+    rt: &R,
+    alloc: Global,
+    at_once: usize,
+    limit: usize,
+    can_flush: bool,
+) -> Result<(bool, usize, (u32, bool), Result<Ended, RunFault>), AllocError> {
+    let paper = Paper {
+        at_once,
+        limit,
+        can_flush,
+        ..endless(alloc)?
+    };
+    let job = Job::Count {
+        poll: CYCLE,
+        ballots: BALLOTS,
+        desks: 1,
+        casting: None,
+    };
+    let (paper, ended) = perform_on(rt, alloc, &job, &NoGate, paper);
+    let is_front = SHEET.as_bytes().starts_with(paper.written.as_slice());
+    let flushed = (paper.flushes, paper.is_flushed);
+    Ok((is_front, paper.written.len(), flushed, ended))
+}
+
+#[test]
+fn a_sheet_is_written_up_to_the_fault_and_flushed_once(rt: HostRuntime) -> Result<(), Fail> {
+    let whole = SHEET.len();
+    let output = Err(RunFault::Output);
+    for (at_once, limit, can_flush, len, flushed, end) in [
+        (
+            usize::MAX,
+            usize::MAX,
+            true,
+            whole,
+            (1, true),
+            Ok(Ended::Decided(1)),
+        ),
+        (1, usize::MAX, true, whole, (1, true), Ok(Ended::Decided(1))),
+        (10, 10, true, 10, (0, false), output),
+        (0, usize::MAX, true, 0, (0, false), output),
+        (1, usize::MAX, false, whole, (0, false), output),
+    ] {
+        let found = written_of_cycle(&rt, rt.alloc(), at_once, limit, can_flush)?;
+        assert_eq!(rt; found, (true, len, flushed, end));
+    }
+    Ok(())
+}
+
+/// A byte a write, and each write the first that fails.
+#[test]
+fn any_write_of_a_sheet_may_fail(rt: HostRuntime) -> Result<(), Fail> {
+    let output = Err(RunFault::Output);
+    for limit in 0..SHEET.len() {
+        let found = written_of_cycle(&rt, rt.alloc(), 1, limit, true)?;
+        assert_eq!(rt; found, (true, limit, (0, false), output));
+    }
+    Ok(())
+}
+
+/// A gate that stops at this envelope alone, or at each where there is none.
+#[derive(Drop)]
+struct StopsAt(Option<u32>);
+
+impl Gate for StopsAt {
+    fn before(&self, _desk: u8, stamp: u32) -> bool {
+        match self.0 {
+            Some(one) => stamp != one,
+            None => false,
+        }
+    }
+
+    fn after(&self, _desk: u8, _slip: &Slip) {}
+}
+
+/// How a count of the cycle at so many desks ends through a gate, and how much is written.
+fn ended_through<R: Threads + Wait + Sync>(
+    rt: &R,
+    alloc: Global,
+    gate: &StopsAt,
+    desks: u8,
+) -> Result<(usize, Result<Ended, RunFault>), AllocError>
+    requires { (1 ≤ desks) × (desks ≤ 8) }
+{
+    let job = Job::Count {
+        poll: CYCLE,
+        ballots: BALLOTS,
+        desks,
+        casting: None,
+    };
+    let (paper, ended) = perform_on(rt, alloc, &job, gate, endless(alloc)?);
+    Ok((paper.written.len(), ended))
+}
+
+#[test]
+fn a_gate_stops_a_count(rt: HostRuntime) -> Result<(), Fail> {
+    let stopped = Err(RunFault::Vote(VoteFault::Gate(1)));
+    let one = ended_through(&rt, rt.alloc(), &StopsAt(Some(5)), 1)?;
+    let all = ended_through(&rt, rt.alloc(), &StopsAt(None), 8)?;
+    assert_eq!(rt; (one, all), ((0, stopped), (0, stopped)));
+    Ok(())
+}
+
+fn is_of_memory(fault: RunFault) -> bool {
+    match fault {
+        RunFault::Poll(fault) => fault == PollFault::Memory,
+        RunFault::Lines(fault) => fault == LinesFault::Memory,
+        RunFault::Vote(fault) => fault == VoteFault::Memory,
+        RunFault::Memory => true,
+        _ => false,
+    }
+}
+
+/// The fault by which a job is refused, with nothing written and status 5, or none where it is done right.
+fn fault_of<R: Threads + Wait + Sync>(
+    rt: &R,
+    alloc: Global,
+    job: &Job<'_>,
+    text: &str,
+    end: Ended,
+) -> Result<Option<RunFault>, Fail>
+    requires { HasDesks job.now }
+{
+    let (paper, ended) = perform_on(rt, alloc, job, &NoGate, endless(alloc)?);
+    match ended {
+        Ok(found) if found == end && paper.written.as_slice() == text.as_bytes() => Ok(None),
+        Err(fault) if paper.written.is_empty() && status(&ended) == 5 => Ok(Some(fault)),
+        _ => Err(Fail::from("another answer")),
+    }
+}
+
+/// Ends well where the job is done right, and says `refused` where memory was, and of what.
+fn walk<R: Threads + Wait + Abort + Sync>(
+    rt: &R,
+    alloc: Global,
+    job: &Job<'_>,
+    text: &str,
+    end: Ended,
+) -> Result<(), Fail>
+    requires { HasDesks job.now }
+{
+    match fault_of(rt, alloc, job, text, end)? {
+        None => Ok(()),
+        Some(RunFault::Memory) => Err(Fail::from("refused the text")),
+        Some(RunFault::Vote(VoteFault::Memory)) => Err(Fail::from("refused the votes")),
+        Some(RunFault::Vote(VoteFault::Thread)) => Err(Fail::from("refused a thread")),
+        Some(fault) => {
+            assert!(rt; is_of_memory(fault), "{}", fault);
+            Err(Fail::from("refused"))
+        }
+    }
+}
+
+/// The count of the cycle at two desks.
+fn walk_count<R: Threads + Wait + Abort + Sync>(rt: &R, alloc: Global) -> Result<(), Fail> {
+    let job = Job::Count {
+        poll: CYCLE,
+        ballots: BALLOTS,
+        desks: 2,
+        casting: None,
+    };
+    walk(rt, alloc, &job, SHEET, Ended::Decided(1))
+}
+
+#[test]
+fn memory_of_run(rt: HostRuntime) -> Result<(), Fail> {
+    walk_count(&rt, rt.alloc())
+}
+
+#[test]
+fn threads_of_run(rt: HostRuntime) -> Result<(), Fail> {
+    walk_count(&rt, rt.alloc())
+}
+
+#[test]
+fn memory_of_print_steps(rt: HostRuntime) -> Result<(), Fail> {
+    let job = Job::Steps {
+        poll: CYCLE,
+        ballots: b"v0 1,2\nv1 1,2,3,4\nv1 4,3,2,1",
+    };
+    let replies = "1 bad rank count\n2 counted\n3 replaced\n";
+    walk(&rt, rt.alloc(), &job, replies, Ended::Done)
+}
+
+#[test]
+fn memory_of_print_listing(rt: HostRuntime) -> Result<(), Fail> {
+    let job = Job::Standing {
+        poll: CYCLE,
+        ballots: b"v1 1,2,3,4\nv0 -,2,99,1\nv1 4,3,2,1",
+    };
+    let standing = "v0 -,2,99,1\nv1 4,3,2,1\n";
+    walk(&rt, rt.alloc(), &job, standing, Ended::Done)
+}
+
+/// The comparison of a sheet with the count of the cycle.
+fn verify(sheet: &'static [u8]) -> Job<'static>
+    ensures { HasDesks result }
+{
+    Job::Verify {
+        poll: CYCLE,
+        ballots: BALLOTS,
+        sheet,
+        desks: 1,
+    }
+}
+
+#[test]
+fn memory_of_count_for(rt: HostRuntime) -> Result<(), Fail> {
+    let words = "differs at line 1\nsheet: A sheet\ncount: Poll: A cycle\n";
+    walk(&rt, rt.alloc(), &verify(b"A sheet"), words, Ended::Differs)
+}
+
+#[test]
+fn a_sheet_is_verified(rt: HostRuntime) -> Result<(), Fail> {
+    walk(
+        &rt,
+        rt.alloc(),
+        &verify(SHEET.as_bytes()),
+        "verified\n",
+        Ended::Done,
+    )
+}
+
+#[test]
+fn a_picture_is_written(rt: HostRuntime) -> Result<(), Fail> {
+    let job = Job::Picture {
+        poll: CYCLE,
+        ballots: BALLOTS,
+        desks: 1,
+        casting: None,
+    };
+    let picture =
+        "digraph \"A cycle\" {\n  rankdir=LR;\n  node [shape=box];\n  1 [label=\"1 A\", peripheries=2];\n  2 [label=\"2 B\"];\n  3 [label=\"3 C\"];\n  4 [label=\"4 None\"];\n  1 -> 2 [label=\"6 : 3\"];\n  1 -> 4 [label=\"9 : 0\"];\n  2 -> 3 [label=\"7 : 2\"];\n  2 -> 4 [label=\"9 : 0\"];\n  3 -> 1 [label=\"5 : 4, round 1\", style=dashed];\n  3 -> 4 [label=\"9 : 0\"];\n}\n";
+    walk(&rt, rt.alloc(), &job, picture, Ended::Decided(1))
+}
+
+#[test]
+fn memory_of_explain(rt: HostRuntime) -> Result<(), Fail> {
+    let job = Job::Explain {
+        poll: CYCLE,
+        ballots: Some(b"v0 1,2\nv1 1,2,3,4\n"),
+    };
+    let findings =
+        "ballots:1: bad rank count: 2 ranks, the poll has 4 options\n2 lines: 1 valid, 1 refused, 0 of them late; 1 of 9 electors have a ballot\n";
+    walk(&rt, rt.alloc(), &job, findings, Ended::Found)
+}
+
+#[test]
+fn memory_of_check_poll(rt: HostRuntime) -> Result<(), Fail> {
+    let job = Job::Check { poll: CYCLE };
+    let sizes = "poll ok: 4 options, 9 electors\n";
+    walk(&rt, rt.alloc(), &job, sizes, Ended::Done)
+}
+
+/// A poll and its ballots in one input.
+const JOINED: &[u8] =
+    b"title = \"Two electors\"\noptions = [\"A\", \"B\"]\nratios = [1, 1]\ndefault = \"None\"\nquorum = 0\nroll = [\"ann\", \"bob\"]\n%%\nann 1,2,3\nbob 2,1,3\nann 3,2,1\n";
+
+#[test]
+fn memory_of_steps_joined(rt: HostRuntime) -> Result<(), Fail> {
+    let job = Job::Joined { input: JOINED };
+    let replies = "1 counted\n2 counted\n3 replaced\n";
+    walk(&rt, rt.alloc(), &job, replies, Ended::Done)
+}
+
+/// The sheet of a poll and its lines, whose votes are taken at two desks; `refused` where the memory of the sheet was.
+fn sheet_at_two<R: Threads + Wait + Sync>(
+    rt: &R,
+    alloc: Global,
+    poll: &Poll,
+    lines: &Lines<'_>,
+) -> Result<String, Fail> {
+    let audited = take_votes(rt, alloc, poll, lines, 2, &NoGate)?;
+    match sheet(alloc, poll, lines, &audited, None) {
+        Ok(text) => Ok(text),
+        Err(AllocError) => Err(Fail::from("refused")),
+    }
+}
+
+#[test]
+fn memory_of_sheet(rt: HostRuntime) -> Result<(), Fail> {
+    let alloc = rt.alloc();
+    let poll = Poll::from_text(alloc, CYCLE)?;
+    let lines = Lines::split(alloc, BALLOTS)?;
+    let text = sheet_at_two(&rt, alloc, &poll, &lines)?;
+    assert!(rt; text.as_str() == SHEET, "{}", text);
+    Ok(())
+}

@@ -1,0 +1,196 @@
+//! A whole sheet and the texts of `steps`, `standing` and `check`, each call with its memory refused in turn (tests/refused-memory).
+
+use std::alloc::{AllocError, Global};
+use std::process::Abort;
+use std::test::Fail;
+use vote_count::Decision;
+use vote_poll::{Lines, LinesFault, Poll, PollFault};
+use vote_sheet::{
+    Verification, check_text, picture_of_box, sheet_of_box, standing_text, steps_text, verify_sheet,
+};
+use vote_steps::cast_all;
+
+const NINE_ELECTORS: &str =
+    "title = \"A cycle\"\noptions = [\"A\", \"B\", \"C\"]\nratios = [1, 1, 1]\ndefault = \"None\"\nquorum = 3\nroll = [\"v0\", \"v1\", \"v2\", \"v3\", \"v4\", \"v5\", \"v6\", \"v7\", \"v8\"]\n";
+
+/// The ballots of a cycle among three options.
+const A_CYCLE_OF_NINE: &str =
+    "v0 1,2,3,4\nv1 1,2,3,4\nv2 1,2,3,4\nv3 1,2,3,4\nv4 3,1,2,4\nv5 3,1,2,4\nv6 3,1,2,4\nv7 2,3,1,4\nv8 2,3,1,4\n";
+
+const A_CYCLE: &str =
+    "Poll: A cycle\nElectors: 9\nQuorum: 3Q, 5 votes\nLines: 9\nValid: 9\nRefused: 0\nVoters: 9\nOptions:\n  1 ratio 1 A\n  2 ratio 1 B\n  3 ratio 1 C\n  4 default None\nVotes:\n        1     2     3     4\n  1     -     6     4     9\n  2     3     -     7     9\n  3     5     2     -     9\n  4     0     0     0     -\nDropped:\n  none\nDefeats:\n  1 over 2 by 6 to 3\n  1 over 4 by 9 to 0\n  2 over 3 by 7 to 2\n  2 over 4 by 9 to 0\n  3 over 1 by 5 to 4\n  3 over 4 by 9 to 0\nRound 1: 1 2 3\n  drop 3 over 1\nRound 2: 1\nWinner: 1 A\n";
+
+const THREE_ELECTORS: &str =
+    "title = \"A tie\"\noptions = [\"A\", \"B\", \"C\"]\nratios = [1, 1, 1]\ndefault = \"None\"\nquorum = 1\nroll = [\"v0\", \"v1\", \"v2\"]\n";
+
+/// The poll, or `refused` where its memory was.
+fn poll_of(rt: &impl Abort, alloc: Global, text: &str) -> Result<Poll, &'static str> {
+    match Poll::from_text(alloc, text.as_bytes()) {
+        Ok(poll) => Ok(poll),
+        Err(fault) => {
+            assert_eq!(rt; fault, PollFault::Memory);
+            Err("refused")
+        }
+    }
+}
+
+/// The lines of a ballot file, or `refused` where their memory was.
+fn lines_of<'a>(rt: &impl Abort, alloc: Global, text: &'a str) -> Result<Lines<'a>, &'static str> {
+    match Lines::split(alloc, text.as_bytes()) {
+        Ok(lines) => Ok(lines),
+        Err(fault) => {
+            assert_eq!(rt; fault, LinesFault::Memory);
+            Err("refused")
+        }
+    }
+}
+
+/// What is made of a poll and its lines.
+#[derive(Clone, Copy)]
+enum Made {
+    Sheet,
+    Picture,
+    /// What is said of a text that is no sheet of the lines.
+    Difference(&'static str),
+    Steps,
+    Standing,
+    Check,
+}
+
+/// The sheet of the lines, which says that option 1 wins, their picture, or in which line a text differs from the sheet.
+fn counted<R: Abort>(
+    rt: &R,
+    alloc: Global,
+    poll: &Poll,
+    lines: &Lines<'_>,
+    made: Made,
+) -> Result<String, AllocError> {
+    let ballot_box = cast_all(alloc, poll, lines)?;
+    match made {
+        Made::Difference(text) => {
+            let (text, found) = verify_sheet(alloc, poll, lines, &ballot_box, text.as_bytes())?;
+            assert_eq!(rt; found, Verification::Differs);
+            Ok(text)
+        }
+        Made::Picture => {
+            let (text, decision) = picture_of_box(alloc, poll, lines, &ballot_box, None)?;
+            assert_eq!(rt; decision, Decision::Winner(1));
+            Ok(text)
+        }
+        _ => {
+            let (text, decision) = sheet_of_box(alloc, poll, lines, &ballot_box, None)?;
+            assert_eq!(rt; decision, Decision::Winner(1));
+            Ok(text)
+        }
+    }
+}
+
+fn text_of<R: Abort>(
+    rt: &R,
+    alloc: Global,
+    poll: &Poll,
+    lines: &Lines<'_>,
+    made: Made,
+) -> Result<String, AllocError> {
+    match made {
+        Made::Steps => steps_text(alloc, poll, lines),
+        Made::Standing => standing_text(alloc, poll, lines),
+        Made::Check => check_text(alloc, poll),
+        _ => counted(rt, alloc, poll, lines, made),
+    }
+}
+
+/// Makes a text, and asserts that it is this one; `refused` where its memory was.
+fn assert_made<R: Abort>(
+    rt: &R,
+    alloc: Global,
+    poll: &str,
+    ballots: &str,
+    made: Made,
+    whole: &str,
+) -> Result<(), Fail> {
+    let poll = poll_of(rt, alloc, poll)?;
+    let lines = lines_of(rt, alloc, ballots)?;
+    match text_of(rt, alloc, &poll, &lines, made) {
+        Ok(text) => {
+            assert!(rt; text.as_str() == whole, "{}", text);
+            Ok(())
+        }
+        Err(AllocError) => Err(Fail::from("refused")),
+    }
+}
+
+#[test]
+fn memory_of_sheet_of_box(rt: HostRuntime) -> Result<(), Fail> {
+    let alloc = rt.alloc();
+    assert_made(
+        &rt,
+        alloc,
+        NINE_ELECTORS,
+        A_CYCLE_OF_NINE,
+        Made::Sheet,
+        A_CYCLE,
+    )
+}
+
+/// A picture with names that need backslashes.
+const A_PICTURE: &str =
+    "digraph \"\\\"\\\\\" {\n  rankdir=LR;\n  node [shape=box];\n  1 [label=\"1 A\\\"\", peripheries=2];\n  2 [label=\"2 \\\\N\"];\n  3 [label=\"3 C\\nquorum\", style=dotted];\n  4 [label=\"4 \\\\\"];\n  1 -> 2 [label=\"2 : 1\"];\n  1 -> 4 [label=\"3 : 0\"];\n  2 -> 4 [label=\"3 : 0\"];\n}\n";
+
+const QUOTES_AND_BACKSLASHES: &str =
+    "title = '\"\\'\noptions = ['A\"', '\\N', 'C']\nratios = [1, 1, 1]\ndefault = '\\'\nquorum = 1\nroll = ['v0', 'v1', 'v2']\n";
+
+#[test]
+fn memory_of_picture_of_box(rt: HostRuntime) -> Result<(), Fail> {
+    let ballots = "v0 1,2,9,3\nv1 1,2,9,3\nv2 2,1,9,3\n";
+    let alloc = rt.alloc();
+    assert_made(
+        &rt,
+        alloc,
+        QUOTES_AND_BACKSLASHES,
+        ballots,
+        Made::Picture,
+        A_PICTURE,
+    )
+}
+
+#[test]
+fn memory_of_verify_sheet(rt: HostRuntime) -> Result<(), Fail> {
+    let other = Made::Difference("Poll: A cycle\nElectors: 9\n\r");
+    let said = "differs at line 3\nsheet: \\x0D\ncount: Quorum: 3Q, 5 votes\n";
+    assert_made(&rt, rt.alloc(), NINE_ELECTORS, A_CYCLE_OF_NINE, other, said)
+}
+
+#[test]
+fn memory_of_steps_text(rt: HostRuntime) -> Result<(), Fail> {
+    let ballots = "v0 1,2,3,4\nv1\nzz 1,2,3,4\nv0 2,1,3,4\n";
+    let replies = "1 counted\n2 bad shape\n3 bad not on roll\n4 replaced\n";
+    assert_made(
+        &rt,
+        rt.alloc(),
+        THREE_ELECTORS,
+        ballots,
+        Made::Steps,
+        replies,
+    )
+}
+
+#[test]
+fn memory_of_standing_text(rt: HostRuntime) -> Result<(), Fail> {
+    let ballots = "v2 -,10,3,-\nv0 1,2,3,4\nv1\nv0 2,1,3,4\n";
+    let standing = "v0 2,1,3,4\nv2 -,10,3,-\n";
+    assert_made(
+        &rt,
+        rt.alloc(),
+        THREE_ELECTORS,
+        ballots,
+        Made::Standing,
+        standing,
+    )
+}
+
+#[test]
+fn memory_of_check_text(rt: HostRuntime) -> Result<(), Fail> {
+    let sizes = "poll ok: 4 options, 9 electors\n";
+    assert_made(&rt, rt.alloc(), NINE_ELECTORS, "", Made::Check, sizes)
+}

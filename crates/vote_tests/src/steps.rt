@@ -1,0 +1,313 @@
+//! Worked examples, whose readings are the poll's own.
+ghost use Rattle.std.specs.Prelude.{◌<◌, ◌≤◌};
+
+use std::alloc::{AllocError, Global};
+use std::process::Abort;
+use std::test::Fail;
+use vote_count::{Matrix, recount};
+use vote_poll::{LineFault, Lines, LinesFault, MAX_LINES, Poll, PollFault, read_line};
+use vote_steps::{AlreadyClosed, BallotBox, Reply, Step, StepFault, Totals, cast_all};
+
+const TWO_ELECTORS: &str =
+    "title = \"Two\"\noptions = [\"A\", \"B\"]\nratios = [1, 1]\ndefault = \"None\"\nquorum = 0\nroll = [\"ann\", \"bob\"]\n";
+
+const TEN_ELECTORS: &str =
+    "title = \"Ten\"\noptions = [\"A\", \"B\"]\nratios = [1, 1]\ndefault = \"None\"\nquorum = 3\nroll = [\"v0\", \"v1\", \"v2\", \"v3\", \"v4\", \"v5\", \"v6\", \"v7\", \"v8\", \"v9\"]\n";
+
+// The lines of the ten electors, each of whom casts the same line again and again.
+const TEN_LINES: [&str; 10] = [
+    "v0 2,1,3", "v1 1,2,3", "v2 2,1,3", "v3 1,2,3", "v4 2,1,3", "v5 1,2,3", "v6 2,1,3", "v7 1,2,3",
+    "v8 2,1,3", "v9 1,2,3",
+];
+
+// The line with this stamp: each twentieth is no ballot.
+fn line_of(stamp: u32) -> &'static str {
+    if stamp % 20 == 0 {
+        "bad"
+    } else {
+        TEN_LINES[stamp as usize % 10]
+    }
+}
+
+// The stamp that comes in this turn, counted from 0, in the first, the second or the third order.
+fn stamp_at(order: usize, turn: u32) -> u32
+    requires { turn < 100 }
+{
+    match order {
+        0 => turn + 1,
+        1 => 100 - turn,
+        _ if turn < 50 => turn + 51,
+        _ => turn - 49,
+    }
+}
+
+// Casts the envelope with this stamp and this line, at a box of the size of the poll.
+fn cast_line(
+    rt: &impl Abort,
+    ballot_box: &mut BallotBox,
+    poll: &Poll,
+    stamp: u32,
+    line: &str,
+) -> Result<Reply, StepFault> {
+    assert_eq!(rt; poll.options(), ballot_box.options());
+    assert_eq!(rt; poll.electors(), ballot_box.electors());
+    ballot_box.cast(1, stamp, read_line(poll, line.as_bytes()))
+}
+
+// What is done to a box, and what it answers.
+#[derive(Clone, Copy)]
+enum Act<'l> {
+    Cast(u32, &'l str, Result<Reply, StepFault>),
+    Close(Result<(), AlreadyClosed>),
+}
+
+// Does what is listed, and looks at each answer.
+fn play(rt: &impl Abort, ballot_box: &mut BallotBox, poll: &Poll, acts: &[Act<'_>]) {
+    for act in acts {
+        match act {
+            Act::Cast(stamp, line, answer) => {
+                let found = cast_line(rt, ballot_box, poll, *stamp, line);
+                assert_eq!(rt; found, *answer, "stamp {stamp}");
+            }
+            Act::Close(answer) => {
+                assert_eq!(rt; ballot_box.close(), *answer);
+                assert!(rt; !ballot_box.is_open());
+            }
+        }
+    }
+}
+
+// The votes of each of three options over each.
+fn table(rt: &impl Abort, matrix: &Matrix) -> [[u32; 3]; 3] {
+    assert_eq!(rt; matrix.options(), 3);
+    let row = |a| [matrix.votes(a, 1), matrix.votes(a, 2), matrix.votes(a, 3)];
+    [row(1), row(2), row(3)]
+}
+
+// Looks at the totals, which are valid, refused and voters, and at the votes of each option over each.
+fn look(rt: &impl Abort, ballot_box: &BallotBox, totals: [u64; 3], votes: [[u32; 3]; 3]) {
+    let [valid, refused, voters] = totals;
+    let totals = Totals {
+        valid,
+        refused,
+        voters,
+    };
+    assert_eq!(rt; ballot_box.totals(), totals);
+    assert_eq!(rt; table(rt, &ballot_box.matrix()), votes);
+}
+
+// The matrix of a recount of the ballots that stand.
+fn recounted(alloc: Global, ballot_box: &BallotBox) -> Result<Matrix, AllocError> {
+    let mut ballots = Vec::new(alloc);
+    for voter in 0..ballot_box.electors() {
+        ballots.push(ballot_box.standing(voter))?;
+    }
+    Ok(recount(ballot_box.options(), &ballots))
+}
+
+// Casts a hundred envelopes in one of the orders, and looks at the matrix after each.
+fn cast_hundred(
+    rt: &impl Abort,
+    alloc: Global,
+    poll: &Poll,
+    order: usize,
+) -> Result<BallotBox, AllocError> {
+    let mut ballot_box = BallotBox::new(alloc, 3, 10, 100, 100_000)?;
+    for turn in 0..100 {
+        let stamp = stamp_at(order, turn);
+        let answer = cast_line(rt, &mut ballot_box, poll, stamp, line_of(stamp));
+        assert!(rt; answer.is_ok());
+        let votes = table(rt, &recounted(alloc, &ballot_box)?);
+        assert_eq!(rt;
+            table(rt, &ballot_box.matrix()),
+            votes,
+            "order {order}, stamp {stamp}"
+        );
+    }
+    Ok(ballot_box)
+}
+
+// How many casts were answered so.
+fn count_of(ballot_box: &BallotBox, wanted: Reply) -> usize {
+    let is_wanted = |step: &&Step| match step {
+        Step::Cast { reply, .. } => *reply == wanted,
+        Step::Close => false,
+    };
+    ballot_box.steps().iter().filter(is_wanted).count()
+}
+
+// Does what is listed at a box of two electors with the stamps 1 to `limit`, of which those above `last` are late. Looks at
+// the totals and the votes, and answers how many steps there are.
+fn played(
+    rt: &impl Abort,
+    alloc: Global,
+    limit: u32,
+    last: u32,
+    acts: &[Act<'_>],
+    totals: [u64; 3],
+    votes: [[u32; 3]; 3],
+) -> Result<usize, Fail>
+    requires { (limit ≤ MAX_LINES) × (last ≤ MAX_LINES) }
+{
+    let poll = Poll::from_text(alloc, TWO_ELECTORS.as_bytes())?;
+    let mut ballot_box = BallotBox::new(alloc, 3, 2, limit, last)?;
+    play(rt, &mut ballot_box, &poll, acts);
+    look(rt, &ballot_box, totals, votes);
+    Ok(ballot_box.steps().len())
+}
+
+#[test]
+fn a_recast_in_both_orders(rt: HostRuntime) -> Result<(), Fail> {
+    let orders = [
+        [
+            Act::Cast(1, "ann 1,2,3", Ok(Reply::Counted)),
+            Act::Cast(2, "bob 2,1,3", Ok(Reply::Counted)),
+            Act::Cast(3, "ann 3,2,1", Ok(Reply::Replaced)),
+        ],
+        [
+            Act::Cast(3, "ann 3,2,1", Ok(Reply::Counted)),
+            Act::Cast(2, "bob 2,1,3", Ok(Reply::Counted)),
+            Act::Cast(1, "ann 1,2,3", Ok(Reply::Superseded)),
+        ],
+    ];
+    let votes = [[0, 0, 1], [2, 0, 1], [1, 1, 0]];
+    for acts in &orders {
+        played(&rt, rt.alloc(), 3, 100_000, acts, [3, 0, 2], votes)?;
+    }
+    Ok(())
+}
+
+#[test]
+fn refusals_and_replies(rt: HostRuntime) -> Result<(), Fail> {
+    let acts = [
+        Act::Cast(0, "ann 1,2,3", Err(StepFault::StampRange)),
+        Act::Cast(3, "ann 1,2,3", Err(StepFault::StampRange)),
+        Act::Cast(1, "ann 1,2,3", Ok(Reply::Counted)),
+        Act::Cast(1, "ann 1,2,3", Err(StepFault::StampUsed)),
+        Act::Close(Ok(())),
+        Act::Cast(2, "bob 1,2,3", Ok(Reply::BoxClosed)),
+        Act::Cast(1, "bob 1,2,3", Err(StepFault::StampUsed)),
+        Act::Close(Err(AlreadyClosed)),
+    ];
+    let votes = [[0, 1, 1], [0, 0, 1], [0, 0, 0]];
+    let steps = played(&rt, rt.alloc(), 2, 100_000, &acts, [1, 1, 1], votes)?;
+    assert_eq!(rt; steps, 3);
+    Ok(())
+}
+
+#[test]
+fn late_envelopes(rt: HostRuntime) -> Result<(), Fail> {
+    let acts = [
+        Act::Cast(2, "ann 1,2,3", Ok(Reply::Late)),
+        Act::Cast(1, "ann 1,2,3", Ok(Reply::Counted)),
+        Act::Cast(2, "ann 1,2,3", Err(StepFault::StampUsed)),
+        Act::Close(Ok(())),
+        Act::Cast(3, "bad", Ok(Reply::BoxClosed)),
+    ];
+    let votes = [[0, 1, 1], [0, 0, 1], [0, 0, 0]];
+    played(&rt, rt.alloc(), 3, 1, &acts, [1, 2, 1], votes)?;
+    Ok(())
+}
+
+// Whatever a late line says.
+#[test]
+fn no_envelope_in_time(rt: HostRuntime) -> Result<(), Fail> {
+    let acts = [
+        Act::Cast(3, "bad", Ok(Reply::Late)),
+        Act::Cast(1, "bob 1,2,3", Ok(Reply::Late)),
+    ];
+    played(&rt, rt.alloc(), 3, 0, &acts, [0, 2, 0], [[0; 3]; 3])?;
+    Ok(())
+}
+
+#[test]
+fn a_hundred_envelopes_in_three_orders(rt: HostRuntime) -> Result<(), Fail> {
+    let poll = Poll::from_text(rt.alloc(), TEN_ELECTORS.as_bytes())?;
+    let replies = [
+        Reply::Counted,
+        Reply::Replaced,
+        Reply::Superseded,
+        Reply::BadLine(LineFault::Shape),
+    ];
+    for (order, counts) in [[10, 85, 0, 5], [10, 0, 85, 5], [10, 37, 48, 5]]
+        .iter()
+        .enumerate()
+    {
+        let ballot_box = cast_hundred(&rt, rt.alloc(), &poll, order)?;
+        assert_eq!(rt; replies.map(|reply| count_of(&ballot_box, reply)), *counts);
+        look(
+            &rt,
+            &ballot_box,
+            [95, 5, 10],
+            [[0, 5, 10], [5, 0, 10], [0, 0, 0]],
+        );
+    }
+    Ok(())
+}
+
+// The poll of two electors, or `refused` where its memory was.
+fn poll_of_two(rt: &impl Abort, alloc: Global) -> Result<Poll, &'static str> {
+    match Poll::from_text(alloc, TWO_ELECTORS.as_bytes()) {
+        Ok(poll) => Ok(poll),
+        Err(fault) => {
+            assert_eq!(rt; fault, PollFault::Memory);
+            Err("refused")
+        }
+    }
+}
+
+// Whether a box of these numbers says that nothing was done yet.
+fn is_new(ballot_box: &BallotBox, limit: u32, last: u32) -> bool {
+    ballot_box.limit() == limit
+        && ballot_box.last_envelope() == last
+        && ballot_box.is_open()
+        && ballot_box.steps().is_empty()
+        && ballot_box.standing(0).is_none()
+}
+
+// A box is made whole, with room for a step with each stamp and for the close, or is refused for want of memory.
+#[test]
+fn memory_of_new(rt: HostRuntime) -> Result<(), Fail> {
+    let poll = poll_of_two(&rt, rt.alloc())?;
+    let Ok(mut ballot_box) = BallotBox::new(rt.alloc(), 3, 2, 3, 99_999) else {
+        return Err("refused".into());
+    };
+    assert!(rt; is_new(&ballot_box, 3, 99_999));
+    let acts = [
+        Act::Cast(1, "ann 1,2,3", Ok(Reply::Counted)),
+        Act::Cast(2, "bob 2,1,3", Ok(Reply::Counted)),
+        Act::Cast(3, "ann 3,2,1", Ok(Reply::Replaced)),
+        Act::Close(Ok(())),
+    ];
+    play(&rt, &mut ballot_box, &poll, &acts);
+    let votes = [[0, 0, 1], [2, 0, 1], [1, 1, 0]];
+    look(&rt, &ballot_box, [3, 0, 2], votes);
+    assert_eq!(rt; ballot_box.steps().len(), 4);
+    Ok(())
+}
+
+// The lines of a ballot file, or `refused` where their memory was.
+fn lines_of<'a>(rt: &impl Abort, alloc: Global, text: &'a str) -> Result<Lines<'a>, &'static str> {
+    match Lines::split(alloc, text.as_bytes()) {
+        Ok(lines) => Ok(lines),
+        Err(fault) => {
+            assert_eq!(rt; fault, LinesFault::Memory);
+            Err("refused")
+        }
+    }
+}
+
+// One desk casts all lines in their order and closes the box, or is refused for want of memory.
+#[test]
+fn memory_of_cast_all(rt: HostRuntime) -> Result<(), Fail> {
+    let poll = poll_of_two(&rt, rt.alloc())?;
+    let lines = lines_of(&rt, rt.alloc(), "ann 1,2,3\nbob 2,1,3\nann 3,2,1\n")?;
+    let Ok(ballot_box) = cast_all(rt.alloc(), &poll, &lines) else {
+        return Err("refused".into());
+    };
+    assert!(rt; !ballot_box.is_open());
+    let votes = [[0, 0, 1], [2, 0, 1], [1, 1, 0]];
+    look(&rt, &ballot_box, [3, 0, 2], votes);
+    assert_eq!(rt; count_of(&ballot_box, Reply::Replaced), 1);
+    Ok(())
+}
