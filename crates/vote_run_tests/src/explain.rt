@@ -1,10 +1,11 @@
 //! The column at the edges of the grammar, and whole texts, each call with its memory refused in turn (tests/refused-memory).
 
+use crate::inputs::{lines_of, poll_of};
 use std::alloc::{AllocError, Global};
 use std::process::Abort;
 use std::test::Fail;
 use vote_explain::{column, explain_ballots};
-use vote_poll::{Lines, LinesFault, Poll, PollFault};
+use vote_poll::Poll;
 
 /// Lines, and where each leaves the grammar.
 const COLUMNS: [(&str, usize); 22] = [
@@ -90,31 +91,9 @@ const CLEAN: &str = "ada 1,2,3\nben -,-,-";
 const NO_FINDINGS: &str =
     "2 lines: 2 valid, 0 refused, 0 of them late; 2 of 4 electors have a ballot\n";
 
-/// The poll, or `refused` where its memory was.
-fn poll_of(rt: &impl Abort, alloc: Global) -> Result<Poll, &'static str> {
-    match Poll::from_text(alloc, POLL.as_bytes()) {
-        Ok(poll) => Ok(poll),
-        Err(fault) => {
-            assert_eq!(rt; fault, PollFault::Memory);
-            Err("refused")
-        }
-    }
-}
-
-/// The lines of a ballot file, or `refused` where their memory was.
-fn lines_of<'a>(rt: &impl Abort, alloc: Global, text: &'a str) -> Result<Lines<'a>, &'static str> {
-    match Lines::split(alloc, text.as_bytes()) {
-        Ok(lines) => Ok(lines),
-        Err(fault) => {
-            assert_eq!(rt; fault, LinesFault::Memory);
-            Err("refused")
-        }
-    }
-}
-
 /// What is said of a ballot file, and how many lines are refused.
 fn explained(rt: &impl Abort, alloc: Global, text: &str) -> Result<(String, u64), &'static str> {
-    let poll = poll_of(rt, alloc)?;
+    let poll = poll_of(rt, alloc, POLL)?;
     let lines = lines_of(rt, alloc, text)?;
     match explain_ballots(alloc, &poll, &lines) {
         Ok(explained) => Ok((explained.text, explained.refused)),

@@ -8,6 +8,7 @@
 ghost use Rattle.std.specs.Prelude.{◌≤◌};
 ghost use Rattle.vote_runs.specs.Performing.{HasDesks};
 
+use crate::inputs::{BALLOTS, CYCLE, SHEET};
 use std::alloc::{AllocError, Global};
 use std::io::{self, ErrorKind, Write};
 use std::process::Abort;
@@ -64,16 +65,6 @@ fn endless(alloc: Global) -> Result<Paper, AllocError> {
     })
 }
 
-/// A cycle among three options.
-const CYCLE: &[u8] =
-    b"title = \"A cycle\"\noptions = [\"A\", \"B\", \"C\"]\nratios = [1, 1, 1]\ndefault = \"None\"\nquorum = 3\nroll = [\"v0\", \"v1\", \"v2\", \"v3\", \"v4\", \"v5\", \"v6\", \"v7\", \"v8\"]\n";
-
-const BALLOTS: &[u8] =
-    b"v0 1,2,3,4\nv1 1,2,3,4\nv2 1,2,3,4\nv3 1,2,3,4\nv4 3,1,2,4\nv5 3,1,2,4\nv6 3,1,2,4\nv7 2,3,1,4\nv8 2,3,1,4\n";
-
-const SHEET: &str =
-    "Poll: A cycle\nElectors: 9\nQuorum: 3Q, 5 votes\nLines: 9\nValid: 9\nRefused: 0\nVoters: 9\nOptions:\n  1 ratio 1 A\n  2 ratio 1 B\n  3 ratio 1 C\n  4 default None\nVotes:\n        1     2     3     4\n  1     -     6     4     9\n  2     3     -     7     9\n  3     5     2     -     9\n  4     0     0     0     -\nDropped:\n  none\nDefeats:\n  1 over 2 by 6 to 3\n  1 over 4 by 9 to 0\n  2 over 3 by 7 to 2\n  2 over 4 by 9 to 0\n  3 over 1 by 5 to 4\n  3 over 4 by 9 to 0\nRound 1: 1 2 3\n  drop 3 over 1\nRound 2: 1\nWinner: 1 A\n";
-
 /// A count of the cycle at one desk on such a paper: whether what is written is a front of the sheet, how long it is, how often the
 /// paper was flushed, whether it was flushed at last, and how the count ends.
 fn written_of_cycle<R: Threads + Wait + Sync>(
@@ -90,8 +81,8 @@ fn written_of_cycle<R: Threads + Wait + Sync>(
         ..endless(alloc)?
     };
     let job = Job::Count {
-        poll: CYCLE,
-        ballots: BALLOTS,
+        poll: CYCLE.as_bytes(),
+        ballots: BALLOTS.as_bytes(),
         desks: 1,
         casting: None,
     };
@@ -161,8 +152,8 @@ fn ended_through<R: Threads + Wait + Sync>(
     requires { (1 ≤ desks) × (desks ≤ 8) }
 {
     let job = Job::Count {
-        poll: CYCLE,
-        ballots: BALLOTS,
+        poll: CYCLE.as_bytes(),
+        ballots: BALLOTS.as_bytes(),
         desks,
         casting: None,
     };
@@ -232,8 +223,8 @@ fn walk<R: Threads + Wait + Abort + Sync>(
 /// The count of the cycle at two desks.
 fn walk_count<R: Threads + Wait + Abort + Sync>(rt: &R, alloc: Global) -> Result<(), Fail> {
     let job = Job::Count {
-        poll: CYCLE,
-        ballots: BALLOTS,
+        poll: CYCLE.as_bytes(),
+        ballots: BALLOTS.as_bytes(),
         desks: 2,
         casting: None,
     };
@@ -253,7 +244,7 @@ fn threads_of_run(rt: HostRuntime) -> Result<(), Fail> {
 #[test]
 fn memory_of_print_steps(rt: HostRuntime) -> Result<(), Fail> {
     let job = Job::Steps {
-        poll: CYCLE,
+        poll: CYCLE.as_bytes(),
         ballots: b"v0 1,2\nv1 1,2,3,4\nv1 4,3,2,1",
     };
     let replies = "1 bad rank count\n2 counted\n3 replaced\n";
@@ -263,7 +254,7 @@ fn memory_of_print_steps(rt: HostRuntime) -> Result<(), Fail> {
 #[test]
 fn memory_of_print_listing(rt: HostRuntime) -> Result<(), Fail> {
     let job = Job::Standing {
-        poll: CYCLE,
+        poll: CYCLE.as_bytes(),
         ballots: b"v1 1,2,3,4\nv0 -,2,99,1\nv1 4,3,2,1",
     };
     let standing = "v0 -,2,99,1\nv1 4,3,2,1\n";
@@ -275,8 +266,8 @@ fn verify(sheet: &'static [u8]) -> Job<'static>
     ensures { HasDesks result }
 {
     Job::Verify {
-        poll: CYCLE,
-        ballots: BALLOTS,
+        poll: CYCLE.as_bytes(),
+        ballots: BALLOTS.as_bytes(),
         sheet,
         desks: 1,
     }
@@ -302,8 +293,8 @@ fn a_sheet_is_verified(rt: HostRuntime) -> Result<(), Fail> {
 #[test]
 fn a_picture_is_written(rt: HostRuntime) -> Result<(), Fail> {
     let job = Job::Picture {
-        poll: CYCLE,
-        ballots: BALLOTS,
+        poll: CYCLE.as_bytes(),
+        ballots: BALLOTS.as_bytes(),
         desks: 1,
         casting: None,
     };
@@ -315,7 +306,7 @@ fn a_picture_is_written(rt: HostRuntime) -> Result<(), Fail> {
 #[test]
 fn memory_of_explain(rt: HostRuntime) -> Result<(), Fail> {
     let job = Job::Explain {
-        poll: CYCLE,
+        poll: CYCLE.as_bytes(),
         ballots: Some(b"v0 1,2\nv1 1,2,3,4\n"),
     };
     let findings =
@@ -325,7 +316,9 @@ fn memory_of_explain(rt: HostRuntime) -> Result<(), Fail> {
 
 #[test]
 fn memory_of_check_poll(rt: HostRuntime) -> Result<(), Fail> {
-    let job = Job::Check { poll: CYCLE };
+    let job = Job::Check {
+        poll: CYCLE.as_bytes(),
+    };
     let sizes = "poll ok: 4 options, 9 electors\n";
     walk(&rt, rt.alloc(), &job, sizes, Ended::Done)
 }
@@ -358,8 +351,8 @@ fn sheet_at_two<R: Threads + Wait + Sync>(
 #[test]
 fn memory_of_sheet(rt: HostRuntime) -> Result<(), Fail> {
     let alloc = rt.alloc();
-    let poll = Poll::from_text(alloc, CYCLE)?;
-    let lines = Lines::split(alloc, BALLOTS)?;
+    let poll = Poll::from_text(alloc, CYCLE.as_bytes())?;
+    let lines = Lines::split(alloc, BALLOTS.as_bytes())?;
     let text = sheet_at_two(&rt, alloc, &poll, &lines)?;
     assert!(rt; text.as_str() == SHEET, "{}", text);
     Ok(())

@@ -1,49 +1,18 @@
 //! A whole sheet and the texts of `steps`, `standing` and `check`, each call with its memory refused in turn (tests/refused-memory).
 
+use crate::inputs::{BALLOTS, CYCLE, SHEET, lines_of, poll_of};
 use std::alloc::{AllocError, Global};
 use std::process::Abort;
 use std::test::Fail;
 use vote_count::Decision;
-use vote_poll::{Lines, LinesFault, Poll, PollFault};
+use vote_poll::{Lines, Poll};
 use vote_sheet::{
     Verification, check_text, picture_of_box, sheet_of_box, standing_text, steps_text, verify_sheet,
 };
 use vote_steps::cast_all;
 
-const NINE_ELECTORS: &str =
-    "title = \"A cycle\"\noptions = [\"A\", \"B\", \"C\"]\nratios = [1, 1, 1]\ndefault = \"None\"\nquorum = 3\nroll = [\"v0\", \"v1\", \"v2\", \"v3\", \"v4\", \"v5\", \"v6\", \"v7\", \"v8\"]\n";
-
-/// The ballots of a cycle among three options.
-const A_CYCLE_OF_NINE: &str =
-    "v0 1,2,3,4\nv1 1,2,3,4\nv2 1,2,3,4\nv3 1,2,3,4\nv4 3,1,2,4\nv5 3,1,2,4\nv6 3,1,2,4\nv7 2,3,1,4\nv8 2,3,1,4\n";
-
-const A_CYCLE: &str =
-    "Poll: A cycle\nElectors: 9\nQuorum: 3Q, 5 votes\nLines: 9\nValid: 9\nRefused: 0\nVoters: 9\nOptions:\n  1 ratio 1 A\n  2 ratio 1 B\n  3 ratio 1 C\n  4 default None\nVotes:\n        1     2     3     4\n  1     -     6     4     9\n  2     3     -     7     9\n  3     5     2     -     9\n  4     0     0     0     -\nDropped:\n  none\nDefeats:\n  1 over 2 by 6 to 3\n  1 over 4 by 9 to 0\n  2 over 3 by 7 to 2\n  2 over 4 by 9 to 0\n  3 over 1 by 5 to 4\n  3 over 4 by 9 to 0\nRound 1: 1 2 3\n  drop 3 over 1\nRound 2: 1\nWinner: 1 A\n";
-
 const THREE_ELECTORS: &str =
     "title = \"A tie\"\noptions = [\"A\", \"B\", \"C\"]\nratios = [1, 1, 1]\ndefault = \"None\"\nquorum = 1\nroll = [\"v0\", \"v1\", \"v2\"]\n";
-
-/// The poll, or `refused` where its memory was.
-fn poll_of(rt: &impl Abort, alloc: Global, text: &str) -> Result<Poll, &'static str> {
-    match Poll::from_text(alloc, text.as_bytes()) {
-        Ok(poll) => Ok(poll),
-        Err(fault) => {
-            assert_eq!(rt; fault, PollFault::Memory);
-            Err("refused")
-        }
-    }
-}
-
-/// The lines of a ballot file, or `refused` where their memory was.
-fn lines_of<'a>(rt: &impl Abort, alloc: Global, text: &'a str) -> Result<Lines<'a>, &'static str> {
-    match Lines::split(alloc, text.as_bytes()) {
-        Ok(lines) => Ok(lines),
-        Err(fault) => {
-            assert_eq!(rt; fault, LinesFault::Memory);
-            Err("refused")
-        }
-    }
-}
 
 /// What is made of a poll and its lines.
 #[derive(Clone, Copy)]
@@ -123,14 +92,7 @@ fn assert_made<R: Abort>(
 #[test]
 fn memory_of_sheet_of_box(rt: HostRuntime) -> Result<(), Fail> {
     let alloc = rt.alloc();
-    assert_made(
-        &rt,
-        alloc,
-        NINE_ELECTORS,
-        A_CYCLE_OF_NINE,
-        Made::Sheet,
-        A_CYCLE,
-    )
+    assert_made(&rt, alloc, CYCLE, BALLOTS, Made::Sheet, SHEET)
 }
 
 /// A picture with names that need backslashes.
@@ -158,7 +120,7 @@ fn memory_of_picture_of_box(rt: HostRuntime) -> Result<(), Fail> {
 fn memory_of_verify_sheet(rt: HostRuntime) -> Result<(), Fail> {
     let other = Made::Difference("Poll: A cycle\nElectors: 9\n\r");
     let said = "differs at line 3\nsheet: \\x0D\ncount: Quorum: 3Q, 5 votes\n";
-    assert_made(&rt, rt.alloc(), NINE_ELECTORS, A_CYCLE_OF_NINE, other, said)
+    assert_made(&rt, rt.alloc(), CYCLE, BALLOTS, other, said)
 }
 
 #[test]
@@ -192,5 +154,5 @@ fn memory_of_standing_text(rt: HostRuntime) -> Result<(), Fail> {
 #[test]
 fn memory_of_check_text(rt: HostRuntime) -> Result<(), Fail> {
     let sizes = "poll ok: 4 options, 9 electors\n";
-    assert_made(&rt, rt.alloc(), NINE_ELECTORS, "", Made::Check, sizes)
+    assert_made(&rt, rt.alloc(), CYCLE, "", Made::Check, sizes)
 }

@@ -1,6 +1,7 @@
 //! Votes taken by workers: gates that wait or do not let pass, and what a want of memory or of a thread leaves.
 ghost use Rattle.std.specs.Prelude.{◌≤◌};
 
+use crate::inputs::{BALLOTS, CYCLE};
 use std::alloc::{AllocError, Global};
 use std::process::Abort;
 use std::sync::atomic::AtomicU64;
@@ -12,13 +13,6 @@ use std::thread::Threads;
 use vote_desks::{Audited, Gate, NoGate, Slip, VoteFault, take_votes};
 use vote_poll::{Lines, Poll};
 use vote_steps::{BallotBox, MAX_DESKS, Step, Totals};
-
-const NINE_ELECTORS: &str =
-    "title = \"Nine\"\noptions = [\"A\", \"B\", \"C\"]\nratios = [1, 1, 1]\ndefault = \"None\"\nquorum = 3\nroll = [\"v0\", \"v1\", \"v2\", \"v3\", \"v4\", \"v5\", \"v6\", \"v7\", \"v8\"]\n";
-
-/// Nine ballots that prefer A to B, B to C, and C to A.
-const NINE_LINES: &str =
-    "v0 1,2,3,4\nv1 1,2,3,4\nv2 1,2,3,4\nv3 1,2,3,4\nv4 3,1,2,4\nv5 3,1,2,4\nv6 3,1,2,4\nv7 2,3,1,4\nv8 2,3,1,4\n";
 
 /// Asserts what the nine lines give: the totals, and the votes of A over B, of B over C, and of C over A.
 fn assert_nine(rt: &impl Abort, ballot_box: &BallotBox) {
@@ -44,7 +38,7 @@ fn taken<G: Gate + Sync, R: Threads + Wait + Sync>(
 ) -> Result<Result<Audited, VoteFault>, Fail>
     requires { (1 ≤ desks) × (desks ≤ MAX_DESKS) }
 {
-    let poll = Poll::from_text(alloc, NINE_ELECTORS.as_bytes())?;
+    let poll = Poll::from_text(alloc, CYCLE.as_bytes())?;
     let lines = Lines::split(alloc, lines.as_bytes())?;
     Ok(take_votes(rt, alloc, &poll, &lines, desks, gate))
 }
@@ -164,7 +158,7 @@ fn last_taken<R: Threads + Wait + Abort + Sync>(
     passes: Passes,
 ) -> Result<Option<u32>, Fail> {
     let gate = Turnstile::new(alloc, passes)?;
-    let audited = taken(rt, alloc, NINE_LINES, 2, &gate)??;
+    let audited = taken(rt, alloc, BALLOTS, 2, &gate)??;
     assert_eq!(rt; (gate.counts(), audited.desks()), ((9, 9), 2));
     gate.assert_told(rt, 1, audited.sheet_of(1));
     gate.assert_told(rt, 2, audited.sheet_of(2));
@@ -199,8 +193,8 @@ fn stopped<R: Threads + Wait + Sync>(
 #[test]
 fn the_least_desk_that_stopped_is_named(rt: HostRuntime) -> Result<(), Fail> {
     let alloc = rt.alloc();
-    let fifth = stopped(&rt, alloc, NINE_LINES, 1, Passes::AllBut(5))?;
-    let each = stopped(&rt, alloc, NINE_LINES, MAX_DESKS, Passes::Never)?;
+    let fifth = stopped(&rt, alloc, BALLOTS, 1, Passes::AllBut(5))?;
+    let each = stopped(&rt, alloc, BALLOTS, MAX_DESKS, Passes::Never)?;
     let none = stopped(&rt, alloc, "", MAX_DESKS, Passes::Never)?;
     let first = Some(VoteFault::Gate(1));
     assert_eq!(rt;
@@ -216,7 +210,7 @@ fn the_least_desk_that_stopped_is_named(rt: HostRuntime) -> Result<(), Fail> {
 
 #[test]
 fn memory_of_take_votes(rt: HostRuntime) -> Result<(), Fail> {
-    match taken(&rt, rt.alloc(), NINE_LINES, 2, &NoGate)? {
+    match taken(&rt, rt.alloc(), BALLOTS, 2, &NoGate)? {
         Ok(audited) => {
             assert_nine(&rt, audited.ballot_box());
             Ok(())
@@ -230,7 +224,7 @@ fn memory_of_take_votes(rt: HostRuntime) -> Result<(), Fail> {
 
 #[test]
 fn threads_of_take_votes(rt: HostRuntime) -> Result<(), Fail> {
-    match taken(&rt, rt.alloc(), NINE_LINES, 3, &NoGate)? {
+    match taken(&rt, rt.alloc(), BALLOTS, 3, &NoGate)? {
         Ok(audited) => {
             assert_eq!(rt; audited.desks(), 3);
             Ok(())
