@@ -54,6 +54,7 @@ fn counted<R: Abort>(
     }
 }
 
+/// The text; one that takes a count is made by [`counted`].
 fn text_of<R: Abort>(
     rt: &R,
     alloc: Global,
