@@ -1,10 +1,10 @@
 //! The command line.
 
-ghost use Rattle.std.specs.Prelude.{◌≡◌, ℕ, IfErr, IfNone, IfOk, IfSome, OnOk, [], codes, map, option_map, false};
+ghost use Rattle.std.specs.Prelude.{◌≡◌, ℕ, IfErr, IfNone, IfOk, IfSome, IsOkAnd, OnOk, [], codes, map, option_map, false};
 ghost use Rattle.clap.specs.Faults.{fault_of};
 ghost use Rattle.clap.specs.Values.{kind_of};
 ghost use Rattle.clap.specs.declared.builder.command.Command.TheViews.{out-Command as fields_of};
-ghost use Rattle.clap.specs.Words.{app_of, first_of, found_of, rows_of, rule_of, subcommand_of, subcommand_rows_of};
+ghost use Rattle.clap.specs.Words.{app_of, first_of, found_of, rows_of, rule_of, subcommand_of, subcommand_rows_of, with_subcommand};
 ghost use Rattle.vote_command.specs.CommandLine.{ballots_command, bare_command, check_command, count_command, counting_command, debvote_command, desks_flag, explain_command, flag, picture_command, required_flag, standing_command, steps_command, verify_command};
 ghost use Rattle.vote_command.specs.Order.{AsksFor, DesksFit, HasDesks, HasValues, HelpsIfAsked, IsFaultOfKind, RefusesIfAtFault, order_status, subcommand_name};
 ghost use Rattle.vote_command.specs.declared.command_line.Task.{Task};
@@ -265,18 +265,31 @@ fn bare_command<'a>(alloc: Global) -> Result<Command<'a>, AllocError>
         .bin_name("debvote")
 }
 
+/// The program with one more command, where that was made.
+fn with_command<'a>(
+    program: Command<'a>,
+    made: Result<Command<'a>, AllocError>,
+) -> Result<Command<'a>, AllocError>
+    requires program { (fields_of program).has_globals ≡ false }
+    requires made { IfOk made (λ added. (fields_of added).has_globals ≡ false) }
+    ensures app { IfOk result (λ c. IsOkAnd made.entry (λ added. app_of c ≡ with_subcommand (app_of program.entry) (app_of added).top)) }
+    ensures local { IfOk result (λ c. (fields_of c).has_globals ≡ false) }
+{
+    program.subcommand(made?)
+}
+
 fn debvote_command<'a>(alloc: Global) -> Result<Command<'a>, AllocError>
     ensures app { IfOk result (λ c. app_of c ≡ debvote_command) }
     ensures local { IfOk result (λ c. (fields_of c).has_globals ≡ false) }
 {
-    bare_command(alloc)?
-        .subcommand(count_command(alloc)?)?
-        .subcommand(steps_command(alloc)?)?
-        .subcommand(check_command(alloc)?)?
-        .subcommand(explain_command(alloc)?)?
-        .subcommand(standing_command(alloc)?)?
-        .subcommand(verify_command(alloc)?)?
-        .subcommand(picture_command(alloc)?)
+    let program = bare_command(alloc)?;
+    let program = with_command(program, count_command(alloc))?;
+    let program = with_command(program, steps_command(alloc))?;
+    let program = with_command(program, check_command(alloc))?;
+    let program = with_command(program, explain_command(alloc))?;
+    let program = with_command(program, standing_command(alloc))?;
+    let program = with_command(program, verify_command(alloc))?;
+    with_command(program, picture_command(alloc))
 }
 
 fn desks(given: &ArgMatches<'_>) -> Option<u8>

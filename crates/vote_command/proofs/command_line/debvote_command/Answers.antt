@@ -1,32 +1,21 @@
-use Rattle.std.proofs.Common.{◌∙◌, ap, ap₂, ◌||◌}
+use Rattle.std.proofs.Common.{◌≡◌, ◌∙◌, Result, Ok, Err, IfOk, IsOkAnd, ap, ap₂}
 use Rattle.std.proofs.lemmas.Result.{IfOk-weaker}
-use Rattle.clap.specs.Words.{App, with_subcommand}
+use Rattle.clap.specs.Words.{App, app_of, with_subcommand}
+use Rattle.clap.specs.declared.builder.command.Command.{Command}
 use Rattle.vote_command.proofs.command_line.debvote_command.Goals as goal
+
+-- a command that was made is added to the program as it is known
+added : {E : Type 0} (made : Result Command E) (before after known command : App) → before ≡ known → IfOk made (λ c. app_of c ≡ command)
+    → IsOkAnd made (λ c. after ≡ with_subcommand before (app_of c).top) → after ≡ with_subcommand known command.top
+added (Ok c) before after known command is of adds = adds ∙ ap₂ with_subcommand is (ap (λ (a : App). a.top) of)
+added (Err e) before after known command is of adds = absurd adds
 
 pub returns-clause-app : goal.returns-clause-app
 returns-clause-app c =
-    let with_count = c.in_ok-subcommand.ensures.shape c.in_ok-count_command.ensures.local
-    ∙ ap₂ with_subcommand c.in_ok-bare_command.ensures.app (ap (λ (a : App). a.top) c.in_ok-count_command.ensures.app) in
-    let with_steps = c.in_ok-subcommand-2.ensures.shape c.in_ok-steps_command.ensures.local
-    ∙ ap₂ with_subcommand with_count (ap (λ (a : App). a.top) c.in_ok-steps_command.ensures.app) in
-    let with_check = c.in_ok-subcommand-3.ensures.shape c.in_ok-check_command.ensures.local
-    ∙ ap₂ with_subcommand with_steps (ap (λ (a : App). a.top) c.in_ok-check_command.ensures.app) in
-    let with_explain = c.in_ok-subcommand-4.ensures.shape c.in_ok-explain_command.ensures.local
-    ∙ ap₂ with_subcommand with_check (ap (λ (a : App). a.top) c.in_ok-explain_command.ensures.app) in
-    let with_standing = c.in_ok-subcommand-5.ensures.shape c.in_ok-standing_command.ensures.local
-    ∙ ap₂ with_subcommand with_explain (ap (λ (a : App). a.top) c.in_ok-standing_command.ensures.app) in
-    let with_verify = c.in_ok-subcommand-6.ensures.shape c.in_ok-verify_command.ensures.local
-    ∙ ap₂ with_subcommand with_standing (ap (λ (a : App). a.top) c.in_ok-verify_command.ensures.app) in
-    IfOk-weaker c.subcommand-7.result _ _ (λ command adds. adds.shape c.in_ok-picture_command.ensures.local
-    ∙ ap₂ with_subcommand with_verify (ap (λ (a : App). a.top) c.in_ok-picture_command.ensures.app)) c.subcommand-7.ensures
-
-pub returns-clause-local : goal.returns-clause-local
-returns-clause-local c =
-    let with_count = c.in_ok-subcommand.ensures.globals ∙ ap₂ (λ a b. a || b) c.in_ok-bare_command.ensures.local c.in_ok-count_command.ensures.local in
-    let with_steps = c.in_ok-subcommand-2.ensures.globals ∙ ap₂ (λ a b. a || b) with_count c.in_ok-steps_command.ensures.local in
-    let with_check = c.in_ok-subcommand-3.ensures.globals ∙ ap₂ (λ a b. a || b) with_steps c.in_ok-check_command.ensures.local in
-    let with_explain = c.in_ok-subcommand-4.ensures.globals ∙ ap₂ (λ a b. a || b) with_check c.in_ok-explain_command.ensures.local in
-    let with_standing = c.in_ok-subcommand-5.ensures.globals ∙ ap₂ (λ a b. a || b) with_explain c.in_ok-standing_command.ensures.local in
-    let with_verify = c.in_ok-subcommand-6.ensures.globals ∙ ap₂ (λ a b. a || b) with_standing c.in_ok-verify_command.ensures.local in
-    IfOk-weaker c.subcommand-7.result _ _
-    (λ command adds. adds.globals ∙ ap₂ (λ a b. a || b) with_verify c.in_ok-picture_command.ensures.local) c.subcommand-7.ensures
+    let with_count = added c.count_command.result (app_of c.in_ok-program.program) (app_of c.in_ok-program-2.program) _ _ c.in_ok-program.ensures.app c.count_command.ensures.app c.in_ok-program-2.ensures.app in
+    let with_steps = added c.steps_command.result (app_of c.in_ok-program-2.program) (app_of c.in_ok-program-3.program) _ _ with_count c.steps_command.ensures.app c.in_ok-program-3.ensures.app in
+    let with_check = added c.check_command.result (app_of c.in_ok-program-3.program) (app_of c.in_ok-program-4.program) _ _ with_steps c.check_command.ensures.app c.in_ok-program-4.ensures.app in
+    let with_explain = added c.explain_command.result (app_of c.in_ok-program-4.program) (app_of c.in_ok-program-5.program) _ _ with_check c.explain_command.ensures.app c.in_ok-program-5.ensures.app in
+    let with_standing = added c.standing_command.result (app_of c.in_ok-program-5.program) (app_of c.in_ok-program-6.program) _ _ with_explain c.standing_command.ensures.app c.in_ok-program-6.ensures.app in
+    let with_verify = added c.verify_command.result (app_of c.in_ok-program-6.program) (app_of c.in_ok-program-7.program) _ _ with_standing c.verify_command.ensures.app c.in_ok-program-7.ensures.app in
+    IfOk-weaker c.with_command-7.result _ _ (λ program adds. added c.picture_command.result (app_of c.in_ok-program-7.program) (app_of program) _ _ with_verify c.picture_command.ensures.app adds) c.with_command-7.ensures.app
