@@ -13,6 +13,32 @@ use Rattle.vote_poll.proofs.poll_file.poll_of.Goals as goal
 ratios_read : (texts : List (Bor (List ℕ))) (count : ℕ) (numbers : List ℤ) (ratios : List ℕ) → count ≡ length texts → ratios_in count numbers ≡ Ok ratios → ratios_in (length (map now texts)) numbers ≡ Ok ratios
 ratios_read texts count numbers ratios counted h = rw (length-map texts now, ← counted) h
 
+pub returns-in_err-title : goal.returns-in_err-title
+unfolding poll_of
+returns-in_err-title c = refused-then (λ poll. poll) _ c.in_err-title.field-0.0 _ _ c.from_residual.ensures.1 c.in_err-title.ensures
+
+pub returns-in_err-options : goal.returns-in_err-options
+unfolding poll_of
+returns-in_err-options c =
+    rw c.in_ok-title.ensures
+    (refused-then (λ poll. poll) _ c.in_err-options.field-0.0 _ _ c.from_residual-in_err-options.ensures.1 c.in_err-options.ensures)
+
+pub returns-in_err-ratios : goal.returns-in_err-ratios
+unfolding poll_of
+returns-in_err-ratios c =
+    let counted : length (map now c.args.fields.options.items) ≡ c.len-ratio_count.result = omega (arith, length-map c.args.fields.options.items now) in
+    rw (c.in_ok-title.ensures, c.in_ok-options.ensures, counted)
+    (refused-then (λ poll. poll) _ c.in_err-ratios.field-0.0 _ _ c.from_residual-in_err-ratios.ensures.1 c.in_err-ratios.ensures)
+
+pub returns-in_err-roll : goal.returns-in_err-roll
+unfolding poll_of
+returns-in_err-roll c =
+    let fits : SFits w64 c.args.fields.quorum = search rules in
+    let ratios = ratios_read c.args.fields.options.items c.len-ratio_count.result _ _ (omega arith) c.in_ok-ratios.ensures in
+    let quorum = rw (to_z-of_z w64 c.args.fields.quorum fits) at c.in_ok-quorum_multiple.ensures in
+    rw (c.in_ok-title.ensures, c.in_ok-options.ensures, ratios, quorum)
+    (refused-then (λ poll. poll) _ c.in_err-roll.field-0.0 _ _ c.from_residual-in_err-roll.ensures.1 c.in_err-roll.ensures)
+
 pub returns-in_err-last_envelope : goal.returns-in_err-last_envelope
 unfolding poll_of
 returns-in_err-last_envelope c =
