@@ -12,7 +12,7 @@ ghost use Rattle.vote_sheet.specs.Sheet.{when};
 ghost use Rattle.vote_sheet.specs.Picture.{IsPictureAndDecision, cause_label, decided_style, dropped_style, edge_line, edge_lines, edges_by, graph_head, graph_style, label_text, option_line, option_lines, quoted, removal_text, removing_round, style_text};
 
 use crate::sheet::count_of_box;
-use crate::sheet_text::{cause_name, option_name, push_each};
+use crate::sheet_text::{cause_name, option_name};
 use std::alloc::{AllocError, Global};
 use vote_count::{Cause, Decision, Matrix, OptionSet, Round, Verdict, decide};
 use vote_poll::{Lines, Poll};
@@ -215,7 +215,7 @@ fn push_edge(
 }
 
 /// The lines of the defeats by `a`.
-#[tactic(auto, unfolding(crate::specs::Picture::edges_by))]
+#[tactic(auto, using(crate::proofs::Texts::each_one_more), unfolding(crate::specs::Picture::edges_by))]
 fn push_edges_by(
     text: &mut String,
     matrix: &Matrix,
@@ -225,19 +225,21 @@ fn push_edges_by(
     requires { IsOption matrix.now.options a }
     ensures { OnOk result (string_bytes text.new ≡ string_bytes text.old ++ edges_by matrix.now verdict.now a) }
 {
-    push_each(text, matrix.options(), move |text, b| {
-        push_edge(text, matrix, verdict, a, b)
-    })
+    for before in 0..matrix.options() {
+        push_edge(text, matrix, verdict, a, before + 1)?;
+    }
+    Ok(())
 }
 
 /// The lines of the defeats before any removal.
-#[tactic(auto, unfolding(crate::specs::Picture::edge_lines))]
+#[tactic(auto, using(crate::proofs::Texts::each_one_more), unfolding(crate::specs::Picture::edge_lines))]
 fn push_edges(text: &mut String, matrix: &Matrix, verdict: &Verdict) -> Result<(), AllocError>
     ensures { OnOk result (string_bytes text.new ≡ string_bytes text.old ++ edge_lines matrix.now verdict.now) }
 {
-    push_each(text, matrix.options(), |text, a| {
-        push_edges_by(text, matrix, verdict, a)
-    })
+    for before in 0..matrix.options() {
+        push_edges_by(text, matrix, verdict, before + 1)?;
+    }
+    Ok(())
 }
 
 /// The picture of the outcome of a closed box that holds the lines of the poll, with the option of the casting vote, and what

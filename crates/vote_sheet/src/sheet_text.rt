@@ -7,30 +7,12 @@ ghost use Rattle.vote_poll.specs.PollContent.{elector_count, option_count};
 ghost use Rattle.vote_count.specs.Sets.{has, has_pair};
 ghost use Rattle.vote_count.specs.Rounds.{cause_of};
 ghost use Rattle.vote_count.specs.Rules.{IsKept};
-ghost use Rattle.vote_sheet.specs.Sheet.{Text, casting_note, cause_name, causes_text, column_text, count_text, counted_text, decision_text, default_text, defeat_line, defeat_lines, defeats_text, defeats_by, drop_line, drops_of, each, ending, tie_text, winner_text, dropped_line, dropped_text, head_text, last_text, name_of, numbers, option_text, options_text, right, round_text, rounds_from, row_text, table_head_text, table_text, totals_text, votes_text, when, wording_text};
+ghost use Rattle.vote_sheet.specs.Sheet.{casting_note, cause_name, causes_text, column_text, count_text, counted_text, decision_text, default_text, defeat_line, defeat_lines, defeats_text, defeats_by, drop_line, drops_of, each, ending, tie_text, winner_text, dropped_line, dropped_text, head_text, last_text, name_of, numbers, option_text, options_text, right, round_text, rounds_from, row_text, table_head_text, table_text, totals_text, votes_text, when, wording_text};
 
 use std::alloc::AllocError;
 use vote_count::{Cause, Decision, Defeats, Matrix, OptionSet, Round, Verdict};
 use vote_poll::{Poll, Wording};
 use vote_steps::Totals;
-
-/// The part of each option from 1 to the last one, in order.
-#[tactic(auto, using(crate::proofs::Texts::each_one_more))]
-pub(crate) fn push_each<F: Fn(&mut String, u8) -> Result<(), AllocError>>(
-    text: &mut String,
-    last: u8,
-    push: F,
-) -> Result<(), AllocError>
-    ghost part: { ℕ → Text }
-    requires callable { (before : _) (o : ℕ) → IsOption last o → F.pre push before o }
-    requires writes { (before : _) (o : ℕ) (r : _) (after : _) → IsOption last o → F.post push before o r after → OnOk r (string_bytes after.now ≡ string_bytes before.now ++ part o) }
-    ensures { OnOk result (string_bytes text.new ≡ string_bytes text.old ++ each last part) }
-{
-    for before in 0..last {
-        push(text, before + 1)?;
-    }
-    Ok(())
-}
 
 /// How the majority is worded, where it is not as the Constitution words it.
 #[tactic(auto, unfolding(crate::specs::Sheet::wording_text))]
@@ -114,14 +96,14 @@ fn push_option(text: &mut String, poll: &Poll, option: u8) -> Result<(), AllocEr
 }
 
 /// The options and their ratios.
-#[tactic(auto, unfolding(crate::specs::Sheet::options_text))]
+#[tactic(auto, using(crate::proofs::Texts::each_one_more), unfolding(crate::specs::Sheet::options_text))]
 pub(crate) fn push_options(text: &mut String, poll: &Poll) -> Result<(), AllocError>
     ensures { OnOk result (string_bytes text.new ≡ string_bytes text.old ++ options_text poll.now.options poll.now.ratios) }
 {
     writeln!(text, "Options:")?;
-    push_each(text, poll.options() - 1, |text, option| {
-        push_option(text, poll, option)
-    })?;
+    for before in 0..poll.options() - 1 {
+        push_option(text, poll, before + 1)?;
+    }
     push_default(text, poll)
 }
 
@@ -148,15 +130,15 @@ fn push_row_number(text: &mut String, option: u8) -> Result<(), AllocError>
 }
 
 /// The row of an option: the votes for it over each.
-#[tactic(auto, unfolding(crate::specs::Sheet::row_text))]
+#[tactic(auto, using(crate::proofs::Texts::each_one_more), unfolding(crate::specs::Sheet::row_text))]
 fn push_row(text: &mut String, matrix: &Matrix, a: u8) -> Result<(), AllocError>
     requires { IsOption matrix.now.options a }
     ensures { OnOk result (string_bytes text.new ≡ string_bytes text.old ++ row_text matrix.now a) }
 {
     push_row_number(text, a)?;
-    push_each(text, matrix.options(), |text, b| {
-        push_votes(text, matrix, a, b)
-    })?;
+    for before in 0..matrix.options() {
+        push_votes(text, matrix, a, before + 1)?;
+    }
     writeln!(text)
 }
 
@@ -169,22 +151,27 @@ fn push_column(text: &mut String, option: u8) -> Result<(), AllocError>
 }
 
 /// The head of the table of votes.
-#[tactic(auto, unfolding(crate::specs::Sheet::table_head_text))]
+#[tactic(auto, using(crate::proofs::Texts::each_one_more), unfolding(crate::specs::Sheet::table_head_text))]
 fn push_table_head(text: &mut String, options: u8) -> Result<(), AllocError>
     ensures { OnOk result (string_bytes text.new ≡ string_bytes text.old ++ table_head_text options) }
 {
     write!(text, "Votes:\n   ")?;
-    push_each(text, options, push_column)?;
+    for before in 0..options {
+        push_column(text, before + 1)?;
+    }
     writeln!(text)
 }
 
 /// The table of votes.
-#[tactic(auto, unfolding(crate::specs::Sheet::table_text))]
+#[tactic(auto, using(crate::proofs::Texts::each_one_more), unfolding(crate::specs::Sheet::table_text))]
 fn push_table(text: &mut String, matrix: &Matrix) -> Result<(), AllocError>
     ensures { OnOk result (string_bytes text.new ≡ string_bytes text.old ++ table_text matrix.now) }
 {
     push_table_head(text, matrix.options())?;
-    push_each(text, matrix.options(), |text, a| push_row(text, matrix, a))
+    for before in 0..matrix.options() {
+        push_row(text, matrix, before + 1)?;
+    }
+    Ok(())
 }
 
 /// The word for a cause.
@@ -208,17 +195,27 @@ fn push_cause(text: &mut String, option: u8, cause: Option<Cause>) -> Result<(),
     }
 }
 
+/// The lines of the options that were dropped.
+#[tactic(auto, using(crate::proofs::Texts::each_one_more), unfolding(crate::specs::Sheet::causes_text))]
+fn push_causes(text: &mut String, options: u8, verdict: &Verdict) -> Result<(), AllocError>
+    requires { options ≤ MAX_OPTIONS }
+    ensures { OnOk result (string_bytes text.new ≡ string_bytes text.old ++ causes_text options verdict.now) }
+{
+    for before in 0..options {
+        push_cause(text, before + 1, verdict.dropped(before + 1))?;
+    }
+    Ok(())
+}
+
 /// The options that were dropped, each with its cause.
-#[tactic(auto, unfolding(crate::specs::Sheet::causes_text, crate::specs::Sheet::dropped_text))]
+#[tactic(auto, unfolding(crate::specs::Sheet::dropped_text))]
 fn push_dropped(text: &mut String, options: u8, verdict: &Verdict) -> Result<(), AllocError>
     requires { options ≤ MAX_OPTIONS }
     ensures { OnOk result (string_bytes text.new ≡ string_bytes text.old ++ dropped_text options verdict.now) }
 {
     writeln!(text, "Dropped:")?;
     let start = text.len();
-    push_each(text, options, |text, option| {
-        push_cause(text, option, verdict.dropped(option))
-    })?;
+    push_causes(text, options, verdict)?;
     if text.len() == start {
         writeln!(text, "  none")?;
     }
@@ -247,7 +244,7 @@ fn push_defeat(
 }
 
 /// The lines of the defeats by `a`.
-#[tactic(auto, unfolding(crate::specs::Sheet::defeats_by))]
+#[tactic(auto, using(crate::proofs::Texts::each_one_more), unfolding(crate::specs::Sheet::defeats_by))]
 fn push_defeats_by(
     text: &mut String,
     matrix: &Matrix,
@@ -257,21 +254,35 @@ fn push_defeats_by(
     requires { IsOption matrix.now.options a }
     ensures { OnOk result (string_bytes text.new ≡ string_bytes text.old ++ defeats_by matrix.now defeats.now a) }
 {
-    push_each(text, matrix.options(), move |text, b| {
-        push_defeat(text, matrix, defeats, a, b)
-    })
+    for before in 0..matrix.options() {
+        push_defeat(text, matrix, defeats, a, before + 1)?;
+    }
+    Ok(())
+}
+
+/// The lines of all defeats.
+#[tactic(auto, using(crate::proofs::Texts::each_one_more), unfolding(crate::specs::Sheet::defeat_lines))]
+fn push_defeat_lines(
+    text: &mut String,
+    matrix: &Matrix,
+    defeats: &Defeats,
+) -> Result<(), AllocError>
+    ensures { OnOk result (string_bytes text.new ≡ string_bytes text.old ++ defeat_lines matrix.now defeats.now) }
+{
+    for before in 0..matrix.options() {
+        push_defeats_by(text, matrix, defeats, before + 1)?;
+    }
+    Ok(())
 }
 
 /// The defeats before any removal.
-#[tactic(auto, unfolding(crate::specs::Sheet::defeat_lines, crate::specs::Sheet::defeats_text))]
+#[tactic(auto, unfolding(crate::specs::Sheet::defeats_text))]
 fn push_defeats(text: &mut String, matrix: &Matrix, defeats: &Defeats) -> Result<(), AllocError>
     ensures { OnOk result (string_bytes text.new ≡ string_bytes text.old ++ defeats_text matrix.now defeats.now) }
 {
     writeln!(text, "Defeats:")?;
     let start = text.len();
-    push_each(text, matrix.options(), |text, a| {
-        push_defeats_by(text, matrix, defeats, a)
-    })?;
+    push_defeat_lines(text, matrix, defeats)?;
     if text.len() == start {
         writeln!(text, "  none")?;
     }
@@ -289,10 +300,14 @@ fn push_number(text: &mut String, set: &OptionSet, option: u8) -> Result<(), All
 }
 
 /// The options of a set.
+#[tactic(auto, using(crate::proofs::Texts::each_one_more))]
 fn push_numbers(text: &mut String, options: u8, set: &OptionSet) -> Result<(), AllocError>
     ensures { OnOk result (string_bytes text.new ≡ string_bytes text.old ++ numbers options set.now) }
 {
-    push_each(text, options, |text, option| push_number(text, set, option))
+    for before in 0..options {
+        push_number(text, set, before + 1)?;
+    }
+    Ok(())
 }
 
 /// The line of the defeat of `b` by `a`, if it is removed.
@@ -307,11 +322,25 @@ fn push_drop(text: &mut String, removed: &Defeats, a: u8, b: u8) -> Result<(), A
 }
 
 /// The lines of the removed defeats by `a`.
-#[tactic(auto, unfolding(crate::specs::Sheet::drops_of))]
+#[tactic(auto, using(crate::proofs::Texts::each_one_more), unfolding(crate::specs::Sheet::drops_of))]
 fn push_drops_of(text: &mut String, options: u8, removed: &Defeats, a: u8) -> Result<(), AllocError>
     ensures { OnOk result (string_bytes text.new ≡ string_bytes text.old ++ drops_of options removed.now a) }
 {
-    push_each(text, options, |text, b| push_drop(text, removed, a, b))
+    for before in 0..options {
+        push_drop(text, removed, a, before + 1)?;
+    }
+    Ok(())
+}
+
+/// The lines of all removed defeats.
+#[tactic(auto, using(crate::proofs::Texts::each_one_more))]
+fn push_drops(text: &mut String, options: u8, removed: &Defeats) -> Result<(), AllocError>
+    ensures { OnOk result (string_bytes text.new ≡ string_bytes text.old ++ each options (drops_of options removed.now)) }
+{
+    for before in 0..options {
+        push_drops_of(text, options, removed, before + 1)?;
+    }
+    Ok(())
 }
 
 /// A round: its set, and then the defeats that it removes.
@@ -327,10 +356,7 @@ fn push_round(
     write!(text, "Round {number}:")?;
     push_numbers(text, options, &round.set)?;
     writeln!(text)?;
-    let removed = &round.removed;
-    push_each(text, options, |text, a| {
-        push_drops_of(text, options, removed, a)
-    })
+    push_drops(text, options, &round.removed)
 }
 
 /// The rounds, numbered from 1.

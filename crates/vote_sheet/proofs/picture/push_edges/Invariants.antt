@@ -1,6 +1,8 @@
+use Rattle.std.proofs.Common.{◌≡◌, ◌++◌, string_bytes}
 use Rattle.vote_sheet.specs.Picture.{edges_by}
+use Rattle.vote_sheet.specs.Sheet.{each}
 use Rattle.vote_sheet.proofs.picture.push_edges.Given as goal
 
--- the closure holds the matrix and the verdict
-abbrev pub ghost-push_each : goal.ghost-push_each
-ghost-push_each a = edges_by a.push.0.now a.push.1.now
+-- the lines of the defeats by the options before this one are written
+abbrev pub invariant-loop-before : goal.invariant-loop-before
+invariant-loop-before l = string_bytes l.text ≡ string_bytes l.initial.text ++ each l.before (edges_by l.matrix l.verdict)

@@ -1,8 +1,9 @@
+use Rattle.std.proofs.Common.{◌≡◌, ◌++◌, string_bytes}
 use Rattle.vote_count.specs.Sets.{has_pair}
 use Rattle.vote_sheet.specs.Picture.{edge_line}
-use Rattle.vote_sheet.specs.Sheet.{when}
+use Rattle.vote_sheet.specs.Sheet.{each, when}
 use Rattle.vote_sheet.proofs.picture.push_edges_by.Given as goal
 
--- the closure holds the matrix, the verdict and `a`
-abbrev pub ghost-push_each : goal.ghost-push_each
-ghost-push_each a = λ b. when (has_pair a.push.1.now.defeats a.push.2 b) (edge_line a.push.0.now a.push.1.now.rounds a.push.2 b)
+-- the lines of the defeats of the options before this one are written
+abbrev pub invariant-loop-before : goal.invariant-loop-before
+invariant-loop-before l = string_bytes l.text ≡ string_bytes l.initial.text ++ each l.before (λ b. when (has_pair l.verdict.defeats l.a b) (edge_line l.matrix l.verdict.rounds l.a b))

@@ -1,7 +1,8 @@
+use Rattle.std.proofs.Common.{◌≡◌, ◌++◌, string_bytes}
 use Rattle.vote_count.specs.Sets.{has_pair}
-use Rattle.vote_sheet.specs.Sheet.{defeat_line, when}
+use Rattle.vote_sheet.specs.Sheet.{defeat_line, each, when}
 use Rattle.vote_sheet.proofs.sheet_text.push_defeats_by.Given as goal
 
--- the closure holds the matrix, the defeats and `a`
-abbrev pub ghost-push_each : goal.ghost-push_each
-ghost-push_each a = λ b. when (has_pair a.push.1.now a.push.2 b) (defeat_line a.push.0.now a.push.2 b)
+-- the lines of the defeats of the options before this one are written
+abbrev pub invariant-loop-before : goal.invariant-loop-before
+invariant-loop-before l = string_bytes l.text ≡ string_bytes l.initial.text ++ each l.before (λ b. when (has_pair l.defeats l.a b) (defeat_line l.matrix l.a b))

@@ -1,6 +1,7 @@
-use Rattle.vote_sheet.specs.Sheet.{option_text}
+use Rattle.std.proofs.Common.{◌≡◌, ◌++◌, string_bytes}
+use Rattle.vote_sheet.specs.Sheet.{each, option_text}
 use Rattle.vote_sheet.proofs.sheet_text.push_options.Given as goal
 
--- the closure holds the poll
-abbrev pub ghost-push_each : goal.ghost-push_each
-ghost-push_each a = option_text a.push.0.now.options a.push.0.now.ratios
+-- the lines of the options before this one are written
+abbrev pub invariant-loop-before : goal.invariant-loop-before
+invariant-loop-before l = string_bytes l.text ≡ string_bytes l.initial.text ++ each l.before (option_text l.poll.options l.poll.ratios)

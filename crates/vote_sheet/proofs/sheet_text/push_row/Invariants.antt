@@ -1,6 +1,7 @@
-use Rattle.vote_sheet.specs.Sheet.{votes_text}
+use Rattle.std.proofs.Common.{◌≡◌, ◌++◌, string_bytes}
+use Rattle.vote_sheet.specs.Sheet.{each, votes_text}
 use Rattle.vote_sheet.proofs.sheet_text.push_row.Given as goal
 
--- the closure holds the matrix and the option of the row
-abbrev pub ghost-push_each : goal.ghost-push_each
-ghost-push_each a = votes_text a.push.0.now a.push.1.now
+-- the votes over the options before this one are written
+abbrev pub invariant-loop-before : goal.invariant-loop-before
+invariant-loop-before l = string_bytes l.text ≡ string_bytes l.initial.text ++ each l.before (votes_text l.matrix l.a)

@@ -1,6 +1,7 @@
-use Rattle.vote_sheet.specs.Sheet.{row_text}
+use Rattle.std.proofs.Common.{◌≡◌, ◌++◌, string_bytes}
+use Rattle.vote_sheet.specs.Sheet.{each, row_text}
 use Rattle.vote_sheet.proofs.sheet_text.push_table.Given as goal
 
--- the closure holds the matrix
-abbrev pub ghost-push_each : goal.ghost-push_each
-ghost-push_each a = row_text a.push.0.now
+-- the rows before this one are written
+abbrev pub invariant-loop-before : goal.invariant-loop-before
+invariant-loop-before l = string_bytes l.text ≡ string_bytes l.initial.text ++ each l.before (row_text l.matrix)

@@ -1,5 +1,7 @@
-use Rattle.vote_sheet.specs.Sheet.{column_text}
+use Rattle.std.proofs.Common.{◌≡◌, ◌++◌, string_bytes}
+use Rattle.vote_sheet.specs.Sheet.{column_text, each}
 use Rattle.vote_sheet.proofs.sheet_text.push_table_head.Given as goal
 
-abbrev pub ghost-push_each : goal.ghost-push_each
-ghost-push_each a = column_text
+-- the columns before this one are written
+abbrev pub invariant-loop-before : goal.invariant-loop-before
+invariant-loop-before l = string_bytes l.text ≡ string_bytes l.initial.text ++ each l.before column_text
