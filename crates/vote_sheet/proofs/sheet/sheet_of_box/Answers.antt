@@ -17,3 +17,10 @@ returns c =
       four_parts _ (totals (length lines)) _ _ _ _ _ _ _ c.new-text.ensures.bytes c.in_ok-push_head.ensures of_totals c.in_ok-push_options.ensures c.in_ok-push_count.ensures,
       refl,
     )
+
+pub push_count-requires-clause-options : goal.push_count-requires-clause-options
+push_count-requires-clause-options c = c.in_ok-count.ensures.options
+
+-- a winner is in the final set, and so it is kept
+pub push_count-requires-clause-winner : goal.push_count-requires-clause-winner
+push_count-requires-clause-winner c o wins = c.in_ok-count.ensures.kept o (c.decide-decision.ensures.winner o wins)
