@@ -1,14 +1,14 @@
 -- The search for the sheet that a text is, or that agrees longest with it.
-use Rattle.std.proofs.Common.{◌≡◌, ◌≢◌, ℕ, zero, suc, ◌+◌, ◌<◌, ◌≤◌, List, [], ◌∷◌, ◌++◌, Option, Some, length, inl, inr, refl, sym, ap, ◌∙◌, subst, arith, append_assoc, codes, decimal}
+use Rattle.std.proofs.Common.{◌≡◌, ◌≢◌, ℕ, zero, suc, ◌+◌, ◌<◌, ◌≤◌, List, [], ◌∷◌, ◌++◌, Option, Some, Ok, Err, Result, IfOk, length, inl, inr, refl, sym, ap, ◌∙◌, subst, arith, append_assoc, codes, decimal}
 use Rattle.std.proofs.lemmas.Bool.{cases_eq, cases_lt}
 use Rattle.vote_poll.specs.PollContent.{PollContent, option_count}
-use Rattle.vote_count.specs.Rounds.{VerdictState, final_set}
+use Rattle.vote_count.specs.Rounds.{IsDecision, VerdictState, final_set}
 use Rattle.vote_count.specs.Votes.{Votes}
 use Rattle.vote_count.specs.declared.Decision.{Decision}
 use Rattle.vote_steps.specs.declared.Totals.{Totals}
 use Rattle.vote_sheet.specs.Sheet.{Sheet, Text, count_text, decision_text, line, name_of, shared_text, sheet_text}
 use Rattle.vote_sheet.specs.SheetOf.{IsSheet, IsSheetOf, sheet_with}
-use Rattle.vote_sheet.specs.Verify.{AgreesLongest, IsVerification, common_lines, casting_vote, verified_text}
+use Rattle.vote_sheet.specs.Verify.{AgreesLongest, AreSheets, IsVerification, common_lines, casting_vote, verified_text}
 use Rattle.vote_sheet.specs.declared.verify.Verification.{Verification}
 use Rattle.vote_sheet.specs.declared.verify.Verification.TheVariants.{Differs, Matches, MatchesCasting}
 use mathlib.Core.List.{append-nil}
@@ -170,3 +170,16 @@ pub whole_sheet : (poll : PollContent) (lines : List Text) (quorum_votes : ℕ) 
 whole_sheet poll lines quorum_votes totals matrix outcome casting decision shared is same =
     let s : Sheet = sheet_with poll (length lines) quorum_votes totals matrix outcome decision in
     (s, is, ap (λ t. t ++ decision_text poll.options (final_set outcome.rounds) decision) same ∙ sym (sheet_parts s))
+
+-- with each decision they are one
+pub are_sheets : (poll : PollContent) (lines : List Text) (quorum_votes : ℕ) (totals : Totals) (matrix : Votes) (outcome : VerdictState) (shared : Text)
+    → ((casting : Option ℕ) (decision : Decision) → IsDecision (final_set outcome.rounds) casting decision → IsSheetOf poll lines casting (sheet_with poll (length lines) quorum_votes totals matrix outcome decision))
+    → ((decision : Decision) → shared ≡ shared_text (sheet_with poll (length lines) quorum_votes totals matrix outcome decision))
+    → AreSheets poll lines outcome shared
+are_sheets poll lines quorum_votes totals matrix outcome shared all same number decision is =
+    whole_sheet poll lines quorum_votes totals matrix outcome (casting_vote number) decision shared (all (casting_vote number) decision is) (same decision)
+
+-- ---- answers of calls
+pub where_ok : {X E : Type 0} (r : Result X E) (P Q : X → Type 0) → ((x : X) → P x → Q x) → IfOk r P → IfOk r Q
+where_ok (Ok x) P Q more p = more x p
+where_ok (Err e) P Q more p = tt

@@ -5,7 +5,9 @@ use Rattle.vote_poll.specs.Lines.{IsUnbroken, lines_of, text_of_lines}
 use Rattle.vote_poll.specs.Options.{IsOption}
 use Rattle.vote_poll.specs.PollContent.{PollContent, option_count}
 use Rattle.vote_poll.specs.Shown.{shown}
-use Rattle.vote_sheet.specs.Sheet.{name_of}
+use Rattle.vote_count.specs.Rounds.{IsDecision, VerdictState, final_set}
+use Rattle.vote_count.specs.declared.Decision.{Decision}
+use Rattle.vote_sheet.specs.Sheet.{decision_text, name_of}
 use Rattle.vote_sheet.specs.SheetOf.{IsSheet}
 use Rattle.vote_sheet.specs.Texts.{Text, line}
 use Rattle.vote_sheet.specs.declared.verify.Verification.{Verification}
@@ -47,6 +49,12 @@ pub record AgreesLongest (poll : PollContent) (lines : List Text) (text : Text) 
   pub is_sheet : IsSheet poll lines (casting_vote number) sheet
   pub longest : (n : ℕ) (other : Text) → n ≤ option_count poll → IsSheet poll lines (casting_vote n) other → common_lines text other ≤ common_lines text sheet
   pub first : (n : ℕ) (other : Text) → n < number → IsSheet poll lines (casting_vote n) other → common_lines text other < common_lines text sheet
+
+-- the texts that begin with these shared lines are the sheets of the poll and the lines, each with what is decided with its casting vote
+abbrev pub AreSheets : PollContent → List Text → VerdictState → Text → Type 0
+AreSheets poll lines outcome shared =
+    (number : ℕ) (decision : Decision) → IsDecision (final_set outcome.rounds) (casting_vote number) decision
+    → IsSheet poll lines (casting_vote number) (shared ++ decision_text poll.options (final_set outcome.rounds) decision)
 
 -- ---- the words
 

@@ -1,6 +1,6 @@
 //! Comparing a text with the sheets of a poll and its lines.
 
-ghost use Rattle.std.specs.Prelude.{◌≡◌, ℕ, ◌∷◌, [], ◌++◌, ◌<◌, ◌≤◌, ◌==◌, IfNone, IfOk, IfSome, OnOk, count_by, length, option_map, position, slice_get, string_bytes};
+ghost use Rattle.std.specs.Prelude.{◌≡◌, ℕ, ◌∷◌, [], ◌++◌, ◌<◌, ◌≤◌, ◌==◌, IfNone, IfOk, IfSome, List, OnOk, count_by, length, option_map, position, slice_get, string_bytes};
 ghost use Rattle.std.specs.List.{slice_split};
 ghost use Rattle.vote_poll.specs.Lines.{lines_of, without_last_feed};
 ghost use Rattle.vote_poll.specs.Options.{IsOption};
@@ -9,9 +9,9 @@ ghost use Rattle.vote_count.specs.Rounds.{IsDecision, final_set};
 ghost use Rattle.vote_count.specs.Rules.{IsKept};
 ghost use Rattle.vote_count.specs.Sets.{In};
 ghost use Rattle.vote_steps.specs.Casting.{HoldsLines};
-ghost use Rattle.vote_sheet.specs.Sheet.{decision_text, shared_text};
+ghost use Rattle.vote_sheet.specs.Sheet.{Text, decision_text, shared_text};
 ghost use Rattle.vote_sheet.specs.SheetOf.{sheet_with};
-ghost use Rattle.vote_sheet.specs.Verify.{AreVerificationWords, IsComparison, IsVerification, agreement, casting_vote, common_lines, difference_text, shown_line, verified_text};
+ghost use Rattle.vote_sheet.specs.Verify.{AreSheets, AreVerificationWords, IsComparison, IsVerification, agreement, casting_vote, common_lines, difference_text, shown_line, verified_text};
 
 use crate::sheet::{Count, count_of_box, sheet_is_unique};
 use crate::sheet_text::{
@@ -237,6 +237,50 @@ fn closer(closest: Closest, number: u8, agrees: usize) -> Closest
     }
 }
 
+/// The words for a text that is none of the sheets: where it leaves the one with the casting vote of this number.
+fn differing_words(
+    alloc: Global,
+    poll: &Poll,
+    count: &Count,
+    shared: &str,
+    number: u8,
+    text: &[u8],
+) -> Result<String, AllocError>
+    requires { (o : ℕ) → In (final_set count.now.verdict.rounds) o → IsOption (option_count poll.now) o }
+    ensures { IfOk result (λ words. (decision : Decision) × IsDecision (final_set count.now.verdict.rounds) (casting_vote number) decision × (string_bytes words ≡ difference_text text.now (shared.now ++ decision_text poll.now.options (final_set count.now.verdict.rounds) decision))) }
+{
+    let sheet = sheet_with_vote(alloc, poll, count, shared, number)?;
+    difference_text(alloc, text, sheet.as_bytes())
+}
+
+/// Compares a text with all sheets that have these shared lines: with the one without a casting vote, and with those with each
+/// option as the casting vote.
+fn verify_among(
+    alloc: Global,
+    poll: &Poll,
+    count: &Count,
+    shared: &str,
+    text: &[u8],
+) -> Result<(String, Verification), AllocError>
+    requires { (o : ℕ) → In (final_set count.now.verdict.rounds) o → IsKept poll.now count.now.matrix o }
+    ensures verification { IfOk result (λ answer. (lines : List Text) → AreSheets poll.now lines count.now.verdict shared.now → IsVerification poll.now lines text.now answer.1) }
+    ensures words { IfOk result (λ answer. (lines : List Text) → AreSheets poll.now lines count.now.verdict shared.now → AreVerificationWords poll.now lines text.now answer.1 (string_bytes answer.0)) }
+{
+    sheet_is_unique();
+    let mut closest = Closest {
+        number: 0,
+        agrees: 0,
+    };
+    for number in 0..poll.options() + 1 {
+        match compare(alloc, poll, count, shared, number, text)? {
+            Some(agrees) => closest = closer(closest, number, agrees),
+            None => return Ok((verified_text(alloc, poll, number)?, matches_vote(number))),
+        }
+    }
+    let words = differing_words(alloc, poll, count, shared, closest.number, text)?;
+    Ok((words, Verification::Differs))
+}
+
 /// Compares a text with the sheets of a closed box that holds the lines of the poll: with the one without a casting vote, and
 /// with those with each option as the casting vote. The words say which of them it is, or in which line it leaves the one that
 /// agrees longest with it. Options are numbered from 1.
@@ -253,21 +297,8 @@ pub fn verify_sheet(
     ensures verification { IfOk result (λ answer. IsVerification poll.now lines.now sheet.now answer.1) }
     ensures words { IfOk result (λ answer. AreVerificationWords poll.now lines.now sheet.now answer.1 (string_bytes answer.0)) }
 {
-    sheet_is_unique();
     let count = count_of_box(alloc, poll, lines, ballot_box)?;
     let mut shared = String::new(alloc);
     push_shared(&mut shared, poll, lines, &count)?;
-    let mut closest = Closest {
-        number: 0,
-        agrees: 0,
-    };
-    for number in 0..poll.options() + 1 {
-        match compare(alloc, poll, &count, shared.as_str(), number, sheet)? {
-            Some(agrees) => closest = closer(closest, number, agrees),
-            None => return Ok((verified_text(alloc, poll, number)?, matches_vote(number))),
-        }
-    }
-    let counted = sheet_with_vote(alloc, poll, &count, shared.as_str(), closest.number)?;
-    let words = difference_text(alloc, sheet, counted.as_bytes())?;
-    Ok((words, Verification::Differs))
+    verify_among(alloc, poll, &count, shared.as_str(), sheet)
 }
