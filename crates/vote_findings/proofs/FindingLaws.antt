@@ -80,6 +80,11 @@ pub on_then : {X E : Type 0} (r : Result X E) (xs ys : List PollFault) (before b
 on_then (Ok x) xs ys before between after first more = adds_then xs ys before between after first more
 on_then (Err x) xs ys before between after first more = tt
 
+-- what holds however a call ends
+pub on_ok : {X E : Type 0} (r : Result X E) (P : Type 0) → P → OnOk r P
+on_ok (Ok x) P p = p
+on_ok (Err x) P p = tt
+
 -- the same test by another name
 pub judged : (b d : Bool) (e : PollFault) (before after : List ℕ) → b ≡ d → AddsFindings (fault_unless b e) before after → AddsFindings (fault_unless d e) before after
 judged b d e before after same h = subst (λ (r : Bool). AddsFindings (fault_unless r e) before after) same h
@@ -128,6 +133,12 @@ pub all_findings : (faults : List PollFault) (before between after : List ℕ) �
 all_findings faults before between after none first keys =
     let is : between ≡ first.0 = first.2 ∙ ap (λ t. t ++ first.0) none in
     (between, subst (λ (t : List ℕ). AreFindings faults t) (sym is) first.1, keys)
+
+-- the findings, and then the lines of keys
+pub on_keys : {X E : Type 0} (r : Result X E) (faults : List PollFault) (before between after : List ℕ) → AddsFindings faults before between → OnOk r (AddsKeyLines between after)
+    → OnOk r ((middle : List ℕ) × AddsFindings faults before middle × AddsKeyLines middle after)
+on_keys (Ok x) faults before between after first keys = (between, first, keys)
+on_keys (Err x) faults before between after first keys = tt
 
 -- ---- texts that are lent
 abbrev pub now : Bor (List ℕ) → List ℕ

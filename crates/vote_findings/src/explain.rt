@@ -1,10 +1,11 @@
 //! A poll file read once, for the poll and for all that is wrong with it.
-ghost use Rattle.std.specs.Prelude.{◌≡◌, ◌≢◌, ◌++◌, Ok, Err, IfOk, OnOk, codes, decimal, string_bytes};
+ghost use Rattle.std.specs.Prelude.{◌≡◌, ◌≢◌, ℕ, ◌++◌, List, Ok, Err, IfOk, OnOk, codes, decimal, string_bytes};
 ghost use Rattle.toml.specs.View.{table_view};
-ghost use Rattle.vote_findings.specs.Findings.{AreFindingsOf, IsSyntaxFinding};
-ghost use Rattle.vote_findings.specs.FoundView.{IsTold};
+ghost use Rattle.vote_findings.specs.Findings.{AddsFindings, AddsKeyLines, AreFindingsOf, IsSyntaxFinding};
+ghost use Rattle.vote_findings.specs.FoundView.{IsTold, found_view};
+ghost use Rattle.vote_poll.specs.PollFaults.{of_contents, of_keys};
 ghost use Rattle.vote_poll.specs.PollFile.{document, poll_in, poll_in_table};
-ghost use Rattle.vote_poll.specs.declared.fault.PollFault.TheVariants.{Memory};
+ghost use Rattle.vote_poll.specs.declared.fault.PollFault.TheVariants.{Memory, Syntax};
 
 use crate::findings::{push_contents, push_hint};
 use crate::found::Found;
@@ -55,16 +56,29 @@ fn syntax_finding(alloc: Global, text: &[u8], error: &toml::de::Error) -> Result
     Ok(finding)
 }
 
-/// The findings of a table: on its keys, on what they say, and the keys that are not read.
+/// Adds the findings of a table: on its keys, on what they say, and the keys that are not read.
+fn push_findings(
+    alloc: Global,
+    text: &mut String,
+    table: &Table,
+    found: &Found<'_>,
+    unread: &UnreadKeys<'_>,
+) -> Result<(), AllocError>
+    ensures { OnOk result ((between : List ℕ) × AddsFindings (of_keys (table_view table.now) (found_view found.now) ++ of_contents (found_view found.now)) (string_bytes text.old) between × AddsKeyLines between (string_bytes text.new)) }
+{
+    push_keys(text, table, found, unread)?;
+    push_contents(alloc, text, found)?;
+    push_unread_keys(text, unread)
+}
+
+/// The findings of a table.
 fn findings_of(alloc: Global, table: &Table) -> Result<String, AllocError>
     ensures { IfOk result (λ findings. AreFindingsOf (Ok (table_view table.now)) (string_bytes findings)) }
 {
     let found = Found::of_table(alloc, table)?;
     let unread = UnreadKeys::of_table(alloc, table)?;
     let mut findings = String::new(alloc);
-    push_keys(&mut findings, table, &found, &unread)?;
-    push_contents(alloc, &mut findings, &found)?;
-    push_unread_keys(&mut findings, &unread)?;
+    push_findings(alloc, &mut findings, table, &found, &unread)?;
     Ok(findings)
 }
 
@@ -88,6 +102,33 @@ fn outcome_of(alloc: Global, table: &Table) -> Result<Result<Poll, PollFault>, A
     told(Poll::from_table(alloc, table))
 }
 
+/// What the table of a poll file says, and all that is wrong with it.
+fn explain_table(alloc: Global, table: &Table) -> Result<ExplainedPoll, AllocError>
+    ensures findings { IfOk result (λ explained. AreFindingsOf (Ok (table_view table.now)) (string_bytes explained.findings)) }
+    ensures outcome { IfOk result (λ explained. explained.outcome ≡ poll_in_table (table_view table.now)) }
+    ensures known { IfOk result (λ explained. explained.outcome ≢ Err Memory) }
+{
+    Ok(ExplainedPoll {
+        findings: findings_of(alloc, table)?,
+        outcome: outcome_of(alloc, table)?,
+    })
+}
+
+/// That a text is no TOML, which is all that is wrong with it.
+fn explain_syntax(
+    alloc: Global,
+    text: &[u8],
+    error: &toml::de::Error,
+) -> Result<ExplainedPoll, AllocError>
+    ensures findings { IfOk result (λ explained. IsSyntaxFinding (string_bytes explained.findings)) }
+    ensures outcome { IfOk result (λ explained. explained.outcome ≡ Err Syntax) }
+{
+    Ok(ExplainedPoll {
+        findings: syntax_finding(alloc, text, error)?,
+        outcome: Err(PollFault::Syntax),
+    })
+}
+
 /// Reads a poll file as [`Poll::from_text`] does, and says all that is wrong with it: each fault, judged by itself, with what was
 /// found; and each key that is not read.
 ///
@@ -100,18 +141,12 @@ pub fn explain_poll(alloc: Global, text: &[u8]) -> Result<ExplainedPoll, AllocEr
     ensures known { IfOk result (λ explained. explained.outcome ≢ Err Memory) }
 {
     match toml::table_from_slice(alloc, text) {
-        Ok(table) => Ok(ExplainedPoll {
-            findings: findings_of(alloc, &table)?,
-            outcome: outcome_of(alloc, &table)?,
-        }),
+        Ok(table) => explain_table(alloc, &table),
         Err(error) => {
             if error.is_memory() {
                 return Err(AllocError);
             }
-            Ok(ExplainedPoll {
-                findings: syntax_finding(alloc, text, &error)?,
-                outcome: Err(PollFault::Syntax),
-            })
+            explain_syntax(alloc, text, &error)
         }
     }
 }

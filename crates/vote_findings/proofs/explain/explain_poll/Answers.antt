@@ -22,26 +22,26 @@ document_refused text refused =
       | inr other ↦ rw other
     ]
 
-pub returns-in_ok-outcome_of-in-Ok-clause-findings : goal.returns-in_ok-outcome_of-in-Ok-clause-findings
-returns-in_ok-outcome_of-in-Ok-clause-findings c =
+pub returns-in-Ok-clause-findings : goal.returns-in-Ok-clause-findings
+returns-in-Ok-clause-findings c =
     let read : document c.args.text.now ≡ Ok (table_view c.in-Ok.table) = document_read _ _ c.in-Ok.ensures.ok.0 c.in-Ok.ensures.ok.1 in
-    rw read c.in_ok-findings_of-in-Ok.ensures
+    rw read c.explain_table.ensures.findings
 
-pub returns-in_ok-outcome_of-in-Ok-clause-outcome : goal.returns-in_ok-outcome_of-in-Ok-clause-outcome
+pub returns-in-Ok-clause-outcome : goal.returns-in-Ok-clause-outcome
 unfolding poll_in
-returns-in_ok-outcome_of-in-Ok-clause-outcome c =
+returns-in-Ok-clause-outcome c =
     let read : document c.args.text.now ≡ Ok (table_view c.in-Ok.table) = document_read _ _ c.in-Ok.ensures.ok.0 c.in-Ok.ensures.ok.1 in
-    rw read c.in_ok-outcome_of-in-Ok.ensures.read
+    rw read c.explain_table.ensures.outcome
 
-pub returns-in_ok-syntax_finding-in-Err-clause-findings : goal.returns-in_ok-syntax_finding-in-Err-clause-findings
-returns-in_ok-syntax_finding-in-Err-clause-findings c =
+pub returns-else-is_memory-clause-findings : goal.returns-else-is_memory-clause-findings
+returns-else-is_memory-clause-findings c =
     let refused : document c.args.text.now ≡ Err fault.Syntax =
     document_refused _ (c.in-Err.ensures.refused (λ memory. let is : c.is_memory.result ≡ true = c.is_memory.ensures.1 memory in cc)) in
-    rw refused c.in_ok-syntax_finding-in-Err.ensures
+    rw refused c.explain_syntax.ensures.findings
 
-pub returns-in_ok-syntax_finding-in-Err-clause-outcome : goal.returns-in_ok-syntax_finding-in-Err-clause-outcome
+pub returns-else-is_memory-clause-outcome : goal.returns-else-is_memory-clause-outcome
 unfolding poll_in
-returns-in_ok-syntax_finding-in-Err-clause-outcome c =
+returns-else-is_memory-clause-outcome c =
     let refused : document c.args.text.now ≡ Err fault.Syntax =
     document_refused _ (c.in-Err.ensures.refused (λ memory. let is : c.is_memory.result ≡ true = c.is_memory.ensures.1 memory in cc)) in
-    rw refused
+    rw refused c.explain_syntax.ensures.outcome
