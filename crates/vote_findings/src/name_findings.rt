@@ -121,6 +121,23 @@ fn judge_name(
     Ok(())
 }
 
+/// Judges the next name of a list, which stands at this place, and notes it among those that were seen.
+fn judge_next<'t>(
+    alloc: Global,
+    text: &mut String,
+    list: NameList,
+    name: &'t str,
+    place: usize,
+    seen: &mut SeenNames<'t>,
+) -> Result<(), AllocError>
+    requires { place + 1 < 2 ^ 64 }
+    ensures judged { OnOk result (AddsFindings (fault_unless (not (not (has_shape list name.now) || list_any (λ n. bytes_eq name.now n.now) seen.old.names.keys)) (bad_name list place)) (string_bytes text.old) (string_bytes text.new)) }
+    ensures noted { OnOk result ((other : List ℕ) → list_any (λ n. bytes_eq other n.now) seen.new.names.keys ≡ (list_any (λ n. bytes_eq other n.now) seen.old.names.keys || bytes_eq other name.now)) }
+{
+    let earlier = seen.note(name, place)?;
+    judge_name(alloc, text, list, name, place, earlier)
+}
+
 /// Adds the findings on the names of a list.
 pub(crate) fn push_bad_names(
     alloc: Global,
@@ -135,8 +152,7 @@ pub(crate) fn push_bad_names(
         places: Vec::new(alloc),
     };
     for (place, name) in names.iter().enumerate() {
-        let earlier = seen.note(name, place)?;
-        judge_name(alloc, text, list, name, place, earlier)?;
+        judge_next(alloc, text, list, name, place, &mut seen)?;
     }
     Ok(())
 }
