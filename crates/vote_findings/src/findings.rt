@@ -21,13 +21,20 @@ use vote_poll::{
     MAX_ELECTORS, MAX_LINES, MAX_OPTIONS, MAX_QUORUM_MULTIPLE, MAX_RATIO, is_title, push_shown,
 };
 
+/// Adds words as they are shown, and ends the line.
+pub(crate) fn end_line(text: &mut String, words: &str) -> Result<(), AllocError>
+    ensures { OnOk result (string_bytes text.new ≡ string_bytes text.old ++ shown (length words.now) words.now ++ line_feed) }
+{
+    push_shown(text, words.as_bytes(), words.len())?;
+    text.push('\n')
+}
+
 /// Ends the line of a fault with a hint.
 pub(crate) fn push_hint(text: &mut String, hint: &str) -> Result<(), AllocError>
     ensures { OnOk result (string_bytes text.new ≡ string_bytes text.old ++ codes ": " ++ shown (length hint.now) hint.now ++ line_feed) }
 {
     text.push_str(": ")?;
-    push_shown(text, hint.as_bytes(), hint.len())?;
-    text.push('\n')
+    end_line(text, hint)
 }
 
 /// Adds the line of a fault that has these words.

@@ -11,7 +11,7 @@ ghost use Rattle.vote_findings.specs.declared.TheConstants.{MAX_SHOWN};
 ghost use Rattle.vote_poll.specs.declared.fault.PollFault.TheVariants as fault;
 
 use crate::MAX_SHOWN;
-use crate::findings::push_hint;
+use crate::findings::{end_line, push_hint};
 use crate::found::{Found, value_at};
 use crate::unread::UnreadKeys;
 use std::alloc::AllocError;
@@ -49,6 +49,31 @@ fn is_right_or_missing(table: &Table, found: &Found<'_>, key: PollKey) -> bool
     value_at(table, key).is_none() || found.has(key)
 }
 
+/// Judges a key that has to be there.
+fn push_needed_key(
+    text: &mut String,
+    found: &Found<'_>,
+    unread: &UnreadKeys<'_>,
+    key: PollKey,
+) -> Result<(), AllocError>
+    ensures { OnOk result (AddsFindings (fault_unless (has (found_view found.now) key) (fault.Key key)) (string_bytes text.old) (string_bytes text.new)) }
+{
+    push_key(text, unread, key, found.has(key))
+}
+
+/// Judges a key that may be missing.
+fn push_optional_key(
+    text: &mut String,
+    table: &Table,
+    found: &Found<'_>,
+    unread: &UnreadKeys<'_>,
+    key: PollKey,
+) -> Result<(), AllocError>
+    ensures { OnOk result (AddsFindings (fault_unless (is_none (value_at key (table_view table.now)) || has (found_view found.now) key) (fault.Key key)) (string_bytes text.old) (string_bytes text.new)) }
+{
+    push_key(text, unread, key, is_right_or_missing(table, found, key))
+}
+
 /// The keys of a table, in the order of the faults.
 pub(crate) fn push_keys(
     text: &mut String,
@@ -58,21 +83,14 @@ pub(crate) fn push_keys(
 ) -> Result<(), AllocError>
     ensures { OnOk result (AddsFindings (of_keys (table_view table.now) (found_view found.now)) (string_bytes text.old) (string_bytes text.new)) }
 {
-    push_key(text, unread, PollKey::Title, found.has(PollKey::Title))?;
-    push_key(text, unread, PollKey::Options, found.has(PollKey::Options))?;
-    push_key(text, unread, PollKey::Ratios, found.has(PollKey::Ratios))?;
-    push_key(
-        text,
-        unread,
-        PollKey::DefaultOption,
-        found.has(PollKey::DefaultOption),
-    )?;
-    push_key(text, unread, PollKey::Quorum, found.has(PollKey::Quorum))?;
-    push_key(text, unread, PollKey::Roll, found.has(PollKey::Roll))?;
-    let last_is_right = is_right_or_missing(table, found, PollKey::LastEnvelope);
-    push_key(text, unread, PollKey::LastEnvelope, last_is_right)?;
-    let wording_is_right = is_right_or_missing(table, found, PollKey::Wording);
-    push_key(text, unread, PollKey::Wording, wording_is_right)
+    push_needed_key(text, found, unread, PollKey::Title)?;
+    push_needed_key(text, found, unread, PollKey::Options)?;
+    push_needed_key(text, found, unread, PollKey::Ratios)?;
+    push_needed_key(text, found, unread, PollKey::DefaultOption)?;
+    push_needed_key(text, found, unread, PollKey::Quorum)?;
+    push_needed_key(text, found, unread, PollKey::Roll)?;
+    push_optional_key(text, table, found, unread, PollKey::LastEnvelope)?;
+    push_optional_key(text, table, found, unread, PollKey::Wording)
 }
 
 /// Adds that the key with this path is not read, and what is remarked of it.
@@ -82,8 +100,7 @@ fn push_unread_key(text: &mut String, path: &[u8], remark: &str) -> Result<(), A
     text.push_str("poll: key ")?;
     push_shown(text, path, MAX_SHOWN)?;
     text.push_str(" is not read")?;
-    push_shown(text, remark.as_bytes(), remark.len())?;
-    text.push('\n')
+    end_line(text, remark)
 }
 
 /// The keys that are not read.

@@ -4,8 +4,7 @@ use Rattle.toml.specs.View.{table_view}
 use Rattle.vote_findings.specs.FoundView.{found_view}
 use Rattle.vote_poll.specs.PollFaults.{Found, of_key, of_keys, of_optional_key}
 use Rattle.vote_poll.specs.declared.fault.PollKey.TheVariants as key
-use Rattle.vote_poll.specs.declared.fault.PollFault.TheVariants as fault
-use Rattle.vote_findings.proofs.FindingLaws.{adds_then, judged, on_judged, on_then}
+use Rattle.vote_findings.proofs.FindingLaws.{adds_then, on_then}
 use Rattle.vote_findings.proofs.key_findings.push_keys.Goals as goal
 
 pub returns : goal.returns
@@ -13,11 +12,11 @@ unfolding of_keys
 returns c =
     let f : Found = found_view c.args.found.now in
     let table : Members = table_view c.args.table.now in
-    on_then c.push_key-8.result (of_key key.Title f.title ++ of_key key.Options f.options ++ of_key key.Ratios f.ratios ++ of_key key.DefaultOption f.default_option ++ of_key key.Quorum f.quorum ++ of_key key.Roll f.roll ++ of_optional_key key.LastEnvelope table f.last_envelope) (of_optional_key key.Wording table f.wording) _ _ _ (adds_then (of_key key.Title f.title ++ of_key key.Options f.options ++ of_key key.Ratios f.ratios ++ of_key key.DefaultOption f.default_option ++ of_key key.Quorum f.quorum ++ of_key key.Roll f.roll) (of_optional_key key.LastEnvelope table f.last_envelope) _ _ _ (adds_then (of_key key.Title f.title ++ of_key key.Options f.options ++ of_key key.Ratios f.ratios ++ of_key key.DefaultOption f.default_option ++ of_key key.Quorum f.quorum) (of_key key.Roll f.roll) _ _ _ (adds_then (of_key key.Title f.title ++ of_key key.Options f.options ++ of_key key.Ratios f.ratios ++ of_key key.DefaultOption f.default_option) (of_key key.Quorum f.quorum) _ _ _ (adds_then (of_key key.Title f.title ++ of_key key.Options f.options ++ of_key key.Ratios f.ratios) (of_key key.DefaultOption f.default_option) _ _ _ (adds_then (of_key key.Title f.title ++ of_key key.Options f.options) (of_key key.Ratios f.ratios) _ _ _ (adds_then (of_key key.Title f.title) (of_key key.Options f.options) _ _ _ (judged _ _ (fault.Key key.Title) _ _ c.has.ensures c.in_ok-push_key.ensures)
-    (judged _ _ (fault.Key key.Options) _ _ c.has-2.ensures c.in_ok-push_key-2.ensures))
-    (judged _ _ (fault.Key key.Ratios) _ _ c.has-3.ensures c.in_ok-push_key-3.ensures))
-    (judged _ _ (fault.Key key.DefaultOption) _ _ c.has-4.ensures c.in_ok-push_key-4.ensures))
-    (judged _ _ (fault.Key key.Quorum) _ _ c.has-5.ensures c.in_ok-push_key-5.ensures))
-    (judged _ _ (fault.Key key.Roll) _ _ c.has-6.ensures c.in_ok-push_key-6.ensures))
-    (judged _ _ (fault.Key key.LastEnvelope) _ _ c.is_right_or_missing-last_is_right.ensures c.in_ok-push_key-7.ensures))
-    (on_judged c.push_key-8.result _ _ (fault.Key key.Wording) _ _ c.is_right_or_missing-wording_is_right.ensures c.push_key-8.ensures)
+    on_then c.push_optional_key-2.result (of_key key.Title f.title ++ of_key key.Options f.options ++ of_key key.Ratios f.ratios ++ of_key key.DefaultOption f.default_option ++ of_key key.Quorum f.quorum ++ of_key key.Roll f.roll ++ of_optional_key key.LastEnvelope table f.last_envelope) (of_optional_key key.Wording table f.wording) _ _ _ (adds_then (of_key key.Title f.title ++ of_key key.Options f.options ++ of_key key.Ratios f.ratios ++ of_key key.DefaultOption f.default_option ++ of_key key.Quorum f.quorum ++ of_key key.Roll f.roll) (of_optional_key key.LastEnvelope table f.last_envelope) _ _ _ (adds_then (of_key key.Title f.title ++ of_key key.Options f.options ++ of_key key.Ratios f.ratios ++ of_key key.DefaultOption f.default_option ++ of_key key.Quorum f.quorum) (of_key key.Roll f.roll) _ _ _ (adds_then (of_key key.Title f.title ++ of_key key.Options f.options ++ of_key key.Ratios f.ratios ++ of_key key.DefaultOption f.default_option) (of_key key.Quorum f.quorum) _ _ _ (adds_then (of_key key.Title f.title ++ of_key key.Options f.options ++ of_key key.Ratios f.ratios) (of_key key.DefaultOption f.default_option) _ _ _ (adds_then (of_key key.Title f.title ++ of_key key.Options f.options) (of_key key.Ratios f.ratios) _ _ _ (adds_then (of_key key.Title f.title) (of_key key.Options f.options) _ _ _ c.in_ok-push_needed_key.ensures
+    c.in_ok-push_needed_key-2.ensures)
+    c.in_ok-push_needed_key-3.ensures)
+    c.in_ok-push_needed_key-4.ensures)
+    c.in_ok-push_needed_key-5.ensures)
+    c.in_ok-push_needed_key-6.ensures)
+    c.in_ok-push_optional_key.ensures)
+    c.push_optional_key-2.ensures
