@@ -86,23 +86,15 @@ impl<'t> Found<'t> {
     pub(crate) fn of_table(alloc: Global, table: &'t Table) -> Result<Found<'t>, AllocError>
         ensures { IfOk result (λ keys. found_view keys ≡ found_in (table_view table.now)) }
     {
-        let title = text_at(table, PollKey::Title);
-        let options = known_texts(alloc, table, PollKey::Options)?;
-        let ratios = known_integers(alloc, table, PollKey::Ratios)?;
-        let default_option = text_at(table, PollKey::DefaultOption);
-        let quorum = integer_at(table, PollKey::Quorum);
-        let roll = known_texts(alloc, table, PollKey::Roll)?;
-        let last_envelope = integer_at(table, PollKey::LastEnvelope);
-        let wording = text_at(table, PollKey::Wording);
         Ok(Found {
-            title,
-            options,
-            ratios,
-            default_option,
-            quorum,
-            roll,
-            last_envelope,
-            wording,
+            title: text_at(table, PollKey::Title),
+            options: known_texts(alloc, table, PollKey::Options)?,
+            ratios: known_integers(alloc, table, PollKey::Ratios)?,
+            default_option: text_at(table, PollKey::DefaultOption),
+            quorum: integer_at(table, PollKey::Quorum),
+            roll: known_texts(alloc, table, PollKey::Roll)?,
+            last_envelope: integer_at(table, PollKey::LastEnvelope),
+            wording: text_at(table, PollKey::Wording),
         })
     }
 

@@ -89,6 +89,14 @@ pub(crate) fn shape_hint(alloc: Global, named: Named, name: &str) -> Result<Stri
     Ok(hint)
 }
 
+/// Adds that an earlier option or voter has the name too, which has this place.
+fn push_earlier(hint: &mut String, named: Named, place: usize) -> Result<(), AllocError> {
+    match named {
+        Named::Voter => write!(hint, " stands at position {place} too"),
+        Named::Poll | Named::Option => write!(hint, " is option {} too", place.saturating_add(1)),
+    }
+}
+
 /// That a name is also that of an earlier option or voter, which has this place.
 pub(crate) fn double_hint(
     alloc: Global,
@@ -98,10 +106,7 @@ pub(crate) fn double_hint(
 ) -> Result<String, AllocError> {
     let mut hint = String::new(alloc);
     push_quoted(&mut hint, name)?;
-    match named {
-        Named::Voter => write!(hint, " stands at position {place} too")?,
-        Named::Poll | Named::Option => write!(hint, " is option {} too", place.saturating_add(1))?,
-    }
+    push_earlier(&mut hint, named, place)?;
     Ok(hint)
 }
 
@@ -175,33 +180,45 @@ fn kind_words(value: &Value) -> &'static str {
     }
 }
 
+/// Whether an entry is of the wrong kind for the list at a key.
+fn is_wrong_entry(key: PollKey, entry: &Value) -> bool {
+    match key {
+        PollKey::Options | PollKey::Roll => !entry.is_str(),
+        PollKey::Ratios => !entry.is_integer(),
+        _ => false,
+    }
+}
+
+/// That the list at a key has this entry at a place, from 0.
+fn entry_hint(
+    alloc: Global,
+    key: PollKey,
+    place: usize,
+    entry: &Value,
+) -> Result<String, AllocError> {
+    let words = kind_words(entry);
+    if key == PollKey::Roll {
+        format!(in alloc; "a list with {words} at position {place}")
+    } else {
+        format!(in alloc; "a list with {words} at option {}", place.saturating_add(1))
+    }
+}
+
 /// What is wrong in the list at a key: its first entry of the wrong kind, by the number of its option or by its position on the
 /// roll.
-fn list_hint(alloc: Global, key: PollKey, items: &[Value]) -> Result<String, AllocError> {
-    let is_wrong = |item: &Value| match key {
-        PollKey::Options | PollKey::Roll => !item.is_str(),
-        PollKey::Ratios => !item.is_integer(),
-        _ => false,
-    };
-    match items.iter().enumerate().find(|(_, item)| is_wrong(item)) {
-        None => String::from_str(alloc, "a list"),
-        Some((place, item)) if key == PollKey::Roll => {
-            format!(in alloc; "a list with {} at position {place}", kind_words(item))
-        }
-        Some((place, item)) => {
-            format!(in alloc;
-                "a list with {} at option {}",
-                kind_words(item),
-                place.saturating_add(1)
-            )
+fn list_hint(alloc: Global, key: PollKey, entries: &[Value]) -> Result<String, AllocError> {
+    for (place, entry) in entries.iter().enumerate() {
+        if is_wrong_entry(key, entry) {
+            return entry_hint(alloc, key, place, entry);
         }
     }
+    String::from_str(alloc, "a list")
 }
 
 /// What stands at a key in place of what is wanted.
 pub(crate) fn kind_hint(alloc: Global, key: PollKey, value: &Value) -> Result<String, AllocError> {
     match value {
-        Value::Array(items) => list_hint(alloc, key, items),
+        Value::Array(entries) => list_hint(alloc, key, entries),
         other => String::from_str(alloc, kind_words(other)),
     }
 }
