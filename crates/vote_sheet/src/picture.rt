@@ -1,6 +1,7 @@
 //! The outcome of a sheet as a graph, in the language of Graphviz. Each function adds its part at the end of the text.
 
-ghost use Rattle.std.specs.Prelude.{◌≡◌, ℕ, ◌++◌, ◌≤◌, IfOk, IfSome, OnOk, string_bytes};
+ghost use Rattle.std.specs.Prelude.{◌≡◌, [], ◌∷◌, ◌++◌, ◌≤◌, IfOk, IfSome, OnOk, codes, string_bytes};
+ghost use Rattle.std.specs.List.{concat};
 ghost use Rattle.std.specs.Char.{encode_utf8};
 ghost use Rattle.vote_poll.specs.Options.{IsOption};
 ghost use Rattle.vote_poll.specs.declared.TheConstants.{MAX_OPTIONS};
@@ -8,10 +9,10 @@ ghost use Rattle.vote_poll.specs.PollContent.{option_count};
 ghost use Rattle.vote_count.specs.Sets.{has_pair};
 ghost use Rattle.vote_count.specs.Rounds.{cause_of, final_set};
 ghost use Rattle.vote_steps.specs.Casting.{HoldsLines};
-ghost use Rattle.vote_sheet.specs.Sheet.{when};
+ghost use Rattle.vote_sheet.specs.Sheet.{line, when};
 ghost use Rattle.vote_sheet.specs.Picture.{IsPictureAndDecision, cause_label, decided_style, dropped_style, edge_line, edge_lines, edges_by, graph_head, graph_style, label_text, option_line, option_lines, quoted, removal_text, removing_round, style_text};
 
-use crate::sheet::count_of_box;
+use crate::sheet::{Count, count_of_box};
 use crate::sheet_text::{cause_name, option_name};
 use std::alloc::{AllocError, Global};
 use vote_count::{Cause, Decision, Matrix, OptionSet, Round, Verdict, decide};
@@ -242,6 +243,21 @@ fn push_edges(text: &mut String, matrix: &Matrix, verdict: &Verdict) -> Result<(
     Ok(())
 }
 
+/// The picture of a count, and of what is decided.
+fn push_picture(
+    text: &mut String,
+    poll: &Poll,
+    count: &Count,
+    decision: Decision,
+) -> Result<(), AllocError>
+    ensures { OnOk result (string_bytes text.new ≡ string_bytes text.old ++ concat (graph_head poll.now.title ∷ option_lines poll.now.options count.now.verdict decision ∷ edge_lines count.now.matrix count.now.verdict ∷ line (codes "}" ∷ []) ∷ [])) }
+{
+    push_graph_head(text, poll)?;
+    push_option_lines(text, poll, &count.verdict, decision)?;
+    push_edges(text, &count.matrix, &count.verdict)?;
+    writeln!(text, "}}")
+}
+
 /// The picture of the outcome of a closed box that holds the lines of the poll, with the option of the casting vote, and what
 /// is decided. It is a text in the language of Graphviz, made of what the sheet of the same box says. Options are numbered
 /// from 1.
@@ -259,9 +275,6 @@ pub fn picture_of_box(
     let count = count_of_box(alloc, poll, lines, ballot_box)?;
     let decision = decide(&count.verdict, casting);
     let mut text = String::new(alloc);
-    push_graph_head(&mut text, poll)?;
-    push_option_lines(&mut text, poll, &count.verdict, decision)?;
-    push_edges(&mut text, &count.matrix, &count.verdict)?;
-    writeln!(text, "}}")?;
+    push_picture(&mut text, poll, &count, decision)?;
     Ok((text, decision))
 }

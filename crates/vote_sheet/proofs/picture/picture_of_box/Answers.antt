@@ -1,7 +1,7 @@
-use Rattle.std.proofs.Common.{length, refl}
+use Rattle.std.proofs.Common.{◌++◌, ◌∙◌, ap, length, refl}
+use Rattle.vote_sheet.specs.Picture.{picture_text}
 use Rattle.vote_sheet.specs.Sheet.{Sheet}
 use Rattle.vote_sheet.specs.SheetOf.{sheet_with}
-use Rattle.vote_sheet.proofs.Texts.{four_parts}
 use Rattle.vote_sheet.proofs.picture.picture_of_box.Goals as goal
 
 pub returns : goal.returns
@@ -10,6 +10,6 @@ returns c =
     let s : Sheet = sheet_with c.args.poll.now (length c.args.lines.now) count.quorum_votes count.totals count.matrix count.verdict c.decide-decision.result in (
       s,
       c.in_ok-count.ensures.sheets c.args.casting c.decide-decision.result c.decide-decision.ensures.decision,
-      four_parts _ _ _ _ _ _ _ _ _ c.new-text.ensures.bytes c.in_ok-push_graph_head.ensures c.in_ok-push_option_lines.ensures c.in_ok-push_edges.ensures c.in_ok-writeln.ensures.bytes,
+      c.in_ok-push_picture.ensures ∙ ap (λ t. t ++ picture_text s) c.new-text.ensures.bytes,
       refl,
     )
