@@ -1,4 +1,3 @@
-pub mod Counted
 pub mod ExplainedTexts
 pub mod FirstPlace
 pub mod HeldLines

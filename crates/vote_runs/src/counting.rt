@@ -1,21 +1,23 @@
 //! The runs that count: the sheet of a poll file and a ballot file, and what else is made of the same count.
 
-ghost use Rattle.std.specs.Prelude.{◌≡◌, ◌≢◌, ◌<◌, ◌≤◌, ◌↔◌, true, Err, IfOk, IfSome, IsErrOf, OnOk, option_map, string_bytes};
+ghost use Rattle.std.specs.Prelude.{◌≡◌, ◌≢◌, ◌<◌, ◌≤◌, ◌↔◌, true, Err, IfErr, IfOk, IfSome, IsErrOf, OnOk, length, option_map, string_bytes};
 ghost use Rattle.std.specs.Result.{result_err};
 ghost use Rattle.vote_poll.specs.Lines.{lines_of};
 ghost use Rattle.vote_poll.specs.Options.{IsOption};
 ghost use Rattle.vote_poll.specs.PollContent.{option_count};
+ghost use Rattle.vote_poll.specs.declared.lines.TheConstants.{MAX_LINES};
 ghost use Rattle.vote_desks.specs.Audit.{IsAudited};
 ghost use Rattle.vote_desks.specs.Faults.{CanStopVotes, IsOfDesk};
-ghost use Rattle.vote_runs.specs.Counting.{AnswersCasting, IsCount, IsMade, ended_by, ended_of};
+ghost use Rattle.vote_runs.specs.Counting.{AnswersCasting, IsCount, IsCountFor, IsMade, ended_by, ended_of};
 ghost use Rattle.vote_runs.specs.Runs.{AnswersLines, AnswersPoll, Writes};
+ghost use Rattle.vote_runs.specs.Taking.{StopsTaking};
 ghost use Rattle.vote_runs.specs.declared.fault.InputFault.{InputFault};
 
 use crate::audited::{picture_and_decision, sheet_and_decision, verification};
 use crate::fault::{Ended, RunFault};
 use crate::output::write_run;
 use crate::taking::{Taken, take};
-use std::alloc::{AllocError, Global};
+use std::alloc::Global;
 use std::sync::Wait;
 use std::thread::Threads;
 use vote_count::Decision;
@@ -57,14 +59,11 @@ fn ended_by(found: Verification) -> Ended
 }
 
 /// The text that the votes were taken for, and how the run ends by it.
-fn make(
-    alloc: Global,
-    taken: &Taken<'_>,
-    purpose: Purpose<'_>,
-) -> Result<(String, Ended), AllocError>
+fn make(alloc: Global, taken: &Taken<'_>, purpose: Purpose<'_>) -> Result<(String, Ended), RunFault>
     requires audited { IsAudited taken.now.poll taken.now.lines taken.now.audited.ballot_box taken.now.audited.sheets }
     requires casting { IfSome taken.now.casting (IsOption (option_count taken.now.poll)) }
-    ensures { IfOk result (λ made. IsMade purpose.entry taken.now.poll taken.now.lines taken.now.casting (string_bytes made.0) made.1) }
+    ensures made { IfOk result (λ made. IsMade purpose.entry taken.now.poll taken.now.lines taken.now.casting (string_bytes made.0) made.1) }
+    ensures stopped { IfErr result (λ fault. fault ≡ RunFault.Memory) }
 {
     let Taken {
         poll,
@@ -86,6 +85,30 @@ fn make(
             Ok((text, ended_by(found)))
         }
     }
+}
+
+/// The text of a count of two files, and how the run ends by it.
+fn count<G: Gate + Sync, R: Threads + Wait + Sync>(
+    rt: &R,
+    alloc: Global,
+    poll_text: &[u8],
+    ballots: &[u8],
+    desks: u8,
+    casting: Option<&[u8]>,
+    purpose: Purpose<'_>,
+    gate: &G,
+) -> Result<(String, Ended), RunFault>
+    requires { (1 ≤ desks) × (desks ≤ MAX_DESKS) }
+    ensures counted { IfOk result (λ counted. IsCountFor purpose.entry poll_text.now ballots.now (option_map (λ name. name.now) casting.entry) (string_bytes counted.0) counted.1) }
+    ensures named { OnOk result (AnswersCasting poll_text.now (option_map (λ name. name.now) casting.entry) None) }
+    ensures few { OnOk result (length (lines_of ballots.now) ≤ MAX_LINES) }
+    ensures stopped { IfErr result (StopsTaking poll_text.now ballots.now (option_map (λ name. name.now) casting.entry) desks) }
+{
+    let taken = match take(rt, alloc, poll_text, ballots, desks, casting, gate) {
+        Ok(taken) => taken,
+        Err(fault) => return Err(fault),
+    };
+    make(alloc, &taken, purpose)
 }
 
 /// Takes the votes of a ballot file at so many desks, each in a thread of its own, and writes what they are taken for, with the
@@ -111,13 +134,9 @@ pub fn count_for<G: Gate + Sync, W: Sink, R: Threads + Wait + Sync>(
     ensures output { IsErrOf result RunFault.Output ↔ (W.faults sink.old < W.faults sink.new) }
     ensures flushed { OnOk result (W.flushed sink.new ≡ true) }
 {
-    let taken = match take(rt, alloc, poll_text, ballots, desks, casting, gate) {
-        Ok(taken) => taken,
+    let (text, ended) = match count(rt, alloc, poll_text, ballots, desks, casting, purpose, gate) {
+        Ok(counted) => counted,
         Err(fault) => return Err(fault),
-    };
-    let (text, ended) = match make(alloc, &taken, purpose) {
-        Ok(made) => made,
-        Err(AllocError) => return Err(RunFault::Memory),
     };
     match write_run(sink, text.as_bytes()) {
         Ok(()) => Ok(ended),
