@@ -33,6 +33,13 @@ AnswersLines all (Some run.NoSuchOption) = Unit {0}
 AnswersLines all (Some (run.Lines fault)) = RefusesLines all fault
 AnswersLines all stop = length all ≤ MAX_LINES
 
+-- what can stop a run of a poll and its lines before it writes
+abbrev pub IsFileFault : RunFault → Type 0
+IsFileFault (run.Poll fault) = Unit {0}
+IsFileFault (run.Lines fault) = Unit {0}
+IsFileFault run.Memory = Unit {0}
+IsFileFault fault = ⊥
+
 -- the text that is meant is written once, and nothing else; where the output fails, a front of it; else nothing
 abbrev pub Writes : (Text → Type 0) → Option Text → Option Text → Option RunFault → Type 0
 Writes IsMeant old new None = (text : Text) × IsMeant text × Appends old new text

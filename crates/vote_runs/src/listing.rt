@@ -1,10 +1,11 @@
 //! The commands that list something of the ballots: `steps` and `standing`.
 
-ghost use Rattle.std.specs.Prelude.{◌≡◌, ◌≢◌, ◌<◌, ◌↔◌, true, Err, IfOk, IsErrOf, OnOk, string_bytes};
+ghost use Rattle.std.specs.Prelude.{◌≡◌, ◌≢◌, ◌<◌, ◌↔◌, true, Err, IfErr, IfOk, IsErrOf, OnOk, string_bytes};
 ghost use Rattle.std.specs.Result.{result_err};
 ghost use Rattle.vote_poll.specs.Lines.{lines_of};
+ghost use Rattle.vote_runs.specs.Explaining.{IsGivenFault};
 ghost use Rattle.vote_runs.specs.Joined.{joined_parts};
-ghost use Rattle.vote_runs.specs.Runs.{AnswersLines, AnswersPoll, IsListed, IsListing, Writes};
+ghost use Rattle.vote_runs.specs.Runs.{AnswersLines, AnswersPoll, IsFileFault, IsListed, IsListing, Writes};
 ghost use Rattle.vote_runs.specs.declared.fault.InputFault.{InputFault};
 
 use crate::fault::RunFault;
@@ -40,6 +41,42 @@ fn list(
     }
 }
 
+/// The text of a listing of a poll and a ballot file.
+fn list_ballots(
+    alloc: Global,
+    poll: &Poll,
+    ballots: &[u8],
+    listing: Listing,
+) -> Result<String, RunFault>
+    ensures listed { IfOk result (λ text. IsListed listing poll.now (lines_of ballots.now) (string_bytes text)) }
+    ensures lines { AnswersLines (lines_of ballots.now) (result_err result) }
+    ensures fault { IfErr result IsGivenFault }
+{
+    match Lines::split(alloc, ballots) {
+        Ok(lines) => Ok(list(alloc, poll, &lines, listing)?),
+        Err(fault) => Err(RunFault::Lines(fault)),
+    }
+}
+
+/// The text of a listing of a poll file and a ballot file.
+fn list_files(
+    alloc: Global,
+    poll_text: &[u8],
+    ballots: &[u8],
+    listing: Listing,
+) -> Result<String, RunFault>
+    ensures listed { IfOk result (λ text. IsListing listing poll_text.now ballots.now (string_bytes text)) }
+    ensures poll { AnswersPoll poll_text.now (result_err result) }
+    ensures lines { AnswersLines (lines_of ballots.now) (result_err result) }
+    ensures fault { IfErr result IsFileFault }
+{
+    let poll = match Poll::from_text(alloc, poll_text) {
+        Ok(poll) => poll,
+        Err(fault) => return Err(RunFault::Poll(fault)),
+    };
+    list_ballots(alloc, &poll, ballots, listing)
+}
+
 /// Casts the lines in order at one desk, and writes what is to be listed. Nothing is written before all of it is there.
 pub fn print_listing<W: Sink>(
     alloc: Global,
@@ -57,15 +94,10 @@ pub fn print_listing<W: Sink>(
     ensures output { IsErrOf result RunFault.Output ↔ (W.faults sink.old < W.faults sink.new) }
     ensures flushed { OnOk result (W.flushed sink.new ≡ true) }
 {
-    let poll = match Poll::from_text(alloc, poll_text) {
-        Ok(poll) => poll,
-        Err(fault) => return Err(RunFault::Poll(fault)),
+    let text = match list_files(alloc, poll_text, ballots, listing) {
+        Ok(text) => text,
+        Err(fault) => return Err(fault),
     };
-    let lines = match Lines::split(alloc, ballots) {
-        Ok(lines) => lines,
-        Err(fault) => return Err(RunFault::Lines(fault)),
-    };
-    let text = list(alloc, &poll, &lines, listing)?;
     write_run(sink, text.as_bytes())
 }
 
