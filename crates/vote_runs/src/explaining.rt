@@ -43,8 +43,9 @@ fn appended(first: String, second: String) -> Result<String, AllocError>
 }
 
 /// What is said of a poll in order behind its findings where no ballots are given: the line of `check`.
-fn with_sizes(alloc: Global, poll: &Poll, findings: String) -> Result<(String, Ended), AllocError>
-    ensures { IfOk result (λ explained. (string_bytes explained.0 ≡ string_bytes findings ++ check_text poll.now) × (explained.1 ≡ ended_by (string_bytes findings) 0)) }
+fn with_sizes(alloc: Global, poll: &Poll, findings: String) -> Result<(String, Ended), RunFault>
+    ensures text { IfOk result (λ explained. (string_bytes explained.0 ≡ string_bytes findings ++ check_text poll.now) × (explained.1 ≡ ended_by (string_bytes findings) 0)) }
+    ensures fault { IfErr result (λ fault. fault ≡ RunFault.Memory) }
 {
     let ended = ended_by(&findings, 0);
     let sizes = check_text(alloc, poll)?;
@@ -57,8 +58,9 @@ fn with_lines(
     poll: &Poll,
     lines: &Lines<'_>,
     findings: String,
-) -> Result<(String, Ended), AllocError>
-    ensures { IfOk result (λ explained. (rest : Text) × (string_bytes explained.0 ≡ string_bytes findings ++ rest) × IsExplained poll.now lines.now rest × (explained.1 ≡ ended_by (string_bytes findings) (refused_count poll.now lines.now))) }
+) -> Result<(String, Ended), RunFault>
+    ensures text { IfOk result (λ explained. (rest : Text) × (string_bytes explained.0 ≡ string_bytes findings ++ rest) × IsExplained poll.now lines.now rest × (explained.1 ≡ ended_by (string_bytes findings) (refused_count poll.now lines.now))) }
+    ensures fault { IfErr result (λ fault. fault ≡ RunFault.Memory) }
 {
     let Explained { text, refused } = explain_ballots(alloc, poll, lines)?;
     let ended = ended_by(&findings, refused);
@@ -77,10 +79,10 @@ fn with_rest(
     ensures fault { IfErr result IsGivenFault }
 {
     let Some(ballots) = ballots else {
-        return Ok(with_sizes(alloc, poll, findings)?);
+        return with_sizes(alloc, poll, findings);
     };
     match Lines::split(alloc, ballots) {
-        Ok(lines) => Ok(with_lines(alloc, poll, &lines, findings)?),
+        Ok(lines) => with_lines(alloc, poll, &lines, findings),
         Err(fault) => Err(RunFault::Lines(fault)),
     }
 }
