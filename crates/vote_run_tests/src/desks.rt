@@ -2,6 +2,7 @@
 ghost use Rattle.std.specs.Prelude.{◌≡◌, ◌≤◌, []};
 ghost use Rattle.vote_steps.specs.Boxes.{box_of};
 
+use crate::inputs::election_of;
 use std::alloc::Global;
 use std::marker::Brand;
 use std::process::Abort;
@@ -14,7 +15,7 @@ use vote_desks::{
     AuditFault, Desk, DeskFault, EnterFault, NoVoter, Sealed, SharedBox, Slip, Tally, audit,
     compare, gather, open_desks,
 };
-use vote_poll::{Lines, Poll, Reading, read_line};
+use vote_poll::{Lines, Poll, PollFault, Reading, read_line};
 use vote_steps::{AlreadyClosed, MAX_DESKS, Reply};
 
 const TWO_ELECTORS: &str =
@@ -57,6 +58,33 @@ fn strangers_ballot(poll: &Poll) -> Reading {
     }
 }
 
+/// Casts a reading at the desk at this index, and asserts the reply.
+fn assert_cast<VL: Tally, RL: Tally, R: Wait + Abort>(
+    rt: &R,
+    shared: &SharedBox<VL, RL>,
+    desks: &mut [Desk<VL, RL>],
+    index: usize,
+    stamp: u32,
+    reading: Reading,
+    answer: Result<Reply, EnterFault>,
+) {
+    let desk = desks.get_mut(index).expect(rt, "the desk");
+    let reply = reply_of(shared.cast(rt, desk, stamp, reading));
+    assert_eq!(rt; reply, answer, "at stamp {stamp}");
+}
+
+/// Whether a ballot of this voter stands.
+fn stands<VL: Tally, RL: Tally, R: Wait>(
+    rt: &R,
+    shared: &SharedBox<VL, RL>,
+    voter: usize,
+) -> Result<bool, NoVoter> {
+    match shared.standing(rt, voter) {
+        Ok(ranks) => Ok(ranks.is_some()),
+        Err(NoVoter) => Err(NoVoter),
+    }
+}
+
 /// Does a deed, whose line is read by this poll, and asserts its answer.
 fn assert_done<VL: Tally, RL: Tally, R: Wait + Abort>(
     rt: &R,
@@ -67,24 +95,23 @@ fn assert_done<VL: Tally, RL: Tally, R: Wait + Abort>(
 ) {
     match deed {
         Deed::Cast(index, stamp, line, answer) => {
-            let desk = desks.get_mut(index).expect(rt, "the desk");
             let reading = read_line(poll, line.as_bytes());
-            let cast = shared.cast(rt, desk, stamp, reading);
-            assert_eq!(rt; reply_of(cast), answer, "at stamp {stamp}");
+            assert_cast(rt, shared, desks, index, stamp, reading, answer);
         }
         Deed::Stranger(index, stamp) => {
-            let desk = desks.get_mut(index).expect(rt, "the desk");
-            let cast = shared.cast(rt, desk, stamp, strangers_ballot(poll));
-            assert_eq!(rt; reply_of(cast), Err(EnterFault::Sizes));
+            let reading = strangers_ballot(poll);
+            assert_cast(
+                rt,
+                shared,
+                desks,
+                index,
+                stamp,
+                reading,
+                Err(EnterFault::Sizes),
+            );
         }
         Deed::Close(answer) => assert_eq!(rt; shared.close(rt), answer),
-        Deed::Standing(voter, answer) => {
-            let stands = match shared.standing(rt, voter) {
-                Ok(ranks) => Ok(ranks.is_some()),
-                Err(NoVoter) => Err(NoVoter),
-            };
-            assert_eq!(rt; stands, answer);
-        }
+        Deed::Standing(voter, answer) => assert_eq!(rt; stands(rt, shared, voter), answer),
     }
 }
 
@@ -233,6 +260,40 @@ fn found_without_sheets<R: Threads + Abort + Sync>(
     compare(rt, poll, lines, ballot_box, &[]).err()
 }
 
+/// What is found in a sealed box with the sheets of its desks.
+fn found_with_sheets<R: Threads + Sync>(
+    rt: &R,
+    poll: &Poll,
+    lines: &Lines<'_>,
+    sealed: Sealed,
+) -> Option<AuditFault> {
+    audit(rt, poll, lines, sealed).err()
+}
+
+/// What is found in a sealed box with the sheets of its desks and without them.
+fn found_in<R: Threads + Abort + Sync>(
+    rt: &R,
+    poll: &Poll,
+    lines: &Lines<'_>,
+    sealed: Sealed,
+) -> (Option<AuditFault>, Option<AuditFault>) {
+    let without = found_without_sheets(rt, poll, lines, &sealed);
+    (found_with_sheets(rt, poll, lines, sealed), without)
+}
+
+/// Does the deeds at one desk of a box for the poll of a text, and answers what is found for a poll and its lines.
+fn found_for<R: Threads + Wait + Abort + Sync>(
+    rt: &R,
+    alloc: Global,
+    opened: &str,
+    deeds: &[Deed],
+    poll: &Poll,
+    lines: &Lines<'_>,
+) -> Result<(Option<AuditFault>, Option<AuditFault>), Fail> {
+    let sealed = acted(rt, alloc, opened, 1, deeds, true)??;
+    Ok(found_in(rt, poll, lines, sealed))
+}
+
 /// Does the deeds at one desk of a box for a poll, and answers what is found for another poll and two lines, with the sheet of
 /// the desk and without it.
 fn found_after<R: Threads + Wait + Abort + Sync>(
@@ -242,11 +303,8 @@ fn found_after<R: Threads + Wait + Abort + Sync>(
     deeds: &[Deed],
     poll: &str,
 ) -> Result<(Option<AuditFault>, Option<AuditFault>), Fail> {
-    let sealed = acted(rt, alloc, opened, 1, deeds, true)??;
-    let poll = Poll::from_text(alloc, poll.as_bytes())?;
-    let lines = Lines::split(alloc, TWO_LINES.as_bytes())?;
-    let without = found_without_sheets(rt, &poll, &lines, &sealed);
-    Ok((audit(rt, &poll, &lines, sealed).err(), without))
+    let (poll, lines) = election_of(alloc, poll, TWO_LINES)?;
+    found_for(rt, alloc, opened, deeds, &poll, &lines)
 }
 
 const SIZE: Option<AuditFault> = Some(AuditFault::SizeDiffers);
@@ -260,7 +318,7 @@ const SLIP: Option<AuditFault> = Some(AuditFault::SlipDiffers(1, 1));
 const CLOSE: Option<AuditFault> = Some(AuditFault::ClosedEarly(2));
 
 /// The poll of a box, what is done at it, the poll for which it is audited, and what is found with the sheet and without it.
-const AUDITS: [(&str, &[Deed], &str, Option<AuditFault>, Option<AuditFault>); 6] = [
+const AUDITS: &[(&str, &[Deed], &str, Option<AuditFault>, Option<AuditFault>)] = &[
     (TWO_ELECTORS, &BOTH, TWO_ELECTORS, None, SLIP),
     (FIRST_IS_LAST, &LATE, FIRST_IS_LAST, None, SLIP),
     (TWO_ELECTORS, &BOTH, FIRST_IS_LAST, SIZE, SIZE),
@@ -273,7 +331,7 @@ const AUDITS: [(&str, &[Deed], &str, Option<AuditFault>, Option<AuditFault>); 6]
 fn audits_find_what_differs(rt: HostRuntime) -> Result<(), Fail> {
     for (opened, deeds, poll, with, without) in AUDITS {
         let found = found_after(&rt, rt.alloc(), opened, deeds, poll)?;
-        assert_eq!(rt; found, (with, without));
+        assert_eq!(rt; found, (*with, *without));
     }
     Ok(())
 }
@@ -322,14 +380,22 @@ fn act_at_once<VL: Tally + Send + Sync, RL: Tally + Send + Sync, R: Threads + Wa
     gather(alloc, shared, opened)
 }
 
-/// What a box counts at which two desks cast at once.
+/// A box at which two desks cast at once.
+fn acted_at_once<R: Threads + Wait + Abort + Sync>(
+    rt: &R,
+    alloc: Global,
+) -> Result<Result<Sealed, DeskFault>, Fail> {
+    let poll = Poll::from_text(alloc, TWO_ELECTORS.as_bytes())?;
+    let (valid, refused) = (Blank::new(2), Blank::new(2));
+    Ok(act_at_once::<Brand, Brand, R>(rt, alloc, &poll, valid, refused))
+}
+
+/// What such a box counts.
 fn counts_at_once<R: Threads + Wait + Abort + Sync>(
     rt: &R,
     alloc: Global,
 ) -> Result<(usize, u64, u64, u8), Fail> {
-    let poll = Poll::from_text(alloc, TWO_ELECTORS.as_bytes())?;
-    let (valid, refused) = (Blank::new(2), Blank::new(2));
-    let sealed = act_at_once::<Brand, Brand, R>(rt, alloc, &poll, valid, refused)?;
+    let sealed = acted_at_once(rt, alloc)??;
     Ok(counts_of(&sealed))
 }
 
@@ -354,10 +420,16 @@ fn open_two<VL: Tally, RL: Tally>(
     Ok((desks[0].number(), desks[1].number()))
 }
 
+/// The numbers of the two desks of a box for the poll of two electors.
+fn numbers_of_two(alloc: Global) -> Result<Result<(u8, u8), DeskFault>, PollFault> {
+    let poll = Poll::from_text(alloc, TWO_ELECTORS.as_bytes())?;
+    let (valid, refused) = (Blank::new(2), Blank::new(2));
+    Ok(open_two::<Brand, Brand>(alloc, &poll, valid, refused))
+}
+
 #[test]
 fn memory_of_open_desks(rt: HostRuntime) -> Result<(), Fail> {
-    let poll = Poll::from_text(rt.alloc(), TWO_ELECTORS.as_bytes())?;
-    let numbers = open_two::<Brand, Brand>(rt.alloc(), &poll, Blank::new(2), Blank::new(2))?;
+    let numbers = numbers_of_two(rt.alloc())??;
     assert_eq!(rt; numbers, (1, 2));
     Ok(())
 }

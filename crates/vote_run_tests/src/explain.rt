@@ -5,7 +5,7 @@ use std::alloc::{AllocError, Global};
 use std::process::Abort;
 use std::test::Fail;
 use vote_explain::{column, explain_ballots};
-use vote_poll::Poll;
+use vote_poll::{Lines, Poll};
 
 /// Lines, and where each leaves the grammar.
 const COLUMNS: [(&str, usize); 22] = [
@@ -91,35 +91,50 @@ const CLEAN: &str = "ada 1,2,3\nben -,-,-";
 const NO_FINDINGS: &str =
     "2 lines: 2 valid, 0 refused, 0 of them late; 2 of 4 electors have a ballot\n";
 
-/// What is said of a ballot file, and how many lines are refused.
-fn explained(rt: &impl Abort, alloc: Global, text: &str) -> Result<(String, u64), &'static str> {
-    let poll = poll_of(rt, alloc, POLL)?;
-    let lines = lines_of(rt, alloc, text)?;
-    match explain_ballots(alloc, &poll, &lines) {
+/// What is said of lines, and how many are refused.
+fn explained_lines(
+    alloc: Global,
+    poll: &Poll,
+    lines: &Lines<'_>,
+) -> Result<(String, u64), &'static str> {
+    match explain_ballots(alloc, poll, lines) {
         Ok(explained) => Ok((explained.text, explained.refused)),
         Err(AllocError) => Err("refused"),
     }
 }
 
+/// What is said of a ballot file, and how many lines are refused.
+fn explained(rt: &impl Abort, alloc: Global, text: &str) -> Result<(String, u64), &'static str> {
+    let poll = poll_of(rt, alloc, POLL)?;
+    let lines = lines_of(rt, alloc, text)?;
+    explained_lines(alloc, &poll, &lines)
+}
+
+/// Asserts what is said of a ballot file, and how many lines are refused.
+fn assert_explained(
+    rt: &impl Abort,
+    alloc: Global,
+    text: &str,
+    findings: &str,
+    refused: u64,
+) -> Result<(), Fail> {
+    let (said, number) = explained(rt, alloc, text)?;
+    assert!(rt; said.as_str() == findings, "{}", said);
+    assert_eq!(rt; number, refused);
+    Ok(())
+}
+
 #[test]
 fn memory_of_explain_ballots(rt: HostRuntime) -> Result<(), Fail> {
-    let (text, refused) = explained(&rt, rt.alloc(), LINES)?;
-    assert!(rt; text.as_str() == FINDINGS, "{}", text);
-    assert_eq!(rt; refused, 9);
-    Ok(())
+    assert_explained(&rt, rt.alloc(), LINES, FINDINGS, 9)
 }
 
 #[test]
 fn a_file_of_windows(rt: HostRuntime) -> Result<(), Fail> {
-    let (text, _) = explained(&rt, rt.alloc(), OF_WINDOWS)?;
-    assert!(rt; text.as_str() == WINDOWS_FINDINGS, "{}", text);
-    Ok(())
+    assert_explained(&rt, rt.alloc(), OF_WINDOWS, WINDOWS_FINDINGS, 2)
 }
 
 #[test]
 fn a_file_in_order(rt: HostRuntime) -> Result<(), Fail> {
-    let (text, refused) = explained(&rt, rt.alloc(), CLEAN)?;
-    assert!(rt; text.as_str() == NO_FINDINGS, "{}", text);
-    assert_eq!(rt; refused, 0);
-    Ok(())
+    assert_explained(&rt, rt.alloc(), CLEAN, NO_FINDINGS, 0)
 }

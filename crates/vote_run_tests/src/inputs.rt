@@ -2,6 +2,7 @@
 
 use std::alloc::Global;
 use std::process::Abort;
+use std::test::Fail;
 use vote_poll::{Lines, LinesFault, Poll, PollFault};
 
 /// A poll of nine electors and three options.
@@ -15,6 +16,16 @@ pub(crate) const BALLOTS: &str =
 /// Their sheet.
 pub(crate) const SHEET: &str =
     "Poll: A cycle\nElectors: 9\nQuorum: 3Q, 5 votes\nLines: 9\nValid: 9\nRefused: 0\nVoters: 9\nOptions:\n  1 ratio 1 A\n  2 ratio 1 B\n  3 ratio 1 C\n  4 default None\nVotes:\n        1     2     3     4\n  1     -     6     4     9\n  2     3     -     7     9\n  3     5     2     -     9\n  4     0     0     0     -\nDropped:\n  none\nDefeats:\n  1 over 2 by 6 to 3\n  1 over 4 by 9 to 0\n  2 over 3 by 7 to 2\n  2 over 4 by 9 to 0\n  3 over 1 by 5 to 4\n  3 over 4 by 9 to 0\nRound 1: 1 2 3\n  drop 3 over 1\nRound 2: 1\nWinner: 1 A\n";
+
+/// A poll and the lines of a ballot file.
+pub(crate) fn election_of<'a>(
+    alloc: Global,
+    poll: &str,
+    ballots: &'a str,
+) -> Result<(Poll, Lines<'a>), Fail> {
+    let poll = Poll::from_text(alloc, poll.as_bytes())?;
+    Ok((poll, Lines::split(alloc, ballots.as_bytes())?))
+}
 
 /// The poll, or `refused` where its memory was.
 pub(crate) fn poll_of(rt: &impl Abort, alloc: Global, text: &str) -> Result<Poll, &'static str> {

@@ -8,7 +8,7 @@
 ghost use Rattle.std.specs.Prelude.{◌≤◌};
 ghost use Rattle.vote_runs.specs.Performing.{HasDesks};
 
-use crate::inputs::{BALLOTS, CYCLE, SHEET};
+use crate::inputs::{BALLOTS, CYCLE, SHEET, election_of};
 use std::alloc::{AllocError, Global};
 use std::io::{self, ErrorKind, Write};
 use std::process::Abort;
@@ -348,12 +348,15 @@ fn sheet_at_two<R: Threads + Wait + Sync>(
     }
 }
 
+/// The sheet of the cycle at two desks.
+fn sheet_of_cycle<R: Threads + Wait + Sync>(rt: &R, alloc: Global) -> Result<String, Fail> {
+    let (poll, lines) = election_of(alloc, CYCLE, BALLOTS)?;
+    sheet_at_two(rt, alloc, &poll, &lines)
+}
+
 #[test]
 fn memory_of_sheet(rt: HostRuntime) -> Result<(), Fail> {
-    let alloc = rt.alloc();
-    let poll = Poll::from_text(alloc, CYCLE.as_bytes())?;
-    let lines = Lines::split(alloc, BALLOTS.as_bytes())?;
-    let text = sheet_at_two(&rt, alloc, &poll, &lines)?;
+    let text = sheet_of_cycle(&rt, rt.alloc())?;
     assert!(rt; text.as_str() == SHEET, "{}", text);
     Ok(())
 }

@@ -26,6 +26,26 @@ enum Made {
     Check,
 }
 
+/// The text that was made; asserts that option 1 wins.
+fn won_by_first<R: Abort>(
+    rt: &R,
+    made: Result<(String, Decision), AllocError>,
+) -> Result<String, AllocError> {
+    let (text, decision) = made?;
+    assert_eq!(rt; decision, Decision::Winner(1));
+    Ok(text)
+}
+
+/// What is said of a text; asserts that it differs from the sheet.
+fn difference<R: Abort>(
+    rt: &R,
+    said: Result<(String, Verification), AllocError>,
+) -> Result<String, AllocError> {
+    let (text, found) = said?;
+    assert_eq!(rt; found, Verification::Differs);
+    Ok(text)
+}
+
 /// The sheet of the lines, which says that option 1 wins, their picture, or in which line a text differs from the sheet.
 fn counted<R: Abort>(
     rt: &R,
@@ -37,20 +57,11 @@ fn counted<R: Abort>(
     let ballot_box = cast_all(alloc, poll, lines)?;
     match made {
         Made::Difference(text) => {
-            let (text, found) = verify_sheet(alloc, poll, lines, &ballot_box, text.as_bytes())?;
-            assert_eq!(rt; found, Verification::Differs);
-            Ok(text)
+            let said = verify_sheet(alloc, poll, lines, &ballot_box, text.as_bytes());
+            difference(rt, said)
         }
-        Made::Picture => {
-            let (text, decision) = picture_of_box(alloc, poll, lines, &ballot_box, None)?;
-            assert_eq!(rt; decision, Decision::Winner(1));
-            Ok(text)
-        }
-        _ => {
-            let (text, decision) = sheet_of_box(alloc, poll, lines, &ballot_box, None)?;
-            assert_eq!(rt; decision, Decision::Winner(1));
-            Ok(text)
-        }
+        Made::Picture => won_by_first(rt, picture_of_box(alloc, poll, lines, &ballot_box, None)),
+        _ => won_by_first(rt, sheet_of_box(alloc, poll, lines, &ballot_box, None)),
     }
 }
 
@@ -70,6 +81,19 @@ fn text_of<R: Abort>(
     }
 }
 
+/// The text for a poll and its lines, or `refused` where the memory of these was.
+fn made_of<R: Abort>(
+    rt: &R,
+    alloc: Global,
+    poll: &str,
+    ballots: &str,
+    made: Made,
+) -> Result<Result<String, AllocError>, &'static str> {
+    let poll = poll_of(rt, alloc, poll)?;
+    let lines = lines_of(rt, alloc, ballots)?;
+    Ok(text_of(rt, alloc, &poll, &lines, made))
+}
+
 /// Makes a text, and asserts that it is this one; `refused` where its memory was.
 fn assert_made<R: Abort>(
     rt: &R,
@@ -79,9 +103,7 @@ fn assert_made<R: Abort>(
     made: Made,
     whole: &str,
 ) -> Result<(), Fail> {
-    let poll = poll_of(rt, alloc, poll)?;
-    let lines = lines_of(rt, alloc, ballots)?;
-    match text_of(rt, alloc, &poll, &lines, made) {
+    match made_of(rt, alloc, poll, ballots, made)? {
         Ok(text) => {
             assert!(rt; text.as_str() == whole, "{}", text);
             Ok(())

@@ -1,7 +1,7 @@
 //! Votes taken by workers: gates that wait or do not let pass, and what a want of memory or of a thread leaves.
 ghost use Rattle.std.specs.Prelude.{◌≤◌};
 
-use crate::inputs::{BALLOTS, CYCLE};
+use crate::inputs::{BALLOTS, CYCLE, election_of};
 use std::alloc::{AllocError, Global};
 use std::process::Abort;
 use std::sync::atomic::AtomicU64;
@@ -11,7 +11,6 @@ use std::test::Fail;
 use std::thread;
 use std::thread::Threads;
 use vote_desks::{Audited, Gate, NoGate, Slip, VoteFault, take_votes};
-use vote_poll::{Lines, Poll};
 use vote_steps::{BallotBox, MAX_DESKS, Step, Totals};
 
 /// Asserts what the nine lines give: the totals, and the votes of A over B, of B over C, and of C over A.
@@ -38,8 +37,7 @@ fn taken<G: Gate + Sync, R: Threads + Wait + Sync>(
 ) -> Result<Result<Audited, VoteFault>, Fail>
     requires { (1 ≤ desks) × (desks ≤ MAX_DESKS) }
 {
-    let poll = Poll::from_text(alloc, CYCLE.as_bytes())?;
-    let lines = Lines::split(alloc, lines.as_bytes())?;
+    let (poll, lines) = election_of(alloc, CYCLE, lines)?;
     Ok(take_votes(rt, alloc, &poll, &lines, desks, gate))
 }
 

@@ -1,6 +1,6 @@
 use Rattle.std.proofs.Common.{[]}
 use Rattle.vote_steps.specs.Boxes.{box_of}
-use Rattle.vote_run_tests.proofs.desks.counts_at_once.Given as goal
+use Rattle.vote_run_tests.proofs.desks.acted_at_once.Given as goal
 
 abbrev pub ghosts-act_at_once-VL-Ledger : goal.ghosts-act_at_once-VL-Ledger
 ghosts-act_at_once-VL-Ledger g a = record { name = a.valid.name; parts = a.valid.parts }
