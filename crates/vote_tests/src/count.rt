@@ -4,29 +4,36 @@ ghost use Rattle.vote_poll.specs.PollContent.{option_count};
 ghost use Rattle.vote_count.specs.Ballots.{IsBallotOf};
 
 use std::alloc::{AllocError, Global};
+use std::process::Abort;
 use std::test::Fail;
 use vote_count::{
     Cause, Chains, Defeats, Matrix, Verdict, Word, outcome, reach, recount, standing_options,
 };
 use vote_poll::{MAX_ELECTORS, MAX_OPTIONS, Poll, PollFault, Ranks, Reading, read_line};
 
-/// A poll of these options and the default, each with ratio 1, and so many electors.
-fn poll(alloc: Global, options: u8, quorum: u8, electors: usize) -> Result<Poll, Fail> {
+/// A word with each number below this one, in quotation marks and with a comma behind it.
+fn numbered(alloc: Global, word: &str, numbers: usize) -> Result<String, AllocError> {
     let mut names = String::new(alloc);
-    let mut ratios = String::new(alloc);
-    for option in 0..options {
-        let name = format!(in alloc; "\"Option {option}\", ")?;
+    for number in 0..numbers {
+        let name = format!(in alloc; "\"{word}{number}\", ")?;
         names.push_str(name.as_str())?;
-        ratios.push_str("1, ")?;
     }
-    let mut roll = String::new(alloc);
-    for voter in 0..electors {
-        let name = format!(in alloc; "\"v{voter}\", ")?;
-        roll.push_str(name.as_str())?;
-    }
-    let text = format!(in alloc;
+    Ok(names)
+}
+
+/// The text of a poll of these options and the default, each with ratio 1, and so many electors.
+fn text_of(alloc: Global, options: u8, quorum: u8, electors: usize) -> Result<String, AllocError> {
+    let names = numbered(alloc, "Option ", usize::from(options))?;
+    let ratios = "1, ".repeat(alloc, usize::from(options))?;
+    let roll = numbered(alloc, "v", electors)?;
+    format!(in alloc;
         "title = \"Test\"\noptions = [{names}]\nratios = [{ratios}]\ndefault = \"None\"\nquorum = {quorum}\nroll = [{roll}]\n"
-    )?;
+    )
+}
+
+/// The poll of such a text.
+fn poll(alloc: Global, options: u8, quorum: u8, electors: usize) -> Result<Poll, Fail> {
+    let text = text_of(alloc, options, quorum, electors)?;
     match Poll::from_text(alloc, text.as_bytes()) {
         Ok(poll) => Ok(poll),
         Err(PollFault::Memory) => Err(Fail::from("refused")),
@@ -118,16 +125,15 @@ fn prefer(
 
 const CYCLE: &[(usize, &str)] = &[(4, "v0 1,2,3,4"), (3, "v0 3,1,2,4"), (2, "v0 2,3,1,4")];
 
-/// The defeats of a count of these ballots, of which none drops an option.
-fn kept_defeats(poll: &Poll, ballots: &[Option<Ranks>]) -> Result<Defeats, Fail>
-    requires { All (IsBallotOf (option_count poll.now)) ballots.now }
+/// The defeats of a count that drops no option.
+fn kept_defeats(poll: &Poll, matrix: &Matrix) -> Result<Defeats, Fail>
+    requires { matrix.now.options ≡ option_count poll.now }
 {
-    let matrix = recounted(poll, ballots)?;
-    let standing = standing_options(poll, &matrix);
+    let standing = standing_options(poll, matrix);
     if standing.len() < poll.options() as usize {
         return Err(Fail::from("an option is dropped"));
     }
-    Ok(Defeats::of(&standing, &matrix))
+    Ok(Defeats::of(&standing, matrix))
 }
 
 /// Whether the three options have this cause, and the default has none.
@@ -174,13 +180,17 @@ fn left_by_first_round(verdict: &Verdict) -> Defeats {
     }
 }
 
+/// The outcome of the cycle.
+fn outcome_of_cycle(alloc: Global) -> Result<Result<Verdict, AllocError>, Fail> {
+    let poll = poll(alloc, 3, 3, 9)?;
+    let matrix = count(alloc, &poll, CYCLE)?;
+    Ok(outcome(alloc, &poll, &matrix))
+}
+
 /// Where a growth is refused, the call says so, or gives the right answer.
 #[test]
 fn memory_of_outcome(rt: HostRuntime) -> Result<(), Fail> {
-    let alloc = rt.alloc();
-    let poll = poll(alloc, 3, 3, 9)?;
-    let matrix = count(alloc, &poll, CYCLE)?;
-    match outcome(alloc, &poll, &matrix) {
+    match outcome_of_cycle(rt.alloc())? {
         Ok(verdict) => {
             assert!(rt; is_verdict_of_three(&verdict));
             Ok(())
@@ -265,41 +275,60 @@ fn are_pairs(chains: &Chains, pairs: &[(u8, u8)], last: u8) -> bool {
     true
 }
 
+/// The defeats of the ballots for a relation.
+fn defeats_of(alloc: Global, poll: &Poll, relation: u16) -> Result<Defeats, Fail> {
+    let ballots = ballots_of(alloc, poll, relation)?;
+    let matrix = recounted(poll, &ballots)?;
+    kept_defeats(poll, &matrix)
+}
+
+/// Whether the chains of defeats among the options up to the last one are those of the plain form.
+fn is_like_plain(alloc: Global, defeats: &Defeats, last: u8) -> Result<bool, AllocError>
+    requires { last ≤ MAX_OPTIONS }
+{
+    let plain = reach_by_pairs(alloc, defeats, last)?;
+    Ok(are_pairs(&reach(defeats), &plain, last))
+}
+
 #[test]
 fn both_forms_of_reach_agree(rt: HostRuntime) -> Result<(), Fail> {
     let alloc = rt.alloc();
     let poll = poll(alloc, 4, 0, 13)?;
     for relation in 0..729 {
-        let ballots = ballots_of(alloc, &poll, relation)?;
-        let defeats = kept_defeats(&poll, &ballots)?;
+        let defeats = defeats_of(alloc, &poll, relation)?;
         assert!(rt; is_relation(&defeats, relation));
-        let plain = reach_by_pairs(alloc, &defeats, poll.options())?;
-        assert!(rt; are_pairs(&reach(&defeats), &plain, poll.options()));
+        assert!(rt; is_like_plain(alloc, &defeats, poll.options())?);
     }
     Ok(())
 }
 
 /// A ballot that ranks the first of 31 options first, the others alike, and the default last.
-const FIRST_OF_31: &str = "v0 1,2,2,2,2,2,2,2,2,2,2,2,2,2,2,2,2,2,2,2,2,2,2,2,2,2,2,2,2,2,2,3";
+const FIRST_OF_31: &[(usize, &str)] = &[(
+    1,
+    "v0 1,2,2,2,2,2,2,2,2,2,2,2,2,2,2,2,2,2,2,2,2,2,2,2,2,2,2,2,2,2,2,3",
+)];
 
 #[test]
 fn rows_as_words(rt: HostRuntime) -> Result<(), Fail> {
     let alloc = rt.alloc();
     let poll = poll(alloc, 31, 0, 1)?;
-    let ballots = vec![in alloc; ballot(&poll, FIRST_OF_31)?]?;
-    let defeats = kept_defeats(&poll, &ballots)?;
+    let matrix = count(alloc, &poll, FIRST_OF_31)?;
+    let defeats = kept_defeats(&poll, &matrix)?;
     let rows = (defeats.row(1), defeats.row(2), defeats.row(32));
     assert_eq!(rt; rows, (0xFFFF_FFFE, 0x8000_0000, 0));
     Ok(())
 }
 
+/// The words of the defeats of the cycle, and of those that its first round leaves.
+fn words_of_cycle(alloc: Global) -> Result<((usize, [Word; 4]), (usize, [Word; 4])), Fail> {
+    let verdict = outcome_of_cycle(alloc)??;
+    let left = left_by_first_round(&verdict);
+    Ok((words_of_four(&verdict.defeats()), words_of_four(&left)))
+}
+
 #[test]
 fn a_cycle_without_its_weakest_defeat(rt: HostRuntime) -> Result<(), Fail> {
-    let alloc = rt.alloc();
-    let poll = poll(alloc, 3, 3, 9)?;
-    let verdict = outcome(alloc, &poll, &count(alloc, &poll, CYCLE)?)?;
-    let whole = words_of_four(&verdict.defeats());
-    let left = words_of_four(&left_by_first_round(&verdict));
+    let (whole, left) = words_of_cycle(rt.alloc())?;
     assert_eq!(rt; whole, (6, [0b1111, 0b1111, 0b1111, 0]));
     assert_eq!(rt; left, (5, [0b1110, 0b1100, 0b1000, 0]));
     Ok(())
@@ -323,16 +352,21 @@ fn exchanged(poll: &Poll, first: &Ranks, second: &Ranks, third: &Ranks) -> (Matr
     (counted, at_once, by_two)
 }
 
-#[test]
-fn exchange_is_take_out_and_add(rt: HostRuntime) -> Result<(), Fail> {
-    let alloc = rt.alloc();
-    let poll = poll(alloc, 3, 0, 2)?;
-    let first = ranks(&poll, "v0 1,2,3,4")?;
-    let second = ranks(&poll, "v1 3,1,2,4")?;
-    let third = ranks(&poll, "v1 2,2,-,1")?;
-    let (counted, at_once, by_two) = exchanged(&poll, &first, &second, &third);
+/// Asserts that an exchange gives what taking out and adding do, which is the matrix of both ballots.
+fn assert_exchanged(rt: &impl Abort, poll: &Poll) -> Result<(), Fail> {
+    let first = ranks(poll, "v0 1,2,3,4")?;
+    let second = ranks(poll, "v1 3,1,2,4")?;
+    let third = ranks(poll, "v1 2,2,-,1")?;
+    let both = recounted(poll, &[Some(first), Some(third)])?;
+    let (counted, at_once, by_two) = exchanged(poll, &first, &second, &third);
     assert!(rt; at_once == by_two);
-    assert!(rt; at_once == recounted(&poll, &[Some(first), Some(third)])?);
+    assert!(rt; at_once == both);
     assert!(rt; at_once != counted);
     Ok(())
+}
+
+#[test]
+fn exchange_is_take_out_and_add(rt: HostRuntime) -> Result<(), Fail> {
+    let poll = poll(rt.alloc(), 3, 0, 2)?;
+    assert_exchanged(&rt, &poll)
 }

@@ -1,4 +1,5 @@
 use std::alloc::Global;
+use std::process::Abort;
 use std::test::Fail;
 use vote_poll::{
     LineFault, Lines, LinesFault, MAX_LINES, Poll, PollFault, Ranks, Reading, UNRANKED, Wording,
@@ -12,14 +13,19 @@ const SMALL: &str =
 /// A ballot of the last voter.
 const BALLOT: &[u8] = b"v10 10,-,9";
 
-#[test]
-fn a_small_poll(rt: HostRuntime) -> Result<(), Fail> {
-    let poll = Poll::from_text(rt.alloc(), SMALL.as_bytes())?;
+/// Asserts what the small poll says of its options and of its envelopes.
+fn assert_options(rt: &impl Abort, poll: &Poll) {
     assert_eq!(rt; poll.options(), 3);
     assert_eq!(rt; (poll.ratio(1), poll.ratio(2)), (1, 3));
     assert_eq!(rt; (poll.option_name(1), poll.option_name(3)), ("A", "None"));
     let last = (poll.last_envelope(), poll.last_in_time());
     assert_eq!(rt; (last, poll.wording()), ((None, 100_000), Wording::AtLeast));
+}
+
+#[test]
+fn a_small_poll(rt: HostRuntime) -> Result<(), Fail> {
+    let poll = Poll::from_text(rt.alloc(), SMALL.as_bytes())?;
+    assert_options(&rt, &poll);
     Ok(())
 }
 

@@ -127,6 +127,20 @@ fn cast_hundred(
     Ok(ballot_box)
 }
 
+// Does what is listed, looks at the totals and the votes, and answers how many steps there are.
+fn play_to(
+    rt: &impl Abort,
+    ballot_box: &mut BallotBox,
+    poll: &Poll,
+    acts: &[Act<'_>],
+    totals: [u64; 3],
+    votes: [[u32; 3]; 3],
+) -> usize {
+    play(rt, ballot_box, poll, acts);
+    look(rt, ballot_box, totals, votes);
+    ballot_box.steps().len()
+}
+
 // How many casts were answered so.
 fn count_of(ballot_box: &BallotBox, wanted: Reply) -> usize {
     let is_wanted = |step: &&Step| match step {
@@ -151,9 +165,7 @@ fn played(
 {
     let poll = Poll::from_text(alloc, TWO_ELECTORS.as_bytes())?;
     let mut ballot_box = BallotBox::new(alloc, 3, 2, limit, last)?;
-    play(rt, &mut ballot_box, &poll, acts);
-    look(rt, &ballot_box, totals, votes);
-    Ok(ballot_box.steps().len())
+    Ok(play_to(rt, &mut ballot_box, &poll, acts, totals, votes))
 }
 
 #[test]
@@ -220,27 +232,36 @@ fn no_envelope_in_time(rt: HostRuntime) -> Result<(), Fail> {
     Ok(())
 }
 
+// The replies to a hundred envelopes.
+const REPLIES: [Reply; 4] = [
+    Reply::Counted,
+    Reply::Replaced,
+    Reply::Superseded,
+    Reply::BadLine(LineFault::Shape),
+];
+
+// Casts a hundred envelopes in one of the orders, looks at the totals and the votes, and answers how often each reply came.
+fn replies_to_hundred(
+    rt: &impl Abort,
+    alloc: Global,
+    poll: &Poll,
+    order: usize,
+) -> Result<[usize; 4], AllocError> {
+    let ballot_box = cast_hundred(rt, alloc, poll, order)?;
+    let votes = [[0, 5, 10], [5, 0, 10], [0, 0, 0]];
+    look(rt, &ballot_box, [95, 5, 10], votes);
+    Ok(REPLIES.map(|reply| count_of(&ballot_box, reply)))
+}
+
 #[test]
 fn a_hundred_envelopes_in_three_orders(rt: HostRuntime) -> Result<(), Fail> {
     let poll = Poll::from_text(rt.alloc(), TEN_ELECTORS.as_bytes())?;
-    let replies = [
-        Reply::Counted,
-        Reply::Replaced,
-        Reply::Superseded,
-        Reply::BadLine(LineFault::Shape),
-    ];
     for (order, counts) in [[10, 85, 0, 5], [10, 0, 85, 5], [10, 37, 48, 5]]
         .iter()
         .enumerate()
     {
-        let ballot_box = cast_hundred(&rt, rt.alloc(), &poll, order)?;
-        assert_eq!(rt; replies.map(|reply| count_of(&ballot_box, reply)), *counts);
-        look(
-            &rt,
-            &ballot_box,
-            [95, 5, 10],
-            [[0, 5, 10], [5, 0, 10], [0, 0, 0]],
-        );
+        let found = replies_to_hundred(&rt, rt.alloc(), &poll, order)?;
+        assert_eq!(rt; found, *counts);
     }
     Ok(())
 }
@@ -265,25 +286,31 @@ fn is_new(ballot_box: &BallotBox, limit: u32, last: u32) -> bool {
         && ballot_box.standing(0).is_none()
 }
 
-// A box is made whole, with room for a step with each stamp and for the close, or is refused for want of memory.
-#[test]
-fn memory_of_new(rt: HostRuntime) -> Result<(), Fail> {
-    let poll = poll_of_two(&rt, rt.alloc())?;
-    let Ok(mut ballot_box) = BallotBox::new(rt.alloc(), 3, 2, 3, 99_999) else {
-        return Err("refused".into());
-    };
-    assert!(rt; is_new(&ballot_box, 3, 99_999));
+// Asserts that a box with the stamps 1 to 3 takes an envelope with each, and the close.
+fn assert_takes_three(rt: &impl Abort, ballot_box: &mut BallotBox, poll: &Poll) {
     let acts = [
         Act::Cast(1, "ann 1,2,3", Ok(Reply::Counted)),
         Act::Cast(2, "bob 2,1,3", Ok(Reply::Counted)),
         Act::Cast(3, "ann 3,2,1", Ok(Reply::Replaced)),
         Act::Close(Ok(())),
     ];
-    play(&rt, &mut ballot_box, &poll, &acts);
     let votes = [[0, 0, 1], [2, 0, 1], [1, 1, 0]];
-    look(&rt, &ballot_box, [3, 0, 2], votes);
-    assert_eq!(rt; ballot_box.steps().len(), 4);
-    Ok(())
+    let steps = play_to(rt, ballot_box, poll, &acts, [3, 0, 2], votes);
+    assert_eq!(rt; steps, 4);
+}
+
+// A box is made whole, with room for a step with each stamp and for the close, or is refused for want of memory.
+#[test]
+fn memory_of_new(rt: HostRuntime) -> Result<(), Fail> {
+    let poll = poll_of_two(&rt, rt.alloc())?;
+    match BallotBox::new(rt.alloc(), 3, 2, 3, 99_999) {
+        Ok(mut ballot_box) => {
+            assert!(rt; is_new(&ballot_box, 3, 99_999));
+            assert_takes_three(&rt, &mut ballot_box, &poll);
+            Ok(())
+        }
+        Err(AllocError) => Err("refused".into()),
+    }
 }
 
 // The lines of a ballot file, or `refused` where their memory was.
@@ -297,17 +324,33 @@ fn lines_of<'a>(rt: &impl Abort, alloc: Global, text: &'a str) -> Result<Lines<'
     }
 }
 
+// The box in which one desk cast the lines of a text, or `refused` where the memory of the poll or of the lines was.
+fn all_cast(
+    rt: &impl Abort,
+    alloc: Global,
+    text: &str,
+) -> Result<Result<BallotBox, AllocError>, &'static str> {
+    let poll = poll_of_two(rt, alloc)?;
+    let lines = lines_of(rt, alloc, text)?;
+    Ok(cast_all(alloc, &poll, &lines))
+}
+
+// Asserts what a closed box holds after a vote of each elector and a recast.
+fn assert_three_cast(rt: &impl Abort, ballot_box: &BallotBox) {
+    assert!(rt; !ballot_box.is_open());
+    let votes = [[0, 0, 1], [2, 0, 1], [1, 1, 0]];
+    look(rt, ballot_box, [3, 0, 2], votes);
+    assert_eq!(rt; count_of(ballot_box, Reply::Replaced), 1);
+}
+
 // One desk casts all lines in their order and closes the box, or is refused for want of memory.
 #[test]
 fn memory_of_cast_all(rt: HostRuntime) -> Result<(), Fail> {
-    let poll = poll_of_two(&rt, rt.alloc())?;
-    let lines = lines_of(&rt, rt.alloc(), "ann 1,2,3\nbob 2,1,3\nann 3,2,1\n")?;
-    let Ok(ballot_box) = cast_all(rt.alloc(), &poll, &lines) else {
-        return Err("refused".into());
-    };
-    assert!(rt; !ballot_box.is_open());
-    let votes = [[0, 0, 1], [2, 0, 1], [1, 1, 0]];
-    look(&rt, &ballot_box, [3, 0, 2], votes);
-    assert_eq!(rt; count_of(&ballot_box, Reply::Replaced), 1);
-    Ok(())
+    match all_cast(&rt, rt.alloc(), "ann 1,2,3\nbob 2,1,3\nann 3,2,1\n")? {
+        Ok(ballot_box) => {
+            assert_three_cast(&rt, &ballot_box);
+            Ok(())
+        }
+        Err(AllocError) => Err("refused".into()),
+    }
 }

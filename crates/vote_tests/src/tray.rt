@@ -1,4 +1,4 @@
-ghost use Rattle.std.specs.Prelude.{◌≡◌, IfOk};
+ghost use Rattle.std.specs.Prelude.{◌≡◌, ◌≤◌, IfOk};
 ghost use Rattle.vote_tray.specs.Passes.{new_pass};
 
 use std::alloc::{AllocError, Global};
@@ -72,12 +72,18 @@ fn the_slower_pass_loses_the_only_place(rt: HostRuntime) -> Result<(), Fail> {
     Ok(())
 }
 
+// The fault of a tray of this size, if it can't be made.
+fn fault_of(alloc: Global, size: u64, passes: u8) -> Option<TrayFault>
+    requires { (1 ≤ passes) × (passes ≤ MAX_PASSES) }
+{
+    Tray::new(alloc, size, passes).err()
+}
+
 #[test]
 fn one_place_more_than_the_most_is_too_many(rt: HostRuntime) {
-    let more = Tray::new(rt.alloc(), 100_001, 1);
-    assert!(rt; matches!(more, Err(TrayFault::TooMany)));
-    let most = Tray::new(rt.alloc(), MAX_PLACES, MAX_PASSES);
-    assert!(rt; most.is_ok());
+    let more = fault_of(rt.alloc(), 100_001, 1);
+    let most = fault_of(rt.alloc(), MAX_PLACES, MAX_PASSES);
+    assert_eq!(rt; (more, most), (Some(TrayFault::TooMany), None));
 }
 
 /// For the walk over refused growths, `tests/refused-memory`: an answer of the table, or no test that passes.
