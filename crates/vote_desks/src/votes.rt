@@ -1,8 +1,10 @@
 //! Taking the votes of all lines.
-ghost use Rattle.std.specs.Prelude.{◌≡◌, ◌<◌, ◌≤◌, [], IfOk, IfErr, IfSome, IsNone, All, None, length, map, vec_len};
+ghost use Rattle.std.specs.Prelude.{◌≡◌, ◌<◌, ◌≤◌, [], IfOk, IfErr, IfSome, IsNone, All, None, length, map, sum_by, vec_len};
 ghost use Rattle.std.specs.List.{range_with_len};
 ghost use Rattle.vote_steps.specs.Boxes.{box_of};
+ghost use Rattle.vote_tray.specs.Passes.{new_pass};
 ghost use Rattle.vote_desks.specs.Slips.{Rises};
+ghost use Rattle.vote_desks.specs.Desks.{fresh_desk};
 ghost use Rattle.vote_desks.specs.Audit.{IsAudited};
 ghost use Rattle.vote_desks.specs.Back.{AreBackFrom, AreHandedIn};
 ghost use Rattle.vote_desks.specs.Stops.{stop_fault, IsLeastStop};
@@ -12,7 +14,7 @@ use crate::auditing::{Audited, audit};
 use crate::desk::{Desk, Tally};
 use crate::fault::{DeskFault, VoteFault};
 use crate::sealed::gather;
-use crate::shared::open_desks;
+use crate::shared::{SharedBox, open_desks};
 use crate::work::{Gate, Workplace, work_all};
 use crate::worked::{Stop, WorkerResult};
 use std::alloc::{AllocError, Global};
@@ -74,6 +76,66 @@ fn hand_in<VL: Tally, RL: Tally>(
     Ok((desks, joined))
 }
 
+/// Has the desks cast all envelopes of the tray, and takes them back with one pass that all passes were joined into.
+fn cast_all<
+    VL: Tally + Send + Sync,
+    RL: Tally + Send + Sync,
+    G: Gate + Sync,
+    R: Threads + Wait + Sync,
+>(
+    rt: &R,
+    alloc: Global,
+    workplace: &Workplace<'_, '_, VL, RL, G>,
+    desks: Vec<Desk<VL, RL>>,
+    passes: Vec<Pass>,
+) -> Result<(Vec<Desk<VL, RL>>, Pass), VoteFault>
+    requires some { (0 < vec_len desks) × (vec_len desks ≡ workplace.now.tray.now.passes) × (vec_len passes ≡ vec_len desks) }
+    requires desks { desks.items ≡ map (fresh_desk (length workplace.now.lines.now)) (range_with_len 1 workplace.now.tray.now.passes) }
+    requires passes { passes.items ≡ map (new_pass workplace.now.tray.now) (range_with_len 0 workplace.now.tray.now.passes) }
+    ensures handed { IfOk result (λ handed. AreHandedIn workplace.now.tray.now workplace.now.tray.now.passes handed.0.items handed.1) }
+    ensures fault { IfErr result CanStopVotes }
+    ensures desk { IfErr result (IsOfDesk workplace.now.tray.now.passes) }
+{
+    let all = work_all(rt, alloc, workplace, desks, passes)?;
+    if let Some(fault) = first_stop(&all) {
+        return Err(fault);
+    }
+    let handed = hand_in(alloc, workplace.tray, all)?;
+    Ok(handed)
+}
+
+/// Gathers the desks, which have cast all envelopes, and compares what they did with the lines.
+fn gather_and_audit<VL: Tally, RL: Tally, R: Threads + Sync>(
+    rt: &R,
+    alloc: Global,
+    poll: &Poll,
+    lines: &Lines<'_>,
+    shared: SharedBox<VL, RL>,
+    desks: Vec<Desk<VL, RL>>,
+) -> Result<Audited, VoteFault>
+    requires valid { VL.desks ≡ VL.parts }
+    requires refused { RL.desks ≡ RL.parts }
+    requires opened { shared.opened ≡ box_of poll.now (length lines.now) [] }
+    requires numbers { map (λ desk. desk.number) desks.items ≡ range_with_len 1 shared.desks }
+    requires rising { All (λ desk. Rises desk.slips) desks.items }
+    requires cast { sum_by (λ desk. length desk.slips) desks.items ≡ length lines.now }
+    ensures audited { IfOk result (λ audited. IsAudited poll.now lines.now audited.ballot_box audited.sheets) }
+    ensures desks { IfOk result (λ audited. length audited.sheets ≡ shared.desks) }
+    ensures rising { IfOk result (λ audited. All Rises audited.sheets) }
+    ensures fault { IfErr result CanStopVotes }
+    ensures desk { IfErr result (IsOfDesk shared.desks) }
+{
+    let sealed = match gather(alloc, shared, desks) {
+        Ok(sealed) => sealed,
+        Err(DeskFault::MissingDesk) => unreachable!(),
+        Err(DeskFault::Memory) => return Err(VoteFault::Memory),
+    };
+    match audit(rt, poll, lines, sealed) {
+        Ok(audited) => Ok(audited),
+        Err(fault) => Err(VoteFault::Audit(fault)),
+    }
+}
+
 /// Takes the votes at desks of one box. Its ledgers are named by the caller.
 fn serve<
     VL: Tally + Send + Sync,
@@ -110,7 +172,7 @@ fn serve<
         Ok(made) => made,
         Err(_) => return Err(VoteFault::Memory),
     };
-    let all = {
+    let (back, joined) = {
         let turn = Mutex::new(());
         let workplace = Workplace {
             poll,
@@ -120,22 +182,10 @@ fn serve<
             tray: &tray,
             turn: &turn,
         };
-        work_all(rt, alloc, &workplace, opened, passes)?
+        cast_all(rt, alloc, &workplace, opened, passes)?
     };
-    if let Some(fault) = first_stop(&all) {
-        return Err(fault);
-    }
-    let (back, joined) = hand_in(alloc, &tray, all)?;
     tray.finish(joined);
-    let sealed = match gather(alloc, shared, back) {
-        Ok(sealed) => sealed,
-        Err(DeskFault::MissingDesk) => unreachable!(),
-        Err(DeskFault::Memory) => return Err(VoteFault::Memory),
-    };
-    match audit(rt, poll, lines, sealed) {
-        Ok(audited) => Ok(audited),
-        Err(fault) => Err(VoteFault::Audit(fault)),
-    }
+    gather_and_audit(rt, alloc, poll, lines, shared, back)
 }
 
 /// Takes the votes of all lines at desks 1 to `desks`, each served in a thread of its own.
