@@ -30,6 +30,21 @@ as_many : (desk : DeskState) (pass : PassState) → HasCastAll desk pass → len
 as_many desk pass h =
     sym (length-map desk.slips (λ (s : Slip). s.stamp)) ∙ ap length h.stamps ∙ length-map pass.places (λ (place : ℕ). place + 1)
 
+-- the first desk and its pass alone
+pub handed_one : (tray : TrayId) (desks : List DeskState) (desk : DeskState) (pass : PassState) (others : List (DeskState × PassState)) → desks ≡ desk ∷ []
+    → AreBackFrom tray 0 ((desk, pass) ∷ others) → AreHandedIn tray 1 desks pass
+handed_one tray desks desk pass others is back =
+    let done = back.3 in
+    let one : AreHandedIn tray 1 (desk ∷ []) pass = record {
+      numbers = ap (λ k. k ∷ []) back.0;
+      rising = All-from_recursion (λ (d : DeskState). Rises d.slips) (desk ∷ []) (done.rising, tt);
+      its_tray = back.1;
+      parts = back.2;
+      emptied = done.emptied ∙ ap (λ (t : TrayId). t.size) back.1;
+      cast = omega (arith, sum_by-cons (λ (d : DeskState). length d.slips) desk [], as_many desk pass done);
+    } in
+    subst (λ xs. AreHandedIn tray 1 xs pass) (sym is) one
+
 pub handed_more : (tray : TrayId) (n : ℕ) (desks : List DeskState) (pass all : PassState) (desk : DeskState) (more : PassState) → AreHandedIn tray n desks pass
     → desk.number ≡ n + 1 → more.tray ≡ tray → more.parts ≡ n ∷ [] → HasCastAll desk more → all ≡ joined pass more → AreHandedIn tray (n + 1) (desks ++ desk ∷ []) all
 handed_more tray n desks pass all desk more h number its_tray parts done is =
