@@ -36,13 +36,16 @@ loop-desk-init g c =
     let ok = c.args.all.ok.0 in
     let passes = c.requires.all.1 in
     let left : tray.passes - length others ≡ 1 = omega arith in
-    let given : AreBackFrom tray 0 (map {B = DeskState × PassState} (λ w. (w.desk, w.pass)) whole) = subst (λ xs. AreBackFrom tray 0 (map {B = DeskState × PassState} (λ w. (w.desk, w.pass)) xs)) (sym c.into_iter-all.ensures.rest) c.requires.back in
+    let given : AreBackFrom tray 0 (map {B = DeskState × PassState} (λ w. (w.desk, w.pass)) whole) =
+    subst (λ xs. AreBackFrom tray 0 (map {B = DeskState × PassState} (λ w. (w.desk, w.pass)) xs)) (sym c.into_iter-all.ensures.rest) c.requires.back in
     let back = first_back {W = _} (λ w. (w.desk, w.pass)) tray 0 whole worked others is given in
-    let one = handed_one tray c.push.new.self.items worked.desk worked.pass (map {B = DeskState × PassState} (λ w. (w.desk, w.pass)) others) (c.in_ok-push.ensures.items ∙ ap (λ ds. ds ++ worked.desk ∷ []) c.new-desks.ensures.items) back in
+    let one = handed_one tray c.push.new.self.items worked.desk worked.pass (map {B = DeskState × PassState} (λ w. (w.desk, w.pass)) others)
+    (c.in_ok-push.ensures.items ∙ ap (λ ds. ds ++ worked.desk ∷ []) c.new-desks.ensures.items) back in
     record {
       few = omega arith;
       back = subst (λ n. AreBackFrom tray n (map {B = DeskState × PassState} (λ w. (w.desk, w.pass)) others)) (sym left) back.4;
-      so_far = subst (λ pass. AreHandedIn tray (tray.passes - length others) c.push.new.self.items pass) (sym c.pass.view_is) (subst (λ n. AreHandedIn tray n c.push.new.self.items worked.pass) (sym left) one);
+      so_far = subst (λ pass. AreHandedIn tray (tray.passes - length others) c.push.new.self.items pass) (sym c.pass.view_is)
+          (subst (λ n. AreHandedIn tray n c.push.new.self.items worked.pass) (sym left) one);
     }
 
 pub join-joined-requires : goal.join-joined-requires

@@ -10,11 +10,14 @@ use Rattle.vote_desks.proofs.votes.serve.Goals as goal
 pub cast_all-requires-clause-desks : goal.cast_all-requires-clause-desks
 cast_all-requires-clause-desks g c =
     let count = c.in-Ok.ensures.tray.1 in
-    let all : c.in-Ok-open_desks.made.1.items ≡ map (fresh_desk (length c.args.lines.now)) (range_with_len 1 c.in-Ok.made.0.passes) = c.in-Ok-open_desks.ensures.desks ∙ ap (λ limit. map (fresh_desk limit) (range_with_len 1 c.args.desks)) c.len-limit.ensures.number ∙ ap (λ n. map (fresh_desk (length c.args.lines.now)) (range_with_len 1 n)) (sym count) in λ _ _. all
+    let all : c.in-Ok-open_desks.made.1.items ≡ map (fresh_desk (length c.args.lines.now)) (range_with_len 1 c.in-Ok.made.0.passes) =
+    c.in-Ok-open_desks.ensures.desks ∙ ap (λ limit. map (fresh_desk limit) (range_with_len 1 c.args.desks)) c.len-limit.ensures.number
+    ∙ ap (λ n. map (fresh_desk (length c.args.lines.now)) (range_with_len 1 n)) (sym count) in λ _ _. all
 
 pub cast_all-requires-clause-passes : goal.cast_all-requires-clause-passes
 cast_all-requires-clause-passes g c =
-    let all : c.in-Ok.made.1.items ≡ map (new_pass c.in-Ok.made.0) (range_with_len 0 c.in-Ok.made.0.passes) = c.in-Ok.ensures.passes.1 ∙ ap (λ n. map (new_pass c.in-Ok.made.0) (range_with_len 0 n)) (sym c.in-Ok.ensures.tray.1) in λ _ _. all
+    let all : c.in-Ok.made.1.items ≡ map (new_pass c.in-Ok.made.0) (range_with_len 0 c.in-Ok.made.0.passes) =
+    c.in-Ok.ensures.passes.1 ∙ ap (λ n. map (new_pass c.in-Ok.made.0) (range_with_len 0 n)) (sym c.in-Ok.ensures.tray.1) in λ _ _. all
 
 pub gather_and_audit-requires-clause-cast : goal.gather_and_audit-requires-clause-cast
 gather_and_audit-requires-clause-cast g c =
@@ -30,7 +33,8 @@ gather_and_audit-requires-clause-cast g c =
 
 pub gather_and_audit-requires-clause-opened : goal.gather_and_audit-requires-clause-opened
 gather_and_audit-requires-clause-opened g c =
-    let same : c.in-Ok-open_desks.made.0.opened ≡ box_of c.args.poll.now (length c.args.lines.now) [] = ap (λ (s : SharedState). s.opened) c.in-Ok-open_desks.ensures.opened ∙ ap (λ limit. box_of c.args.poll.now limit []) c.len-limit.ensures.number in λ _ _. same
+    let same : c.in-Ok-open_desks.made.0.opened ≡ box_of c.args.poll.now (length c.args.lines.now) [] =
+    ap (λ (s : SharedState). s.opened) c.in-Ok-open_desks.ensures.opened ∙ ap (λ limit. box_of c.args.poll.now limit []) c.len-limit.ensures.number in λ _ _. same
 
 pub gather_and_audit-requires-clause-numbers : goal.gather_and_audit-requires-clause-numbers
 gather_and_audit-requires-clause-numbers g c =

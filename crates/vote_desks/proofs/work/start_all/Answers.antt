@@ -43,8 +43,10 @@ loop-desks-preserved g c =
     let pass_len = c.remove-pass.ensures.len in
     let desk_ok = c.loop-desks.desks.ok.0 in
     let pass_ok = c.loop-desks.passes.ok.0 in
-    let desk : c.loop-desks.desks.items ≡ c.remove-desk.result ∷ c.remove-desk.new.self.items = first_of c.loop-desks.desks.items c.remove-desk.new.self.items c.remove-desk.result (omega arith) c.remove-desk.ensures.value c.remove-desk.ensures.items in
-    let pass : c.loop-desks.passes.items ≡ c.remove-pass.result ∷ c.remove-pass.new.self.items = first_of c.loop-desks.passes.items c.remove-pass.new.self.items c.remove-pass.result (omega arith) c.remove-pass.ensures.value c.remove-pass.ensures.items in
+    let desk : c.loop-desks.desks.items ≡ c.remove-desk.result ∷ c.remove-desk.new.self.items =
+    first_of c.loop-desks.desks.items c.remove-desk.new.self.items c.remove-desk.result (omega arith) c.remove-desk.ensures.value c.remove-desk.ensures.items in
+    let pass : c.loop-desks.passes.items ≡ c.remove-pass.result ∷ c.remove-pass.new.self.items =
+    first_of c.loop-desks.passes.items c.remove-pass.new.self.items c.remove-pass.result (omega arith) c.remove-pass.ensures.value c.remove-pass.ensures.items in
     let fresh : List DeskState → Type 0 = λ xs. AllByRecursion (IsFresh (length c.args.workplace.now.lines.now)) xs in
     let unused : List PassState → Type 0 = λ xs. AllByRecursion (IsUnused c.args.workplace.now.tray.now) xs in
     record {
