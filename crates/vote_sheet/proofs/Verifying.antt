@@ -178,8 +178,3 @@ pub are_sheets : (poll : PollContent) (lines : List Text) (quorum_votes : ℕ) (
     → AreSheets poll lines outcome shared
 are_sheets poll lines quorum_votes totals matrix outcome shared all same number decision is =
     whole_sheet poll lines quorum_votes totals matrix outcome (casting_vote number) decision shared (all (casting_vote number) decision is) (same decision)
-
--- ---- answers of calls
-pub where_ok : {X E : Type 0} (r : Result X E) (P Q : X → Type 0) → ((x : X) → P x → Q x) → IfOk r P → IfOk r Q
-where_ok (Ok x) P Q more p = more x p
-where_ok (Err e) P Q more p = tt

@@ -1,7 +1,8 @@
 use Rattle.std.proofs.Common.{◌++◌, ap, length, ◌∙◌}
 use Rattle.vote_sheet.specs.Sheet.{shared_text}
+use Rattle.std.proofs.lemmas.Result.{IfOk-weaker}
 use Rattle.vote_sheet.specs.SheetOf.{sheet_with}
-use Rattle.vote_sheet.proofs.Verifying.{are_sheets, where_ok}
+use Rattle.vote_sheet.proofs.Verifying.{are_sheets}
 use Rattle.vote_sheet.proofs.verify.verify_sheet.Goals as goal
 
 pub returns-clause-verification : goal.returns-clause-verification
@@ -12,7 +13,7 @@ returns-clause-verification c =
     let sheets = are_sheets poll lines count.quorum_votes count.totals count.matrix count.verdict c.as_str.result.now c.in_ok-count.ensures.sheets (λ decision.
     c.as_str.ensures.value ∙ c.in_ok-push_shared.ensures decision
     ∙ ap (λ t. t ++ shared_text (sheet_with poll (length lines) count.quorum_votes count.totals count.matrix count.verdict decision)) c.new-shared.ensures.bytes) in
-    where_ok c.verify_among.result _ _ (λ answer said. said lines sheets) c.verify_among.ensures.verification
+    IfOk-weaker c.verify_among.result _ _ (λ answer said. said lines sheets) c.verify_among.ensures.verification
 
 pub returns-clause-words : goal.returns-clause-words
 returns-clause-words c =
@@ -22,4 +23,4 @@ returns-clause-words c =
     let sheets = are_sheets poll lines count.quorum_votes count.totals count.matrix count.verdict c.as_str.result.now c.in_ok-count.ensures.sheets (λ decision.
     c.as_str.ensures.value ∙ c.in_ok-push_shared.ensures decision
     ∙ ap (λ t. t ++ shared_text (sheet_with poll (length lines) count.quorum_votes count.totals count.matrix count.verdict decision)) c.new-shared.ensures.bytes) in
-    where_ok c.verify_among.result _ _ (λ answer said. said lines sheets) c.verify_among.ensures.words
+    IfOk-weaker c.verify_among.result _ _ (λ answer said. said lines sheets) c.verify_among.ensures.words
