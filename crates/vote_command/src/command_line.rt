@@ -265,30 +265,31 @@ fn bare_command<'a>(alloc: Global) -> Result<Command<'a>, AllocError>
         .bin_name("debvote")
 }
 
-/// The program with one more command, where that was made.
+/// The program with one more command, where both were made.
 fn with_command<'a>(
-    program: Command<'a>,
+    program: Result<Command<'a>, AllocError>,
     made: Result<Command<'a>, AllocError>,
 ) -> Result<Command<'a>, AllocError>
-    requires program { (fields_of program).has_globals ≡ false }
+    requires program { IfOk program (λ c. (fields_of c).has_globals ≡ false) }
     requires made { IfOk made (λ added. (fields_of added).has_globals ≡ false) }
-    ensures app { IfOk result (λ c. IsOkAnd made.entry (λ added. app_of c ≡ with_subcommand (app_of program.entry) (app_of added).top)) }
+    ensures app { IfOk result (λ c. IsOkAnd program.entry (λ before. IsOkAnd made.entry (λ added. app_of c ≡ with_subcommand (app_of before) (app_of added).top))) }
     ensures local { IfOk result (λ c. (fields_of c).has_globals ≡ false) }
 {
-    program.subcommand(made?)
+    program?.subcommand(made?)
 }
 
+// No command that can't be made is dropped here, so that there is one way out.
 fn debvote_command<'a>(alloc: Global) -> Result<Command<'a>, AllocError>
     ensures app { IfOk result (λ c. app_of c ≡ debvote_command) }
     ensures local { IfOk result (λ c. (fields_of c).has_globals ≡ false) }
 {
-    let program = bare_command(alloc)?;
-    let program = with_command(program, count_command(alloc))?;
-    let program = with_command(program, steps_command(alloc))?;
-    let program = with_command(program, check_command(alloc))?;
-    let program = with_command(program, explain_command(alloc))?;
-    let program = with_command(program, standing_command(alloc))?;
-    let program = with_command(program, verify_command(alloc))?;
+    let program = bare_command(alloc);
+    let program = with_command(program, count_command(alloc));
+    let program = with_command(program, steps_command(alloc));
+    let program = with_command(program, check_command(alloc));
+    let program = with_command(program, explain_command(alloc));
+    let program = with_command(program, standing_command(alloc));
+    let program = with_command(program, verify_command(alloc));
     with_command(program, picture_command(alloc))
 }
 
@@ -425,6 +426,29 @@ fn fault(alloc: Global, error: &Error) -> Result<OrderFault, AllocError>
     })
 }
 
+/// What the words ask for of this program's command line, which is lent, so that it is dropped in one place.
+fn order_of<'a>(
+    alloc: Global,
+    command: &mut Command<'a>,
+    words: &'a [&'a str],
+) -> Result<Task<'a>, OrderFault>
+    requires app { app_of command.old ≡ debvote_command }
+    ensures desks { IfOk result DesksFit }
+    ensures ok { IfOk result (AsksFor (subcommand_of debvote_command (map (λ word. word.now) words.entry.now))) }
+    ensures help { IfErr result (HelpsIfAsked (fault_of debvote_command (map (λ word. word.now) words.entry.now))) }
+    ensures refused { IfErr result (RefusesIfAtFault (fault_of debvote_command (map (λ word. word.now) words.entry.now)) (subcommand_of debvote_command (map (λ word. word.now) words.entry.now))) }
+    ensures accepted { OnOk result (fault_of debvote_command (map (λ word. word.now) words.entry.now) ≡ []) }
+{
+    let matches = match command.try_get_matches_from_mut(words) {
+        Ok(matches) => matches,
+        Err(error) => return Err(fault(alloc, &error)?),
+    };
+    match task_of(&matches) {
+        Some(task) => Ok(task),
+        None => Err(OrderFault::Refused(command.render_usage()?)),
+    }
+}
+
 /// What the words after the program's name ask for.
 pub fn order<'a>(alloc: Global, words: &'a [&'a str]) -> Result<Task<'a>, OrderFault>
     ensures desks { IfOk result DesksFit }
@@ -434,14 +458,7 @@ pub fn order<'a>(alloc: Global, words: &'a [&'a str]) -> Result<Task<'a>, OrderF
     ensures accepted { OnOk result (fault_of debvote_command (map (λ word. word.now) words.entry.now) ≡ []) }
 {
     let mut command = debvote_command(alloc)?;
-    let matches = match command.try_get_matches_from_mut(words) {
-        Ok(matches) => matches,
-        Err(error) => return Err(fault(alloc, &error)?),
-    };
-    match task_of(&matches) {
-        Some(task) => Ok(task),
-        None => Err(OrderFault::Refused(command.render_usage()?)),
-    }
+    order_of(alloc, &mut command, words)
 }
 
 /// The exit status for words that are no task.
