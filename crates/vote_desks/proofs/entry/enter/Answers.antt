@@ -1,0 +1,20 @@
+use Rattle.std.proofs.Common.{◌<◌, ◌≤◌, length, refl, ◌∙◌, subst, arith}
+use Rattle.vote_desks.specs.Desks.{DeskState, FitsBox, HasRoom, HeldState}
+use Rattle.vote_desks.proofs.entry.enter.Given.{Over}
+use Rattle.vote_desks.proofs.entry.enter.Goals as goal
+
+no_room : (g : Over) (c : goal.Then-len-desk g) → ¬ HasRoom c.args.desk.now
+no_room g c =
+    let whole = subst (λ n. c.desk.inside.limit ≤ n) (c.len.ensures ∙ c.desk.inside.sheet.ok.0) c.if-len-desk.true in
+    let full : ¬ (length c.desk.inside.sheet.items < c.desk.inside.limit) = λ room. omega (arith, whole, room) in
+    subst (λ (d : DeskState). ¬ HasRoom d) c.desk.view_is full
+
+pub returns-then-len-desk-clause-full : goal.returns-then-len-desk-clause-full
+returns-then-len-desk-clause-full g c =
+    (λ _. (subst (λ (h : HeldState). FitsBox h.ballot_box c.args.reading) c.held.view_is (c.fits.ensures.0 c.if-not-fits.false), no_room g c), λ _. refl)
+
+pub returns-then-len-desk-clause-range : goal.returns-then-len-desk-clause-range
+returns-then-len-desk-clause-range g c = (λ e. absurd (cc), λ h. absurd (no_room g c h.1))
+
+pub returns-then-len-desk-clause-used : goal.returns-then-len-desk-clause-used
+returns-then-len-desk-clause-used g c = (λ e. absurd (cc), λ h. absurd (no_room g c h.1))
