@@ -1,0 +1,7 @@
+use Rattle.std.proofs.Common.{ap, arith, Global, string_bytes}
+use Rattle.std.proofs.lemmas.List.{length-map}
+use Rattle.vote_poll.specs.PollContent.{elector_count}
+use Rattle.vote_poll.proofs.poll.Poll.electors.Goals as goal
+
+pub returns-clause-number : goal.returns-clause-number
+returns-clause-number c = omega (arith, length-map c.self.inside.roll.keys (string_bytes {Z = Global}), ap elector_count c.self.view_is)

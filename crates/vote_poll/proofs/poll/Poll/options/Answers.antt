@@ -1,0 +1,7 @@
+use Rattle.std.proofs.Common.{ap, arith, Global, string_bytes}
+use Rattle.std.proofs.lemmas.List.{length-map}
+use Rattle.vote_poll.specs.PollContent.{option_count}
+use Rattle.vote_poll.proofs.poll.Poll.options.Goals as goal
+
+pub returns-clause-number : goal.returns-clause-number
+returns-clause-number c = omega (arith, length-map c.self.inside.options.items (string_bytes {Z = Global}), ap option_count c.self.view_is)
