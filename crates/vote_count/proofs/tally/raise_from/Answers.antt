@@ -1,0 +1,12 @@
+use Rattle.std.proofs.Common.{◌+◌, nat_lt, get_or, inl, inr, arith}
+use Rattle.std.proofs.lemmas.Bool.{cases_Bool, ltb-true}
+use Rattle.vote_count.proofs.tally.raise_from.Goals as goal
+
+pub overflow_add-row : goal.overflow_add-row
+overflow_add-row c =
+    let option = c.args.first + c.loop-k.k in
+    let same = c.loop-k.invariant.waiting option (omega arith) in
+    elim (cases_Bool (nat_lt c.args.key (get_or c.args.keys.now option 0))) [
+      | inl behind ↦ let one = rw behind at c.from.ensures in let room = c.requires.room option (omega arith) (omega arith) (ltb-true _ _ behind) in omega arith
+      | inr not_behind ↦ let none = rw not_behind at c.from.ensures in omega arith
+    ]
