@@ -11,3 +11,6 @@ returns-in-Verify-clause-performs g c =
       votes = search rules;
       writes = counted.writes;
     })
+
+pub returns-in-Explain-clause-performs : goal.returns-in-Explain-clause-performs
+returns-in-Explain-clause-performs g c = rw c.in-Explain.is c.explain.ensures.explains
