@@ -12,4 +12,4 @@ pub returns-clause-slip : goal.returns-clause-slip
 returns-clause-slip g c =
     let reply : c.in-Ok.reply ≡ reply_to c.args.held.now.ballot_box.last_in_time c.args.held.now.ballot_box.steps c.args.stamp c.args.reading = search rules in
     ap (λ n. slip (n + 1) c.args.stamp c.in-Ok.reply) (ap length c.steps.ensures.steps ∙ ap (λ (h : HeldState). length h.ballot_box.steps) c.held.view_is)
-      ∙ ap (slip (length c.args.held.now.ballot_box.steps + 1) c.args.stamp) reply
+    ∙ ap (slip (length c.args.held.now.ballot_box.steps + 1) c.args.stamp) reply

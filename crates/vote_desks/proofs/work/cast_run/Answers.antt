@@ -13,7 +13,7 @@ loop-place-preserved g c =
       number = ap (λ (d : DeskState). d.number) noted ∙ c.loop-place.invariant.number;
       limit = ap (λ (d : DeskState). d.limit) noted ∙ c.loop-place.invariant.limit;
       cast =
-        ap (λ (d : DeskState). stamps_of d.slips) noted ∙ map-append (λ slip. slip.stamp) c.loop-place.desk.slips (c.in-Ok.slip ∷ [])
+          ap (λ (d : DeskState). stamps_of d.slips) noted ∙ map-append (λ slip. slip.stamp) c.loop-place.desk.slips (c.in-Ok.slip ∷ [])
           ∙ ap (λ stamps. stamps ++ c.in-Ok.slip.stamp ∷ []) c.loop-place.invariant.cast ∙ append_assoc before run (c.in-Ok.slip.stamp ∷ [])
           ∙ ap (λ stamp. before ++ (run ++ stamp ∷ [])) c.in-Ok.ensures.stamp ∙ ap (λ stamps. before ++ stamps) (sym (take_more c.args.stamps.now c.loop-place.place 0 c.loop-place-test.true));
       few = omega (arith, ap (λ (d : DeskState). length d.slips) noted, length-append c.loop-place.desk.slips (c.in-Ok.slip ∷ []), c.loop-place.invariant.few);

@@ -10,6 +10,6 @@ returns c =
     let options = c.self.inside.options.items in
     let fits : c.args.option - 1 < length options = omega (arith, c.requires, length-map options (string_bytes {Z = Global}), ap option_count c.self.view_is) in
     rw (← c.self.view_is) (
-      slice_get-map string_bytes options (c.args.option - 1)
-      ∙ ap (option_map string_bytes) (slice_get_read options (length options) (c.args.option - 1) c.index.result.now refl fits c.index.ensures)
-      ∙ ap Some (sym c.as_str.ensures.value))
+    slice_get-map string_bytes options (c.args.option - 1)
+    ∙ ap (option_map string_bytes) (slice_get_read options (length options) (c.args.option - 1) c.index.result.now refl fits c.index.ensures)
+    ∙ ap Some (sym c.as_str.ensures.value))
