@@ -1,10 +1,13 @@
-use Rattle.std.proofs.Common.{◌≡◌, ◌↔◌, List, Result, Ok, Err, map, ap, ◌∙◌, subst, vec_items, Vec, Global}
+use Rattle.std.proofs.Common.{◌≡◌, ◌↔◌, List, Result, Ok, Err, map, ap, ◌∙◌, subst, vec_items, Vec, Global, rules}
 use Rattle.vote_desks.specs.declared.fault.AuditFault.{AuditFault}
 use Rattle.vote_desks.specs.declared.slip.Slip.{Slip}
 use Rattle.vote_desks.specs.Desks.{SealedState}
 use Rattle.vote_desks.specs.Audit.{IsFaultOf}
 use Rattle.vote_desks.proofs.AuditLemmas.{ok_moved, err_moved}
 use Rattle.vote_desks.proofs.auditing.audit.Goals as goal
+
+pub returns-in-Err-clause-ok : goal.returns-in-Err-clause-ok
+returns-in-Err-clause-ok g c = search rules
 
 pub returns-in-Ok-clause-fault : goal.returns-in-Ok-clause-fault
 returns-in-Ok-clause-fault g c = λ fault.
