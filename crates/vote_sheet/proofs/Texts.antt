@@ -1,8 +1,6 @@
 -- What several writes append to a text.
-use Rattle.std.proofs.Common.{◌≡◌, ◌+◌, ◌-◌, ◌≤◌, ◌++◌, ◌∙◌, ℕ, List, [], ◌∷◌, Some, append_assoc, add-one, refl, sym}
+use Rattle.std.proofs.Common.{◌≡◌, ◌+◌, ◌-◌, ◌≤◌, ◌++◌, ◌∙◌, ℕ, List, [], Some, add-one, refl, sym}
 use Rattle.std.specs.Prelude.{slice_get}
-use Rattle.std.specs.List.{concat}
-use mathlib.Core.List.{append-nil}
 use Rattle.std.proofs.lemmas.Option.{get_or_from_slice_get}
 use Rattle.vote_poll.proofs.OptionLaws.{at_option-in}
 use Rattle.vote_sheet.specs.Sheet.{Text, each, name_of}
@@ -14,7 +12,3 @@ each_one_more n text = rw add-one refl
 -- the name that stands at the place of an option
 pub name_found : (names : List Text) (o : ℕ) (name : Text) → 1 ≤ o → slice_get names (o - 1) ≡ Some name → name ≡ name_of names o
 name_found names o name least h = sym (at_option-in names o [] least ∙ get_or_from_slice_get names (o - 1) name [] h)
-
--- a text to which four parts are added, one after another
-pub four_parts : (a b c d t0 t1 t2 t3 t4 : Text) → t0 ≡ [] → t1 ≡ t0 ++ a → t2 ≡ t1 ++ b → t3 ≡ t2 ++ c → t4 ≡ t3 ++ d → t4 ≡ concat (a ∷ b ∷ c ∷ d ∷ [])
-four_parts a b c d t0 t1 t2 t3 t4 e0 e1 e2 e3 e4 = rw (e4, e3, e2, e1, e0) (simp (append_assoc, append-nil))

@@ -1,5 +1,5 @@
 -- The search for the sheet that a text is, or that agrees longest with it.
-use Rattle.std.proofs.Common.{◌≡◌, ◌≢◌, ℕ, zero, suc, ◌+◌, ◌<◌, ◌≤◌, List, [], ◌∷◌, ◌++◌, Option, Some, Ok, Err, Result, IfOk, length, inl, inr, refl, sym, ap, ◌∙◌, subst, arith, append_assoc, codes, decimal}
+use Rattle.std.proofs.Common.{◌≡◌, ◌≢◌, ℕ, zero, suc, ◌+◌, ◌<◌, ◌≤◌, List, [], ◌∷◌, ◌++◌, Option, Some, length, inl, inr, refl, sym, ap, ◌∙◌, subst, arith, append_assoc, codes, decimal}
 use Rattle.std.proofs.lemmas.Bool.{cases_eq, cases_lt}
 use Rattle.vote_poll.specs.PollContent.{PollContent, option_count}
 use Rattle.vote_count.specs.Rounds.{IsDecision, VerdictState, final_set}

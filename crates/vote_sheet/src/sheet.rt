@@ -1,15 +1,16 @@
 //! The result sheet.
 
-ghost use Rattle.std.specs.Prelude.{◌≡◌, ℕ, IfOk, IfSome, Option, length, string_bytes};
+ghost use Rattle.std.specs.Prelude.{◌≡◌, ℕ, ◌++◌, IfOk, IfSome, OnOk, Option, length, string_bytes};
 ghost use Rattle.vote_poll.specs.Options.{IsOption};
 ghost use Rattle.vote_poll.specs.PollContent.{option_count};
 ghost use Rattle.vote_count.specs.Rounds.{IsDecision, final_set};
 ghost use Rattle.vote_count.specs.Rules.{IsKept};
 ghost use Rattle.vote_count.specs.Sets.{In};
 ghost use Rattle.vote_steps.specs.Casting.{HoldsLines};
+ghost use Rattle.vote_sheet.specs.Sheet.{shared_text, sheet_text};
 ghost use Rattle.vote_sheet.specs.SheetOf.{IsSheetAndDecision, IsSheetOf, SheetIsUnique, sheet_with};
 
-use crate::sheet_text::{push_count, push_head, push_options, push_totals};
+use crate::sheet_text::{push_counted, push_decision, push_head, push_options, push_totals};
 use std::alloc::{AllocError, Global};
 use vote_count::{
     Decision, Matrix, Verdict, decide, decisions_are_determined, outcome, outcomes_are_determined,
@@ -52,6 +53,36 @@ pub(crate) fn count_of_box(
     })
 }
 
+/// All lines but the last, which alone depends on the casting vote.
+pub(crate) fn push_shared(
+    text: &mut String,
+    poll: &Poll,
+    lines: &Lines<'_>,
+    count: &Count,
+) -> Result<(), AllocError>
+    ensures { (decision : Decision) → OnOk result (string_bytes text.new ≡ string_bytes text.old ++ shared_text (sheet_with poll.now (length lines.now) count.now.quorum_votes count.now.totals count.now.matrix count.now.verdict decision)) }
+{
+    push_head(text, poll, count.quorum_votes)?;
+    push_totals(text, poll, lines.len(), &count.totals)?;
+    push_options(text, poll)?;
+    push_counted(text, poll.options(), &count.matrix, &count.verdict)
+}
+
+/// The sheet of a count and of what is decided.
+fn push_sheet(
+    text: &mut String,
+    poll: &Poll,
+    lines: &Lines<'_>,
+    count: &Count,
+    decision: Decision,
+) -> Result<(), AllocError>
+    requires { (o : ℕ) → decision ≡ Decision.Winner o → IsOption (option_count poll.now) o }
+    ensures { OnOk result (string_bytes text.new ≡ string_bytes text.old ++ sheet_text (sheet_with poll.now (length lines.now) count.now.quorum_votes count.now.totals count.now.matrix count.now.verdict decision)) }
+{
+    push_shared(text, poll, lines, count)?;
+    push_decision(text, poll, &count.verdict.final_set(), decision)
+}
+
 /// The result sheet of a closed box that holds the lines of the poll, with the option of the casting vote, and what the sheet
 /// says is decided. Options are numbered from 1.
 ///
@@ -70,10 +101,7 @@ pub fn sheet_of_box(
     let count = count_of_box(alloc, poll, lines, ballot_box)?;
     let decision = decide(&count.verdict, casting);
     let mut text = String::new(alloc);
-    push_head(&mut text, poll, count.quorum_votes)?;
-    push_totals(&mut text, poll, lines.len(), &count.totals)?;
-    push_options(&mut text, poll)?;
-    push_count(&mut text, poll, &count.matrix, &count.verdict, decision)?;
+    push_sheet(&mut text, poll, lines, &count, decision)?;
     Ok((text, decision))
 }
 

@@ -6,8 +6,7 @@ ghost use Rattle.vote_poll.specs.declared.TheConstants.{MAX_OPTIONS};
 ghost use Rattle.vote_poll.specs.PollContent.{elector_count, option_count};
 ghost use Rattle.vote_count.specs.Sets.{has, has_pair};
 ghost use Rattle.vote_count.specs.Rounds.{cause_of};
-ghost use Rattle.vote_count.specs.Rules.{IsKept};
-ghost use Rattle.vote_sheet.specs.Sheet.{casting_note, cause_name, causes_text, column_text, count_text, counted_text, decision_text, default_text, defeat_line, defeat_lines, defeats_text, defeats_by, drop_line, drops_of, each, ending, tie_text, winner_text, dropped_line, dropped_text, head_text, last_text, name_of, numbers, option_text, options_text, right, round_text, rounds_from, row_text, table_head_text, table_text, totals_text, votes_text, when, wording_text};
+ghost use Rattle.vote_sheet.specs.Sheet.{casting_note, cause_name, causes_text, column_text, counted_text, decision_text, default_text, defeat_line, defeat_lines, defeats_text, defeats_by, drop_line, drops_of, each, ending, tie_text, winner_text, dropped_line, dropped_text, head_text, last_text, name_of, numbers, option_text, options_text, right, round_text, rounds_from, row_text, table_head_text, table_text, totals_text, votes_text, when, wording_text};
 
 use std::alloc::AllocError;
 use vote_count::{Cause, Decision, Defeats, Matrix, OptionSet, Round, Verdict};
@@ -454,21 +453,4 @@ pub(crate) fn push_counted(
     push_dropped(text, options, verdict)?;
     push_defeats(text, matrix, &verdict.defeats())?;
     push_rounds(text, options, verdict.rounds())
-}
-
-/// What the votes come to: the votes themselves, who is dropped, the defeats, the rounds and the decision.
-#[tactic(auto, unfolding(crate::specs::Sheet::count_text))]
-pub(crate) fn push_count(
-    text: &mut String,
-    poll: &Poll,
-    matrix: &Matrix,
-    verdict: &Verdict,
-    decision: Decision,
-) -> Result<(), AllocError>
-    requires options { matrix.now.options ≡ option_count poll.now }
-    requires winner { (o : ℕ) → decision ≡ Decision.Winner o → IsKept poll.now matrix.now o }
-    ensures { OnOk result (string_bytes text.new ≡ string_bytes text.old ++ count_text poll.now.options matrix.now verdict.now decision) }
-{
-    push_counted(text, poll.options(), matrix, verdict)?;
-    push_decision(text, poll, &verdict.final_set(), decision)
 }

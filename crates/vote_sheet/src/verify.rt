@@ -9,14 +9,11 @@ ghost use Rattle.vote_count.specs.Rounds.{IsDecision, final_set};
 ghost use Rattle.vote_count.specs.Rules.{IsKept};
 ghost use Rattle.vote_count.specs.Sets.{In};
 ghost use Rattle.vote_steps.specs.Casting.{HoldsLines};
-ghost use Rattle.vote_sheet.specs.Sheet.{Text, decision_text, shared_text};
-ghost use Rattle.vote_sheet.specs.SheetOf.{sheet_with};
+ghost use Rattle.vote_sheet.specs.Sheet.{Text, decision_text};
 ghost use Rattle.vote_sheet.specs.Verify.{AreSheets, AreVerificationWords, IsComparison, IsVerification, agreement, casting_vote, common_lines, difference_text, shown_line, verified_text};
 
-use crate::sheet::{Count, count_of_box, sheet_is_unique};
-use crate::sheet_text::{
-    option_name, push_counted, push_decision, push_head, push_options, push_totals,
-};
+use crate::sheet::{Count, count_of_box, push_shared, sheet_is_unique};
+use crate::sheet_text::{option_name, push_decision};
 use std::alloc::{AllocError, Global};
 use vote_count::{Decision, decide};
 use vote_poll::{Lines, Poll, push_shown};
@@ -165,21 +162,6 @@ fn casting_vote(number: u8) -> Option<u8>
     ensures { result ≡ casting_vote number }
 {
     if number == 0 { None } else { Some(number) }
-}
-
-/// All lines but the last, which alone depends on the casting vote.
-fn push_shared(
-    text: &mut String,
-    poll: &Poll,
-    lines: &Lines<'_>,
-    count: &Count,
-) -> Result<(), AllocError>
-    ensures { (decision : Decision) → OnOk result (string_bytes text.new ≡ string_bytes text.old ++ shared_text (sheet_with poll.now (length lines.now) count.now.quorum_votes count.now.totals count.now.matrix count.now.verdict decision)) }
-{
-    push_head(text, poll, count.quorum_votes)?;
-    push_totals(text, poll, lines.len(), &count.totals)?;
-    push_options(text, poll)?;
-    push_counted(text, poll.options(), &count.matrix, &count.verdict)
 }
 
 /// The sheet with the casting vote of this number, of which the shared lines are made.
