@@ -1,4 +1,4 @@
-use Rattle.std.proofs.Common.{◌+◌, ◌≤◌, length, subst, arith}
+use Rattle.std.proofs.Common.{◌+◌, ◌≤◌, length, ap, subst, arith}
 use Rattle.vote_poll.specs.declared.lines.TheConstants.{MAX_LINES}
 use Rattle.vote_steps.specs.Boxes.{BoxState, UsesAll}
 use Rattle.vote_steps.specs.Keeping.{state_of}
@@ -18,3 +18,6 @@ returns-clause-at_most c =
     let len = has_room_for_all_lem (state_of c.self.inside) c.self.invariant.legal in
     let limit = c.self.invariant.limit_fits in
     subst P c.self.view_is (omega arith)
+
+pub returns-clause-steps : goal.returns-clause-steps
+returns-clause-steps c = cc (ap (λ (b : BoxState). b.steps) c.self.view_is)
