@@ -7,4 +7,4 @@ returns-in-Err-clause-stopped c ballots desks =
 
 pub returns-in_default-clause-stopped : goal.returns-in_default-clause-stopped
 returns-in_default-clause-stopped c ballots desks =
-    record { poll = search rules; casting = search rules; lines = search rules; votes = search rules; input = search rules; output = search rules }
+    record { poll = search rules; casting = (_, c.in-Ok.ensures, search rules); lines = tt; votes = search rules; input = search rules; output = search rules }
