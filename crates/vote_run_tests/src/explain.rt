@@ -8,7 +8,7 @@ use vote_explain::{column, explain_ballots};
 use vote_poll::{Lines, Poll};
 
 /// Lines, and where each leaves the grammar.
-const COLUMNS: [(&str, usize); 22] = [
+const COLUMNS: &[(&str, usize)] = &[
     ("", 1),
     (" 1", 1),
     ("Ada 1", 1),
@@ -38,7 +38,7 @@ const ALMOST_200: &str =
     "adam 1,1,1,1,1,1,1,1,1,1,1,1,1,1,1,1,1,1,1,1,1,1,1,1,1,1,1,1,1,1,1,1,1,1,1,1,1,1,1,1,1,1,1,1,1,1,1,1,1,1,1,1,1,1,1,1,1,1,1,1,1,1,1,1,1,1,1,1,1,1,1,1,1,1,1,1,1,1,1,1,1,1,1,1,1,1,1,1,1,1,1,1,1,1,1,1,1,";
 
 /// What follows these bytes, and where the line leaves the grammar then.
-const BEHIND: [(&str, usize); 6] = [
+const BEHIND: &[(&str, usize)] = &[
     ("", 200),
     ("-", 201),
     ("9", 201),
@@ -51,7 +51,7 @@ const BEHIND: [(&str, usize); 6] = [
 fn columns_at_the_edges(rt: HostRuntime) -> Result<(), Fail> {
     for (line, place) in COLUMNS {
         let found = column(line.as_bytes());
-        assert_eq!(rt; found, place, "{line:?}");
+        assert_eq!(rt; found, *place, "{line:?}");
     }
     Ok(())
 }
@@ -66,7 +66,7 @@ fn column_behind(alloc: Global, text: &str) -> Result<usize, AllocError> {
 fn columns_at_the_greatest_length(rt: HostRuntime) -> Result<(), Fail> {
     for (text, place) in BEHIND {
         let found = column_behind(rt.alloc(), text)?;
-        assert_eq!(rt; found, place, "{text:?}");
+        assert_eq!(rt; found, *place, "{text:?}");
     }
     Ok(())
 }
@@ -103,11 +103,21 @@ fn explained_lines(
     }
 }
 
+/// What is said of a ballot file for a poll, and how many lines are refused.
+fn explained_for(
+    rt: &impl Abort,
+    alloc: Global,
+    poll: &Poll,
+    text: &str,
+) -> Result<(String, u64), &'static str> {
+    let lines = lines_of(rt, alloc, text)?;
+    explained_lines(alloc, poll, &lines)
+}
+
 /// What is said of a ballot file, and how many lines are refused.
 fn explained(rt: &impl Abort, alloc: Global, text: &str) -> Result<(String, u64), &'static str> {
     let poll = poll_of(rt, alloc, POLL)?;
-    let lines = lines_of(rt, alloc, text)?;
-    explained_lines(alloc, &poll, &lines)
+    explained_for(rt, alloc, &poll, text)
 }
 
 /// Asserts what is said of a ballot file, and how many lines are refused.
@@ -119,8 +129,7 @@ fn assert_explained(
     refused: u64,
 ) -> Result<(), Fail> {
     let (said, number) = explained(rt, alloc, text)?;
-    assert!(rt; said.as_str() == findings, "{}", said);
-    assert_eq!(rt; number, refused);
+    assert_eq!(rt; (said.as_str(), number), (findings, refused));
     Ok(())
 }
 

@@ -92,26 +92,33 @@ fn written_of_cycle<R: Threads + Wait + Sync>(
     Ok((is_front, paper.written.len(), flushed, ended))
 }
 
+const WON: Result<Ended, RunFault> = Ok(Ended::Decided(1));
+
+const OUTPUT: Result<Ended, RunFault> = Err(RunFault::Output);
+
+/// How much a paper takes at once and at all, and whether it can be flushed; how much of the sheet is written then, if not all, the
+/// flushes, and how the count ends.
+const WRITES: &[(
+    usize,
+    usize,
+    bool,
+    Option<usize>,
+    (u32, bool),
+    Result<Ended, RunFault>,
+)] = &[
+    (usize::MAX, usize::MAX, true, None, (1, true), WON),
+    (1, usize::MAX, true, None, (1, true), WON),
+    (10, 10, true, Some(10), (0, false), OUTPUT),
+    (0, usize::MAX, true, Some(0), (0, false), OUTPUT),
+    (1, usize::MAX, false, None, (0, false), OUTPUT),
+];
+
 #[test]
 fn a_sheet_is_written_up_to_the_fault_and_flushed_once(rt: HostRuntime) -> Result<(), Fail> {
-    let whole = SHEET.len();
-    let output = Err(RunFault::Output);
-    for (at_once, limit, can_flush, len, flushed, end) in [
-        (
-            usize::MAX,
-            usize::MAX,
-            true,
-            whole,
-            (1, true),
-            Ok(Ended::Decided(1)),
-        ),
-        (1, usize::MAX, true, whole, (1, true), Ok(Ended::Decided(1))),
-        (10, 10, true, 10, (0, false), output),
-        (0, usize::MAX, true, 0, (0, false), output),
-        (1, usize::MAX, false, whole, (0, false), output),
-    ] {
-        let found = written_of_cycle(&rt, rt.alloc(), at_once, limit, can_flush)?;
-        assert_eq!(rt; found, (true, len, flushed, end));
+    for (at_once, limit, can_flush, len, flushed, end) in WRITES {
+        let found = written_of_cycle(&rt, rt.alloc(), *at_once, *limit, *can_flush)?;
+        let len = len.unwrap_or(SHEET.len());
+        assert_eq!(rt; found, (true, len, *flushed, *end));
     }
     Ok(())
 }

@@ -81,6 +81,18 @@ fn text_of<R: Abort>(
     }
 }
 
+/// The text for a poll and the lines of a text, or `refused` where the memory of the lines was.
+fn made_for<R: Abort>(
+    rt: &R,
+    alloc: Global,
+    poll: &Poll,
+    ballots: &str,
+    made: Made,
+) -> Result<Result<String, AllocError>, &'static str> {
+    let lines = lines_of(rt, alloc, ballots)?;
+    Ok(text_of(rt, alloc, poll, &lines, made))
+}
+
 /// The text for a poll and its lines, or `refused` where the memory of these was.
 fn made_of<R: Abort>(
     rt: &R,
@@ -90,8 +102,7 @@ fn made_of<R: Abort>(
     made: Made,
 ) -> Result<Result<String, AllocError>, &'static str> {
     let poll = poll_of(rt, alloc, poll)?;
-    let lines = lines_of(rt, alloc, ballots)?;
-    Ok(text_of(rt, alloc, &poll, &lines, made))
+    made_for(rt, alloc, &poll, ballots, made)
 }
 
 /// Makes a text, and asserts that it is this one; `refused` where its memory was.

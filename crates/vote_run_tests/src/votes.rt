@@ -1,7 +1,7 @@
 //! Votes taken by workers: gates that wait or do not let pass, and what a want of memory or of a thread leaves.
 ghost use Rattle.std.specs.Prelude.{◌≤◌};
 
-use crate::inputs::{BALLOTS, CYCLE, election_of};
+use crate::inputs::{BALLOTS, CYCLE};
 use std::alloc::{AllocError, Global};
 use std::process::Abort;
 use std::sync::atomic::AtomicU64;
@@ -11,6 +11,7 @@ use std::test::Fail;
 use std::thread;
 use std::thread::Threads;
 use vote_desks::{Audited, Gate, NoGate, Slip, VoteFault, take_votes};
+use vote_poll::{Lines, Poll};
 use vote_steps::{BallotBox, MAX_DESKS, Step, Totals};
 
 /// Asserts what the nine lines give: the totals, and the votes of A over B, of B over C, and of C over A.
@@ -20,11 +21,25 @@ fn assert_nine(rt: &impl Abort, ballot_box: &BallotBox) {
         refused: 0,
         voters: 9,
     };
-    assert_eq!(rt; ballot_box.totals(), totals);
     let matrix = ballot_box.matrix();
-    assert_eq!(rt; matrix.options(), 4);
+    assert_eq!(rt; (ballot_box.totals(), matrix.options()), (totals, 4));
     let cycle = [matrix.votes(1, 2), matrix.votes(2, 3), matrix.votes(3, 1)];
     assert_eq!(rt; cycle, [6, 7, 5]);
+}
+
+/// Takes the votes of the lines of a text by a poll.
+fn taken_by<G: Gate + Sync, R: Threads + Wait + Sync>(
+    rt: &R,
+    alloc: Global,
+    poll: &Poll,
+    lines: &str,
+    desks: u8,
+    gate: &G,
+) -> Result<Result<Audited, VoteFault>, Fail>
+    requires { (1 ≤ desks) × (desks ≤ MAX_DESKS) }
+{
+    let lines = Lines::split(alloc, lines.as_bytes())?;
+    Ok(take_votes(rt, alloc, poll, &lines, desks, gate))
 }
 
 /// Takes the votes of the lines of a text by the nine electors' poll.
@@ -37,8 +52,8 @@ fn taken<G: Gate + Sync, R: Threads + Wait + Sync>(
 ) -> Result<Result<Audited, VoteFault>, Fail>
     requires { (1 ≤ desks) × (desks ≤ MAX_DESKS) }
 {
-    let (poll, lines) = election_of(alloc, CYCLE, lines)?;
-    Ok(take_votes(rt, alloc, &poll, &lines, desks, gate))
+    let poll = Poll::from_text(alloc, CYCLE.as_bytes())?;
+    taken_by(rt, alloc, &poll, lines, desks, gate)
 }
 
 /// What a gate was told of one envelope.
@@ -149,18 +164,32 @@ fn last_cast(ballot_box: &BallotBox) -> Option<u32> {
     }
 }
 
+/// Asserts that a gate was asked for nine envelopes of two desks and told of each cast.
+fn assert_nine_told(rt: &impl Abort, gate: &Turnstile, audited: &Audited) {
+    assert_eq!(rt; (gate.counts(), audited.desks()), ((9, 9), 2));
+    gate.assert_told(rt, 1, audited.sheet_of(1));
+    gate.assert_told(rt, 2, audited.sheet_of(2));
+}
+
 /// Takes the nine lines at two desks by a gate, asserts what it was told, and answers which envelope was cast last.
+fn last_through<R: Threads + Wait + Abort + Sync>(
+    rt: &R,
+    alloc: Global,
+    gate: &Turnstile,
+) -> Result<Option<u32>, Fail> {
+    let audited = taken(rt, alloc, BALLOTS, 2, gate)??;
+    assert_nine_told(rt, gate, &audited);
+    Ok(last_cast(audited.ballot_box()))
+}
+
+/// The same by a gate that lets envelopes pass so.
 fn last_taken<R: Threads + Wait + Abort + Sync>(
     rt: &R,
     alloc: Global,
     passes: Passes,
 ) -> Result<Option<u32>, Fail> {
     let gate = Turnstile::new(alloc, passes)?;
-    let audited = taken(rt, alloc, BALLOTS, 2, &gate)??;
-    assert_eq!(rt; (gate.counts(), audited.desks()), ((9, 9), 2));
-    gate.assert_told(rt, 1, audited.sheet_of(1));
-    gate.assert_told(rt, 2, audited.sheet_of(2));
-    Ok(last_cast(audited.ballot_box()))
+    last_through(rt, alloc, &gate)
 }
 
 #[test]

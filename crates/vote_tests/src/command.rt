@@ -4,23 +4,26 @@
 //! the call answered its want of memory. So whoever runs it with one growth refused after another sees whether any other
 //! answer comes.
 
+use std::process::Abort;
 use std::test::Fail;
 use vote_command::{OrderFault, Task, order};
 
+/// A command line with each word of a count.
+const COUNT: &[&str] = &[
+    "count",
+    "--poll",
+    "p",
+    "--ballots",
+    "b",
+    "--desks",
+    "2",
+    "--casting",
+    "B",
+];
+
 #[test]
 fn memory_of_order(rt: HostRuntime) -> Result<(), Fail> {
-    let words = [
-        "count",
-        "--poll",
-        "p",
-        "--ballots",
-        "b",
-        "--desks",
-        "2",
-        "--casting",
-        "B",
-    ];
-    match order(rt.alloc(), words.as_slice()) {
+    match order(rt.alloc(), COUNT) {
         Ok(task) => {
             assert!(rt;
                 task == Task::Count {
@@ -39,18 +42,25 @@ fn memory_of_order(rt: HostRuntime) -> Result<(), Fail> {
     }
 }
 
+/// What stands in the help.
+const IN_HELP: &[&str] = &["count", "explain", "picture", "--version", "Exit statuses"];
+
+/// Asserts that a text is the help.
+fn assert_help(rt: &impl Abort, text: &str) {
+    assert!(rt;
+        text.starts_with("Counts votes by the Debian Constitution\n"),
+        "{text}"
+    );
+    for name in IN_HELP {
+        assert!(rt; text.contains(*name), "{text}");
+    }
+}
+
 #[test]
 fn memory_of_order_for_help(rt: HostRuntime) -> Result<(), Fail> {
     match order(rt.alloc(), ["--help"].as_slice()) {
         Err(OrderFault::Help(text)) => {
-            assert!(rt;
-                text.starts_with("Counts votes by the Debian Constitution\n"),
-                "{}",
-                text
-            );
-            for name in ["count", "explain", "picture", "--version", "Exit statuses"] {
-                assert!(rt; text.contains(name), "{}", text);
-            }
+            assert_help(&rt, text.as_str());
             Ok(())
         }
         Err(OrderFault::Memory) => Err(Fail::from("refused")),

@@ -105,6 +105,20 @@ fn line(alloc: Global, options: u8, a: u8, b: u8, others_first: bool) -> Result<
     Ok(line)
 }
 
+/// The ballot of such a line.
+fn ballot_of(
+    alloc: Global,
+    poll: &Poll,
+    a: u8,
+    b: u8,
+    others_first: bool,
+) -> Result<Option<Ranks>, Fail>
+    ensures { IfOk result (IsBallotOf (option_count poll.now)) }
+{
+    let line = line(alloc, poll.options(), a, b, others_first)?;
+    ballot(poll, line.as_str())
+}
+
 /// Two ballots that prefer `a` to `b`, and one of them alone each other option to a further one.
 fn prefer(
     alloc: Global,
@@ -116,10 +130,8 @@ fn prefer(
     requires { All (IsBallotOf (option_count poll.now)) ballots.old.items }
     ensures { All (IsBallotOf (option_count poll.now)) ballots.new.items }
 {
-    let others_last = line(alloc, poll.options(), a, b, false)?;
-    let others_first = line(alloc, poll.options(), a, b, true)?;
-    ballots.push(ballot(poll, others_last.as_str())?)?;
-    ballots.push(ballot(poll, others_first.as_str())?)?;
+    ballots.push(ballot_of(alloc, poll, a, b, false)?)?;
+    ballots.push(ballot_of(alloc, poll, a, b, true)?)?;
     Ok(())
 }
 
@@ -180,11 +192,16 @@ fn left_by_first_round(verdict: &Verdict) -> Defeats {
     }
 }
 
+/// The outcome of the cycle by a poll.
+fn outcome_by(alloc: Global, poll: &Poll) -> Result<Result<Verdict, AllocError>, Fail> {
+    let matrix = count(alloc, poll, CYCLE)?;
+    Ok(outcome(alloc, poll, &matrix))
+}
+
 /// The outcome of the cycle.
 fn outcome_of_cycle(alloc: Global) -> Result<Result<Verdict, AllocError>, Fail> {
     let poll = poll(alloc, 3, 3, 9)?;
-    let matrix = count(alloc, &poll, CYCLE)?;
-    Ok(outcome(alloc, &poll, &matrix))
+    outcome_by(alloc, &poll)
 }
 
 /// Where a growth is refused, the call says so, or gives the right answer.
@@ -290,16 +307,26 @@ fn is_like_plain(alloc: Global, defeats: &Defeats, last: u8) -> Result<bool, All
     Ok(are_pairs(&reach(defeats), &plain, last))
 }
 
-#[test]
-fn both_forms_of_reach_agree(rt: HostRuntime) -> Result<(), Fail> {
-    let alloc = rt.alloc();
-    let poll = poll(alloc, 4, 0, 13)?;
+/// Whether the ballots for a relation give its defeats, and whether the chains of these are those of the plain form.
+fn agrees(alloc: Global, poll: &Poll, relation: u16) -> Result<(bool, bool), Fail> {
+    let defeats = defeats_of(alloc, poll, relation)?;
+    let is_like_plain = is_like_plain(alloc, &defeats, poll.options())?;
+    Ok((is_relation(&defeats, relation), is_like_plain))
+}
+
+/// Asserts both for each relation among four options.
+fn assert_agreement(rt: &impl Abort, alloc: Global, poll: &Poll) -> Result<(), Fail> {
     for relation in 0..729 {
-        let defeats = defeats_of(alloc, &poll, relation)?;
-        assert!(rt; is_relation(&defeats, relation));
-        assert!(rt; is_like_plain(alloc, &defeats, poll.options())?);
+        let found = agrees(alloc, poll, relation)?;
+        assert_eq!(rt; found, (true, true));
     }
     Ok(())
+}
+
+#[test]
+fn both_forms_of_reach_agree(rt: HostRuntime) -> Result<(), Fail> {
+    let poll = poll(rt.alloc(), 4, 0, 13)?;
+    assert_agreement(&rt, rt.alloc(), &poll)
 }
 
 /// A ballot that ranks the first of 31 options first, the others alike, and the default last.
@@ -308,13 +335,22 @@ const FIRST_OF_31: &[(usize, &str)] = &[(
     "v0 1,2,2,2,2,2,2,2,2,2,2,2,2,2,2,2,2,2,2,2,2,2,2,2,2,2,2,2,2,2,2,3",
 )];
 
+/// The rows of the first, the second and the last of 32 options by the defeats of this ballot.
+fn rows_of_32(alloc: Global, poll: &Poll) -> Result<(Word, Word, Word), Fail> {
+    let matrix = count(alloc, poll, FIRST_OF_31)?;
+    let defeats = kept_defeats(poll, &matrix)?;
+    Ok((defeats.row(1), defeats.row(2), defeats.row(32)))
+}
+
+/// The same by a poll of 31 options.
+fn rows_by_poll(alloc: Global) -> Result<(Word, Word, Word), Fail> {
+    let poll = poll(alloc, 31, 0, 1)?;
+    rows_of_32(alloc, &poll)
+}
+
 #[test]
 fn rows_as_words(rt: HostRuntime) -> Result<(), Fail> {
-    let alloc = rt.alloc();
-    let poll = poll(alloc, 31, 0, 1)?;
-    let matrix = count(alloc, &poll, FIRST_OF_31)?;
-    let defeats = kept_defeats(&poll, &matrix)?;
-    let rows = (defeats.row(1), defeats.row(2), defeats.row(32));
+    let rows = rows_by_poll(rt.alloc())?;
     assert_eq!(rt; rows, (0xFFFF_FFFE, 0x8000_0000, 0));
     Ok(())
 }
@@ -328,9 +364,10 @@ fn words_of_cycle(alloc: Global) -> Result<((usize, [Word; 4]), (usize, [Word; 4
 
 #[test]
 fn a_cycle_without_its_weakest_defeat(rt: HostRuntime) -> Result<(), Fail> {
-    let (whole, left) = words_of_cycle(rt.alloc())?;
-    assert_eq!(rt; whole, (6, [0b1111, 0b1111, 0b1111, 0]));
-    assert_eq!(rt; left, (5, [0b1110, 0b1100, 0b1000, 0]));
+    let words = words_of_cycle(rt.alloc())?;
+    let whole = (6, [0b1111, 0b1111, 0b1111, 0]);
+    let left = (5, [0b1110, 0b1100, 0b1000, 0]);
+    assert_eq!(rt; words, (whole, left));
     Ok(())
 }
 
@@ -352,21 +389,40 @@ fn exchanged(poll: &Poll, first: &Ranks, second: &Ranks, third: &Ranks) -> (Matr
     (counted, at_once, by_two)
 }
 
-/// Asserts that an exchange gives what taking out and adding do, which is the matrix of both ballots.
-fn assert_exchanged(rt: &impl Abort, poll: &Poll) -> Result<(), Fail> {
+/// Whether an exchange gives what taking out and adding do, whether that is the matrix of the first and the third ballot, and
+/// whether it is the one of before.
+fn compared(
+    poll: &Poll,
+    first: &Ranks,
+    second: &Ranks,
+    third: &Ranks,
+) -> Result<(bool, bool, bool), Fail>
+    requires first { length first.now ≡ option_count poll.now }
+    requires second { length second.now ≡ option_count poll.now }
+    requires third { length third.now ≡ option_count poll.now }
+{
+    let both = recounted(poll, &[Some(*first), Some(*third)])?;
+    let (counted, at_once, by_two) = exchanged(poll, first, second, third);
+    Ok((at_once == by_two, at_once == both, at_once == counted))
+}
+
+/// The same of the ballots of three lines.
+fn compared_lines(poll: &Poll) -> Result<(bool, bool, bool), Fail> {
     let first = ranks(poll, "v0 1,2,3,4")?;
     let second = ranks(poll, "v1 3,1,2,4")?;
     let third = ranks(poll, "v1 2,2,-,1")?;
-    let both = recounted(poll, &[Some(first), Some(third)])?;
-    let (counted, at_once, by_two) = exchanged(poll, &first, &second, &third);
-    assert!(rt; at_once == by_two);
-    assert!(rt; at_once == both);
-    assert!(rt; at_once != counted);
-    Ok(())
+    compared(poll, &first, &second, &third)
+}
+
+/// The same by a poll of three options.
+fn compared_by_poll(alloc: Global) -> Result<(bool, bool, bool), Fail> {
+    let poll = poll(alloc, 3, 0, 2)?;
+    compared_lines(&poll)
 }
 
 #[test]
 fn exchange_is_take_out_and_add(rt: HostRuntime) -> Result<(), Fail> {
-    let poll = poll(rt.alloc(), 3, 0, 2)?;
-    assert_exchanged(&rt, &poll)
+    let found = compared_by_poll(rt.alloc())?;
+    assert_eq!(rt; found, (true, true, false));
+    Ok(())
 }

@@ -6,7 +6,7 @@
 
 ghost use Rattle.std.specs.Prelude.{◌≡◌};
 
-use std::alloc::Global;
+use std::alloc::{AllocError, Global};
 use std::marker::Brand;
 use std::snapshot::Snapshot;
 use std::sync::ledger::{Blank, Ledger};
@@ -120,20 +120,34 @@ fn write(
     write_metered::<Brand>(alloc, at_once, limit, flushes, text, Blank::new(2))
 }
 
+/// How much a sink takes at once and at all, whether it flushes, how much of a text is written then, and whether it ends well.
+const WRITTEN: &[(usize, usize, bool, usize, bool)] = &[
+    (100, 100, true, 11, true),
+    (1, 100, true, 11, true),
+    (10, 10, true, 10, false),
+    (0, 100, true, 0, false),
+    (100, 100, false, 11, false),
+    (1, 3, true, 3, false),
+];
+
+/// Whether what is written of a text is a front of it, how long it is, and whether it ends well.
+fn written_of_text(
+    alloc: Global,
+    at_once: usize,
+    limit: usize,
+    flushes: bool,
+) -> (bool, usize, bool) {
+    let text = b"Poll: Votes";
+    let (written, ended) = write(alloc, at_once, limit, flushes, text);
+    let starts = text.starts_with(written.as_slice());
+    (starts, written.len(), ended)
+}
+
 #[test]
 fn a_text_is_written_whole_or_to_the_fault(rt: HostRuntime) {
-    let text = b"Poll: Votes";
-    for (at_once, limit, flushes, len, ends) in [
-        (100, 100, true, 11, true),
-        (1, 100, true, 11, true),
-        (10, 10, true, 10, false),
-        (0, 100, true, 0, false),
-        (100, 100, false, 11, false),
-        (1, 3, true, 3, false),
-    ] {
-        let (written, ended) = write(rt.alloc(), at_once, limit, flushes, text);
-        let starts = text.starts_with(written.as_slice());
-        assert_eq!(rt; (starts, written.len(), ended), (true, len, ends));
+    for (at_once, limit, flushes, len, ends) in WRITTEN {
+        let found = written_of_text(rt.alloc(), *at_once, *limit, *flushes);
+        assert_eq!(rt; found, (true, *len, *ends));
     }
 }
 
@@ -201,57 +215,63 @@ fn read(
     read_metered::<Brand>(alloc, bytes, at_once, reads, limit, Blank::new(2))
 }
 
-/// Whether five bytes are read whole, and the fault where they are not, by so many at once, reads and bytes.
-fn five_bytes(
+/// Whether these bytes are read whole, and the fault where they are not, by so many at once, reads and bytes.
+fn read_whole(
     alloc: Global,
+    bytes: &[u8],
     at_once: usize,
     reads: u32,
     limit: usize,
 ) -> (bool, Option<ReadFault>) {
-    match read(alloc, b"hello", at_once, reads, limit) {
-        Ok(all) => (all.as_slice() == b"hello".as_slice(), None),
+    match read(alloc, bytes, at_once, reads, limit) {
+        Ok(all) => (all.as_slice() == bytes, None),
         Err(fault) => (false, Some(fault)),
     }
 }
 
+/// Reads and limits, and whether five bytes are read whole by them, and the fault.
+const FIVE_BYTES: &[(u32, usize, bool, Option<ReadFault>)] = &[
+    (9, 5, true, None),
+    (9, 4, false, Some(ReadFault::TooLong)),
+    (0, 9, false, Some(ReadFault::Device)),
+    (1, 9, false, Some(ReadFault::Device)),
+    (2, 9, false, Some(ReadFault::Device)),
+];
+
 #[test]
 fn an_input_is_read_to_its_end_or_refused(rt: HostRuntime) {
-    for (reads, limit, answer) in [
-        (9, 5, (true, None)),
-        (9, 4, (false, Some(ReadFault::TooLong))),
-        (0, 9, (false, Some(ReadFault::Device))),
-        (1, 9, (false, Some(ReadFault::Device))),
-        (2, 9, (false, Some(ReadFault::Device))),
-    ] {
-        assert_eq!(rt; five_bytes(rt.alloc(), 3, reads, limit), answer);
+    for (reads, limit, whole, fault) in FIVE_BYTES {
+        let found = read_whole(rt.alloc(), b"hello", 3, *reads, *limit);
+        assert_eq!(rt; found, (*whole, *fault));
     }
+}
+
+/// Whether so many bytes are read whole, and the fault where they are not, by so many reads and bytes.
+fn read_many(
+    alloc: Global,
+    number: usize,
+    reads: u32,
+    limit: usize,
+) -> Result<(bool, Option<ReadFault>), AllocError> {
+    let bytes = vec![in alloc; b'x'; number]?;
+    Ok(read_whole(alloc, bytes.as_slice(), usize::MAX, reads, limit))
 }
 
 #[test]
 fn an_input_of_a_mebibyte_and_a_byte_is_too_long(rt: HostRuntime) -> Result<(), Fail> {
-    let alloc = rt.alloc();
-    let limit = 1_048_576;
-    let most = vec![in alloc; b'x'; 1_048_576]?;
-    let all = read(alloc, most.as_slice(), usize::MAX, u32::MAX, limit)?;
-    assert!(rt; all.as_slice() == most.as_slice());
-    let more = vec![in alloc; b'x'; 1_048_577]?;
-    let refused = read(alloc, more.as_slice(), usize::MAX, u32::MAX, limit);
-    assert!(rt; matches!(&refused, Err(ReadFault::TooLong)));
+    let most = read_many(rt.alloc(), 1_048_576, u32::MAX, 1_048_576)?;
+    let more = read_many(rt.alloc(), 1_048_577, u32::MAX, 1_048_576)?;
+    let refused = Some(ReadFault::TooLong);
+    assert_eq!(rt; (most, more), ((true, None), (false, refused)));
     Ok(())
 }
 
 #[test]
 fn memory_of_read_limited(rt: HostRuntime) -> Result<(), Fail> {
-    let alloc = rt.alloc();
-    let bytes = vec![in alloc; b'x'; 10_000]?;
-    match read(alloc, bytes.as_slice(), usize::MAX, 9, 10_000) {
-        Ok(all) => {
-            assert!(rt; all.as_slice() == bytes.as_slice());
-            Ok(())
-        }
-        Err(fault) => {
-            assert_eq!(rt; fault, ReadFault::Memory);
-            Err(Fail::from("refused"))
-        }
+    let found = read_many(rt.alloc(), 10_000, 9, 10_000)?;
+    if found.1 == Some(ReadFault::Memory) {
+        return Err(Fail::from("refused"));
     }
+    assert_eq!(rt; found, (true, None));
+    Ok(())
 }

@@ -1,6 +1,7 @@
 //! What is found in poll files, with the memory of the call refused in turn (tests/refused-memory).
 
 use std::alloc::{AllocError, Global};
+use std::process::Abort;
 use std::test::Fail;
 use vote_findings::explain_poll;
 use vote_poll::{PollFault, PollKey};
@@ -25,31 +26,44 @@ const FINDINGS: &str = "poll: key title: an integer\n\
     poll: key rest is not read\n\
     poll: key rol is not read; did you mean roll?\n";
 
-#[test]
-fn memory_of_explain_poll(rt: HostRuntime) -> Result<(), Fail> {
-    let Ok(explained) = explain_poll(rt.alloc(), FAULTY.as_bytes()) else {
-        return Err(Fail::from("refused"));
-    };
-    let fault = explained.outcome.err();
-    assert_eq!(rt; fault, Some(PollFault::Key(PollKey::Title)));
-    assert_eq!(rt; explained.findings.as_str(), FINDINGS);
+/// The findings of a text, and its fault if it is no poll.
+fn explained(alloc: Global, text: &[u8]) -> Result<(String, Option<PollFault>), AllocError> {
+    let explained = explain_poll(alloc, text)?;
+    Ok((explained.findings, explained.outcome.err()))
+}
+
+/// Asserts the findings of a text, and its fault if it is no poll.
+fn assert_explained(
+    rt: &impl Abort,
+    alloc: Global,
+    text: &[u8],
+    findings: &str,
+    fault: Option<PollFault>,
+) -> Result<(), AllocError> {
+    let (said, found) = explained(alloc, text)?;
+    assert_eq!(rt; (said.as_str(), found), (findings, fault));
     Ok(())
 }
 
-/// The findings of a text, and whether it is a poll.
-fn explained(alloc: Global, text: &[u8]) -> Result<(String, bool), AllocError> {
-    let explained = explain_poll(alloc, text)?;
-    Ok((explained.findings, explained.outcome.is_ok()))
+#[test]
+fn memory_of_explain_poll(rt: HostRuntime) -> Result<(), Fail> {
+    let fault = Some(PollFault::Key(PollKey::Title));
+    match assert_explained(&rt, rt.alloc(), FAULTY.as_bytes(), FINDINGS, fault) {
+        Ok(()) => Ok(()),
+        Err(AllocError) => Err(Fail::from("refused")),
+    }
 }
 
 #[test]
-fn polls_explained(rt: HostRuntime) -> Result<(), Fail> {
-    let (nothing, is_poll) = explained(rt.alloc(), SMALL.as_bytes())?;
-    assert_eq!(rt; (nothing.as_str(), is_poll), ("", true));
-    let (syntax, is_poll) = explained(rt.alloc(), b"# a \xC3\xA4\nx = \"")?;
-    assert_eq!(rt;
-        (syntax.as_str(), is_poll),
-        ("poll:2:6: invalid string\n", false)
-    );
+fn a_poll_without_findings(rt: HostRuntime) -> Result<(), Fail> {
+    assert_explained(&rt, rt.alloc(), SMALL.as_bytes(), "", None)?;
+    Ok(())
+}
+
+#[test]
+fn a_text_that_is_no_toml(rt: HostRuntime) -> Result<(), Fail> {
+    let text = b"# a \xC3\xA4\nx = \"";
+    let fault = Some(PollFault::Syntax);
+    assert_explained(&rt, rt.alloc(), text, "poll:2:6: invalid string\n", fault)?;
     Ok(())
 }

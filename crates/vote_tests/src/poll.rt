@@ -1,4 +1,4 @@
-use std::alloc::Global;
+use std::alloc::{AllocError, Global};
 use std::process::Abort;
 use std::test::Fail;
 use vote_poll::{
@@ -16,10 +16,13 @@ const BALLOT: &[u8] = b"v10 10,-,9";
 /// Asserts what the small poll says of its options and of its envelopes.
 fn assert_options(rt: &impl Abort, poll: &Poll) {
     assert_eq!(rt; poll.options(), 3);
-    assert_eq!(rt; (poll.ratio(1), poll.ratio(2)), (1, 3));
-    assert_eq!(rt; (poll.option_name(1), poll.option_name(3)), ("A", "None"));
+    let ratios = (poll.ratio(1), poll.ratio(2));
+    let names = (poll.option_name(1), poll.option_name(3));
     let last = (poll.last_envelope(), poll.last_in_time());
-    assert_eq!(rt; (last, poll.wording()), ((None, 100_000), Wording::AtLeast));
+    assert_eq!(rt;
+        (ratios, names, last, poll.wording()),
+        ((1, 3), ("A", "None"), (None, 100_000), Wording::AtLeast)
+    );
 }
 
 #[test]
@@ -35,9 +38,11 @@ fn named(alloc: Global, name: &[u8]) -> Result<(Option<u8>, Option<usize>), Poll
     Ok((poll.option_of(name), poll.voter_of(name)))
 }
 
+const NO_TEXT: &[&[u8]] = &[b"\xFF", b"A\xFF", b"v0\xFF"];
+
 #[test]
 fn names_that_are_no_text(rt: HostRuntime) -> Result<(), Fail> {
-    for name in [b"\xFF".as_slice(), b"A\xFF", b"v0\xFF"] {
+    for name in NO_TEXT {
         assert_eq!(rt; named(rt.alloc(), name)?, (None, None));
     }
     Ok(())
@@ -49,19 +54,27 @@ fn read_small(alloc: Global, line: &[u8]) -> Result<Reading, PollFault> {
     Ok(read_line(&poll, line))
 }
 
+/// Asserts the voter and the ranks of the ballot.
+fn assert_ballot(rt: &impl Abort, voter: usize, ranks: &Ranks) {
+    assert_eq!(rt; (voter, ranks.options()), (10, 3));
+    let read = (ranks.rank(1), ranks.rank(2), ranks.rank(3));
+    let keys = ranks.sort_keys();
+    let keys = (keys[0], keys[1], keys[2], keys[3]);
+    assert_eq!(rt;
+        (read, keys),
+        ((Some(10), None, Some(9)), (10, UNRANKED, 9, 0))
+    );
+}
+
 #[test]
 fn a_ballot_as_read(rt: HostRuntime) -> Result<(), Fail> {
-    let Reading::Ballot { voter, ranks } = read_small(rt.alloc(), BALLOT)? else {
-        return Err(Fail::from("no ballot"));
-    };
-    assert_eq!(rt; (voter, ranks.options()), (10, 3));
-    assert_eq!(rt;
-        (ranks.rank(1), ranks.rank(2), ranks.rank(3)),
-        (Some(10), None, Some(9))
-    );
-    let keys = ranks.sort_keys();
-    assert_eq!(rt; (keys[0], keys[1], keys[2], keys[3]), (10, UNRANKED, 9, 0));
-    Ok(())
+    match read_small(rt.alloc(), BALLOT)? {
+        Reading::Ballot { voter, ranks } => {
+            assert_ballot(&rt, voter, &ranks);
+            Ok(())
+        }
+        Reading::Bad(_) => Err(Fail::from("no ballot")),
+    }
 }
 
 /// The ranks of a line, if it is a ballot.
@@ -138,20 +151,28 @@ fn words_of_refused_memory(rt: HostRuntime) -> Result<(), Fail> {
     Ok(())
 }
 
+/// Asserts the title and the quorum of the small poll, and how it numbers its options and electors.
+fn assert_numbers(rt: &impl Abort, poll: &Poll) {
+    let options = (poll.options(), poll.option_of(b"None"));
+    let electors = (poll.electors(), poll.voter_of(b"v10"));
+    assert_eq!(rt;
+        (poll.title(), options, poll.quorum_multiple(), electors),
+        ("Small", (3, Some(3)), 2, (11, Some(10)))
+    );
+}
+
 #[test]
 fn memory_of_from_text(rt: HostRuntime) -> Result<(), Fail> {
-    let poll = match Poll::from_text(rt.alloc(), SMALL.as_bytes()) {
-        Ok(poll) => poll,
+    match Poll::from_text(rt.alloc(), SMALL.as_bytes()) {
+        Ok(poll) => {
+            assert_numbers(&rt, &poll);
+            Ok(())
+        }
         Err(fault) => {
             assert_eq!(rt; fault, PollFault::Memory);
-            return Err(Fail::from("refused"));
+            Err(Fail::from("refused"))
         }
-    };
-    let options = (poll.options(), poll.option_of(b"None"));
-    assert_eq!(rt; (poll.title(), options), ("Small", (3, Some(3))));
-    let electors = (poll.electors(), poll.voter_of(b"v10"));
-    assert_eq!(rt; (poll.quorum_multiple(), electors), (2, (11, Some(10))));
-    Ok(())
+    }
 }
 
 #[test]
@@ -167,26 +188,34 @@ fn memory_of_from_text_at_a_fault(rt: HostRuntime) -> Result<(), Fail> {
     Ok(())
 }
 
-#[test]
-fn memory_of_split(rt: HostRuntime) -> Result<(), Fail> {
-    let alloc = rt.alloc();
-    // Too many lines are found without memory, so where the text could be made no other answer comes.
+/// The fault of a text with a line more than a file may have. It is found without memory, so where the text could be made no other
+/// answer comes.
+fn fault_of_too_many(alloc: Global) -> Result<Option<LinesFault>, AllocError> {
     let feeds = vec![in alloc; b'\n'; MAX_LINES + 1]?;
-    assert_eq!(rt;
-        Lines::split(alloc, &feeds).err(),
-        Some(LinesFault::TooMany)
-    );
-    let lines = match Lines::split(alloc, b"a\n\nb") {
-        Ok(lines) => lines,
-        Err(fault) => {
-            assert_eq!(rt; fault, LinesFault::Memory);
-            return Err(Fail::from("refused"));
-        }
-    };
+    Ok(Lines::split(alloc, &feeds).err())
+}
+
+/// Asserts that lines are `a`, an empty one and `b`.
+fn assert_three_lines(rt: &impl Abort, lines: &Lines<'_>) {
     assert_eq!(rt; lines.len(), 3);
     let read = (lines.line(0), lines.line(1), lines.line(2));
     assert_eq!(rt; read, (b"a".as_slice(), b"".as_slice(), b"b".as_slice()));
-    Ok(())
+}
+
+#[test]
+fn memory_of_split(rt: HostRuntime) -> Result<(), Fail> {
+    let too_many = fault_of_too_many(rt.alloc())?;
+    assert_eq!(rt; too_many, Some(LinesFault::TooMany));
+    match Lines::split(rt.alloc(), b"a\n\nb") {
+        Ok(lines) => {
+            assert_three_lines(&rt, &lines);
+            Ok(())
+        }
+        Err(fault) => {
+            assert_eq!(rt; fault, LinesFault::Memory);
+            Err(Fail::from("refused"))
+        }
+    }
 }
 
 #[test]

@@ -49,8 +49,8 @@ fn cast_line(
     stamp: u32,
     line: &str,
 ) -> Result<Reply, StepFault> {
-    assert_eq!(rt; poll.options(), ballot_box.options());
-    assert_eq!(rt; poll.electors(), ballot_box.electors());
+    let sizes = (ballot_box.options(), ballot_box.electors());
+    assert_eq!(rt; (poll.options(), poll.electors()), sizes);
     ballot_box.cast(1, stamp, read_line(poll, line.as_bytes()))
 }
 
@@ -92,8 +92,8 @@ fn look(rt: &impl Abort, ballot_box: &BallotBox, totals: [u64; 3], votes: [[u32;
         refused,
         voters,
     };
-    assert_eq!(rt; ballot_box.totals(), totals);
-    assert_eq!(rt; table(rt, &ballot_box.matrix()), votes);
+    let found = (ballot_box.totals(), table(rt, &ballot_box.matrix()));
+    assert_eq!(rt; found, (totals, votes));
 }
 
 // The matrix of a recount of the ballots that stand.
@@ -103,6 +103,21 @@ fn recounted(alloc: Global, ballot_box: &BallotBox) -> Result<Matrix, AllocError
         ballots.push(ballot_box.standing(voter))?;
     }
     Ok(recount(ballot_box.options(), &ballots))
+}
+
+// Asserts that the matrix of a box is that of a recount.
+fn assert_recounted(
+    rt: &impl Abort,
+    alloc: Global,
+    ballot_box: &BallotBox,
+    order: usize,
+    stamp: u32,
+) -> Result<(), AllocError> {
+    let recounted = recounted(alloc, ballot_box)?;
+    let votes = table(rt, &recounted);
+    let found = table(rt, &ballot_box.matrix());
+    assert_eq!(rt; found, votes, "order {order}, stamp {stamp}");
+    Ok(())
 }
 
 // Casts a hundred envelopes in one of the orders, and looks at the matrix after each.
@@ -117,12 +132,7 @@ fn cast_hundred(
         let stamp = stamp_at(order, turn);
         let answer = cast_line(rt, &mut ballot_box, poll, stamp, line_of(stamp));
         assert!(rt; answer.is_ok());
-        let votes = table(rt, &recounted(alloc, &ballot_box)?);
-        assert_eq!(rt;
-            table(rt, &ballot_box.matrix()),
-            votes,
-            "order {order}, stamp {stamp}"
-        );
+        assert_recounted(rt, alloc, &ballot_box, order, stamp)?;
     }
     Ok(ballot_box)
 }
@@ -150,6 +160,23 @@ fn count_of(ballot_box: &BallotBox, wanted: Reply) -> usize {
     ballot_box.steps().iter().filter(is_wanted).count()
 }
 
+// Does what is listed at a box of the size of the poll of two electors.
+fn played_by(
+    rt: &impl Abort,
+    alloc: Global,
+    poll: &Poll,
+    limit: u32,
+    last: u32,
+    acts: &[Act<'_>],
+    totals: [u64; 3],
+    votes: [[u32; 3]; 3],
+) -> Result<usize, Fail>
+    requires { (limit ≤ MAX_LINES) × (last ≤ MAX_LINES) }
+{
+    let mut ballot_box = BallotBox::new(alloc, 3, 2, limit, last)?;
+    Ok(play_to(rt, &mut ballot_box, poll, acts, totals, votes))
+}
+
 // Does what is listed at a box of two electors with the stamps 1 to `limit`, of which those above `last` are late. Looks at
 // the totals and the votes, and answers how many steps there are.
 fn played(
@@ -164,60 +191,63 @@ fn played(
     requires { (limit ≤ MAX_LINES) × (last ≤ MAX_LINES) }
 {
     let poll = Poll::from_text(alloc, TWO_ELECTORS.as_bytes())?;
-    let mut ballot_box = BallotBox::new(alloc, 3, 2, limit, last)?;
-    Ok(play_to(rt, &mut ballot_box, &poll, acts, totals, votes))
+    played_by(rt, alloc, &poll, limit, last, acts, totals, votes)
 }
+
+// A recast in two orders.
+const RECASTS: &[&[Act<'static>]] = &[
+    &[
+        Act::Cast(1, "ann 1,2,3", Ok(Reply::Counted)),
+        Act::Cast(2, "bob 2,1,3", Ok(Reply::Counted)),
+        Act::Cast(3, "ann 3,2,1", Ok(Reply::Replaced)),
+    ],
+    &[
+        Act::Cast(3, "ann 3,2,1", Ok(Reply::Counted)),
+        Act::Cast(2, "bob 2,1,3", Ok(Reply::Counted)),
+        Act::Cast(1, "ann 1,2,3", Ok(Reply::Superseded)),
+    ],
+];
 
 #[test]
 fn a_recast_in_both_orders(rt: HostRuntime) -> Result<(), Fail> {
-    let orders = [
-        [
-            Act::Cast(1, "ann 1,2,3", Ok(Reply::Counted)),
-            Act::Cast(2, "bob 2,1,3", Ok(Reply::Counted)),
-            Act::Cast(3, "ann 3,2,1", Ok(Reply::Replaced)),
-        ],
-        [
-            Act::Cast(3, "ann 3,2,1", Ok(Reply::Counted)),
-            Act::Cast(2, "bob 2,1,3", Ok(Reply::Counted)),
-            Act::Cast(1, "ann 1,2,3", Ok(Reply::Superseded)),
-        ],
-    ];
     let votes = [[0, 0, 1], [2, 0, 1], [1, 1, 0]];
-    for acts in &orders {
+    for acts in RECASTS {
         played(&rt, rt.alloc(), 3, 100_000, acts, [3, 0, 2], votes)?;
     }
     Ok(())
 }
 
+const REFUSALS: &[Act<'static>] = &[
+    Act::Cast(0, "ann 1,2,3", Err(StepFault::StampRange)),
+    Act::Cast(3, "ann 1,2,3", Err(StepFault::StampRange)),
+    Act::Cast(1, "ann 1,2,3", Ok(Reply::Counted)),
+    Act::Cast(1, "ann 1,2,3", Err(StepFault::StampUsed)),
+    Act::Close(Ok(())),
+    Act::Cast(2, "bob 1,2,3", Ok(Reply::BoxClosed)),
+    Act::Cast(1, "bob 1,2,3", Err(StepFault::StampUsed)),
+    Act::Close(Err(AlreadyClosed)),
+];
+
 #[test]
 fn refusals_and_replies(rt: HostRuntime) -> Result<(), Fail> {
-    let acts = [
-        Act::Cast(0, "ann 1,2,3", Err(StepFault::StampRange)),
-        Act::Cast(3, "ann 1,2,3", Err(StepFault::StampRange)),
-        Act::Cast(1, "ann 1,2,3", Ok(Reply::Counted)),
-        Act::Cast(1, "ann 1,2,3", Err(StepFault::StampUsed)),
-        Act::Close(Ok(())),
-        Act::Cast(2, "bob 1,2,3", Ok(Reply::BoxClosed)),
-        Act::Cast(1, "bob 1,2,3", Err(StepFault::StampUsed)),
-        Act::Close(Err(AlreadyClosed)),
-    ];
     let votes = [[0, 1, 1], [0, 0, 1], [0, 0, 0]];
-    let steps = played(&rt, rt.alloc(), 2, 100_000, &acts, [1, 1, 1], votes)?;
+    let steps = played(&rt, rt.alloc(), 2, 100_000, REFUSALS, [1, 1, 1], votes)?;
     assert_eq!(rt; steps, 3);
     Ok(())
 }
 
+const LATE: &[Act<'static>] = &[
+    Act::Cast(2, "ann 1,2,3", Ok(Reply::Late)),
+    Act::Cast(1, "ann 1,2,3", Ok(Reply::Counted)),
+    Act::Cast(2, "ann 1,2,3", Err(StepFault::StampUsed)),
+    Act::Close(Ok(())),
+    Act::Cast(3, "bad", Ok(Reply::BoxClosed)),
+];
+
 #[test]
 fn late_envelopes(rt: HostRuntime) -> Result<(), Fail> {
-    let acts = [
-        Act::Cast(2, "ann 1,2,3", Ok(Reply::Late)),
-        Act::Cast(1, "ann 1,2,3", Ok(Reply::Counted)),
-        Act::Cast(2, "ann 1,2,3", Err(StepFault::StampUsed)),
-        Act::Close(Ok(())),
-        Act::Cast(3, "bad", Ok(Reply::BoxClosed)),
-    ];
     let votes = [[0, 1, 1], [0, 0, 1], [0, 0, 0]];
-    played(&rt, rt.alloc(), 3, 1, &acts, [1, 2, 1], votes)?;
+    played(&rt, rt.alloc(), 3, 1, LATE, [1, 2, 1], votes)?;
     Ok(())
 }
 
@@ -232,13 +262,15 @@ fn no_envelope_in_time(rt: HostRuntime) -> Result<(), Fail> {
     Ok(())
 }
 
-// The replies to a hundred envelopes.
-const REPLIES: [Reply; 4] = [
-    Reply::Counted,
-    Reply::Replaced,
-    Reply::Superseded,
-    Reply::BadLine(LineFault::Shape),
-];
+// How often each reply to a hundred envelopes came.
+fn reply_counts(ballot_box: &BallotBox) -> [usize; 4] {
+    [
+        count_of(ballot_box, Reply::Counted),
+        count_of(ballot_box, Reply::Replaced),
+        count_of(ballot_box, Reply::Superseded),
+        count_of(ballot_box, Reply::BadLine(LineFault::Shape)),
+    ]
+}
 
 // Casts a hundred envelopes in one of the orders, looks at the totals and the votes, and answers how often each reply came.
 fn replies_to_hundred(
@@ -250,20 +282,29 @@ fn replies_to_hundred(
     let ballot_box = cast_hundred(rt, alloc, poll, order)?;
     let votes = [[0, 5, 10], [5, 0, 10], [0, 0, 0]];
     look(rt, &ballot_box, [95, 5, 10], votes);
-    Ok(REPLIES.map(|reply| count_of(&ballot_box, reply)))
+    Ok(reply_counts(&ballot_box))
+}
+
+// The orders, and how often each reply comes.
+const ORDERS: &[(usize, [usize; 4])] = &[
+    (0, [10, 85, 0, 5]),
+    (1, [10, 0, 85, 5]),
+    (2, [10, 37, 48, 5]),
+];
+
+// Asserts how often each reply comes in each order.
+fn assert_orders(rt: &impl Abort, alloc: Global, poll: &Poll) -> Result<(), Fail> {
+    for (order, counts) in ORDERS {
+        let found = replies_to_hundred(rt, alloc, poll, *order)?;
+        assert_eq!(rt; found, *counts);
+    }
+    Ok(())
 }
 
 #[test]
 fn a_hundred_envelopes_in_three_orders(rt: HostRuntime) -> Result<(), Fail> {
     let poll = Poll::from_text(rt.alloc(), TEN_ELECTORS.as_bytes())?;
-    for (order, counts) in [[10, 85, 0, 5], [10, 0, 85, 5], [10, 37, 48, 5]]
-        .iter()
-        .enumerate()
-    {
-        let found = replies_to_hundred(&rt, rt.alloc(), &poll, order)?;
-        assert_eq!(rt; found, *counts);
-    }
-    Ok(())
+    assert_orders(&rt, rt.alloc(), &poll)
 }
 
 // The poll of two electors, or `refused` where its memory was.
@@ -286,29 +327,35 @@ fn is_new(ballot_box: &BallotBox, limit: u32, last: u32) -> bool {
         && ballot_box.standing(0).is_none()
 }
 
+// An envelope with each of three stamps, and the close.
+const THREE: &[Act<'static>] = &[
+    Act::Cast(1, "ann 1,2,3", Ok(Reply::Counted)),
+    Act::Cast(2, "bob 2,1,3", Ok(Reply::Counted)),
+    Act::Cast(3, "ann 3,2,1", Ok(Reply::Replaced)),
+    Act::Close(Ok(())),
+];
+
 // Asserts that a box with the stamps 1 to 3 takes an envelope with each, and the close.
 fn assert_takes_three(rt: &impl Abort, ballot_box: &mut BallotBox, poll: &Poll) {
-    let acts = [
-        Act::Cast(1, "ann 1,2,3", Ok(Reply::Counted)),
-        Act::Cast(2, "bob 2,1,3", Ok(Reply::Counted)),
-        Act::Cast(3, "ann 3,2,1", Ok(Reply::Replaced)),
-        Act::Close(Ok(())),
-    ];
     let votes = [[0, 0, 1], [2, 0, 1], [1, 1, 0]];
-    let steps = play_to(rt, ballot_box, poll, &acts, [3, 0, 2], votes);
+    let steps = play_to(rt, ballot_box, poll, THREE, [3, 0, 2], votes);
     assert_eq!(rt; steps, 4);
+}
+
+// Makes a box, and asserts that it is new and takes three envelopes.
+fn assert_made(rt: &impl Abort, alloc: Global, poll: &Poll) -> Result<(), AllocError> {
+    let mut ballot_box = BallotBox::new(alloc, 3, 2, 3, 99_999)?;
+    assert!(rt; is_new(&ballot_box, 3, 99_999));
+    assert_takes_three(rt, &mut ballot_box, poll);
+    Ok(())
 }
 
 // A box is made whole, with room for a step with each stamp and for the close, or is refused for want of memory.
 #[test]
 fn memory_of_new(rt: HostRuntime) -> Result<(), Fail> {
     let poll = poll_of_two(&rt, rt.alloc())?;
-    match BallotBox::new(rt.alloc(), 3, 2, 3, 99_999) {
-        Ok(mut ballot_box) => {
-            assert!(rt; is_new(&ballot_box, 3, 99_999));
-            assert_takes_three(&rt, &mut ballot_box, &poll);
-            Ok(())
-        }
+    match assert_made(&rt, rt.alloc(), &poll) {
+        Ok(()) => Ok(()),
         Err(AllocError) => Err("refused".into()),
     }
 }
@@ -324,6 +371,17 @@ fn lines_of<'a>(rt: &impl Abort, alloc: Global, text: &'a str) -> Result<Lines<'
     }
 }
 
+// The box in which one desk cast the lines of a text by a poll, or `refused` where the memory of the lines was.
+fn all_cast_by(
+    rt: &impl Abort,
+    alloc: Global,
+    poll: &Poll,
+    text: &str,
+) -> Result<Result<BallotBox, AllocError>, &'static str> {
+    let lines = lines_of(rt, alloc, text)?;
+    Ok(cast_all(alloc, poll, &lines))
+}
+
 // The box in which one desk cast the lines of a text, or `refused` where the memory of the poll or of the lines was.
 fn all_cast(
     rt: &impl Abort,
@@ -331,8 +389,7 @@ fn all_cast(
     text: &str,
 ) -> Result<Result<BallotBox, AllocError>, &'static str> {
     let poll = poll_of_two(rt, alloc)?;
-    let lines = lines_of(rt, alloc, text)?;
-    Ok(cast_all(alloc, &poll, &lines))
+    all_cast_by(rt, alloc, &poll, text)
 }
 
 // Asserts what a closed box holds after a vote of each elector and a recast.

@@ -50,25 +50,38 @@ fn take_all_in_a_thread<R: Threads>(
     join(rt, move || take_all(tray, pass, alloc), || ()).0
 }
 
+// What an empty tray answers to a try and to a take, and how many places were taken.
+fn taken_of_none(alloc: Global) -> Result<(Take, Option<u64>, u64), Fail> {
+    let (tray, mut pass) = for_one(alloc, 0)?;
+    let tried = tray.try_take(&mut pass);
+    let taken = tray.take(&mut pass);
+    Ok((tried, taken, tray.finish(pass)))
+}
+
 #[test]
 fn an_empty_tray_has_no_place(rt: HostRuntime) -> Result<(), Fail> {
-    let (tray, mut pass) = for_one(rt.alloc(), 0)?;
-    assert_eq!(rt; tray.try_take(&mut pass), Take::Empty);
-    assert_eq!(rt; tray.take(&mut pass), None);
-    assert_eq!(rt; tray.finish(pass), 0);
+    let found = taken_of_none(rt.alloc())?;
+    assert_eq!(rt; found, (Take::Empty, None, 0));
     Ok(())
+}
+
+// What a tray with one place answers to two tries of one pass, to two of another and to a take of that, and how many places were
+// taken.
+fn taken_of_one(alloc: Global) -> Result<((Take, Take), (Take, Take), Option<u64>, u64), Fail> {
+    let (tray, mut p, mut q) = for_two(alloc, 1)?;
+    let first = (tray.try_take(&mut p), tray.try_take(&mut p));
+    let second = (tray.try_take(&mut q), tray.try_take(&mut q));
+    let last = tray.take(&mut q);
+    let both = tray.join(p, q);
+    Ok((first, second, last, tray.finish(both)))
 }
 
 #[test]
 fn the_slower_pass_loses_the_only_place(rt: HostRuntime) -> Result<(), Fail> {
-    let (tray, mut p, mut q) = for_two(rt.alloc(), 1)?;
-    assert_eq!(rt; tray.try_take(&mut p), Take::Got(0));
-    assert_eq!(rt; tray.try_take(&mut p), Take::Empty);
-    assert_eq!(rt; tray.try_take(&mut q), Take::Lost(1));
-    assert_eq!(rt; tray.try_take(&mut q), Take::Empty);
-    assert_eq!(rt; tray.take(&mut q), None);
-    let both = tray.join(p, q);
-    assert_eq!(rt; tray.finish(both), 1);
+    let found = taken_of_one(rt.alloc())?;
+    let first = (Take::Got(0), Take::Empty);
+    let second = (Take::Lost(1), Take::Empty);
+    assert_eq!(rt; found, (first, second, None, 1));
     Ok(())
 }
 
@@ -86,15 +99,24 @@ fn one_place_more_than_the_most_is_too_many(rt: HostRuntime) {
     assert_eq!(rt; (more, most), (Some(TrayFault::TooMany), None));
 }
 
+// How many passes a tray with three places has for two, and whether the first gets the first place and the other loses it.
+fn tried_by_two(alloc: Global) -> Result<(usize, bool), TrayFault> {
+    let (tray, passes) = Tray::new(alloc, 3, 2)?;
+    let number = passes.len();
+    let mut is_right = true;
+    for mut pass in passes {
+        let tried = tray.try_take(&mut pass);
+        is_right = is_right && matches!(tried, Take::Got(0) | Take::Lost(1));
+    }
+    Ok((number, is_right))
+}
+
 /// For the walk over refused growths, `tests/refused-memory`: an answer of the table, or no test that passes.
 #[test]
 fn memory_of_new(rt: HostRuntime) -> Result<(), Fail> {
-    match Tray::new(rt.alloc(), 3, 2) {
-        Ok((tray, passes)) => {
-            assert_eq!(rt; passes.len(), 2);
-            for mut pass in passes {
-                assert!(rt; matches!(tray.try_take(&mut pass), Take::Got(0) | Take::Lost(1)));
-            }
+    match tried_by_two(rt.alloc()) {
+        Ok(found) => {
+            assert_eq!(rt; found, (2, true));
             Ok(())
         }
         Err(fault) => {
@@ -102,6 +124,24 @@ fn memory_of_new(rt: HostRuntime) -> Result<(), Fail> {
             Err("refused".into())
         }
     }
+}
+
+// How many places were taken in all, and the places that two passes took, in order.
+fn finished(
+    tray: Tray,
+    first: Result<(Pass, Vec<u64>), AllocError>,
+    second: Result<(Pass, Vec<u64>), AllocError>,
+) -> Result<(u64, Vec<u64>), AllocError>
+    requires first { IfOk first (λ t. t.0.tray ≡ tray) }
+    requires second { IfOk second (λ t. t.0.tray ≡ tray) }
+{
+    let (p, mut places) = first?;
+    let (q, others) = second?;
+    let both = tray.join(p, q);
+    let number = tray.finish(both);
+    places.extend_from_slice(others.as_slice())?;
+    places.sort()?;
+    Ok((number, places))
 }
 
 #[test]
@@ -114,12 +154,8 @@ fn two_threads_take_each_place_once(rt: HostRuntime) -> Result<(), Fail> {
         move || take_all(shared, p, alloc),
         || take_all_in_a_thread(&rt, shared, q, alloc),
     );
-    let (p, mut places) = a?;
-    let (q, others) = b?;
-    let both = tray.join(p, q);
-    assert_eq!(rt; tray.finish(both), 1000);
-    places.extend_from_slice(others.as_slice())?;
-    places.sort()?;
-    assert!(rt; places.iter().copied().eq(0..1000));
+    let (number, places) = finished(tray, a, b)?;
+    let is_each = places.iter().copied().eq(0..1000);
+    assert_eq!(rt; (number, is_each), (1000, true));
     Ok(())
 }
