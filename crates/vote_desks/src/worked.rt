@@ -10,7 +10,7 @@ use crate::fault::EnterFault;
 use vote_tray::Pass;
 
 /// Why a worker stopped before the tray was empty.
-#[derive(Clone, Copy, Debug, PartialEq, Eq)]
+#[derive(Clone, Copy)]
 pub(crate) enum Stop {
     /// The gate did not let an envelope pass.
     Barred,

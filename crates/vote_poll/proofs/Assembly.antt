@@ -1,7 +1,7 @@
 -- The poll that the keys of a file give keeps the limits of a poll.
 use Rattle.std.proofs.Common.{◌≡◌, ◌+◌, ◌≤◌, ◌==◌, ◌&&◌, ◌∷◌, ◌++◌, [], ℕ, ℤ, List, Bool, true, false, cond, map, length, Option, Some, None, IfSome, Ok, Err, Result, refl, ap, subst, sym, arith, nat_abs, length-append, pos}
 use Rattle.std.specs.Option.{option_map}
-use Rattle.std.specs.Result.{IsErrAnd}
+use Rattle.std.specs.Result.{IsErrAnd, is_ok}
 use Rattle.std.specs.List.{list_all}
 use Rattle.std.proofs.lemmas.Bool.{and_parts}
 use Rattle.std.proofs.lemmas.Bool.Decides.{nat_tests}
@@ -36,6 +36,12 @@ pub refused-then : {A B X : Type 0} (view : X → B) (r : Result X PollFault) (e
     → IsErrAnd r (λ x. x ≡ e) → Fails e m → Gives view r (m >>= next)
 refused-then view (Ok x) e m next is h = absurd is
 refused-then view (Err x) e m next is h = subst (λ (y : PollFault). Fails y (m >>= next)) (sym is) (fails-then e m next h)
+
+-- a key that is right leaves it to those behind it
+pub skipped-then : {A B X : Type 0} (view : X → B) (r : Result X PollFault) (m : Result A PollFault) (next : A → Result B PollFault) → is_ok m ≡ true
+    → ((a : A) → Gives view r (next a)) → Gives view r (m >>= next)
+skipped-then view r (Ok a) next is h = h a
+skipped-then view r (Err e) next is h = cc
 
 -- so the poll is what they give
 pub parsed_meaning : (f : Fields) (p : PollContent) → Parsed f p → wording_in f.wording ≡ Ok p.wording → poll_of f ≡ Ok p

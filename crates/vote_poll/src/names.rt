@@ -36,7 +36,7 @@ pub fn is_voter_name(text: &[u8]) -> bool
 pub fn is_printable(byte: u8) -> bool
     ensures { result ≡ is_printable byte }
 {
-    matches!(byte, 0x20..=0x7E)
+    0x20 <= byte && byte <= 0x7E
 }
 
 /// Whether each byte is a printable ASCII character or a space.

@@ -27,7 +27,7 @@ use vote_sheet::Verification;
 use vote_steps::MAX_DESKS;
 
 /// What a count is made for.
-#[derive(Clone, Copy, Debug)]
+#[derive(Clone, Copy)]
 pub enum Purpose<'s> {
     /// The result sheet.
     Sheet,

@@ -20,7 +20,7 @@ use vote_desks::Gate;
 use vote_files::{Meter, Sink, WriterSink};
 
 /// A run of the program, with the bytes of its inputs.
-#[derive(Clone, Copy, Debug)]
+#[derive(Clone, Copy)]
 pub enum Job<'a> {
     /// Count the ballots, and write the sheet.
     Count {

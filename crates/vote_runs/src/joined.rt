@@ -1,7 +1,15 @@
 //! A poll and its ballots in one input, with the line `%%` between them.
 
-ghost use Rattle.std.specs.Prelude.{◌≡◌, ◌<◌, drop, length};
+ghost use Rattle.std.specs.Prelude.{◌≡◌, ◌<◌, ◌||◌, codes, drop, length, take};
+ghost use Rattle.std.specs.Str.{bytes_eq};
 ghost use Rattle.vote_runs.specs.Joined.{AreParts, is_separator_at, joined_parts};
+
+/// Whether the line `%%` is at the front of these bytes.
+fn has_separator(rest: &[u8]) -> bool
+    ensures { result ≡ (bytes_eq (take 3 rest.now) (codes "%%\n") || bytes_eq rest.now (codes "%%")) }
+{
+    rest.starts_with(b"%%\n") || rest == b"%%".as_slice()
+}
 
 /// Whether the line `%%` begins at this place.
 #[tactic(auto, unfolding(crate::specs::Joined::is_separator_at))]
@@ -10,8 +18,7 @@ fn is_separator_at(input: &[u8], at: usize) -> bool
     ensures { result ≡ is_separator_at input.now at }
 {
     let begins_line = at == 0 || input[at - 1] == b'\n';
-    let rest = &input[at..];
-    begins_line && (rest.starts_with(b"%%\n") || rest == b"%%".as_slice())
+    begins_line && has_separator(&input[at..])
 }
 
 /// The bytes from this place on, if any.

@@ -18,7 +18,7 @@ use vote_poll::{Lines, Poll};
 use vote_sheet::{standing_text, steps_text};
 
 /// What is listed of the ballots, which one desk casts in their order.
-#[derive(Clone, Copy, Debug)]
+#[derive(Clone, Copy)]
 pub enum Listing {
     /// The reply to each ballot.
     Steps,

@@ -1,4 +1,5 @@
 use Rattle.std.proofs.Common.{◌≢◌, ℕ, ◌-◌, length, ◌<◌, ◌≤◌, inl, inr, refl, sym, ◌∙◌, subst, arith}
+use Rattle.std.proofs.lemmas.Grind.{common_steps, elements, moves, pieces}
 use Rattle.std.proofs.lemmas.Bool.{cases_Bool, cases_eq, both_ways}
 use Rattle.std.specs.Prelude.{◌↔◌, Option, None}
 use Rattle.std.proofs.lemmas.List.{length-replicate, length-set}
@@ -96,3 +97,6 @@ returns-clause-default c =
 pub returns-clause-default_alone : goal.returns-clause-default_alone
 returns-clause-default_alone c h =
     default_alone_law c.args.poll.now c.args.matrix.now (more c) c.in_ok-rounds.rounds.items (are_rounds c) h
+
+pub invariant_of-result : goal.invariant_of-result
+invariant_of-result c = grind (arith, common_steps, elements, moves, pieces)

@@ -1,4 +1,5 @@
-use Rattle.std.proofs.Common.{subst}
+use Rattle.std.proofs.Common.{subst, arith}
+use Rattle.std.proofs.lemmas.Grind.{common_steps, elements, moves, pieces}
 use Rattle.std.specs.Prelude.{MatchOption}
 use Rattle.vote_steps.specs.Casting.{HasOwnReadings}
 use Rattle.vote_desks.specs.Audit.{DiffersFirst}
@@ -24,3 +25,6 @@ returns-in-None-None g t c =
     let own : HasOwnReadings poll lines front = subst (λ r. MatchOption r (HasOwnReadings poll lines front) (DiffersFirst poll lines front)) c.in-None-None.is-0 c.join-first.ensures.first in
     let others : HasOwnReadings poll lines back = subst (λ r. MatchOption r (HasOwnReadings poll lines back) (DiffersFirst poll lines back)) c.in-None-None.is-1 c.join-first.ensures.second in
     own_in_both poll lines c.args.steps.now front back c.split_at.ensures.by_index.0 own others
+
+pub returns-in-Some-default : goal.returns-in-Some-default
+returns-in-Some-default g t c = grind (arith, common_steps, elements, moves, pieces)

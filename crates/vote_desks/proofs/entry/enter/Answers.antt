@@ -1,7 +1,17 @@
-use Rattle.std.proofs.Common.{◌<◌, ◌≤◌, length, refl, ◌∙◌, subst, arith}
+use Rattle.std.proofs.Common.{◌≡◌, ◌<◌, ◌≤◌, Result, Err, length, refl, ◌∙◌, subst, arith}
+use Rattle.vote_desks.specs.declared.fault.EnterFault.{EnterFault}
+use Rattle.vote_desks.specs.declared.fault.EnterFault.TheVariants.{SheetFull, StampRange, StampUsed}
+use Rattle.vote_desks.specs.declared.slip.Slip.{Slip}
 use Rattle.vote_desks.specs.Desks.{DeskState, FitsBox, HasRoom, HeldState}
 use Rattle.vote_desks.proofs.entry.enter.Given.{Over}
 use Rattle.vote_desks.proofs.entry.enter.Goals as goal
+
+-- apart from the facts of the function, among which `cc` would look in vain
+no_range : ◌≡◌ {A = Result Slip EnterFault} (Err SheetFull) (Err StampRange) → ⊥
+no_range e = cc
+
+no_used : ◌≡◌ {A = Result Slip EnterFault} (Err SheetFull) (Err StampUsed) → ⊥
+no_used e = cc
 
 no_room : (g : Over) (c : goal.Then-len-desk g) → ¬ HasRoom c.args.desk.now
 no_room g c =
@@ -14,7 +24,7 @@ returns-then-len-desk-clause-full g c =
     (λ _. (subst (λ (h : HeldState). FitsBox h.ballot_box c.args.reading) c.held.view_is (c.fits.ensures.0 c.if-not-fits.false), no_room g c), λ _. refl)
 
 pub returns-then-len-desk-clause-range : goal.returns-then-len-desk-clause-range
-returns-then-len-desk-clause-range g c = (λ e. absurd (cc), λ h. absurd (no_room g c h.1))
+returns-then-len-desk-clause-range g c = (λ e. absurd (no_range e), λ h. absurd (no_room g c h.1))
 
 pub returns-then-len-desk-clause-used : goal.returns-then-len-desk-clause-used
-returns-then-len-desk-clause-used g c = (λ e. absurd (cc), λ h. absurd (no_room g c h.1))
+returns-then-len-desk-clause-used g c = (λ e. absurd (no_used e), λ h. absurd (no_room g c h.1))

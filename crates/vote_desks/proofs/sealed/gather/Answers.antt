@@ -1,14 +1,25 @@
-use Rattle.std.proofs.Common.{◌≡◌, ℕ, List, map, length, refl, sym, ap, ◌∙◌, subst, arith, rules}
+use Rattle.std.proofs.Common.{◌≡◌, ℕ, List, Result, Ok, Err, map, length, refl, sym, ap, ◌∙◌, subst, arith, rules}
+use Rattle.std.proofs.lemmas.Bool.{false≢true}
+use Rattle.std.proofs.lemmas.Grind.{common_steps, elements, moves, pieces}
 use Rattle.std.specs.Prelude.{IsPermutation}
 use Rattle.std.specs.List.{enumerate_from, range_with_len}
 use Rattle.std.proofs.lemmas.List.{length-map}
 use Rattle.std.proofs.lemmas.List.Sorted.{IsPermutation-map, IsPermutation-trans, IsPermutation-sym, IsNonDecreasingBy-from_sort_by_key}
+use Rattle.vote_desks.specs.declared.fault.DeskFault.{DeskFault}
+use Rattle.vote_desks.specs.declared.fault.DeskFault.TheVariants.{MissingDesk, Memory}
 use Rattle.vote_desks.specs.declared.slip.Slip.{Slip}
-use Rattle.vote_desks.specs.Desks.{DeskState, SharedState}
+use Rattle.vote_desks.specs.Desks.{DeskState, SealedState, SharedState}
 use Rattle.vote_desks.proofs.Joined.{numbered, length_range}
 use Rattle.vote_desks.proofs.BackLemmas.{all_slips}
 use Rattle.vote_desks.proofs.Numbered.{numbers_of_sorted}
 use Rattle.vote_desks.proofs.sealed.gather.Goals as goal
+
+-- apart from the facts of the function, among which `cc` would look in vain
+not_sealed : (s : SealedState) → ◌≡◌ {A = Result SealedState DeskFault} (Ok s) (Err MissingDesk) → ⊥
+not_sealed s e = cc
+
+not_memory : ◌≡◌ {A = Result SealedState DeskFault} (Err Memory) (Err MissingDesk) → ⊥
+not_memory e = cc
 
 pub returns-then-not-are_complete-clause-missing : goal.returns-then-not-are_complete-clause-missing
 returns-then-not-are_complete-clause-missing g c =
@@ -21,7 +32,7 @@ returns-then-not-are_complete-clause-missing g c =
           let up = IsNonDecreasingBy-from_sort_by_key number sorted c.sort_unstable_by_key.ensures.sorted (λ a r q k. search rules) in
           let in_order = numbers_of_sorted number 1 c.args.shared.desks sorted up moved in
           let yes = c.are_complete.ensures.1 (ap (map number) c.deref.ensures.value ∙ in_order ∙ ap (range_with_len 1) (sym opened)) in
-          let no = c.if-not-are_complete.true in cc,
+          let no = c.if-not-are_complete.true in false≢true (sym no ∙ yes),
       λ other. refl,
     )
 
@@ -73,7 +84,7 @@ returns-in-Ok-clause-missing g c =
     let number : DeskState → ℕ = λ d. d.number in
     let numbers : map number sorted ≡ range_with_len 1 c.args.shared.desks = ap (map number) (sym c.deref.ensures.value) ∙ c.are_complete.ensures.0 c.if-not-are_complete.false ∙ ap (range_with_len 1) (ap (λ (s : SharedState). s.desks) c.shared.view_is) in
     let P : List ℕ → Type 0 = λ xs. IsPermutation (map number came) xs in
-    (λ e. absurd (cc), λ not_all. absurd (not_all (subst P numbers (IsPermutation-map number came sorted c.sort_unstable_by_key.ensures.permutation))))
+    (λ e. absurd (not_sealed c.in-Ok.sealed e), λ not_all. absurd (not_all (subst P numbers (IsPermutation-map number came sorted c.sort_unstable_by_key.ensures.permutation))))
 
 pub returns-in-Err-clause-missing : goal.returns-in-Err-clause-missing
 returns-in-Err-clause-missing g c =
@@ -82,4 +93,7 @@ returns-in-Err-clause-missing g c =
     let number : DeskState → ℕ = λ d. d.number in
     let numbers : map number sorted ≡ range_with_len 1 c.args.shared.desks = ap (map number) (sym c.deref.ensures.value) ∙ c.are_complete.ensures.0 c.if-not-are_complete.false ∙ ap (range_with_len 1) (ap (λ (s : SharedState). s.desks) c.shared.view_is) in
     let P : List ℕ → Type 0 = λ xs. IsPermutation (map number came) xs in
-    (λ e. absurd (cc), λ not_all. absurd (not_all (subst P numbers (IsPermutation-map number came sorted c.sort_unstable_by_key.ensures.permutation))))
+    (λ e. absurd (not_memory e), λ not_all. absurd (not_all (subst P numbers (IsPermutation-map number came sorted c.sort_unstable_by_key.ensures.permutation))))
+
+pub returns-in-Ok-clause-books : goal.returns-in-Ok-clause-books
+returns-in-Ok-clause-books g c = grind (arith, common_steps, elements, moves, pieces)

@@ -1,4 +1,5 @@
 use Rattle.std.proofs.Common.{◌≡◌, [], length, sum_by, sym, ap, ◌∙◌, arith, rules}
+use Rattle.std.proofs.lemmas.Grind.{common_steps, elements, moves, pieces}
 use Rattle.std.proofs.lemmas.List.{nil_from_length}
 use Rattle.vote_steps.specs.History.{valid, refused}
 use Rattle.vote_desks.specs.Desks.{DeskState}
@@ -18,3 +19,9 @@ returns-clause-books g c =
       valid_on_sheets = sym kept.valid_slips ∙ valid_whole ∙ valid_is;
       refused_on_sheets = sym kept.refused_slips ∙ refused_whole ∙ refused_is;
     }
+
+pub loop-desks-init : goal.loop-desks-init
+loop-desks-init g c = grind (arith, common_steps, elements, moves, pieces)
+
+pub returns-clause-sheets : goal.returns-clause-sheets
+returns-clause-sheets g c = grind (arith, common_steps, elements, moves, pieces)

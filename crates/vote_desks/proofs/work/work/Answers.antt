@@ -1,4 +1,5 @@
-use Rattle.std.proofs.Common.{replicate, rules}
+use Rattle.std.proofs.Common.{replicate, rules, arith}
+use Rattle.std.proofs.lemmas.Grind.{common_steps, elements, moves, pieces}
 use Rattle.std.specs.List.{All}
 use Rattle.std.proofs.lemmas.List.Elements.{All-replicate}
 use Rattle.vote_poll.specs.declared.reading.Reading.TheVariants.{Bad}
@@ -11,3 +12,6 @@ pub loop-stamps-init : goal.loop-stamps-init
 loop-stamps-init g c =
     let fit : All (FitsBox c.args.workplace.now.shared.now.opened) (replicate RUN (Bad Shape)) = All-replicate (FitsBox c.args.workplace.now.shared.now.opened) RUN (Bad Shape) tt in
     search rules
+
+pub cast_run-stopped-requires-clause-room : goal.cast_run-stopped-requires-clause-room
+cast_run-stopped-requires-clause-room g c = grind (arith, common_steps, elements, moves, pieces)

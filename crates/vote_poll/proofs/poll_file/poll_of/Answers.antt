@@ -1,4 +1,5 @@
-use Rattle.std.proofs.Common.{◌≡◌, arith, rules, Bor, ℕ, ℤ, List, Ok, length, map}
+use Rattle.std.proofs.Common.{◌≡◌, arith, rules, Bor, true, ℕ, ℤ, List, Ok, length, map}
+use Rattle.std.specs.Result.{is_ok}
 use Rattle.std.proofs.lemmas.Int.{to_z-of_z}
 use Rattle.std.proofs.lemmas.List.{length-map}
 use mir.Val.{SFits}
@@ -6,7 +7,7 @@ use mir.Syntax.{w64}
 use Rattle.vote_poll.specs.FieldsView.{fields_view}
 use Rattle.vote_poll.specs.PollFile.{poll_of, ratios_in}
 use Rattle.vote_poll.proofs.FirstBad.{now}
-use Rattle.vote_poll.proofs.Assembly.{parsed_meaning, parsed_poll, refused-then}
+use Rattle.vote_poll.proofs.Assembly.{parsed_meaning, parsed_poll, refused-then, skipped-then}
 use Rattle.vote_poll.proofs.poll_file.poll_of.Goals as goal
 
 -- as many ratios as there are texts
@@ -29,6 +30,16 @@ returns-in_err-ratios c =
     let counted : length (map now c.args.fields.options.items) ≡ c.len-ratio_count.result = omega (arith, length-map c.args.fields.options.items now) in
     rw (c.in_ok-title.ensures, c.in_ok-options.ensures, counted)
     (refused-then (λ poll. poll) _ c.in_err-ratios.field-0.0 _ _ c.from_residual-in_err-ratios.ensures.1 c.in_err-ratios.ensures)
+
+pub returns-in_err-quorum_multiple : goal.returns-in_err-quorum_multiple
+unfolding poll_of
+returns-in_err-quorum_multiple c =
+    let fits : SFits w64 c.args.fields.quorum = search rules in
+    let counted : length (map now c.args.fields.options.items) ≡ c.len-ratio_count.result = omega (arith, length-map c.args.fields.options.items now) in
+    let ratios : is_ok (ratios_in c.len-ratio_count.result c.args.fields.ratios.items) ≡ true = search rules in
+    let refused = rw (to_z-of_z w64 c.args.fields.quorum fits) at c.in_err-quorum_multiple.ensures in
+    rw (c.in_ok-title.ensures, c.in_ok-options.ensures, counted)
+    (skipped-then (λ poll. poll) _ _ _ ratios (λ ratios. refused-then (λ poll. poll) _ c.in_err-quorum_multiple.field-0.0 _ _ c.from_residual-in_err-quorum_multiple.ensures.1 refused))
 
 pub returns-in_err-roll : goal.returns-in_err-roll
 unfolding poll_of

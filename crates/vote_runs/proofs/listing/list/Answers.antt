@@ -1,4 +1,5 @@
+use Rattle.std.proofs.Common.{rules}
 use Rattle.vote_runs.proofs.listing.list.Goals as goal
 
 pub returns-in-Steps : goal.returns-in-Steps
-returns-in-Steps c = rw c.in-Steps.is c.steps_text.ensures
+returns-in-Steps c = rw c.in-Steps.is (search rules)

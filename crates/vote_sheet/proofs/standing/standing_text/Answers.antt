@@ -1,4 +1,5 @@
 use Rattle.std.proofs.Common.{◌≡◌, ℕ, ◌+◌, ◌++◌, [], None, append_assoc, ap, drop, get_or, subst, sym, ◌∙◌, arith, string_bytes, take}
+use Rattle.std.proofs.lemmas.Grind.{common_steps, elements, moves, pieces}
 use Rattle.std.proofs.lemmas.List.FromFn.{get_or-map-range_with_len, length-map-range_with_len}
 use Rattle.vote_poll.specs.Lines.{text_of_lines}
 use Rattle.vote_poll.specs.PollContent.{elector_count}
@@ -33,3 +34,6 @@ loop-voter-preserved c =
     ∙ ap (λ b. string_bytes c.loop-voter.text ++ (text_of_lines (ballot_line (get_or poll.roll k []) b) ++ rest)) stands
     ∙ ap (λ t. string_bytes c.loop-voter.text ++ t) (sym (one_ballot_more poll.roll ballots k (omega arith) (omega (arith, long))))
     ∙ c.loop-voter.invariant
+
+pub returns : goal.returns
+returns c = grind (arith, common_steps, elements, moves, pieces)
