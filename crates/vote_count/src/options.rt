@@ -14,7 +14,7 @@ use vote_poll::MAX_OPTIONS;
 pub type Word = u32;
 
 /// A set of options, which are numbered from 1 to `MAX_OPTIONS`.
-#[derive(Clone, Copy, Debug, PartialEq, Eq)]
+#[derive(Clone, Copy, PartialEq, Eq)]
 pub struct OptionSet {
     bits: Word,
 }

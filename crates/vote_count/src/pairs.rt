@@ -11,7 +11,7 @@ use vote_poll::MAX_OPTIONS;
 
 /// A list of pairwise defeats, each of one option by another (Appendix A, Vote Counting). Their
 /// order says nothing, so it is a set: for each option a row of those that it defeats.
-#[derive(Clone, Copy, Debug, PartialEq, Eq)]
+#[derive(Clone, Copy)]
 pub struct Defeats {
     rows: [OptionSet; MAX_OPTIONS],
 }
@@ -139,7 +139,7 @@ impl Defeats {
 
 /// The transitive defeats of a list of defeats (Appendix A, Vote Counting): for each option a row
 /// of those that it transitively defeats.
-#[derive(Clone, Copy, Debug, PartialEq, Eq)]
+#[derive(Clone, Copy)]
 pub struct Chains {
     reached: [OptionSet; MAX_OPTIONS],
 }

@@ -13,7 +13,7 @@ use std::marker::Model;
 use vote_poll::{MAX_OPTIONS, Poll};
 
 /// Why an option is dropped (Appendix A, Vote Counting).
-#[derive(Clone, Copy, Debug, PartialEq, Eq)]
+#[derive(Clone, Copy, PartialEq, Eq)]
 pub enum Cause {
     /// Its votes over the default option do not meet the quorum, whatever its majority.
     Quorum,
@@ -22,7 +22,7 @@ pub enum Cause {
 }
 
 /// One round of the count (Appendix A, Vote Counting).
-#[derive(Clone, Copy, Debug, PartialEq, Eq)]
+#[derive(Clone, Copy)]
 pub struct Round {
     /// The Schwartz set.
     pub set: OptionSet,

@@ -11,7 +11,7 @@ use vote_poll::{MAX_ELECTORS, MAX_OPTIONS, Ranks};
 
 /// V(A,B) for each two options A and B: the number of voters who prefer A to B (Appendix A, Vote
 /// Counting).
-#[derive(Clone, Copy, Debug, PartialEq, Eq)]
+#[derive(Clone, Copy, PartialEq, Eq)]
 pub struct Matrix {
     options: u8,
     counts: [[u32; MAX_OPTIONS]; MAX_OPTIONS],

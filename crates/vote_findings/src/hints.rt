@@ -10,7 +10,7 @@ use vote_poll::{
 };
 
 /// What a name is the name of.
-#[derive(Clone, Copy, Debug, PartialEq, Eq)]
+#[derive(Clone, Copy)]
 pub(crate) enum Named {
     /// The poll: its title.
     Poll,

@@ -15,7 +15,7 @@ use std::alloc::{AllocError, Global};
 use vote_poll::{is_option_name, is_voter_name};
 
 /// A list of names in a poll file.
-#[derive(Clone, Copy, Debug, PartialEq, Eq)]
+#[derive(Clone, Copy)]
 pub(crate) enum NameList {
     /// The options, numbered from 1.
     Options,

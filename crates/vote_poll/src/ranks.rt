@@ -13,7 +13,7 @@ use std::marker::Model;
 /// The rank that a ballot gives each option, or none; contracts see the list of these. Options are numbered from 1,
 /// ranks lie in 1 to [`MAX_RANK`](crate::MAX_RANK) where a line was read, and the smaller rank is preferred. Two
 /// ballots are the same for `==` just where they are equal for contracts.
-#[derive(Clone, Copy, Debug)]
+#[derive(Clone, Copy)]
 pub struct Ranks {
     /// Where each option stands in the order of the ballot, as [`Ranks::sort_keys`] says. They stand in front, so that what
     /// was copied is read again from where a part of the copy began: otherwise a processor waits until the copy is done.

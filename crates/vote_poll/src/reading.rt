@@ -19,7 +19,7 @@ use crate::ranks::Ranks;
 use crate::{MAX_LINE, MAX_OPTIONS, UNRANKED};
 
 /// What a poll reads in a line. Two readings are the same for `==` just where they are equal for contracts.
-#[derive(Clone, Copy, Debug)]
+#[derive(Clone, Copy)]
 pub enum Reading {
     /// A ballot of the voter at this place of the roll (from 0), with a rank or none for each option of the poll.
     Ballot { voter: usize, ranks: Ranks },

@@ -7,13 +7,13 @@ use vote_poll::{LineFault, Ranks, Reading};
 
 /// A reading in 38 bytes in place of 56; contracts see the reading. A box has a step for each line, so the steps are most of
 /// the memory that it takes.
-#[derive(Clone, Copy, Debug)]
+#[derive(Clone, Copy)]
 pub struct KeptReading {
     kept: Kept,
 }
 
 /// How a reading is kept.
-#[derive(Clone, Copy, Debug)]
+#[derive(Clone, Copy)]
 enum Kept {
     /// A ballot of the voter at this place of the roll, from 0. A roll is short, so a place takes two bytes.
     Ballot { voter: u16, ranks: Ranks },

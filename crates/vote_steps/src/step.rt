@@ -22,7 +22,7 @@ pub enum Reply {
 }
 
 /// One step of a ballot box. The steps of a box are numbered from 1.
-#[derive(Clone, Copy, Debug)]
+#[derive(Clone, Copy)]
 pub enum Step {
     /// An envelope was cast.
     Cast {
@@ -40,7 +40,7 @@ pub enum Step {
 }
 
 /// A ballot as it came.
-#[derive(Clone, Copy, Debug, PartialEq, Eq)]
+#[derive(Clone, Copy)]
 pub struct Received {
     /// The rank that it gives each option, or none. It stands in front as the sort keys do in `Ranks`.
     pub ranks: Ranks,
