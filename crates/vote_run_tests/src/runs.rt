@@ -287,30 +287,6 @@ fn memory_of_count_for(rt: HostRuntime) -> Result<(), Fail> {
 }
 
 #[test]
-fn a_sheet_is_verified(rt: HostRuntime) -> Result<(), Fail> {
-    walk(
-        &rt,
-        rt.alloc(),
-        &verify(SHEET.as_bytes()),
-        "verified\n",
-        Ended::Done,
-    )
-}
-
-#[test]
-fn a_picture_is_written(rt: HostRuntime) -> Result<(), Fail> {
-    let job = Job::Picture {
-        poll: CYCLE.as_bytes(),
-        ballots: BALLOTS.as_bytes(),
-        desks: 1,
-        casting: None,
-    };
-    let picture =
-        "digraph \"A cycle\" {\n  rankdir=LR;\n  node [shape=box];\n  1 [label=\"1 A\", peripheries=2];\n  2 [label=\"2 B\"];\n  3 [label=\"3 C\"];\n  4 [label=\"4 None\"];\n  1 -> 2 [label=\"6 : 3\"];\n  1 -> 4 [label=\"9 : 0\"];\n  2 -> 3 [label=\"7 : 2\"];\n  2 -> 4 [label=\"9 : 0\"];\n  3 -> 1 [label=\"5 : 4, round 1\", style=dashed];\n  3 -> 4 [label=\"9 : 0\"];\n}\n";
-    walk(&rt, rt.alloc(), &job, picture, Ended::Decided(1))
-}
-
-#[test]
 fn memory_of_explain(rt: HostRuntime) -> Result<(), Fail> {
     let job = Job::Explain {
         poll: CYCLE.as_bytes(),

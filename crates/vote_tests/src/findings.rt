@@ -1,14 +1,9 @@
-//! What is found in poll files, with the memory of the call refused in turn (tests/refused-memory).
+//! What is found in a poll file, with the memory of the call refused in turn (tests/refused-memory).
 
 use std::alloc::{AllocError, Global};
-use std::process::Abort;
 use std::test::Fail;
 use vote_findings::explain_poll;
 use vote_poll::{PollFault, PollKey};
-
-/// A poll without a fault.
-const SMALL: &str =
-    "title = \"Small\"\noptions = [\"A\", \"B\"]\nratios = [1, 3]\ndefault = \"None\"\nquorum = 2\nroll = [\"v0\", \"v1\"]\n";
 
 /// A poll with faults, and with keys that are not read.
 const FAULTY: &str =
@@ -32,38 +27,14 @@ fn explained(alloc: Global, text: &[u8]) -> Result<(String, Option<PollFault>), 
     Ok((explained.findings, explained.outcome.err()))
 }
 
-/// Asserts the findings of a text, and its fault if it is no poll.
-fn assert_explained(
-    rt: &impl Abort,
-    alloc: Global,
-    text: &[u8],
-    findings: &str,
-    fault: Option<PollFault>,
-) -> Result<(), AllocError> {
-    let (said, found) = explained(alloc, text)?;
-    assert_eq!(rt; (said.as_str(), found), (findings, fault));
-    Ok(())
-}
-
 #[test]
 fn memory_of_explain_poll(rt: HostRuntime) -> Result<(), Fail> {
-    let fault = Some(PollFault::Key(PollKey::Title));
-    match assert_explained(&rt, rt.alloc(), FAULTY.as_bytes(), FINDINGS, fault) {
-        Ok(()) => Ok(()),
+    match explained(rt.alloc(), FAULTY.as_bytes()) {
+        Ok((findings, fault)) => {
+            let title = Some(PollFault::Key(PollKey::Title));
+            assert_eq!(rt; (findings.as_str(), fault), (FINDINGS, title));
+            Ok(())
+        }
         Err(AllocError) => Err(Fail::from("refused")),
     }
-}
-
-#[test]
-fn a_poll_without_findings(rt: HostRuntime) -> Result<(), Fail> {
-    assert_explained(&rt, rt.alloc(), SMALL.as_bytes(), "", None)?;
-    Ok(())
-}
-
-#[test]
-fn a_text_that_is_no_toml(rt: HostRuntime) -> Result<(), Fail> {
-    let text = b"# a \xC3\xA4\nx = \"";
-    let fault = Some(PollFault::Syntax);
-    assert_explained(&rt, rt.alloc(), text, "poll:2:6: invalid string\n", fault)?;
-    Ok(())
 }

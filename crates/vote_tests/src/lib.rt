@@ -7,8 +7,6 @@
 #![tactic(auto)]
 
 #[cfg(test)]
-mod command;
-#[cfg(test)]
 mod count;
 #[cfg(test)]
 mod files;

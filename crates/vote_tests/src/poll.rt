@@ -2,8 +2,7 @@ use std::alloc::{AllocError, Global};
 use std::process::Abort;
 use std::test::Fail;
 use vote_poll::{
-    LineFault, Lines, LinesFault, MAX_LINES, Poll, PollFault, Ranks, Reading, UNRANKED, Wording,
-    is_reading, push_shown, read_line,
+    Lines, LinesFault, MAX_LINES, Poll, PollFault, Ranks, Reading, UNRANKED, push_shown, read_line,
 };
 
 /// A poll of two options and the default, with the voters `v0`, `v1` and so on to `v10`.
@@ -12,25 +11,6 @@ const SMALL: &str =
 
 /// A ballot of the last voter.
 const BALLOT: &[u8] = b"v10 10,-,9";
-
-/// Asserts what the small poll says of its options and of its envelopes.
-fn assert_options(rt: &impl Abort, poll: &Poll) {
-    assert_eq!(rt; poll.options(), 3);
-    let ratios = (poll.ratio(1), poll.ratio(2));
-    let names = (poll.option_name(1), poll.option_name(3));
-    let last = (poll.last_envelope(), poll.last_in_time());
-    assert_eq!(rt;
-        (ratios, names, last, poll.wording()),
-        ((1, 3), ("A", "None"), (None, 100_000), Wording::AtLeast)
-    );
-}
-
-#[test]
-fn a_small_poll(rt: HostRuntime) -> Result<(), Fail> {
-    let poll = Poll::from_text(rt.alloc(), SMALL.as_bytes())?;
-    assert_options(&rt, &poll);
-    Ok(())
-}
 
 /// The option of this name in the small poll, and the voter.
 fn named(alloc: Global, name: &[u8]) -> Result<(Option<u8>, Option<usize>), PollFault> {
@@ -75,71 +55,6 @@ fn a_ballot_as_read(rt: HostRuntime) -> Result<(), Fail> {
         }
         Reading::Bad(_) => Err(Fail::from("no ballot")),
     }
-}
-
-/// The ranks of a line, if it is a ballot.
-fn ranks_in(reading: Reading) -> Option<Ranks> {
-    match reading {
-        Reading::Ballot { ranks, .. } => Some(ranks),
-        Reading::Bad(_) => None,
-    }
-}
-
-/// Whether a line is read as the ballot is, and whether it has the same ranks.
-fn is_like_the_ballot(alloc: Global, line: &[u8]) -> Result<(bool, bool), PollFault> {
-    let ballot = read_small(alloc, BALLOT)?;
-    let other = read_small(alloc, line)?;
-    Ok((ballot == other, ranks_in(ballot) == ranks_in(other)))
-}
-
-/// Lines, and whether they are read as the ballot is, and have the same ranks.
-const COMPARED: &[(&[u8], bool, bool)] = &[
-    (b"v10 10,-,9", true, true),
-    (b"v9 10,-,9", false, true),
-    (b"v10 10,-,8", false, false),
-    (b"v10 10,9,-", false, false),
-    (b"v11 10,-,9", false, false),
-];
-
-#[test]
-fn readings_compared(rt: HostRuntime) -> Result<(), Fail> {
-    for (line, same, same_ranks) in COMPARED {
-        let found = is_like_the_ballot(rt.alloc(), line)?;
-        assert_eq!(rt; found, (*same, *same_ranks), "at {line:?}");
-    }
-    Ok(())
-}
-
-/// Whether the small poll reads the ballot in a line, and whether it reads that the voter is not on the roll.
-fn is_ballot_or_off_roll(alloc: Global, line: &[u8]) -> Result<(bool, bool), PollFault> {
-    let poll = Poll::from_text(alloc, SMALL.as_bytes())?;
-    let ballot = read_line(&poll, BALLOT);
-    let off_roll = Reading::Bad(LineFault::Roll);
-    Ok((
-        is_reading(&poll, line, &ballot),
-        is_reading(&poll, line, &off_roll),
-    ))
-}
-
-/// Lines, and whether the ballot is read in them, or that the voter is not on the roll.
-const READ: &[(&[u8], bool, bool)] = &[
-    (b"v10 10,-,9", true, false),
-    (b"v10 10,-,8", false, false),
-    (b"v10 10,-,9,1", false, false),
-    (b"v10 10,-", false, false),
-    (b"v10  10,-,9", false, false),
-    (b"v1 10,-,9", false, false),
-    (b"v11 10,-,9", false, true),
-    (b"", false, false),
-];
-
-#[test]
-fn readings_of_lines(rt: HostRuntime) -> Result<(), Fail> {
-    for (line, is_ballot, is_off_roll) in READ {
-        let found = is_ballot_or_off_roll(rt.alloc(), line)?;
-        assert_eq!(rt; found, (*is_ballot, *is_off_roll), "at {line:?}");
-    }
-    Ok(())
 }
 
 #[test]
