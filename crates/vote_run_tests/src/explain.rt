@@ -29,7 +29,7 @@ fn explained_lines(
     }
 }
 
-/// What is said of a ballot file for a poll, and how many lines are refused.
+/// What is said of a ballot file for a poll, and how many of its lines are refused.
 fn explained_for(
     rt: &impl Abort,
     alloc: Global,
@@ -40,10 +40,15 @@ fn explained_for(
     explained_lines(alloc, poll, &lines)
 }
 
+/// What is said of a ballot file for the poll, and how many lines are refused.
+fn explained(rt: &impl Abort, alloc: Global, text: &str) -> Result<(String, u64), &'static str> {
+    let poll = poll_of(rt, alloc, POLL)?;
+    explained_for(rt, alloc, &poll, text)
+}
+
 #[test]
 fn memory_of_explain_ballots(rt: HostRuntime) -> Result<(), Fail> {
-    let poll = poll_of(&rt, rt.alloc(), POLL)?;
-    let (said, refused) = explained_for(&rt, rt.alloc(), &poll, LINES)?;
+    let (said, refused) = explained(&rt, rt.alloc(), LINES)?;
     assert_eq!(rt; (said.as_str(), refused), (FINDINGS, 9));
     Ok(())
 }
