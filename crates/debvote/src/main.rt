@@ -6,19 +6,15 @@
 //! says all that is wrong with it and with the ballots. Without arguments the program reads a poll and its ballots from
 //! standard input, joined by a line `%%`, and acts as `steps`.
 //!
-//! The program reads, calls and reports. What the words ask for is said by `vote_command`, the inputs are read by `vote_files`,
-//! and all else is one call of `vote_runs`, which writes what is meant by the bytes that were read and says how the run ended.
+//! The program reads, calls and reports. What the words ask for is said by `vote_command`, and the files of a task are read, made
+//! a job of, and its end reported, by `vote_tasks`; all else is one call of `vote_runs`, which writes what is meant by the bytes
+//! that were read and says how the run ended.
 #![tactic(auto)]
-
-mod inputs;
-mod tasks;
 
 ghost use Rattle.std.specs.Prelude.{◌≡◌, ◌⊎◌, Err};
 ghost use Rattle.vote_command.specs.Order.{DesksFit, order_status};
 ghost use Rattle.vote_runs.specs.Status.{status};
 
-use crate::inputs::{Inputs, read_inputs, read_joined};
-use crate::tasks::job_of;
 use std::io::{ErrorKind, IsTerminal};
 use std::process::ExitCode;
 use std::rt::{Env, Files};
@@ -27,7 +23,8 @@ use std::thread::Threads;
 use std::{env, io};
 use vote_command::{OrderFault, Task, order, order_status};
 use vote_desks::NoGate;
-use vote_runs::{Ended, Job, RunFault, perform_on, status};
+use vote_runs::{Ended, Job, RunFault, perform_on};
+use vote_tasks::{Inputs, job_of, read_inputs, read_joined, report};
 
 const TERMINAL_HINT: &str = "reading a poll and its ballots from the terminal; see debvote --help";
 
@@ -70,16 +67,6 @@ fn print_joined<R: Input + Print + AllocGlobal + Threads + Wait + Sync>(
     };
     let (_, outcome) = perform_on(rt, rt.alloc(), &job, &NoGate, io::writer(rt));
     outcome
-}
-
-/// Says on standard error why a run did not come to its end, and gives the exit status.
-fn report<R: Eprint>(rt: &R, outcome: &Result<Ended, RunFault>) -> u8
-    ensures { result ≡ status outcome.now }
-{
-    if let Err(fault) = outcome {
-        let _ = eprintln!(rt; "debvote: {fault}");
-    }
-    status(outcome)
 }
 
 /// Prints the text for words that are no task, help on standard output and a refusal on standard error, and gives the exit status.

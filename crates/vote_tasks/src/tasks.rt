@@ -1,7 +1,7 @@
 //! The files that a task names, and its job once they are read.
 
 ghost use Rattle.std.specs.Prelude.{◌≡◌, option_map};
-ghost use Rattle.debvote.specs.Jobs.{IsJobOf, ballots_name, poll_name};
+ghost use Rattle.vote_tasks.specs.Jobs.{IsJobOf, ballots_name, poll_name};
 ghost use Rattle.vote_command.specs.Order.{DesksFit};
 ghost use Rattle.vote_runs.specs.Performing.{HasDesks};
 
@@ -9,7 +9,7 @@ use vote_command::Task;
 use vote_runs::Job;
 
 /// The name of a task's poll file.
-pub fn poll_name<'a>(task: &Task<'a>) -> &'a str
+pub(crate) fn poll_name<'a>(task: &Task<'a>) -> &'a str
     ensures { result.now ≡ poll_name task.now }
 {
     match task {
@@ -24,7 +24,7 @@ pub fn poll_name<'a>(task: &Task<'a>) -> &'a str
 }
 
 /// The name of a task's ballot file, where it has one.
-pub fn ballots_name<'a>(task: &Task<'a>) -> Option<&'a str>
+pub(crate) fn ballots_name<'a>(task: &Task<'a>) -> Option<&'a str>
     ensures { option_map (λ name. name.now) result ≡ ballots_name task.now }
 {
     match task {

@@ -1,2 +1,0 @@
--- what the contracts of the program's functions say
-pub mod Jobs

@@ -1,0 +1,2 @@
+-- what the contracts of public calls say
+pub mod Jobs
