@@ -12,7 +12,7 @@ use Rattle.vote_poll.specs.Lines.{IsUnbroken, line_feed}
 use Rattle.vote_poll.specs.Names.{is_printable}
 use Rattle.vote_poll.specs.PollFaults.{fault_unless}
 use Rattle.vote_poll.specs.Shown.{hex_digit, shown, shown_byte}
-use Rattle.vote_poll.specs.declared.fault.PollFault.{PollFault}
+use Rattle.vote_keys.specs.declared.fault.PollFault.{PollFault}
 
 -- ---- bytes as they are shown break no line
 abbrev Stays : ℕ → Type 0

@@ -2,9 +2,9 @@
 use Rattle.std.proofs.Common.{◌≡◌, Option, Some, None, Ok, Err, Result, refl}
 use Rattle.std.specs.Option.{option_map, ok_or}
 use Rattle.vote_findings.specs.FoundView.{IsKnown}
-use Rattle.vote_poll.specs.PollFile.{Gives}
-use Rattle.vote_poll.specs.declared.fault.PollFault.{PollFault}
-use Rattle.vote_poll.specs.declared.fault.PollFault.TheVariants as fault
+use Rattle.vote_keys.specs.Keys.{Gives}
+use Rattle.vote_keys.specs.declared.fault.PollFault.{PollFault}
+use Rattle.vote_keys.specs.declared.fault.PollFault.TheVariants as fault
 
 given : {Y : Type 0} (o : Option Y) (e : PollFault) (y : Y) → ok_or o e ≡ Ok y → o ≡ Some y
 given None e y h = cc

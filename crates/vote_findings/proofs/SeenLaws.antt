@@ -8,7 +8,7 @@ use Rattle.vote_findings.specs.Findings.{AddsFindings}
 use Rattle.vote_findings.specs.NameFindings.{bad_name, has_shape}
 use Rattle.vote_poll.specs.Names.{is_bad_at}
 use Rattle.vote_poll.specs.PollFaults.{fault_unless}
-use Rattle.vote_poll.specs.declared.fault.PollFault.{PollFault}
+use Rattle.vote_keys.specs.declared.fault.PollFault.{PollFault}
 use Rattle.vote_findings.specs.declared.name_findings.NameList.{NameList}
 use Rattle.vote_findings.proofs.FindingLaws.{adds_then, places_more}
 

@@ -6,9 +6,9 @@ use Rattle.std.specs.Fmt.{decimal}
 use Rattle.toml.specs.Data.{Members}
 use Rattle.vote_poll.specs.Lines.{IsUnbroken, line_feed}
 use Rattle.vote_poll.specs.PollFaults.{faults_in}
-use Rattle.vote_poll.specs.PollFile.{key_name}
-use Rattle.vote_poll.specs.declared.fault.PollFault.{PollFault}
-use Rattle.vote_poll.specs.declared.fault.PollFault.TheVariants as fault
+use Rattle.vote_keys.specs.Keys.{key_name}
+use Rattle.vote_keys.specs.declared.fault.PollFault.{PollFault}
+use Rattle.vote_keys.specs.declared.fault.PollFault.TheVariants as fault
 
 -- what the fault line of a fault says behind `poll refused: `
 abbrev pub fault_words : PollFault → List ℕ

@@ -1,10 +1,10 @@
 -- What the keys that were found stand for.
 use Rattle.std.specs.Prelude.{◌≡◌, map, option_copied, option_map, Bool, is_some, Option, Some, None, Result, Ok, Err}
 use Rattle.vote_poll.specs.PollFaults.{Found}
-use Rattle.vote_poll.specs.declared.fault.PollKey.{PollKey}
-use Rattle.vote_poll.specs.declared.fault.PollKey.TheVariants as key
-use Rattle.vote_poll.specs.declared.fault.PollFault.{PollFault}
-use Rattle.vote_poll.specs.declared.fault.PollFault.TheVariants as fault
+use Rattle.vote_keys.specs.declared.fault.PollKey.{PollKey}
+use Rattle.vote_keys.specs.declared.fault.PollKey.TheVariants as key
+use Rattle.vote_keys.specs.declared.fault.PollFault.{PollFault}
+use Rattle.vote_keys.specs.declared.fault.PollFault.TheVariants as fault
 use Rattle.vote_findings.specs.declared.found.Found.{Found as Inside}
 
 abbrev pub found_view : Inside → Found

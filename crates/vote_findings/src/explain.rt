@@ -4,8 +4,9 @@ ghost use Rattle.toml.specs.View.{table_view};
 ghost use Rattle.vote_findings.specs.Findings.{AddsFindings, AddsKeyLines, AreFindingsOf, IsSyntaxFinding};
 ghost use Rattle.vote_findings.specs.FoundView.{IsTold, found_view};
 ghost use Rattle.vote_poll.specs.PollFaults.{of_contents, of_keys};
-ghost use Rattle.vote_poll.specs.PollFile.{document, poll_in, poll_in_table};
-ghost use Rattle.vote_poll.specs.declared.fault.PollFault.TheVariants.{Memory, Syntax};
+ghost use Rattle.vote_keys.specs.Keys.{Gives, document};
+ghost use Rattle.vote_poll.specs.PollFile.{poll_in, poll_in_table};
+ghost use Rattle.vote_keys.specs.declared.fault.PollFault.TheVariants.{Memory, Syntax};
 
 use crate::findings::{push_contents, push_hint};
 use crate::found::Found;
@@ -13,7 +14,8 @@ use crate::key_findings::{push_keys, push_unread_keys};
 use crate::unread::UnreadKeys;
 use std::alloc::{AllocError, Global};
 use toml::Table;
-use vote_poll::{Poll, PollFault};
+use vote_keys::{PollFault, fields_of};
+use vote_poll::Poll;
 
 /// What a poll file says, and all that is wrong with it.
 #[derive(Drop)]
@@ -95,11 +97,19 @@ fn told(read: Result<Poll, PollFault>) -> Result<Result<Poll, PollFault>, AllocE
 }
 
 /// The poll of a table, or its first fault.
+fn poll_of(alloc: Global, table: &Table) -> Result<Poll, PollFault>
+    ensures { Gives (λ poll. poll) result (poll_in_table (table_view table.now)) }
+{
+    let fields = fields_of(alloc, table)?;
+    Poll::from_fields(alloc, fields)
+}
+
+/// The poll of a table, or its first fault, where memory was not what was wrong.
 fn outcome_of(alloc: Global, table: &Table) -> Result<Result<Poll, PollFault>, AllocError>
     ensures read { IfOk result (λ outcome. outcome ≡ poll_in_table (table_view table.now)) }
     ensures known { IfOk result (λ outcome. outcome ≢ Err Memory) }
 {
-    told(Poll::from_table(alloc, table))
+    told(poll_of(alloc, table))
 }
 
 /// What the table of a poll file says, and all that is wrong with it.

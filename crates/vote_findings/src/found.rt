@@ -1,14 +1,14 @@
 //! The keys of a poll file, each where it is there and of its kind.
 ghost use Rattle.std.specs.Prelude.{◌≡◌, IfOk, map, option_copied, option_map};
 ghost use Rattle.toml.specs.Data.{as_integer, as_str};
-ghost use Rattle.toml.specs.View.{table_view, view};
+ghost use Rattle.toml.specs.View.{table_view};
 ghost use Rattle.vote_findings.specs.FoundView.{IsKnown, found_view, has};
 ghost use Rattle.vote_poll.specs.PollFaults.{found_in};
-ghost use Rattle.vote_poll.specs.PollFile.{found, list_of, value_at};
+ghost use Rattle.vote_keys.specs.Keys.{found, list_of};
 
 use std::alloc::{AllocError, Global};
 use toml::{Table, Value};
-use vote_poll::{PollFault, PollKey, integers_at, texts_at};
+use vote_keys::{PollFault, PollKey, integers_at, texts_at, value_at};
 
 /// The keys of a poll file, each where it is there and of its kind.
 #[derive(Drop)]
@@ -21,13 +21,6 @@ pub(crate) struct Found<'t> {
     pub(crate) roll: Option<Vec<&'t str>>,
     pub(crate) last_envelope: Option<i64>,
     pub(crate) wording: Option<&'t str>,
-}
-
-/// The value at a key.
-pub(crate) fn value_at<'t>(table: &'t Table, key: PollKey) -> Option<&'t Value>
-    ensures { option_map (λ value. view value.now) result ≡ value_at key (table_view table.now) }
-{
-    table.get(key.name())
 }
 
 /// The text at a key.

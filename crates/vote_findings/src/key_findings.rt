@@ -5,18 +5,19 @@ ghost use Rattle.vote_findings.specs.Findings.{AddsFindings, AddsKeyLines};
 ghost use Rattle.vote_findings.specs.FoundView.{found_view, has};
 ghost use Rattle.vote_poll.specs.Lines.{line_feed};
 ghost use Rattle.vote_poll.specs.PollFaults.{fault_unless, of_keys};
-ghost use Rattle.vote_poll.specs.PollFile.{key_name, value_at};
+ghost use Rattle.vote_keys.specs.Keys.{key_name, value_at};
 ghost use Rattle.vote_poll.specs.Shown.{shown};
 ghost use Rattle.vote_findings.specs.declared.TheConstants.{MAX_SHOWN};
-ghost use Rattle.vote_poll.specs.declared.fault.PollFault.TheVariants as fault;
+ghost use Rattle.vote_keys.specs.declared.fault.PollFault.TheVariants as fault;
 
 use crate::MAX_SHOWN;
 use crate::findings::{end_line, push_hint};
-use crate::found::{Found, value_at};
+use crate::found::Found;
 use crate::unread::UnreadKeys;
 use std::alloc::AllocError;
 use toml::Table;
-use vote_poll::{PollKey, push_shown};
+use vote_keys::{PollKey, value_at};
+use vote_poll::push_shown;
 
 /// Adds that a key is missing or of the wrong kind.
 fn push_bad_key(text: &mut String, key: PollKey, hint: &str) -> Result<(), AllocError>

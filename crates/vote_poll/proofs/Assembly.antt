@@ -11,12 +11,13 @@ use Rattle.std.proofs.lemmas.List.Elements.{All-map, All-weaker}
 use Rattle.std.proofs.lemmas.List.Sums.{AllPass-from_list_all}
 use Rattle.vote_poll.specs.Names.{is_within, is_voter_name, is_option_name, is_title, first_bad}
 use Rattle.vote_poll.specs.PollContent.{PollContent, IsPoll}
-use Rattle.vote_poll.specs.PollFile.{Fields, Fails, Gives, ◌>>=◌, err_or, is_integer_within, title_in, option_names_in, ratios_in, quorum_in, roll_in, last_envelope_in, wording_in, poll_of}
+use Rattle.vote_keys.specs.Keys.{Fields, Fails, Gives, ◌>>=◌}
+use Rattle.vote_poll.specs.PollFile.{err_or, is_integer_within, title_in, option_names_in, ratios_in, quorum_in, roll_in, last_envelope_in, wording_in, poll_of}
 use Rattle.vote_poll.proofs.NamesLaws.{within_bounds}
 use Rattle.vote_poll.specs.declared.TheConstants.{MAX_OPTIONS, MAX_ELECTORS, MAX_RATIO, MAX_QUORUM_MULTIPLE}
 use Rattle.vote_poll.specs.declared.lines.TheConstants.{MAX_LINES}
-use Rattle.vote_poll.specs.declared.fault.PollFault.{PollFault}
-use Rattle.vote_poll.specs.declared.fault.PollFault.TheVariants as fault
+use Rattle.vote_keys.specs.declared.fault.PollFault.{PollFault}
+use Rattle.vote_keys.specs.declared.fault.PollFault.TheVariants as fault
 
 -- each key gives its part of the poll
 pub record Parsed (f : Fields) (p : PollContent) : Type 0 where

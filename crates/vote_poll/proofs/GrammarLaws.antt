@@ -20,7 +20,7 @@ use Rattle.std.proofs.lemmas.List.Splits.{length-slice_split, join_with_byte-sli
 use Rattle.vote_poll.specs.Names.{is_within, is_voter_byte, is_voter_name, place_of}
 use Rattle.vote_poll.proofs.NamesLaws.{voter_bytes, within_bounds}
 use Rattle.vote_poll.specs.BallotLine.{IsRank, rank_text, line_text, IsBallotLine}
-use Rattle.vote_poll.specs.Lists.{all_some}
+use Rattle.vote_keys.specs.Lists.{all_some}
 use Rattle.vote_poll.specs.Readings.{rank_in, ranks_in, ballot_in, reading, reading_of, reading_at, IsReading, ReadingFits, is_space, named, NamedRanks}
 use Rattle.vote_poll.specs.declared.TheConstants.{MAX_LINE}
 

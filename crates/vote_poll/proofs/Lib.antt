@@ -7,7 +7,6 @@ mod LinesLaws
 mod NamesLaws
 mod OneReading
 mod SortKeys
-mod PollFileLaws
 mod PollFaultsLaws
 mod RankKeys
 mod RankRow

@@ -7,15 +7,16 @@ use Rattle.std.proofs.lemmas.Bool.{cases_Bool, cases_lt}
 use Rattle.toml.specs.Data.{Data, Members, as_str, as_integer}
 use Rattle.vote_poll.specs.Names.{first_bad, is_bad_at, is_option_name, is_voter_name, is_within}
 use Rattle.vote_poll.specs.PollContent.{PollContent}
-use Rattle.vote_poll.specs.PollFile.{◌>>=◌, Fields, document, err_or, fields_of, found, last_envelope_in, list_of, of_kind_or_none, poll_in, poll_of, quorum_in, ratios_in, title_in, wording_in}
+use Rattle.vote_keys.specs.Keys.{◌>>=◌, Fields, document, fields_of, found, list_of, of_kind_or_none}
+use Rattle.vote_poll.specs.PollFile.{err_or, last_envelope_in, poll_in, poll_of, quorum_in, ratios_in, title_in, wording_in}
 use Rattle.vote_poll.specs.PollFaults.{Found, bad_places, fault_of, fault_told, fault_unless, faults_in, found_in, of_contents, of_key, of_keys, of_last_envelope, of_option_count, of_option_names, of_quorum, of_ratios, of_roll_size, of_title, of_voter_names, of_wording, where_found, FirstIsTold}
 use Rattle.vote_poll.proofs.FirstBad.{first_bad-some, first_bad-none}
 use Rattle.vote_poll.specs.declared.TheConstants.{MAX_OPTIONS}
 use Rattle.vote_poll.specs.declared.wording.Wording.{Wording}
-use Rattle.vote_poll.specs.declared.fault.PollKey.{PollKey}
-use Rattle.vote_poll.specs.declared.fault.PollKey.TheVariants as key
-use Rattle.vote_poll.specs.declared.fault.PollFault.{PollFault}
-use Rattle.vote_poll.specs.declared.fault.PollFault.TheVariants as fault
+use Rattle.vote_keys.specs.declared.fault.PollKey.{PollKey}
+use Rattle.vote_keys.specs.declared.fault.PollKey.TheVariants as key
+use Rattle.vote_keys.specs.declared.fault.PollFault.{PollFault}
+use Rattle.vote_keys.specs.declared.fault.PollFault.TheVariants as fault
 
 -- ---- the first of the numbers that pass a test
 -- none passes, or one is the first

@@ -3,7 +3,7 @@ use Rattle.std.proofs.Common.{◌≡◌, ◌==◌, ◌+◌, ◌-◌, ◌<◌, �
 use Rattle.std.specs.Option.{option_map}
 use Rattle.std.proofs.lemmas.List.{length_push, length-append, length-take, length-replicate, map-append, set_at, take_all, take_at, take-append-le, take-map, length-map}
 use Rattle.std.proofs.lemmas.List.Splits.{slice_split_none}
-use Rattle.vote_poll.specs.Lists.{all_some}
+use Rattle.vote_keys.specs.Lists.{all_some}
 use Rattle.vote_poll.specs.Parsing.{kept_and_count}
 use Rattle.vote_poll.specs.SortKeys.{rank_of_key, row_of}
 use Rattle.vote_poll.specs.Readings.{rank_in, ranks_in}

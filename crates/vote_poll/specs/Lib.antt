@@ -9,10 +9,8 @@ pub mod BallotLine
 pub mod Readings
 pub mod Comparisons
 pub mod Lines
-pub mod Lists
 pub mod Shown
 pub mod SortKeys
 -- what types stand for, and what private functions say of their parts
 pub mod PollView
-pub mod FieldsView
 pub mod Parsing

@@ -5,12 +5,13 @@ use Rattle.std.specs.List.{range_with_len}
 use Rattle.toml.specs.Data.{Members, as_str, as_integer}
 use Rattle.vote_poll.specs.Names.{is_bad_at, is_option_name, is_voter_name, is_within}
 use Rattle.vote_poll.specs.PollContent.{PollContent}
-use Rattle.vote_poll.specs.PollFile.{document, found, last_envelope_in, list_of, poll_in, quorum_in, ratios_in, title_in, value_at, wording_in}
+use Rattle.vote_keys.specs.Keys.{document, found, list_of, value_at}
+use Rattle.vote_poll.specs.PollFile.{last_envelope_in, poll_in, quorum_in, ratios_in, title_in, wording_in}
 use Rattle.vote_poll.specs.declared.TheConstants.{MAX_OPTIONS, MAX_ELECTORS}
-use Rattle.vote_poll.specs.declared.fault.PollKey.{PollKey}
-use Rattle.vote_poll.specs.declared.fault.PollKey.TheVariants as key
-use Rattle.vote_poll.specs.declared.fault.PollFault.{PollFault}
-use Rattle.vote_poll.specs.declared.fault.PollFault.TheVariants as fault
+use Rattle.vote_keys.specs.declared.fault.PollKey.{PollKey}
+use Rattle.vote_keys.specs.declared.fault.PollKey.TheVariants as key
+use Rattle.vote_keys.specs.declared.fault.PollFault.{PollFault}
+use Rattle.vote_keys.specs.declared.fault.PollFault.TheVariants as fault
 
 -- ---- the keys
 -- the keys, each where it is there and of its kind

@@ -5,7 +5,8 @@
 //!   default option, a majority ratio for each other option, the multiple of Q that is its quorum, and the
 //!   roll of its electors. It may have a last envelope, and those after it are then late, and a [`Wording`] of
 //!   its majorities.
-//!   [`Poll::from_text`] reads it, or answers the first [`PollFault`], and [`Poll::from_table`] does so for a table of TOML.
+//!   [`Poll::from_text`] reads it, or answers the first [`PollFault`], and [`Poll::from_fields`] does so for the keys of a poll
+//!   file, as `vote_keys` reads them.
 //! - [`Lines`]: the lines of a ballot file, each an envelope. [`Lines::split`] makes them.
 //! - [`Ranks`]: what one ballot says of the options, and which option it prefers to which.
 //! - [`Reading`]: what a poll reads in a line, by [`read_line`]: a ballot of an elector, or a [`LineFault`].
@@ -14,8 +15,7 @@
 //!   [`hex_digit`].
 //!
 //! The crates that say what is wrong with a file judge its parts by the same calls as this one: a name by [`is_title`],
-//! [`is_option_name`] and [`is_voter_name`], its bytes by [`is_printable`] and [`is_voter_byte`], and the list at a [`PollKey`]
-//! by [`texts_at`] and [`integers_at`].
+//! [`is_option_name`] and [`is_voter_name`], and its bytes by [`is_printable`] and [`is_voter_byte`].
 //!
 //! Options are numbered from 1, as in the file, and the default option has the greatest number. Voters are
 //! numbered from 0, by their place on the roll. Places of lines are numbered from 0; the line at place `i` is
@@ -38,7 +38,6 @@
 //! so are that envelopes can be late and that a majority can be worded as more than its ratio.
 #![tactic(auto)]
 
-mod fault;
 mod lines;
 mod names;
 mod poll;
@@ -49,16 +48,16 @@ mod reading;
 mod shown;
 mod wording;
 
-pub use fault::{PollFault, PollKey};
 pub use lines::{Lines, LinesFault, MAX_LINES, lines_are_unique};
 pub use names::{is_option_name, is_printable, is_title, is_voter_byte, is_voter_name};
 pub use poll::Poll;
-pub use poll_file::{first_fault_is_told, integers_at, texts_at};
+pub use poll_file::first_fault_is_told;
 pub use ranks::Ranks;
 pub use reading::{
     LineFault, Reading, each_line_is_read, is_reading, read_line, readings_are_unique,
 };
 pub use shown::{hex_digit, push_shown};
+pub use vote_keys::{PollFault, PollKey};
 pub use wording::Wording;
 
 /// The most options that a poll can have, the default among them. It has two at least.

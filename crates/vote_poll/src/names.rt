@@ -3,13 +3,14 @@ ghost use Rattle.std.specs.Prelude.{◌≡◌, ◌+◌, ◌<◌, ◌≤◌, leng
 ghost use Rattle.std.specs.List.{list_all, list_any};
 ghost use Rattle.std.specs.Str.{bytes_eq};
 ghost use Rattle.vote_poll.specs.Names.{first_bad, has_outer_space, is_bad_after, is_option_name, is_printable, is_title, is_voter_byte, is_voter_name};
-ghost use Rattle.vote_poll.specs.PollFile.{Gives, err_or};
-ghost use Rattle.vote_poll.specs.declared.fault.PollFault.TheVariants as fault;
+ghost use Rattle.vote_keys.specs.Keys.{Gives};
+ghost use Rattle.vote_poll.specs.PollFile.{err_or};
+ghost use Rattle.vote_keys.specs.declared.fault.PollFault.TheVariants as fault;
 
-use crate::fault::PollFault;
 use crate::{MAX_OPTION_NAME, MAX_OPTIONS, MAX_TITLE, MAX_VOTER_NAME};
 use indexmap::IndexSet;
 use std::alloc::Global;
+use vote_keys::PollFault;
 
 /// Whether a voter's name may have this byte: `a` to `z`, `0` to `9`, `.` or `-`.
 pub fn is_voter_byte(byte: u8) -> bool

@@ -1,8 +1,9 @@
 //! How a poll words the majority that an option needs.
 ghost use Rattle.std.specs.Option.{option_copied};
-ghost use Rattle.vote_poll.specs.PollFile.{Gives, wording_in};
+ghost use Rattle.vote_keys.specs.Keys.{Gives};
+ghost use Rattle.vote_poll.specs.PollFile.{wording_in};
 
-use crate::fault::PollFault;
+use vote_keys::PollFault;
 
 /// How many voters have to prefer an option to the default option, where its majority ratio is r. They are measured by
 /// those who prefer the default option to it.

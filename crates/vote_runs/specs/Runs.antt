@@ -2,7 +2,8 @@
 use Rattle.std.specs.Prelude.{◌≡◌, ◌<◌, ◌≤◌, List, Option, Some, None, Ok, IsOk, length}
 use Rattle.std.specs.Io.KnownBytes.{Appends, Keeps}
 use Rattle.vote_poll.specs.PollContent.{PollContent}
-use Rattle.vote_poll.specs.PollFile.{Fails, poll_in}
+use Rattle.vote_keys.specs.Keys.{Fails}
+use Rattle.vote_poll.specs.PollFile.{poll_in}
 use Rattle.vote_poll.specs.Lines.{lines_of}
 use Rattle.vote_poll.specs.declared.lines.TheConstants.{MAX_LINES}
 use Rattle.vote_poll.specs.declared.lines.LinesFault.{LinesFault}

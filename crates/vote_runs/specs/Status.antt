@@ -1,7 +1,7 @@
 -- The exit status of a run, and which fault an input gives that could not be read.
 use Rattle.std.specs.Prelude.{ℕ, Result, Ok, Err}
-use Rattle.vote_poll.specs.declared.fault.PollFault.{PollFault}
-use Rattle.vote_poll.specs.declared.fault.PollFault.TheVariants as poll
+use Rattle.vote_keys.specs.declared.fault.PollFault.{PollFault}
+use Rattle.vote_keys.specs.declared.fault.PollFault.TheVariants as poll
 use Rattle.vote_poll.specs.declared.lines.LinesFault.{LinesFault}
 use Rattle.vote_poll.specs.declared.lines.LinesFault.TheVariants as lines
 use Rattle.vote_desks.specs.declared.DeskFault.{DeskFault}

@@ -5,8 +5,9 @@ use Rattle.std.proofs.lemmas.Str.{is_utf8-from_IsUtf8, IsUtf8-from_is_utf8}
 use Rattle.toml.specs.Data.{Members}
 use Rattle.toml.specs.Parse.{parse_document}
 use Rattle.toml.specs.View.{table_view}
-use Rattle.vote_poll.specs.PollFile.{document, poll_in}
-use Rattle.vote_poll.specs.declared.fault.PollFault.TheVariants as fault
+use Rattle.vote_keys.specs.Keys.{document}
+use Rattle.vote_poll.specs.PollFile.{poll_in}
+use Rattle.vote_keys.specs.declared.fault.PollFault.TheVariants as fault
 use Rattle.vote_findings.proofs.explain.explain_poll.Goals as goal
 
 -- the document of a text is what `toml` reads in it

@@ -6,7 +6,7 @@ use Rattle.vote_poll.specs.PollFile.{is_integer_within}
 use Rattle.vote_poll.specs.declared.lines.TheConstants.{MAX_LINES}
 use Rattle.vote_findings.specs.FoundView.{found_view}
 use Rattle.vote_poll.specs.PollFaults.{of_last_envelope}
-use Rattle.vote_poll.specs.declared.fault.PollFault.TheVariants as fault
+use Rattle.vote_keys.specs.declared.fault.PollFault.TheVariants as fault
 use Rattle.vote_findings.proofs.FindingLaws.{on_finding}
 use Rattle.vote_findings.proofs.findings.push_last_envelope.Goals as goal
 

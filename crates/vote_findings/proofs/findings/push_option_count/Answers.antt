@@ -4,7 +4,7 @@ use Rattle.vote_poll.specs.Names.{is_within}
 use Rattle.vote_poll.specs.declared.TheConstants.{MAX_OPTIONS}
 use Rattle.vote_findings.specs.FoundView.{found_view}
 use Rattle.vote_poll.specs.PollFaults.{of_option_count}
-use Rattle.vote_poll.specs.declared.fault.PollFault.TheVariants as fault
+use Rattle.vote_keys.specs.declared.fault.PollFault.TheVariants as fault
 use Rattle.vote_findings.proofs.FindingLaws.{now, on_finding}
 use Rattle.vote_findings.proofs.findings.push_option_count.Goals as goal
 

@@ -5,7 +5,7 @@ use Rattle.vote_poll.specs.PollFile.{is_integer_within}
 use Rattle.vote_poll.specs.declared.TheConstants.{MAX_RATIO}
 use Rattle.vote_findings.specs.FoundView.{found_view}
 use Rattle.vote_poll.specs.PollFaults.{of_ratios}
-use Rattle.vote_poll.specs.declared.fault.PollFault.TheVariants as fault
+use Rattle.vote_keys.specs.declared.fault.PollFault.TheVariants as fault
 use Rattle.vote_findings.proofs.FindingLaws.{now, on_finding}
 use Rattle.vote_findings.proofs.findings.push_ratios.Goals as goal
 

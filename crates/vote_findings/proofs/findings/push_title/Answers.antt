@@ -2,7 +2,7 @@ use Rattle.std.proofs.Common.{◌≡◌, ◌∷◌, [], false, refl, codes, Some
 use Rattle.vote_poll.specs.Names.{is_title}
 use Rattle.vote_findings.specs.FoundView.{found_view}
 use Rattle.vote_poll.specs.PollFaults.{of_title}
-use Rattle.vote_poll.specs.declared.fault.PollFault.TheVariants as fault
+use Rattle.vote_keys.specs.declared.fault.PollFault.TheVariants as fault
 use Rattle.vote_findings.proofs.FindingLaws.{on_finding}
 use Rattle.vote_findings.proofs.findings.push_title.Goals as goal
 

@@ -1,8 +1,8 @@
 use Rattle.std.proofs.Common.{◌≡◌, ◌∷◌, [], false, refl}
 use Rattle.vote_findings.specs.Findings.{fault_words}
 use Rattle.vote_poll.specs.PollFaults.{fault_unless}
-use Rattle.vote_poll.specs.declared.fault.PollFault.{PollFault}
-use Rattle.vote_poll.specs.declared.fault.PollFault.TheVariants as fault
+use Rattle.vote_keys.specs.declared.fault.PollFault.{PollFault}
+use Rattle.vote_keys.specs.declared.fault.PollFault.TheVariants as fault
 use Rattle.vote_findings.proofs.FindingLaws.{on_finding}
 use Rattle.vote_findings.proofs.key_findings.push_key.Goals as goal
 

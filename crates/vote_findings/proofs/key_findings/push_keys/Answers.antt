@@ -3,7 +3,7 @@ use Rattle.toml.specs.Data.{Members}
 use Rattle.toml.specs.View.{table_view}
 use Rattle.vote_findings.specs.FoundView.{found_view}
 use Rattle.vote_poll.specs.PollFaults.{Found, of_key, of_keys, of_optional_key}
-use Rattle.vote_poll.specs.declared.fault.PollKey.TheVariants as key
+use Rattle.vote_keys.specs.declared.fault.PollKey.TheVariants as key
 use Rattle.vote_findings.proofs.FindingLaws.{adds_then, on_then}
 use Rattle.vote_findings.proofs.key_findings.push_keys.Goals as goal
 

@@ -1,4 +1,4 @@
-use Rattle.vote_poll.specs.declared.fault.PollFault.TheVariants as fault
+use Rattle.vote_keys.specs.declared.fault.PollFault.TheVariants as fault
 use Rattle.vote_findings.proofs.FindingLaws.{on_judged}
 use Rattle.vote_findings.proofs.key_findings.push_optional_key.Goals as goal
 

@@ -3,7 +3,7 @@ use Rattle.std.specs.Prelude.{◌||◌, not}
 use Rattle.vote_findings.specs.Findings.{fault_words}
 use Rattle.vote_findings.specs.NameFindings.{bad_name, has_shape}
 use Rattle.vote_poll.specs.PollFaults.{fault_unless}
-use Rattle.vote_poll.specs.declared.fault.PollFault.{PollFault}
+use Rattle.vote_keys.specs.declared.fault.PollFault.{PollFault}
 use Rattle.vote_findings.proofs.FindingLaws.{on_finding}
 use Rattle.vote_findings.proofs.name_findings.judge_name.Goals as goal
 

@@ -3,7 +3,7 @@ use Rattle.std.specs.List.{range_with_len}
 use Rattle.vote_findings.specs.Findings.{AddsFindings}
 use Rattle.vote_findings.specs.NameFindings.{bad_name, has_shape}
 use Rattle.vote_poll.specs.Names.{is_bad_at}
-use Rattle.vote_poll.specs.declared.fault.PollFault.{PollFault}
+use Rattle.vote_keys.specs.declared.fault.PollFault.{PollFault}
 use Rattle.std.proofs.lemmas.List.{length-map, get_or-map}
 use Rattle.vote_findings.proofs.FindingLaws.{now, no_text}
 use Rattle.vote_findings.proofs.SeenLaws.{judged_more, seen_more}

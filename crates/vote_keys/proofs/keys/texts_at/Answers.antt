@@ -1,5 +1,5 @@
 use Rattle.std.proofs.Common.{rules}
-use Rattle.vote_poll.proofs.poll_file.texts_at.Goals as goal
+use Rattle.vote_keys.proofs.keys.texts_at.Goals as goal
 
 pub returns : goal.returns
 returns c = search rules

@@ -1,7 +1,7 @@
 //! Why a poll file is refused, and the words for it.
 ghost use Rattle.std.specs.Prelude.{◌≡◌};
-ghost use Rattle.vote_poll.specs.PollFile.{key_name};
-ghost use Rattle.vote_poll.specs.declared.fault.PollFault.TheVariants.{Memory};
+ghost use Rattle.vote_keys.specs.Keys.{key_name};
+ghost use Rattle.vote_keys.specs.declared.fault.PollFault.TheVariants.{Memory};
 
 use std::alloc::{AllocError, AllocFailed};
 use std::fmt;
@@ -24,7 +24,7 @@ pub enum PollKey {
     Roll,
     /// `last_envelope`, a whole number: the last envelope that is not late. This key may be missing.
     LastEnvelope,
-    /// `wording`, a text: how the poll words a majority, as [`Wording`](crate::Wording) has it. This key may be missing.
+    /// `wording`, a text: how the poll words a majority, as `Wording` of vote_poll has it. This key may be missing.
     Wording,
 }
 
@@ -65,7 +65,7 @@ impl fmt::Display for PollKey {
 }
 
 /// Why a poll file is refused. Where several of these hold, the first in this order is answered; memory alone can
-/// take the place of another.
+/// take the place of another. The limits that are named are those of vote_poll.
 #[derive(Clone, Copy, Debug, PartialEq, Eq, Error)]
 pub enum PollFault {
     /// The text is no UTF-8, or no TOML document.
@@ -75,31 +75,31 @@ pub enum PollFault {
     /// it is right.
     #[error("poll refused: key {0}")]
     Key(PollKey),
-    /// The title has no byte or more than [`MAX_TITLE`](crate::MAX_TITLE), or one outside 0x20 to 0x7E.
+    /// The title has no byte or more than `MAX_TITLE`, or one outside 0x20 to 0x7E.
     #[error("poll refused: title")]
     Title,
-    /// With the default there are fewer than 2 options, or more than [`MAX_OPTIONS`](crate::MAX_OPTIONS).
+    /// With the default there are fewer than 2 options, or more than `MAX_OPTIONS`.
     #[error("poll refused: number of options")]
     OptionCount,
     /// The option with this number (from 1) is the first whose name is misshapen, or is that of an option before it.
-    /// A name has 1 to [`MAX_OPTION_NAME`](crate::MAX_OPTION_NAME) bytes from 0x20 to 0x7E, no space first or last.
+    /// A name has 1 to `MAX_OPTION_NAME` bytes from 0x20 to 0x7E, no space first or last.
     #[error("poll refused: name of option {0}")]
     OptionName(u8),
     /// There is not one ratio for each option but the default, or a ratio is not from 1 to
-    /// [`MAX_RATIO`](crate::MAX_RATIO).
+    /// `MAX_RATIO`.
     #[error("poll refused: ratios")]
     Ratio,
-    /// The multiple of Q is not from 0 to [`MAX_QUORUM_MULTIPLE`](crate::MAX_QUORUM_MULTIPLE).
+    /// The multiple of Q is not from 0 to `MAX_QUORUM_MULTIPLE`.
     #[error("poll refused: quorum")]
     Quorum,
-    /// The roll has no name, or more than [`MAX_ELECTORS`](crate::MAX_ELECTORS).
+    /// The roll has no name, or more than `MAX_ELECTORS`.
     #[error("poll refused: size of roll")]
     RollSize,
     /// The voter at this place of the roll (from 0) is the first whose name is misshapen, or is that of a voter before.
-    /// A name has 1 to [`MAX_VOTER_NAME`](crate::MAX_VOTER_NAME) bytes of `a` to `z`, `0` to `9`, `.` and `-`.
+    /// A name has 1 to `MAX_VOTER_NAME` bytes of `a` to `z`, `0` to `9`, `.` and `-`.
     #[error("poll refused: voter at position {0}")]
     VoterName(usize),
-    /// The last envelope is not from 0 to [`MAX_LINES`](crate::MAX_LINES).
+    /// The last envelope is not from 0 to `MAX_LINES`.
     #[error("poll refused: last envelope")]
     LastEnvelope,
     /// The wording is neither `at_least` nor `more_than`.

@@ -4,11 +4,11 @@ use Rattle.std.proofs.lemmas.Int.{to_z-of_z}
 use Rattle.std.proofs.lemmas.List.{length-map}
 use mir.Val.{SFits}
 use mir.Syntax.{w64}
-use Rattle.vote_poll.specs.FieldsView.{fields_view}
+use Rattle.vote_keys.specs.FieldsView.{fields_view}
 use Rattle.vote_poll.specs.PollFile.{poll_of, ratios_in}
 use Rattle.vote_poll.proofs.FirstBad.{now}
 use Rattle.vote_poll.proofs.Assembly.{parsed_meaning, parsed_poll, refused-then, skipped-then}
-use Rattle.vote_poll.proofs.poll_file.poll_of.Goals as goal
+use Rattle.vote_poll.proofs.poll.Poll.from_fields.Goals as goal
 
 -- as many ratios as there are texts
 ratios_read : (texts : List (Bor (List ℕ))) (count : ℕ) (numbers : List ℤ) (ratios : List ℕ) → count ≡ length texts → ratios_in count numbers ≡ Ok ratios → ratios_in (length (map now texts)) numbers ≡ Ok ratios

@@ -1,0 +1,5 @@
+-- what the contracts of public calls say
+pub mod Keys
+pub mod Lists
+-- what types stand for
+pub mod FieldsView

@@ -1,0 +1,19 @@
+//! The keys of a poll file: what TOML has at them, each of its kind, and why a poll file is refused.
+//!
+//! - [`PollKey`] names a key, and [`value_at`] gives what the table of a poll file has at it; [`texts_at`] and [`integers_at`]
+//!   give the list at a key. [`document`] reads the table of a text.
+//! - [`fields_of`] gives all keys of a table at once, as [`Fields`], or the first [`PollFault`] of a key.
+//! - [`PollFault`] has all faults of a poll file, and their words: those of its keys, which this crate finds, and those of what
+//!   the keys say, which vote_poll finds.
+//!
+//! What is promised, memory aside: each call answers what the definitions of `specs/Keys.antt` say of the text or the table, and
+//! a fault just where they have it.
+//!
+//! No type of `toml` is in a public call of the crates above, so that their checks read nothing of it.
+#![tactic(auto)]
+
+mod fault;
+mod keys;
+
+pub use fault::{PollFault, PollKey};
+pub use keys::{Fields, document, fields_of, integers_at, texts_at, value_at};
