@@ -1,5 +1,5 @@
 -- What the workers give back, one after the other.
-use Rattle.std.proofs.Common.{◌≡◌, ℕ, ◌+◌, ◌<◌, zero, suc, Bool, true, false, not, cond, List, [], ◌∷◌, ◌++◌, max, length, map, sum_by, Contains, refl, sym, ap, ◌∙◌, subst, arith, length-append}
+use Rattle.std.proofs.Common.{◌≡◌, ℕ, ◌+◌, ◌<◌, zero, suc, List, [], ◌∷◌, ◌++◌, max, length, map, sum_by, Contains, refl, sym, ap, ◌∙◌, subst, arith, length-append}
 use Rattle.std.specs.List.{All, AllByRecursion, range_with_len, enumerate_from}
 use Rattle.std.proofs.lemmas.List.{length-map, map-append}
 use Rattle.std.proofs.lemmas.List.Elements.{All-from_recursion, All-push, recursion_from_All}
@@ -8,11 +8,10 @@ use Rattle.std.proofs.lemmas.List.FromFn.{length-range_with_len, get_or-range_wi
 use Rattle.std.specs.List.Sorted.{IsPermutation}
 use Rattle.std.proofs.lemmas.List.Sorted.{sum_by-IsPermutation, All-permutation}
 use Rattle.vote_tray.specs.Passes.{TrayId, PassState, new_pass, joined}
-use Rattle.vote_desks.specs.declared.slip.Slip.{Slip}
-use Rattle.vote_desks.specs.Slips.{Rises, valid_slips, refused_slips}
-use Rattle.vote_desks.specs.Desks.{DeskState, IsLater, fresh_desk}
+use Rattle.vote_shared.specs.declared.Slip.{Slip}
+use Rattle.vote_shared.specs.Slips.{Rises}
+use Rattle.vote_shared.specs.Desks.{DeskState, IsLater, fresh_desk}
 use Rattle.vote_poll.specs.PollContent.{PollContent}
-use Rattle.vote_steps.specs.History.{is_valid}
 use Rattle.vote_steps.specs.Boxes.{BoxState, box_of}
 use Rattle.vote_steps.specs.Casting.{HasSizes}
 use Rattle.vote_desks.specs.Work.{IsFresh, IsUnused, HasCastAll, tray_and_parts}
@@ -120,21 +119,6 @@ pub rise_paired : (desks : List DeskState) → AllByRecursion (λ (d : DeskState
     → AllByRecursion (λ (at : ℕ × List Slip). Rises at.1) (map {B = ℕ × List Slip} (λ (d : DeskState). (d.number, d.slips)) desks)
 rise_paired [] h = tt
 rise_paired (desk ∷ desks) h = (h.0, rise_paired desks h.1)
-
--- each slip is valid or refused
-either_slip : (sheet : List Slip) → valid_slips sheet + refused_slips sheet ≡ length sheet
-either_slip [] = refl
-either_slip (slip ∷ sheet) =
-    omega (arith, sum_by-cons (λ (s : Slip). cond {A = ℕ} (is_valid s.reply) 1 0) slip sheet, sum_by-cons (λ (s : Slip). cond {A = ℕ} (not (is_valid s.reply)) 1 0) slip sheet, either_slip sheet, one_of (is_valid slip.reply))
-  where
-    one_of : (t : Bool) → cond {A = ℕ} t 1 0 + cond {A = ℕ} (not t) 1 0 ≡ 1
-    one_of true = omega arith
-    one_of false = omega arith
-
-pub all_slips : (sheets : List (List Slip)) → sum_by valid_slips sheets + sum_by refused_slips sheets ≡ sum_by length sheets
-all_slips [] = refl
-all_slips (sheet ∷ sheets) =
-    omega (arith, sum_by-cons valid_slips sheet sheets, sum_by-cons refused_slips sheet sheets, sum_by-cons {X = List Slip} length sheet sheets, either_slip sheet, all_slips sheets)
 
 abbrev pub paired : List DeskState → List (ℕ × List Slip)
 paired desks = map {B = ℕ × List Slip} (λ (d : DeskState). (d.number, d.slips)) desks

@@ -2,9 +2,7 @@ pub mod AuditLemmas
 pub mod StretchLemmas
 pub mod CountLemmas
 pub mod RunLemmas
-pub mod ClosingLemmas
 pub mod Joined
 pub mod SlipLemmas
 pub mod BackLemmas
-pub mod Numbered
 pub mod StopLemmas

@@ -6,11 +6,11 @@ use Rattle.std.proofs.lemmas.List.{get_or-map, length-map}
 use Rattle.vote_desks.specs.declared.fault.VoteFault.{VoteFault}
 use Rattle.vote_desks.specs.declared.worked.Stop.{Stop}
 use Rattle.vote_desks.specs.declared.worked.Stop.TheVariants.{Barred, Refused}
-use Rattle.vote_desks.specs.declared.fault.EnterFault.{EnterFault}
-use Rattle.vote_desks.specs.declared.fault.EnterFault.TheVariants.{StampUsed}
+use Rattle.vote_shared.specs.declared.EnterFault.{EnterFault}
+use Rattle.vote_shared.specs.declared.EnterFault.TheVariants.{StampUsed}
 use Rattle.vote_desks.specs.Faults.{CanStopVotes, IsOfDesk}
 use Rattle.vote_desks.specs.Stops.{stop_fault, IsLeastStop}
-use Rattle.vote_desks.proofs.Joined.{at_range}
+use Rattle.vote_shared.proofs.Ranges.{at_range}
 
 -- desks that are numbered in order, of which the first at this place stopped early
 pub least_stop : {W : Type 0} (desk : W → ℕ) (stopped : W → Option Stop) (all : List W) (k : ℕ) (w : W) (stop : Stop) (fault : VoteFault)

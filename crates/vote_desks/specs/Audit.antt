@@ -2,7 +2,7 @@
 use Rattle.std.specs.Prelude.{◌≡◌, ◌≢◌, ℕ, ◌+◌, ◌<◌, ◌≤◌, List, ◌∷◌, ◌++◌, length, take, slice_get, count_by}
 use Rattle.vote_poll.specs.PollContent.{PollContent}
 use Rattle.vote_poll.specs.Readings.{readings}
-use Rattle.vote_desks.specs.declared.slip.Slip.{Slip}
+use Rattle.vote_shared.specs.declared.Slip.{Slip}
 use Rattle.vote_desks.specs.declared.fault.AuditFault.{AuditFault}
 use Rattle.vote_desks.specs.declared.fault.AuditFault.TheVariants.{SizeDiffers, CountDiffers, StepDiffers, SlipDiffers, ClosedEarly}
 use Rattle.vote_steps.specs.declared.TheConstants.{MAX_DESKS}
@@ -11,8 +11,8 @@ use Rattle.vote_steps.specs.History.{is_cast, before_close}
 use Rattle.vote_steps.specs.Boxes.{BoxState}
 use Rattle.vote_steps.specs.Recasts.{HasOwnReading}
 use Rattle.vote_steps.specs.Casting.{HasOwnReadings, HasSizes, HoldsLines}
-use Rattle.vote_desks.specs.Slips.{slips}
-use Rattle.vote_desks.specs.Desks.{sheet_at}
+use Rattle.vote_shared.specs.Slips.{slips}
+use Rattle.vote_shared.specs.Desks.{sheet_at}
 
 -- the sheet of each desk is the slips of its casts
 abbrev pub HasSlips : List Step → List (List Slip) → Type 0

@@ -2,8 +2,8 @@
 use Rattle.std.specs.Prelude.{◌≡◌, ℕ, ◌+◌, List, [], ◌∷◌, length, map, sum_by, All}
 use Rattle.std.specs.List.{range_with_len}
 use Rattle.vote_tray.specs.Passes.{TrayId, PassState}
-use Rattle.vote_desks.specs.Slips.{Rises}
-use Rattle.vote_desks.specs.Desks.{DeskState}
+use Rattle.vote_shared.specs.Slips.{Rises}
+use Rattle.vote_shared.specs.Desks.{DeskState}
 use Rattle.vote_desks.specs.Work.{HasCastAll}
 
 -- the desks and passes come from n on in order, and have emptied the tray

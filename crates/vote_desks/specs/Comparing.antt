@@ -1,12 +1,12 @@
 -- How far the sheets of the desks were compared with the slips of their casts.
 use Rattle.std.specs.Prelude.{◌≡◌, ◌≢◌, ℕ, ◌-◌, ◌<◌, ◌≤◌, true, false, List, length, take, slice_get, slice_index_or}
-use Rattle.vote_desks.specs.declared.slip.Slip.{Slip}
+use Rattle.vote_shared.specs.declared.Slip.{Slip}
 use Rattle.vote_desks.specs.declared.sheets.Compared.{Compared}
 use Rattle.vote_steps.specs.declared.TheConstants.{MAX_DESKS}
 use Rattle.vote_steps.specs.declared.Step.{Step}
 use Rattle.vote_steps.specs.declared.Step.TheVariants.{Cast, Close}
-use Rattle.vote_desks.specs.Slips.{slips}
-use Rattle.vote_desks.specs.Desks.{sheet_at}
+use Rattle.vote_shared.specs.Slips.{slips}
+use Rattle.vote_shared.specs.Desks.{sheet_at}
 
 -- a cast is of one of the desks
 abbrev pub HasDesk : Step → Type 0

@@ -1,6 +1,6 @@
 -- Which faults can come where.
 use Rattle.std.specs.Prelude.{◌≡◌, ◌≢◌, ◌≤◌, ◌⊎◌, ℕ}
-use Rattle.vote_desks.specs.declared.fault.EnterFault.TheVariants.{StampUsed}
+use Rattle.vote_shared.specs.declared.EnterFault.TheVariants.{StampUsed}
 use Rattle.vote_desks.specs.declared.fault.AuditFault.TheVariants.{SizeDiffers, CountDiffers}
 use Rattle.vote_desks.specs.declared.fault.VoteFault.{VoteFault}
 use Rattle.vote_desks.specs.declared.fault.VoteFault.TheVariants.{Memory, Thread, Gate, Enter, Desk, Audit}

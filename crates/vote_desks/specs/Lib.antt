@@ -1,7 +1,4 @@
 -- what the contracts of public calls say
-pub mod Slips
-pub mod Desks
-pub mod Books
 pub mod Audit
 pub mod Faults
 pub mod Standing

@@ -2,8 +2,8 @@
 use Rattle.std.specs.Prelude.{◌≡◌, ℕ, ◌+◌, ◌≤◌, List, [], map, length, All}
 use Rattle.std.specs.List.Sorted.{IsStrictlyIncreasing}
 use Rattle.vote_tray.specs.Passes.{TrayId, PassState}
-use Rattle.vote_desks.specs.Slips.{Rises, stamps_of}
-use Rattle.vote_desks.specs.Desks.{DeskState}
+use Rattle.vote_shared.specs.Slips.{Rises, stamps_of}
+use Rattle.vote_shared.specs.Desks.{DeskState}
 
 -- a desk with room for as many slips as there are lines, and no slip yet
 pub record IsFresh (lines : ℕ) (desk : DeskState) : Type 0 where

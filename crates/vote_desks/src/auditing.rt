@@ -5,18 +5,17 @@ ghost use Rattle.vote_poll.specs.Readings.{readings};
 ghost use Rattle.vote_steps.specs.History.{is_cast, is_close, is_closed};
 ghost use Rattle.vote_steps.specs.Recasts.{HasOwnReading};
 ghost use Rattle.vote_steps.specs.Casting.{HasSizes, HasOwnReadings};
-ghost use Rattle.vote_desks.specs.Desks.{sheet_at};
+ghost use Rattle.vote_shared.specs.Desks.{sheet_at};
 ghost use Rattle.vote_desks.specs.Comparing.{HasEnvelope};
 ghost use Rattle.vote_desks.specs.Audit.{IsAudited, DiffersFirst, IsFaultOf};
 
 use crate::fault::AuditFault;
-use crate::sealed::Sealed;
 use crate::sheets::first_other_sheet;
-use crate::slip::Slip;
 use std::marker::Model;
 use std::thread;
 use std::thread::Threads;
 use vote_poll::{Lines, Poll, is_reading};
+use vote_shared::{Sealed, Slip};
 use vote_steps::laws::closes_once;
 use vote_steps::{BallotBox, MAX_DESKS, Step};
 
@@ -157,7 +156,7 @@ pub struct Audited {
 }
 
 impl Model for Audited {
-    ghost use Rattle.vote_desks.specs.Desks.{SealedState};
+    ghost use Rattle.vote_shared.specs.Desks.{SealedState};
 
     ghost Value = { SealedState };
 
@@ -199,13 +198,7 @@ pub fn audit<R: Threads + Sync>(
     ensures ok { IsOk result ↔ IsAudited poll.now lines.now sealed.ballot_box sealed.sheets }
     ensures fault { (fault : AuditFault) → (result ≡ Err fault) ↔ IsFaultOf poll.now lines.now sealed.ballot_box sealed.sheets fault }
 {
-    match compare(
-        rt,
-        poll,
-        lines,
-        &sealed.ballot_box,
-        sealed.sheets.as_slice(),
-    ) {
+    match compare(rt, poll, lines, sealed.ballot_box(), sealed.sheets()) {
         Ok(()) => Ok(Audited { sealed }),
         Err(fault) => Err(fault),
     }

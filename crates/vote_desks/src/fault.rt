@@ -1,53 +1,11 @@
-//! Why a cast, a gathering, an audit or a whole vote ends without its result.
+//! Why an audit or a whole vote ends without its result.
 ghost use Rattle.std.specs.Prelude.{◌≡◌};
-ghost use Rattle.vote_desks.specs.declared.fault.DeskFault.TheVariants.{Memory as DeskMemory};
-ghost use Rattle.vote_desks.specs.declared.fault.VoteFault.TheVariants.{Memory as VoteMemory};
+ghost use Rattle.vote_desks.specs.declared.fault.VoteFault.TheVariants.{Memory};
 
 use std::alloc::{AllocError, AllocFailed};
 use std::error::Error;
 use std::fmt;
-
-/// Why a cast at a desk is refused. The first case that holds is answered, and nothing is changed.
-#[derive(Clone, Copy, Debug, PartialEq, Eq)]
-pub enum EnterFault {
-    /// The ballot is of a voter whom the box does not have, or has another number of ranks than the box has options.
-    Sizes,
-    /// The desk's sheet has as many slips as its limit.
-    SheetFull,
-    /// The stamp is 0, or above the limit of the box.
-    StampRange,
-    /// An envelope with this stamp was cast before.
-    StampUsed,
-}
-
-/// The box has no voter of this number.
-#[derive(Clone, Copy, Debug, PartialEq, Eq)]
-pub struct NoVoter;
-
-/// Why desks are not opened or not gathered.
-#[derive(Clone, Copy, Debug, PartialEq, Eq)]
-pub enum DeskFault {
-    /// The desks' numbers are not 1 to the number opened, each once.
-    MissingDesk,
-    /// No memory was left.
-    Memory,
-}
-
-impl From<AllocError> for DeskFault {
-    ghost from_gives = { λ _ fault. fault ≡ DeskMemory };
-
-    fn from(_error: AllocError) -> DeskFault {
-        DeskFault::Memory
-    }
-}
-
-impl<T: Drop> From<AllocFailed<T>> for DeskFault {
-    ghost from_gives = { λ _ fault. fault ≡ DeskMemory };
-
-    fn from(_error: AllocFailed<T>) -> DeskFault {
-        DeskFault::Memory
-    }
-}
+use vote_shared::{DeskFault, EnterFault};
 
 /// Where a box and its sheets are not what the lines give. Steps, and the slips of a sheet, are counted from 1.
 #[derive(Clone, Copy, Debug, PartialEq, Eq)]
@@ -99,7 +57,7 @@ impl fmt::Display for VoteFault {
 impl Error for VoteFault {}
 
 impl From<AllocError> for VoteFault {
-    ghost from_gives = { λ _ fault. fault ≡ VoteMemory };
+    ghost from_gives = { λ _ fault. fault ≡ Memory };
 
     fn from(_error: AllocError) -> VoteFault {
         VoteFault::Memory
@@ -107,7 +65,7 @@ impl From<AllocError> for VoteFault {
 }
 
 impl<T: Drop> From<AllocFailed<T>> for VoteFault {
-    ghost from_gives = { λ _ fault. fault ≡ VoteMemory };
+    ghost from_gives = { λ _ fault. fault ≡ Memory };
 
     fn from(_error: AllocFailed<T>) -> VoteFault {
         VoteFault::Memory

@@ -1,8 +1,8 @@
 //! The gate that bars nothing.
 ghost use Rattle.std.specs.Prelude.{IsTrue};
 
-use crate::slip::Slip;
 use crate::work::Gate;
+use vote_shared::Slip;
 
 /// Lets every envelope pass.
 pub struct NoGate;

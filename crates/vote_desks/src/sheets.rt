@@ -1,10 +1,10 @@
 //! Comparing the sheets of all desks with the slips of their casts, in one pass over the steps.
 ghost use Rattle.std.specs.Prelude.{◌≡◌, ◌+◌, ◌^◌, ◌<◌, ◌≤◌, ◌↔◌, ◌∷◌, ◌++◌, [], length, map, slice_get, Some, vec_items, IsTrue, MatchOption, All, List};
-ghost use Rattle.vote_desks.specs.Desks.{sheet_at};
+ghost use Rattle.vote_shared.specs.Desks.{sheet_at};
 ghost use Rattle.vote_desks.specs.Audit.{HasSlips, PartAt, SheetDiffers};
 ghost use Rattle.vote_desks.specs.Comparing.{AgreesWith, AgreeWith, AreWithin, HasDesk};
 
-use crate::slip::Slip;
+use vote_shared::Slip;
 use vote_steps::{MAX_DESKS, Step};
 
 /// How many desks a box can have, as the length of an array.

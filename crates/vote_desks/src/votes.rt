@@ -3,18 +3,15 @@ ghost use Rattle.std.specs.Prelude.{◌≡◌, ◌<◌, ◌≤◌, [], IfOk, IfE
 ghost use Rattle.std.specs.List.{range_with_len};
 ghost use Rattle.vote_steps.specs.Boxes.{box_of};
 ghost use Rattle.vote_tray.specs.Passes.{new_pass};
-ghost use Rattle.vote_desks.specs.Slips.{Rises};
-ghost use Rattle.vote_desks.specs.Desks.{fresh_desk};
+ghost use Rattle.vote_shared.specs.Slips.{Rises};
+ghost use Rattle.vote_shared.specs.Desks.{fresh_desk};
 ghost use Rattle.vote_desks.specs.Audit.{IsAudited};
 ghost use Rattle.vote_desks.specs.Back.{AreBackFrom, AreHandedIn};
 ghost use Rattle.vote_desks.specs.Stops.{stop_fault, IsLeastStop};
 ghost use Rattle.vote_desks.specs.Faults.{CanStopVotes, IsOfDesk};
 
 use crate::auditing::{Audited, audit};
-use crate::desk::{Desk, Tally};
-use crate::fault::{DeskFault, VoteFault};
-use crate::sealed::gather;
-use crate::shared::{SharedBox, open_desks};
+use crate::fault::VoteFault;
 use crate::work::{Gate, Workplace, work_all};
 use crate::worked::{Stop, WorkerResult};
 use std::alloc::{AllocError, Global};
@@ -23,6 +20,7 @@ use std::sync::ledger::Blank;
 use std::sync::{Mutex, Wait};
 use std::thread::Threads;
 use vote_poll::{Lines, Poll};
+use vote_shared::{Desk, DeskFault, SharedBox, Tally, gather, open_desks};
 use vote_steps::MAX_DESKS;
 use vote_tray::{Pass, Tray, TrayFault};
 

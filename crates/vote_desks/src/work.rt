@@ -2,16 +2,13 @@
 ghost use Rattle.std.specs.Prelude.{◌≡◌, ◌+◌, ◌<◌, ◌≤◌, ◌^◌, ◌++◌, [], Some, All, IsNone, IfOk, IfErr, map, length, vec_len};
 ghost use Rattle.std.specs.List.{AllByRecursion};
 ghost use Rattle.vote_steps.specs.Boxes.{box_of};
-ghost use Rattle.vote_desks.specs.Slips.{stamps_of};
-ghost use Rattle.vote_desks.specs.Desks.{FitsBox};
+ghost use Rattle.vote_shared.specs.Slips.{stamps_of};
+ghost use Rattle.vote_shared.specs.Desks.{FitsBox};
 ghost use Rattle.vote_desks.specs.Work.{IsFresh, IsStampOf, IsUnused, tray_and_parts};
 ghost use Rattle.vote_desks.specs.Faults.{IsStartFault};
 
-use crate::desk::{Desk, Tally};
-use crate::fault::{EnterFault, VoteFault};
+use crate::fault::VoteFault;
 use crate::run::{RUN, read_run, run_length, take_run};
-use crate::shared::SharedBox;
-use crate::slip::Slip;
 use crate::worked::{Stop, WorkerResult};
 use std::alloc::Global;
 use std::snapshot::Snapshot;
@@ -19,6 +16,7 @@ use std::sync::{Mutex, Wait};
 use std::thread;
 use std::thread::{Promise, PromisedHandle, Scope, Threads};
 use vote_poll::{LineFault, Lines, Poll, Reading};
+use vote_shared::{Desk, EnterFault, SharedBox, Slip, Tally};
 use vote_tray::{Pass, Tray};
 
 /// Lets envelopes pass to the box, or stops their desks. All workers share it, and the box is not locked while it is asked.

@@ -1,12 +1,11 @@
 //! What a worker gives back.
 ghost use Rattle.std.specs.Prelude.{◌≡◌, None, Some};
-ghost use Rattle.vote_desks.specs.declared.fault.EnterFault.{EnterFault};
-ghost use Rattle.vote_desks.specs.declared.fault.EnterFault.TheVariants.{StampUsed};
+ghost use Rattle.vote_shared.specs.declared.EnterFault.{EnterFault};
+ghost use Rattle.vote_shared.specs.declared.EnterFault.TheVariants.{StampUsed};
 ghost use Rattle.vote_desks.specs.declared.worked.Stop.TheVariants.{Refused};
 ghost use Rattle.vote_desks.specs.Work.{HasCastAll};
 
-use crate::desk::{Desk, Tally};
-use crate::fault::EnterFault;
+use vote_shared::{Desk, EnterFault, Tally};
 use vote_tray::Pass;
 
 /// Why a worker stopped before the tray was empty.

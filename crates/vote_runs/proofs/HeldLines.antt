@@ -4,7 +4,7 @@ use Rattle.vote_poll.specs.PollContent.{PollContent}
 use Rattle.vote_steps.specs.Boxes.{BoxState}
 use Rattle.vote_steps.specs.Casting.{HoldsLines}
 use Rattle.vote_desks.specs.Audit.{IsAudited}
-use Rattle.vote_desks.specs.declared.slip.Slip.{Slip}
+use Rattle.vote_shared.specs.declared.Slip.{Slip}
 use Rattle.vote_sheet.specs.Texts.{Text}
 
 -- the lines, in the box that is asked for

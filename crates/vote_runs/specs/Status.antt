@@ -4,8 +4,8 @@ use Rattle.vote_keys.specs.declared.fault.PollFault.{PollFault}
 use Rattle.vote_keys.specs.declared.fault.PollFault.TheVariants as poll
 use Rattle.vote_poll.specs.declared.lines.LinesFault.{LinesFault}
 use Rattle.vote_poll.specs.declared.lines.LinesFault.TheVariants as lines
-use Rattle.vote_desks.specs.declared.DeskFault.{DeskFault}
-use Rattle.vote_desks.specs.declared.DeskFault.TheVariants as desk
+use Rattle.vote_shared.specs.declared.DeskFault.{DeskFault}
+use Rattle.vote_shared.specs.declared.DeskFault.TheVariants as desk
 use Rattle.vote_desks.specs.declared.VoteFault.{VoteFault}
 use Rattle.vote_desks.specs.declared.VoteFault.TheVariants as vote
 use Rattle.vote_files.specs.declared.ReadFault.{ReadFault}

@@ -9,7 +9,7 @@ use Rattle.vote_steps.specs.Boxes.{BoxState}
 use Rattle.vote_desks.specs.Audit.{IsAudited}
 use Rattle.vote_desks.specs.Faults.{CanStopVotes, IsOfDesk}
 use Rattle.vote_desks.specs.declared.VoteFault.{VoteFault}
-use Rattle.vote_desks.specs.declared.slip.Slip.{Slip}
+use Rattle.vote_shared.specs.declared.Slip.{Slip}
 use Rattle.vote_sheet.specs.Texts.{Text}
 use Rattle.vote_runs.specs.Counting.{AnswersCasting, NamesNoOption, casting_option}
 use Rattle.vote_runs.specs.Runs.{AnswersLines, AnswersPoll}

@@ -2,9 +2,9 @@ use Rattle.std.proofs.Common.{◌≡◌, List, None, length, map, get_or, refl, 
 use Rattle.std.specs.List.{All, AllByRecursion, range_with_len}
 use Rattle.std.proofs.lemmas.List.Elements.{recursion_from_All}
 use Rattle.vote_tray.specs.Passes.{PassState}
-use Rattle.vote_desks.specs.Desks.{DeskState}
+use Rattle.vote_shared.specs.Desks.{DeskState}
 use Rattle.vote_desks.specs.Work.{IsFresh, IsUnused, HasCastAll, tray_and_parts}
-use Rattle.vote_desks.proofs.Joined.{length_range}
+use Rattle.vote_shared.proofs.Ranges.{length_range}
 use Rattle.vote_desks.proofs.BackLemmas.{are_fresh, are_unused, fresh_numbers, back_from}
 use Rattle.vote_desks.proofs.votes.cast_all.Goals as goal
 

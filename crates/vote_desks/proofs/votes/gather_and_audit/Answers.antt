@@ -1,8 +1,8 @@
 use Rattle.std.proofs.Common.{Err, length, refl, sym, ap, subst, arith}
 use Rattle.std.specs.List.{All}
 use Rattle.vote_desks.specs.declared.fault.AuditFault.TheVariants.{SizeDiffers, CountDiffers}
-use Rattle.vote_desks.specs.Slips.{Rises}
-use Rattle.vote_desks.specs.Desks.{SealedState}
+use Rattle.vote_shared.specs.Slips.{Rises}
+use Rattle.vote_shared.specs.Desks.{SealedState}
 use Rattle.vote_desks.proofs.BackLemmas.{gathered_count, gathered_rise, has_sizes}
 use Rattle.vote_desks.proofs.votes.gather_and_audit.Goals as goal
 

@@ -2,7 +2,7 @@ use Rattle.std.proofs.Common.{◌≡◌, [], IfOk, IfErr, length, map, sym, ap, 
 use Rattle.std.specs.List.{range_with_len}
 use Rattle.vote_tray.specs.Passes.{HasAllParts, new_pass}
 use Rattle.vote_steps.specs.Boxes.{box_of}
-use Rattle.vote_desks.specs.Desks.{SharedState, fresh_desk}
+use Rattle.vote_shared.specs.Desks.{SharedState, fresh_desk}
 use Rattle.vote_desks.specs.Faults.{IsOfDesk}
 use Rattle.vote_desks.proofs.BackLemmas.{Contains-range}
 use Rattle.vote_desks.proofs.votes.serve.Goals as goal

@@ -1,7 +1,7 @@
 use Rattle.std.proofs.Common.{◌++◌, ◌∷◌, [], length, take, sym, ap, ◌∙◌, append_assoc, length-append, arith}
 use Rattle.std.proofs.lemmas.List.{map-append, take_more}
-use Rattle.vote_desks.specs.Slips.{stamps_of}
-use Rattle.vote_desks.specs.Desks.{DeskState}
+use Rattle.vote_shared.specs.Slips.{stamps_of}
+use Rattle.vote_shared.specs.Desks.{DeskState}
 use Rattle.vote_desks.proofs.work.cast_run.Goals as goal
 
 pub loop-place-preserved : goal.loop-place-preserved

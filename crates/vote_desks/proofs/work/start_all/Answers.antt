@@ -4,7 +4,7 @@ use Rattle.std.specs.List.{AllByRecursion, remove}
 use Rattle.std.proofs.lemmas.Bool.{eqb-true}
 use Rattle.std.proofs.lemmas.List.{append-nil, length-map, map-append}
 use Rattle.vote_tray.specs.Passes.{PassState}
-use Rattle.vote_desks.specs.Desks.{DeskState}
+use Rattle.vote_shared.specs.Desks.{DeskState}
 use Rattle.vote_desks.specs.Work.{IsFresh, IsUnused}
 use Rattle.vote_desks.proofs.work.start_all.Goals as goal
 

@@ -1,8 +1,8 @@
 use Rattle.std.proofs.Common.{◌≡◌, ◌-◌, ◌≤◌, length}
 use Rattle.std.specs.List.{All}
 use Rattle.vote_desks.specs.declared.run.TheConstants.{RUN}
-use Rattle.vote_desks.specs.Slips.{stamps_of}
-use Rattle.vote_desks.specs.Desks.{FitsBox}
+use Rattle.vote_shared.specs.Slips.{stamps_of}
+use Rattle.vote_shared.specs.Desks.{FitsBox}
 use Rattle.vote_desks.specs.Work.{IsRising, stamps_taken}
 use Rattle.vote_desks.proofs.work.work.Given as goal
 

@@ -1,0 +1,4 @@
+pub mod ClosingLemmas
+pub mod Ranges
+pub mod Numbered
+pub mod SheetSums

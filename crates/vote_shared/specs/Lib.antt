@@ -1,0 +1,4 @@
+-- what the contracts of public calls say
+pub mod Slips
+pub mod Desks
+pub mod Books

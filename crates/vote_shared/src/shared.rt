@@ -1,0 +1,145 @@
+//! The box behind its lock, and the opening of its desks.
+ghost use Rattle.std.specs.Prelude.{◌≡◌, ◌≤◌, ◌<◌, ◌↔◌, ◌⊎◌, [], Err, map, IsTrue, IfOk, OnOk, IfErr, OnErr, vec_len};
+ghost use Rattle.std.specs.List.{range_with_len};
+ghost use Rattle.vote_steps.specs.History.{is_closed, standing_ranks};
+ghost use Rattle.vote_steps.specs.Boxes.{box_of};
+ghost use Rattle.vote_shared.specs.Slips.{CanReply};
+ghost use Rattle.vote_shared.specs.Desks.{FitsBox, HasRoom, IsLater, fresh_desk, with_close, with_slip};
+
+use crate::desk::{Desk, Held, Tally};
+use crate::entry::enter;
+use crate::fault::{DeskFault, EnterFault, NoVoter};
+use crate::slip::Slip;
+use std::alloc::Global;
+use std::marker::Model;
+use std::sync::ledger::Blank;
+use std::sync::{Mutex, Wait};
+use vote_poll::{MAX_LINES, Poll, Ranks, Reading};
+use vote_steps::{AlreadyClosed, BallotBox, MAX_DESKS};
+
+/// A box that desks share, behind one lock. Contracts see how many desks were opened, and the box as it was then.
+#[derive(Drop)]
+pub struct SharedBox<VL: Tally, RL: Tally> {
+    pub(crate) desks: u8,
+    pub(crate) held: Mutex<Held<VL, RL>>,
+}
+
+impl<VL: Tally, RL: Tally> Model for SharedBox<VL, RL> {
+    ghost use Rattle.std.specs.Prelude.{◌≡◌, ◌≤◌};
+    ghost use Rattle.vote_steps.specs.declared.TheConstants.{MAX_DESKS};
+    ghost use Rattle.vote_shared.specs.Desks.{SharedState};
+
+    ghost Value = { SharedState };
+
+    ghost view = { λ s. record { desks = s.desks; opened = VL.opened } };
+
+    ghost invariant = { λ s. (1 ≤ s.desks) × (s.desks ≤ MAX_DESKS) × (s.desks ≡ VL.desks) × (s.desks ≡ RL.desks) };
+}
+
+/// Opens an empty box for a poll, with desks 1 to `desks` that share it.
+///
+/// A desk's sheet has room for `limit` slips, which is also the greatest stamp that the box takes. The box and all sheets take
+/// their memory here. Each blank is for one ledger and is cut into as many parts as there are desks. The only fault is `Memory`.
+pub fn open_desks<VL: Tally, RL: Tally>(
+    alloc: Global,
+    poll: &Poll,
+    limit: u32,
+    desks: u8,
+    valid: Blank,
+    refused: Blank,
+) -> Result<(SharedBox<VL, RL>, Vec<Desk<VL, RL>>), DeskFault>
+    requires limit { limit ≤ MAX_LINES }
+    requires desks { (1 ≤ desks) × (desks ≤ MAX_DESKS) }
+    requires valid { (valid.name ≡ VL.name) × (valid.parts ≡ VL.parts) × (VL.parts ≡ desks) × (VL.desks ≡ desks) }
+    requires refused { (refused.name ≡ RL.name) × (refused.parts ≡ RL.parts) × (RL.parts ≡ desks) × (RL.desks ≡ desks) }
+    requires opened { VL.opened ≡ box_of poll.now limit [] }
+    ensures opened { IfOk result (λ r. r.0 ≡ record { desks = desks; opened = box_of poll.now limit [] }) }
+    ensures len { IfOk result (λ r. vec_len r.1 ≡ desks) }
+    ensures desks { IfOk result (λ r. r.1.items ≡ map (fresh_desk limit) (range_with_len 1 desks)) }
+    ensures err { IfErr result (λ fault. fault ≡ DeskFault.Memory) }
+{
+    let ballot_box = BallotBox::for_poll(alloc, poll, limit)?;
+    let (valid_book, mut valid_rest) = valid.open::<VL>();
+    let (refused_book, mut refused_rest) = refused.open::<RL>();
+    let mut opened = Vec::new(alloc);
+    for index in 0..desks {
+        let sheet = Vec::with_capacity(alloc, limit as usize)?;
+        opened.push(Desk {
+            number: index + 1,
+            limit,
+            sheet,
+            valid_share: valid_rest.split_off(1, 0),
+            refused_share: refused_rest.split_off(1, 0),
+        })?;
+    }
+    let held = Held {
+        ballot_box,
+        valid_book,
+        refused_book,
+    };
+    let shared = SharedBox {
+        desks,
+        held: Mutex::new(held),
+    };
+    Ok((shared, opened))
+}
+
+impl<VL: Tally, RL: Tally> SharedBox<VL, RL> {
+    /// Casts an envelope at a desk, as `enter` does, and holds the lock for no longer.
+    ///
+    /// Which stamps were used and whether the box is open, no caller can know before: another desk may cast or close first.
+    pub fn cast(
+        &self,
+        rt: &impl Wait,
+        desk: &mut Desk<VL, RL>,
+        stamp: u32,
+        reading: Reading,
+    ) -> Result<Slip, EnterFault>
+        ensures noted { IfOk result (λ slip. desk.new ≡ with_slip desk.old slip) }
+        ensures stamp { IfOk result (λ slip. slip.stamp ≡ stamp) }
+        ensures reply { IfOk result (λ slip. CanReply self.now.opened.last_in_time stamp reading slip.reply) }
+        ensures sizes { (result ≡ Err EnterFault.Sizes) ↔ ¬ FitsBox self.now.opened reading }
+        ensures full { (result ≡ Err EnterFault.SheetFull) ↔ (FitsBox self.now.opened reading × ¬ HasRoom desk.old) }
+        ensures range { (result ≡ Err EnterFault.StampRange) ↔ (FitsBox self.now.opened reading × HasRoom desk.old × ((stamp ≡ 0) ⊎ (self.now.opened.limit < stamp))) }
+        ensures err { OnErr result (desk.new ≡ desk.old) }
+    {
+        enter(&mut *self.held.lock(rt), desk, stamp, reading)
+    }
+
+    /// Closes the box. Casts that come later are answered `BoxClosed`.
+    pub fn close(&self, rt: &impl Wait) -> Result<(), AlreadyClosed> {
+        close(&mut *self.held.lock(rt))
+    }
+
+    /// The ranks of the ballot of a voter that stands, by the voter's number from 0.
+    pub fn standing(&self, rt: &impl Wait, voter: usize) -> Result<Option<Ranks>, NoVoter>
+        ensures none { (result ≡ Err record {}) ↔ (self.now.opened.electors ≤ voter) }
+    {
+        standing(&*self.held.lock(rt), voter)
+    }
+}
+
+/// Closes a box.
+#[tactic(auto, using(crate::proofs::ClosingLemmas::valid_kept, crate::proofs::ClosingLemmas::refused_kept))]
+fn close<VL: Tally, RL: Tally>(held: &mut Held<VL, RL>) -> Result<(), AlreadyClosed>
+    ensures ok { OnOk result (held.new ≡ with_close held.old) }
+    ensures already { (result ≡ Err record {}) ↔ IsTrue (is_closed held.old.ballot_box.steps) }
+    ensures err { OnErr result (held.new ≡ held.old) }
+{
+    held.ballot_box.close()
+}
+
+/// The ranks of the ballot of a voter that stands.
+fn standing<VL: Tally, RL: Tally>(
+    held: &Held<VL, RL>,
+    voter: usize,
+) -> Result<Option<Ranks>, NoVoter>
+    ensures opened { IsLater VL.opened held.now.ballot_box }
+    ensures ok { IfOk result (λ ranks. ranks ≡ standing_ranks held.now.ballot_box.last_in_time held.now.ballot_box.steps voter) }
+    ensures none { (result ≡ Err record {}) ↔ (held.now.ballot_box.electors ≤ voter) }
+{
+    if voter >= held.ballot_box.electors() {
+        return Err(NoVoter);
+    }
+    Ok(held.ballot_box.standing(voter))
+}
