@@ -12,8 +12,9 @@
 #![tactic(auto)]
 
 ghost use Rattle.std.specs.Prelude.{◌≡◌, ◌⊎◌, Err};
-ghost use Rattle.vote_command.specs.Order.{DesksFit, order_status};
+ghost use Rattle.vote_command.specs.Order.{DesksFit};
 ghost use Rattle.vote_runs.specs.Status.{status};
+ghost use Rattle.vote_tasks.specs.WordStatus.{order_status};
 
 use std::io::{ErrorKind, IsTerminal};
 use std::process::ExitCode;
@@ -21,10 +22,10 @@ use std::rt::{Env, Files};
 use std::sync::Wait;
 use std::thread::Threads;
 use std::{env, io};
-use vote_command::{OrderFault, Task, order, order_status};
+use vote_command::{OrderFault, Task, order};
 use vote_desks::NoGate;
 use vote_runs::{Ended, Job, RunFault, perform_on};
-use vote_tasks::{Inputs, job_of, read_inputs, read_joined, report};
+use vote_tasks::{Inputs, job_of, order_status, read_inputs, read_joined, report};
 
 const TERMINAL_HINT: &str = "reading a poll and its ballots from the terminal; see debvote --help";
 

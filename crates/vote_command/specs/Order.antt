@@ -94,10 +94,3 @@ RefusesIfAtFault kinds subcommand (Help text) = Unit {0}
 RefusesIfAtFault kinds subcommand (Refused text) = ((k : ErrorKind) × IsRefusal k × IsAmong k kinds) ⊎ ((task : Task) → AsksFor subcommand task → ⊥)
 RefusesIfAtFault kinds subcommand NotUtf8 = ⊥
 RefusesIfAtFault kinds subcommand Memory = Unit {0}
-
--- the exit status for words that are no task
-abbrev pub order_status : OrderFault → ℕ
-order_status (Help text) = 0
-order_status (Refused text) = 2
-order_status NotUtf8 = 2
-order_status Memory = 5

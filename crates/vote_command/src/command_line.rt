@@ -6,7 +6,7 @@ ghost use Rattle.clap.specs.Values.{kind_of};
 ghost use Rattle.clap.specs.declared.builder.command.Command.TheViews.{out-Command as fields_of};
 ghost use Rattle.clap.specs.Words.{app_of, first_of, found_of, rows_of, rule_of, subcommand_of, subcommand_rows_of, with_subcommand};
 ghost use Rattle.vote_command.specs.CommandLine.{ballots_command, bare_command, check_command, count_command, counting_command, debvote_command, desks_flag, explain_command, flag, picture_command, required_flag, standing_command, steps_command, verify_command};
-ghost use Rattle.vote_command.specs.Order.{AsksFor, DesksFit, HasDesks, HasValues, HelpsIfAsked, IsFaultOfKind, RefusesIfAtFault, order_status, subcommand_name};
+ghost use Rattle.vote_command.specs.Order.{AsksFor, DesksFit, HasDesks, HasValues, HelpsIfAsked, IsFaultOfKind, RefusesIfAtFault, subcommand_name};
 ghost use Rattle.vote_command.specs.declared.command_line.Task.{Task};
 
 use crate::{MAX_DESKS, VERSION};
@@ -459,15 +459,4 @@ pub fn order<'a>(alloc: Global, words: &'a [&'a str]) -> Result<Task<'a>, OrderF
 {
     let mut command = debvote_command(alloc)?;
     order_of(alloc, &mut command, words)
-}
-
-/// The exit status for words that are no task.
-pub fn order_status(fault: &OrderFault) -> u8
-    ensures { result ≡ order_status fault.now }
-{
-    match fault {
-        OrderFault::Help(_) => 0,
-        OrderFault::Refused(_) | OrderFault::NotUtf8 => 2,
-        OrderFault::Memory => 5,
-    }
 }

@@ -2,7 +2,6 @@
 //!
 //! - [`order`] reads the words after the program's name by `clap`, and gives the [`Task`] that they ask for, or says why they
 //!   are none ([`OrderFault`]): they ask for help, they are refused, or memory ran out.
-//! - [`order_status`] is the exit status of words that are no task.
 //!
 //! **What is promised.** The contracts of `clap` say which faults words have and which values it finds in them. By them a task
 //! is answered only where the words have no fault, and it has the values of the words; help comes only where the words ask for
@@ -14,7 +13,7 @@
 
 mod command_line;
 
-pub use command_line::{OrderFault, Task, order, order_status};
+pub use command_line::{OrderFault, Task, order};
 
 /// The version of the program, as `debvote --version` says it.
 pub const VERSION: &str = "1.0.0";

@@ -1,2 +1,3 @@
 -- what the contracts of public calls say
 pub mod Jobs
+pub mod WordStatus

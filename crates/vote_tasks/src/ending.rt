@@ -2,7 +2,9 @@
 
 ghost use Rattle.std.specs.Prelude.{◌≡◌};
 ghost use Rattle.vote_runs.specs.Status.{status};
+ghost use Rattle.vote_tasks.specs.WordStatus.{order_status};
 
+use vote_command::OrderFault;
 use vote_runs::{Ended, RunFault, status};
 
 /// Says on standard error why a run did not come to its end, and gives the exit status.
@@ -13,4 +15,15 @@ pub fn report<R: Eprint>(rt: &R, outcome: &Result<Ended, RunFault>) -> u8
         let _ = eprintln!(rt; "debvote: {fault}");
     }
     status(outcome)
+}
+
+/// The exit status for words that are no task.
+pub fn order_status(fault: &OrderFault) -> u8
+    ensures { result ≡ order_status fault.now }
+{
+    match fault {
+        OrderFault::Help(_) => 0,
+        OrderFault::Refused(_) | OrderFault::NotUtf8 => 2,
+        OrderFault::Memory => 5,
+    }
 }

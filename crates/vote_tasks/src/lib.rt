@@ -2,16 +2,18 @@
 //!
 //! - [`read_inputs`] reads the files that a task names, whole and up to their limits, and [`read_joined`] standard input.
 //! - [`job_of`] is the job that a task asks for, once its files are read.
-//! - [`report`] says on standard error why a run did not come to its end, and gives the exit status.
+//! - [`report`] says on standard error why a run did not come to its end, and gives the exit status; [`order_status`] is that of
+//!   words that are no task.
 //!
 //! **What is promised.** A job asks for what its task asks for, with the bytes of its own files. An input that was not read is
-//! told by the fault of that input. The exit status is that of the table in `vote_runs`. What a file holds no contract can say.
+//! told by the fault of that input. The exit status of a run is that of the table in `vote_runs`. What a file holds no contract
+//! can say.
 #![tactic(auto)]
 
 mod ending;
 mod inputs;
 mod tasks;
 
-pub use ending::report;
+pub use ending::{order_status, report};
 pub use inputs::{Inputs, read_inputs, read_joined};
 pub use tasks::job_of;
