@@ -2,7 +2,7 @@
 ghost use Rattle.std.specs.Prelude.{◌≡◌, ◌≤◌, []};
 ghost use Rattle.vote_steps.specs.Boxes.{box_of};
 
-use crate::inputs::election_of;
+use crate::inputs::{assert_same, lines_of, poll_of};
 use std::alloc::Global;
 use std::marker::Brand;
 use std::process::Abort;
@@ -15,7 +15,7 @@ use vote_desks::{
     AuditFault, Desk, DeskFault, EnterFault, NoVoter, Sealed, SharedBox, Slip, Tally, audit,
     compare, gather, open_desks,
 };
-use vote_poll::{Lines, Poll, PollFault, Reading, read_line};
+use vote_poll::{Lines, Poll, Reading, read_line};
 use vote_steps::{AlreadyClosed, MAX_DESKS, Reply};
 
 const TWO_ELECTORS: &str =
@@ -70,7 +70,7 @@ fn assert_cast<VL: Tally, RL: Tally, R: Wait + Abort>(
 ) {
     let desk = desks.get_mut(index).expect(rt, "the desk");
     let reply = reply_of(shared.cast(rt, desk, stamp, reading));
-    assert_eq!(rt; reply, answer, "at stamp {stamp}");
+    assert_same(rt, (stamp, reply), (stamp, answer));
 }
 
 /// Whether a ballot of this voter stands.
@@ -110,19 +110,32 @@ fn assert_done<VL: Tally, RL: Tally, R: Wait + Abort>(
                 Err(EnterFault::Sizes),
             );
         }
-        Deed::Close(answer) => assert_eq!(rt; shared.close(rt), answer),
-        Deed::Standing(voter, answer) => assert_eq!(rt; stands(rt, shared, voter), answer),
+        Deed::Close(answer) => assert_same(rt, shared.close(rt), answer),
+        Deed::Standing(voter, answer) => assert_same(rt, stands(rt, shared, voter), answer),
     }
 }
 
-/// Does the deeds at a box for two lines, and gathers the desks from the last to the first, or all but the last.
+/// Does the deeds.
+fn assert_all_done<VL: Tally, RL: Tally, R: Wait + Abort>(
+    rt: &R,
+    poll: &Poll,
+    shared: &SharedBox<VL, RL>,
+    desks: &mut [Desk<VL, RL>],
+    deeds: &[Deed],
+) {
+    for deed in deeds {
+        assert_done(rt, poll, shared, desks, *deed);
+    }
+}
+
+/// Does the deeds at a box for two lines, and gathers the desks from the last to the first, of which only so many are kept.
 fn act<VL: Tally, RL: Tally, R: Wait + Abort>(
     rt: &R,
     alloc: Global,
     poll: &Poll,
     desks: u8,
     deeds: &[Deed],
-    all: bool,
+    kept: usize,
     valid: Blank,
     refused: Blank,
 ) -> Result<Sealed, DeskFault>
@@ -132,12 +145,8 @@ fn act<VL: Tally, RL: Tally, R: Wait + Abort>(
     requires opened { VL.opened ≡ box_of poll.now 2 [] }
 {
     let (shared, mut opened) = open_desks::<VL, RL>(alloc, poll, 2, desks, valid, refused)?;
-    for deed in deeds {
-        assert_done(rt, poll, &shared, &mut opened, *deed);
-    }
-    if !all {
-        opened.pop();
-    }
+    assert_all_done(rt, poll, &shared, &mut opened, deeds);
+    opened.truncate(kept);
     opened.reverse();
     gather(alloc, shared, opened)
 }
@@ -149,13 +158,14 @@ fn acted<R: Wait + Abort>(
     poll: &str,
     desks: u8,
     deeds: &[Deed],
-    all: bool,
-) -> Result<Result<Sealed, DeskFault>, Fail>
+    kept: usize,
+) -> Result<Sealed, DeskFault>
     requires { (1 ≤ desks) × (desks ≤ MAX_DESKS) }
 {
-    let poll = Poll::from_text(alloc, poll.as_bytes())?;
-    let (valid, refused) = (Blank::new(u64::from(desks)), Blank::new(u64::from(desks)));
-    Ok(act::<Brand, Brand, R>(rt, alloc, &poll, desks, deeds, all, valid, refused))
+    let poll = poll_of(rt, alloc, poll)?;
+    let valid = Blank::new(u64::from(desks));
+    let refused = Blank::new(u64::from(desks));
+    act::<Brand, Brand, R>(rt, alloc, &poll, desks, deeds, kept, valid, refused)
 }
 
 /// How many steps a box has, how many of its lines are valid and refused, and how many desks it had.
@@ -176,18 +186,17 @@ fn counts_after<R: Wait + Abort>(
     alloc: Global,
     desks: u8,
     deeds: &[Deed],
-) -> Result<(usize, u64, u64, u8), Fail>
+) -> Result<(usize, u64, u64, u8), DeskFault>
     requires { (1 ≤ desks) × (desks ≤ MAX_DESKS) }
 {
-    let sealed = acted(rt, alloc, TWO_ELECTORS, desks, deeds, true)??;
+    let sealed = acted(rt, alloc, TWO_ELECTORS, desks, deeds, usize::from(desks))?;
     Ok(counts_of(&sealed))
 }
 
 #[test]
-fn a_missing_desk_is_told(rt: HostRuntime) -> Result<(), Fail> {
-    let gathered = acted(&rt, rt.alloc(), TWO_ELECTORS, 2, &[], false)?;
-    assert_eq!(rt; gathered.err(), Some(DeskFault::MissingDesk));
-    Ok(())
+fn a_missing_desk_is_told(rt: HostRuntime) {
+    let gathered = acted(&rt, rt.alloc(), TWO_ELECTORS, 2, &[], 1);
+    assert_same(&rt, gathered.err(), Some(DeskFault::MissingDesk));
 }
 
 const REFUSED_CASTS: [Deed; 7] = [
@@ -203,7 +212,7 @@ const REFUSED_CASTS: [Deed; 7] = [
 #[test]
 fn refused_casts_change_nothing(rt: HostRuntime) -> Result<(), Fail> {
     let counts = counts_after(&rt, rt.alloc(), 1, &REFUSED_CASTS)?;
-    assert_eq!(rt; counts, (3, 2, 0, 1));
+    assert_same(&rt, counts, (3, 2, 0, 1));
     Ok(())
 }
 
@@ -221,7 +230,7 @@ const CLOSED: [Deed; 8] = [
 #[test]
 fn a_closed_box_refuses(rt: HostRuntime) -> Result<(), Fail> {
     let counts = counts_after(&rt, rt.alloc(), 1, &CLOSED)?;
-    assert_eq!(rt; counts, (3, 1, 1, 1));
+    assert_same(&rt, counts, (3, 1, 1, 1));
     Ok(())
 }
 
@@ -289,9 +298,21 @@ fn found_for<R: Threads + Wait + Abort + Sync>(
     deeds: &[Deed],
     poll: &Poll,
     lines: &Lines<'_>,
-) -> Result<(Option<AuditFault>, Option<AuditFault>), Fail> {
-    let sealed = acted(rt, alloc, opened, 1, deeds, true)??;
+) -> Result<(Option<AuditFault>, Option<AuditFault>), DeskFault> {
+    let sealed = acted(rt, alloc, opened, 1, deeds, 1)?;
     Ok(found_in(rt, poll, lines, sealed))
+}
+
+/// The same for a poll and two lines.
+fn found_by<R: Threads + Wait + Abort + Sync>(
+    rt: &R,
+    alloc: Global,
+    opened: &str,
+    deeds: &[Deed],
+    poll: &Poll,
+) -> Result<(Option<AuditFault>, Option<AuditFault>), DeskFault> {
+    let lines = lines_of(rt, alloc, TWO_LINES)?;
+    found_for(rt, alloc, opened, deeds, poll, &lines)
 }
 
 /// Does the deeds at one desk of a box for a poll, and answers what is found for another poll and two lines, with the sheet of
@@ -302,9 +323,9 @@ fn found_after<R: Threads + Wait + Abort + Sync>(
     opened: &str,
     deeds: &[Deed],
     poll: &str,
-) -> Result<(Option<AuditFault>, Option<AuditFault>), Fail> {
-    let (poll, lines) = election_of(alloc, poll, TWO_LINES)?;
-    found_for(rt, alloc, opened, deeds, &poll, &lines)
+) -> Result<(Option<AuditFault>, Option<AuditFault>), DeskFault> {
+    let poll = poll_of(rt, alloc, poll)?;
+    found_by(rt, alloc, opened, deeds, &poll)
 }
 
 const SIZE: Option<AuditFault> = Some(AuditFault::SizeDiffers);
@@ -329,9 +350,10 @@ const AUDITS: &[(&str, &[Deed], &str, Option<AuditFault>, Option<AuditFault>)] =
 
 #[test]
 fn audits_find_what_differs(rt: HostRuntime) -> Result<(), Fail> {
-    for (opened, deeds, poll, with, without) in AUDITS {
+    for audit in AUDITS {
+        let (opened, deeds, poll, with, without) = *audit;
         let found = found_after(&rt, rt.alloc(), opened, deeds, poll)?;
-        assert_eq!(rt; found, (*with, *without));
+        assert_same(&rt, found, (with, without));
     }
     Ok(())
 }
@@ -341,20 +363,35 @@ fn cast_fifty<VL: Tally, RL: Tally, R: Wait + Abort>(
     rt: &R,
     poll: &Poll,
     shared: &SharedBox<VL, RL>,
-    mut desk: Desk<VL, RL>,
+    desk: &mut Desk<VL, RL>,
     first: u32,
-) -> Desk<VL, RL>
+)
     requires { first ≤ 51 }
 {
     for before in 0..50u32 {
         let reading = read_line(poll, ANN.as_bytes());
-        let cast = shared.cast(rt, &mut desk, first + before, reading);
+        let cast = shared.cast(rt, desk, first + before, reading);
         assert!(rt; cast.is_ok());
     }
-    desk
 }
 
 /// Two desks in threads of their own, each of which casts fifty envelopes.
+fn cast_at_once<VL: Tally + Send + Sync, RL: Tally + Send + Sync, R: Threads + Wait + Abort + Sync>(
+    rt: &R,
+    poll: &Poll,
+    shared: &SharedBox<VL, RL>,
+    desks: &mut [Desk<VL, RL>],
+) {
+    if let [first, second] = desks {
+        thread::join(
+            rt,
+            move || cast_fifty(rt, poll, shared, first, 51),
+            move || cast_fifty(rt, poll, shared, second, 1),
+        );
+    }
+}
+
+/// A box at which two desks cast a hundred envelopes at once.
 fn act_at_once<VL: Tally + Send + Sync, RL: Tally + Send + Sync, R: Threads + Wait + Abort + Sync>(
     rt: &R,
     alloc: Global,
@@ -367,41 +404,31 @@ fn act_at_once<VL: Tally + Send + Sync, RL: Tally + Send + Sync, R: Threads + Wa
     requires opened { VL.opened ≡ box_of poll.now 100 [] }
 {
     let (shared, mut opened) = open_desks::<VL, RL>(alloc, poll, 100, 2, valid, refused)?;
-    let second = opened.pop().expect(rt, "the second desk");
-    let first = opened.pop().expect(rt, "the first desk");
-    let open = &shared;
-    let (first, second) = thread::join(
-        rt,
-        move || cast_fifty(rt, poll, open, first, 51),
-        move || cast_fifty(rt, poll, open, second, 1),
-    );
-    opened.push(first)?;
-    opened.push(second)?;
+    cast_at_once(rt, poll, &shared, &mut opened);
     gather(alloc, shared, opened)
 }
 
-/// A box at which two desks cast at once.
+/// The same for the poll of two electors.
 fn acted_at_once<R: Threads + Wait + Abort + Sync>(
     rt: &R,
     alloc: Global,
-) -> Result<Result<Sealed, DeskFault>, Fail> {
-    let poll = Poll::from_text(alloc, TWO_ELECTORS.as_bytes())?;
-    let (valid, refused) = (Blank::new(2), Blank::new(2));
-    Ok(act_at_once::<Brand, Brand, R>(rt, alloc, &poll, valid, refused))
+) -> Result<Sealed, DeskFault> {
+    let poll = poll_of(rt, alloc, TWO_ELECTORS)?;
+    act_at_once::<Brand, Brand, R>(rt, alloc, &poll, Blank::new(2), Blank::new(2))
 }
 
 /// What such a box counts.
 fn counts_at_once<R: Threads + Wait + Abort + Sync>(
     rt: &R,
     alloc: Global,
-) -> Result<(usize, u64, u64, u8), Fail> {
-    let sealed = acted_at_once(rt, alloc)??;
+) -> Result<(usize, u64, u64, u8), DeskFault> {
+    let sealed = acted_at_once(rt, alloc)?;
     Ok(counts_of(&sealed))
 }
 
 #[test]
 fn two_desks_in_threads(rt: HostRuntime) -> Result<(), Fail> {
-    assert_eq!(rt; counts_at_once(&rt, rt.alloc())?, (101, 100, 0, 2));
+    assert_same(&rt, counts_at_once(&rt, rt.alloc())?, (101, 100, 0, 2));
     Ok(())
 }
 
@@ -421,16 +448,15 @@ fn open_two<VL: Tally, RL: Tally>(
 }
 
 /// The numbers of the two desks of a box for the poll of two electors.
-fn numbers_of_two(alloc: Global) -> Result<Result<(u8, u8), DeskFault>, PollFault> {
-    let poll = Poll::from_text(alloc, TWO_ELECTORS.as_bytes())?;
-    let (valid, refused) = (Blank::new(2), Blank::new(2));
-    Ok(open_two::<Brand, Brand>(alloc, &poll, valid, refused))
+fn numbers_of_two(rt: &impl Abort, alloc: Global) -> Result<(u8, u8), DeskFault> {
+    let poll = poll_of(rt, alloc, TWO_ELECTORS)?;
+    open_two::<Brand, Brand>(alloc, &poll, Blank::new(2), Blank::new(2))
 }
 
 #[test]
 fn memory_of_open_desks(rt: HostRuntime) -> Result<(), Fail> {
-    let numbers = numbers_of_two(rt.alloc())??;
-    assert_eq!(rt; numbers, (1, 2));
+    let numbers = numbers_of_two(&rt, rt.alloc())?;
+    assert_same(&rt, numbers, (1, 2));
     Ok(())
 }
 
@@ -442,6 +468,6 @@ const AT_TWO_DESKS: [Deed; 2] = [
 #[test]
 fn memory_of_gather(rt: HostRuntime) -> Result<(), Fail> {
     let counts = counts_after(&rt, rt.alloc(), 2, &AT_TWO_DESKS)?;
-    assert_eq!(rt; counts, (3, 2, 0, 2));
+    assert_same(&rt, counts, (3, 2, 0, 2));
     Ok(())
 }

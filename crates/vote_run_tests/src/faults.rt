@@ -1,5 +1,6 @@
 //! Exit statuses, and the words of faults, which no clause says.
 
+use crate::inputs::assert_same;
 use std::alloc::{AllocError, Global};
 use std::test::Fail;
 use vote_desks::{AuditFault, DeskFault, EnterFault, VoteFault};
@@ -39,8 +40,9 @@ const STATUSES: &[(Result<Ended, RunFault>, u8)] = &[
 
 #[test]
 fn statuses_of_runs(rt: HostRuntime) {
-    for (outcome, number) in STATUSES {
-        assert_eq!(rt; status(outcome), *number);
+    for line in STATUSES {
+        let (outcome, number) = *line;
+        assert_same(&rt, (outcome, status(&outcome)), (outcome, number));
     }
 }
 
@@ -124,8 +126,13 @@ const FAULT_LINES: &[(RunFault, &str)] = &[
 
 #[test]
 fn fault_lines(rt: HostRuntime) -> Result<(), Fail> {
-    for (fault, words) in FAULT_LINES {
-        assert!(rt; reads_as(rt.alloc(), *fault, words)?, "{words}");
+    for line in FAULT_LINES {
+        let (fault, words) = *line;
+        assert_same(
+            &rt,
+            (fault, reads_as(rt.alloc(), fault, words)?),
+            (fault, true),
+        );
     }
     Ok(())
 }

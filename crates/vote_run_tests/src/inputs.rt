@@ -1,8 +1,9 @@
-//! What several of the tests read: an election, and how a poll and its lines are read where memory may be refused.
+//! What several of the tests read: an election, how a poll and its lines are read where memory may be refused, and how what was
+//! found is compared.
 
-use std::alloc::Global;
+use std::alloc::{AllocError, Global};
+use std::fmt::Debug;
 use std::process::Abort;
-use std::test::Fail;
 use vote_poll::{Lines, LinesFault, Poll, PollFault};
 
 /// A poll of nine electors and three options.
@@ -17,38 +18,34 @@ pub(crate) const BALLOTS: &str =
 pub(crate) const SHEET: &str =
     "Poll: A cycle\nElectors: 9\nQuorum: 3Q, 5 votes\nLines: 9\nValid: 9\nRefused: 0\nVoters: 9\nOptions:\n  1 ratio 1 A\n  2 ratio 1 B\n  3 ratio 1 C\n  4 default None\nVotes:\n        1     2     3     4\n  1     -     6     4     9\n  2     3     -     7     9\n  3     5     2     -     9\n  4     0     0     0     -\nDropped:\n  none\nDefeats:\n  1 over 2 by 6 to 3\n  1 over 4 by 9 to 0\n  2 over 3 by 7 to 2\n  2 over 4 by 9 to 0\n  3 over 1 by 5 to 4\n  3 over 4 by 9 to 0\nRound 1: 1 2 3\n  drop 3 over 1\nRound 2: 1\nWinner: 1 A\n";
 
-/// A poll and the lines of a ballot file.
-pub(crate) fn election_of<'a>(
-    alloc: Global,
-    poll: &str,
-    ballots: &'a str,
-) -> Result<(Poll, Lines<'a>), Fail> {
-    let poll = Poll::from_text(alloc, poll.as_bytes())?;
-    Ok((poll, Lines::split(alloc, ballots.as_bytes())?))
+/// Asserts that what was found is what is right. An `assert_eq!` in its place would be some dozen statements and two borrows of the
+/// caller, which its proof pays with seconds.
+pub(crate) fn assert_same<T: Copy + PartialEq + Debug>(rt: &impl Abort, found: T, right: T) {
+    assert_eq!(rt; found, right);
 }
 
-/// The poll, or `refused` where its memory was.
-pub(crate) fn poll_of(rt: &impl Abort, alloc: Global, text: &str) -> Result<Poll, &'static str> {
+/// The poll. Its only fault is a want of memory.
+pub(crate) fn poll_of(rt: &impl Abort, alloc: Global, text: &str) -> Result<Poll, AllocError> {
     match Poll::from_text(alloc, text.as_bytes()) {
         Ok(poll) => Ok(poll),
         Err(fault) => {
-            assert_eq!(rt; fault, PollFault::Memory);
-            Err("refused")
+            assert_same(rt, fault, PollFault::Memory);
+            Err(AllocError)
         }
     }
 }
 
-/// The lines of a ballot file, or `refused` where their memory was.
+/// The lines of a ballot file. Their only fault is a want of memory.
 pub(crate) fn lines_of<'a>(
     rt: &impl Abort,
     alloc: Global,
     text: &'a str,
-) -> Result<Lines<'a>, &'static str> {
+) -> Result<Lines<'a>, AllocError> {
     match Lines::split(alloc, text.as_bytes()) {
         Ok(lines) => Ok(lines),
         Err(fault) => {
-            assert_eq!(rt; fault, LinesFault::Memory);
-            Err("refused")
+            assert_same(rt, fault, LinesFault::Memory);
+            Err(AllocError)
         }
     }
 }

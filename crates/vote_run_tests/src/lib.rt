@@ -2,8 +2,8 @@
 //! command of the program shows, as gates, threads, a refused growth or a writer that fails.
 //!
 //! Those of the calls up to the box are in `vote_tests`. A module has the tests of one crate and is named by it, as `sheet` by
-//! `vote_sheet`; `votes` has more of `vote_desks`, `faults` more of `vote_runs`, and `inputs` what several of them read. It names
-//! public calls alone.
+//! `vote_sheet`; `desks` has those of `vote_shared` and of the audit, `votes` the others of `vote_desks`, `faults` more of
+//! `vote_runs`, and `inputs` what several of them read. It names public calls alone.
 
 #![tactic(auto)]
 

@@ -8,7 +8,7 @@
 ghost use Rattle.std.specs.Prelude.{◌≤◌};
 ghost use Rattle.vote_runs.specs.Performing.{HasDesks};
 
-use crate::inputs::{BALLOTS, CYCLE, SHEET, election_of};
+use crate::inputs::{BALLOTS, CYCLE, SHEET, assert_same, lines_of, poll_of};
 use std::alloc::{AllocError, Global};
 use std::io::{self, ErrorKind, Write};
 use std::process::Abort;
@@ -74,12 +74,10 @@ fn written_of_cycle<R: Threads + Wait + Sync>(
     limit: usize,
     can_flush: bool,
 ) -> Result<(bool, usize, (u32, bool), Result<Ended, RunFault>), AllocError> {
-    let paper = Paper {
-        at_once,
-        limit,
-        can_flush,
-        ..endless(alloc)?
-    };
+    let mut paper = endless(alloc)?;
+    paper.at_once = at_once;
+    paper.limit = limit;
+    paper.can_flush = can_flush;
     let job = Job::Count {
         poll: CYCLE.as_bytes(),
         ballots: BALLOTS.as_bytes(),
@@ -115,10 +113,10 @@ const WRITES: &[(
 
 #[test]
 fn a_sheet_is_written_up_to_the_fault_and_flushed_once(rt: HostRuntime) -> Result<(), Fail> {
-    for (at_once, limit, can_flush, len, flushed, end) in WRITES {
-        let found = written_of_cycle(&rt, rt.alloc(), *at_once, *limit, *can_flush)?;
-        let len = len.unwrap_or(SHEET.len());
-        assert_eq!(rt; found, (true, len, *flushed, *end));
+    for write in WRITES {
+        let (at_once, limit, can_flush, len, flushed, end) = *write;
+        let found = written_of_cycle(&rt, rt.alloc(), at_once, limit, can_flush)?;
+        assert_same(&rt, found, (true, len.unwrap_or(SHEET.len()), flushed, end));
     }
     Ok(())
 }
@@ -129,13 +127,13 @@ fn any_write_of_a_sheet_may_fail(rt: HostRuntime) -> Result<(), Fail> {
     let output = Err(RunFault::Output);
     for limit in 0..SHEET.len() {
         let found = written_of_cycle(&rt, rt.alloc(), 1, limit, true)?;
-        assert_eq!(rt; found, (true, limit, (0, false), output));
+        assert_same(&rt, found, (true, limit, (0, false), output));
     }
     Ok(())
 }
 
 /// A gate that stops at this envelope alone, or at each where there is none.
-#[derive(Drop)]
+#[derive(Clone, Copy)]
 struct StopsAt(Option<u32>);
 
 impl Gate for StopsAt {
@@ -149,11 +147,27 @@ impl Gate for StopsAt {
     fn after(&self, _desk: u8, _slip: &Slip) {}
 }
 
+/// Does a job on a paper with room: whether this text is written, how much is, and how the job ends.
+fn performed<G: Gate + Sync, R: Threads + Wait + Sync>(
+    rt: &R,
+    alloc: Global,
+    job: &Job<'_>,
+    gate: &G,
+    text: &str,
+) -> Result<(bool, usize, Result<Ended, RunFault>), AllocError>
+    requires { HasDesks job.now }
+{
+    let paper = endless(alloc)?;
+    let (paper, ended) = perform_on(rt, alloc, job, gate, paper);
+    let is_text = paper.written.as_slice() == text.as_bytes();
+    Ok((is_text, paper.written.len(), ended))
+}
+
 /// How a count of the cycle at so many desks ends through a gate, and how much is written.
 fn ended_through<R: Threads + Wait + Sync>(
     rt: &R,
     alloc: Global,
-    gate: &StopsAt,
+    gate: StopsAt,
     desks: u8,
 ) -> Result<(usize, Result<Ended, RunFault>), AllocError>
     requires { (1 ≤ desks) × (desks ≤ 8) }
@@ -164,16 +178,17 @@ fn ended_through<R: Threads + Wait + Sync>(
         desks,
         casting: None,
     };
-    let (paper, ended) = perform_on(rt, alloc, &job, gate, endless(alloc)?);
-    Ok((paper.written.len(), ended))
+    let (_, len, ended) = performed(rt, alloc, &job, &gate, SHEET)?;
+    Ok((len, ended))
 }
 
 #[test]
 fn a_gate_stops_a_count(rt: HostRuntime) -> Result<(), Fail> {
     let stopped = Err(RunFault::Vote(VoteFault::Gate(1)));
-    let one = ended_through(&rt, rt.alloc(), &StopsAt(Some(5)), 1)?;
-    let all = ended_through(&rt, rt.alloc(), &StopsAt(None), 8)?;
-    assert_eq!(rt; (one, all), ((0, stopped), (0, stopped)));
+    let one = ended_through(&rt, rt.alloc(), StopsAt(Some(5)), 1)?;
+    assert_same(&rt, one, (0, stopped));
+    let all = ended_through(&rt, rt.alloc(), StopsAt(None), 8)?;
+    assert_same(&rt, all, (0, stopped));
     Ok(())
 }
 
@@ -197,10 +212,10 @@ fn fault_of<R: Threads + Wait + Sync>(
 ) -> Result<Option<RunFault>, Fail>
     requires { HasDesks job.now }
 {
-    let (paper, ended) = perform_on(rt, alloc, job, &NoGate, endless(alloc)?);
+    let (is_text, len, ended) = performed(rt, alloc, job, &NoGate, text)?;
     match ended {
-        Ok(found) if found == end && paper.written.as_slice() == text.as_bytes() => Ok(None),
-        Err(fault) if paper.written.is_empty() && status(&ended) == 5 => Ok(Some(fault)),
+        Ok(found) if found == end && is_text => Ok(None),
+        Err(fault) if len == 0 && status(&ended) == 5 => Ok(Some(fault)),
         _ => Err(Fail::from("another answer")),
     }
 }
@@ -317,24 +332,37 @@ fn memory_of_steps_joined(rt: HostRuntime) -> Result<(), Fail> {
     walk(&rt, rt.alloc(), &job, replies, Ended::Done)
 }
 
-/// The sheet of a poll and its lines, whose votes are taken at two desks; `refused` where the memory of the sheet was.
+/// The sheet of a poll and its lines, whose votes are taken at two desks.
 fn sheet_at_two<R: Threads + Wait + Sync>(
     rt: &R,
     alloc: Global,
     poll: &Poll,
     lines: &Lines<'_>,
-) -> Result<String, Fail> {
+) -> Result<String, VoteFault> {
     let audited = take_votes(rt, alloc, poll, lines, 2, &NoGate)?;
     match sheet(alloc, poll, lines, &audited, None) {
         Ok(text) => Ok(text),
-        Err(AllocError) => Err(Fail::from("refused")),
+        Err(AllocError) => Err(VoteFault::Memory),
     }
 }
 
-/// The sheet of the cycle at two desks.
-fn sheet_of_cycle<R: Threads + Wait + Sync>(rt: &R, alloc: Global) -> Result<String, Fail> {
-    let (poll, lines) = election_of(alloc, CYCLE, BALLOTS)?;
-    sheet_at_two(rt, alloc, &poll, &lines)
+/// The sheet of the nine ballots for a poll.
+fn sheet_for<R: Threads + Wait + Abort + Sync>(
+    rt: &R,
+    alloc: Global,
+    poll: &Poll,
+) -> Result<String, VoteFault> {
+    let lines = lines_of(rt, alloc, BALLOTS)?;
+    sheet_at_two(rt, alloc, poll, &lines)
+}
+
+/// The sheet of the cycle.
+fn sheet_of_cycle<R: Threads + Wait + Abort + Sync>(
+    rt: &R,
+    alloc: Global,
+) -> Result<String, VoteFault> {
+    let poll = poll_of(rt, alloc, CYCLE)?;
+    sheet_for(rt, alloc, &poll)
 }
 
 #[test]

@@ -1,6 +1,8 @@
 //! A whole sheet and the texts of `steps`, `standing` and `check`, each call with its memory refused in turn (tests/refused-memory).
 
-use crate::inputs::{BALLOTS, CYCLE, SHEET, lines_of, poll_of};
+ghost use Rattle.vote_steps.specs.Casting.{HoldsLines};
+
+use crate::inputs::{BALLOTS, CYCLE, SHEET, assert_same, lines_of, poll_of};
 use std::alloc::{AllocError, Global};
 use std::process::Abort;
 use std::test::Fail;
@@ -9,7 +11,7 @@ use vote_poll::{Lines, Poll};
 use vote_sheet::{
     Verification, check_text, picture_of_box, sheet_of_box, standing_text, steps_text, verify_sheet,
 };
-use vote_steps::cast_all;
+use vote_steps::{BallotBox, cast_all};
 
 const THREE_ELECTORS: &str =
     "title = \"A tie\"\noptions = [\"A\", \"B\", \"C\"]\nratios = [1, 1, 1]\ndefault = \"None\"\nquorum = 1\nroll = [\"v0\", \"v1\", \"v2\"]\n";
@@ -32,7 +34,7 @@ fn won_by_first<R: Abort>(
     made: Result<(String, Decision), AllocError>,
 ) -> Result<String, AllocError> {
     let (text, decision) = made?;
-    assert_eq!(rt; decision, Decision::Winner(1));
+    assert_same(rt, decision, Decision::Winner(1));
     Ok(text)
 }
 
@@ -42,12 +44,34 @@ fn difference<R: Abort>(
     said: Result<(String, Verification), AllocError>,
 ) -> Result<String, AllocError> {
     let (text, found) = said?;
-    assert_eq!(rt; found, Verification::Differs);
+    assert_same(rt, found, Verification::Differs);
     Ok(text)
 }
 
-/// The sheet of the lines, which says that option 1 wins, their picture, or in which line a text differs from the sheet.
+/// The sheet of a box in which the lines were cast, which says that option 1 wins, the picture, or in which line a text differs
+/// from the sheet.
 fn counted<R: Abort>(
+    rt: &R,
+    alloc: Global,
+    poll: &Poll,
+    lines: &Lines<'_>,
+    ballot_box: &BallotBox,
+    made: Made,
+) -> Result<String, AllocError>
+    requires { HoldsLines poll.now lines.now ballot_box.now }
+{
+    match made {
+        Made::Difference(text) => {
+            let said = verify_sheet(alloc, poll, lines, ballot_box, text.as_bytes());
+            difference(rt, said)
+        }
+        Made::Picture => won_by_first(rt, picture_of_box(alloc, poll, lines, ballot_box, None)),
+        _ => won_by_first(rt, sheet_of_box(alloc, poll, lines, ballot_box, None)),
+    }
+}
+
+/// What is made of the lines by a count.
+fn cast_and_counted<R: Abort>(
     rt: &R,
     alloc: Global,
     poll: &Poll,
@@ -55,17 +79,10 @@ fn counted<R: Abort>(
     made: Made,
 ) -> Result<String, AllocError> {
     let ballot_box = cast_all(alloc, poll, lines)?;
-    match made {
-        Made::Difference(text) => {
-            let said = verify_sheet(alloc, poll, lines, &ballot_box, text.as_bytes());
-            difference(rt, said)
-        }
-        Made::Picture => won_by_first(rt, picture_of_box(alloc, poll, lines, &ballot_box, None)),
-        _ => won_by_first(rt, sheet_of_box(alloc, poll, lines, &ballot_box, None)),
-    }
+    counted(rt, alloc, poll, lines, &ballot_box, made)
 }
 
-/// The text; one that takes a count is made by [`counted`].
+/// The text; one that takes a count is made by [`cast_and_counted`].
 fn text_of<R: Abort>(
     rt: &R,
     alloc: Global,
@@ -77,30 +94,30 @@ fn text_of<R: Abort>(
         Made::Steps => steps_text(alloc, poll, lines),
         Made::Standing => standing_text(alloc, poll, lines),
         Made::Check => check_text(alloc, poll),
-        _ => counted(rt, alloc, poll, lines, made),
+        _ => cast_and_counted(rt, alloc, poll, lines, made),
     }
 }
 
-/// The text for a poll and the lines of a text, or `refused` where the memory of the lines was.
+/// The text for a poll and the lines of a text.
 fn made_for<R: Abort>(
     rt: &R,
     alloc: Global,
     poll: &Poll,
     ballots: &str,
     made: Made,
-) -> Result<Result<String, AllocError>, &'static str> {
+) -> Result<String, AllocError> {
     let lines = lines_of(rt, alloc, ballots)?;
-    Ok(text_of(rt, alloc, poll, &lines, made))
+    text_of(rt, alloc, poll, &lines, made)
 }
 
-/// The text for a poll and its lines, or `refused` where the memory of these was.
+/// The text for a poll and its lines.
 fn made_of<R: Abort>(
     rt: &R,
     alloc: Global,
     poll: &str,
     ballots: &str,
     made: Made,
-) -> Result<Result<String, AllocError>, &'static str> {
+) -> Result<String, AllocError> {
     let poll = poll_of(rt, alloc, poll)?;
     made_for(rt, alloc, &poll, ballots, made)
 }
@@ -114,7 +131,7 @@ fn assert_made<R: Abort>(
     made: Made,
     whole: &str,
 ) -> Result<(), Fail> {
-    match made_of(rt, alloc, poll, ballots, made)? {
+    match made_of(rt, alloc, poll, ballots, made) {
         Ok(text) => {
             assert!(rt; text.as_str() == whole, "{}", text);
             Ok(())

@@ -1,7 +1,7 @@
 //! Votes taken by workers: gates that wait or do not let pass, and what a want of memory or of a thread leaves.
 ghost use Rattle.std.specs.Prelude.{◌≤◌};
 
-use crate::inputs::{BALLOTS, CYCLE};
+use crate::inputs::{BALLOTS, CYCLE, assert_same, lines_of, poll_of};
 use std::alloc::{AllocError, Global};
 use std::process::Abort;
 use std::sync::atomic::AtomicU64;
@@ -11,7 +11,7 @@ use std::test::Fail;
 use std::thread;
 use std::thread::Threads;
 use vote_desks::{Audited, Gate, NoGate, Slip, VoteFault, take_votes};
-use vote_poll::{Lines, Poll};
+use vote_poll::Poll;
 use vote_steps::{BallotBox, MAX_DESKS, Step, Totals};
 
 /// Asserts what the nine lines give: the totals, and the votes of A over B, of B over C, and of C over A.
@@ -21,38 +21,39 @@ fn assert_nine(rt: &impl Abort, ballot_box: &BallotBox) {
         refused: 0,
         voters: 9,
     };
+    assert_same(rt, ballot_box.totals(), totals);
     let matrix = ballot_box.matrix();
-    assert_eq!(rt; (ballot_box.totals(), matrix.options()), (totals, 4));
+    assert!(rt; matrix.options() == 4);
     let cycle = [matrix.votes(1, 2), matrix.votes(2, 3), matrix.votes(3, 1)];
-    assert_eq!(rt; cycle, [6, 7, 5]);
+    assert_same(rt, cycle, [6, 7, 5]);
 }
 
 /// Takes the votes of the lines of a text by a poll.
-fn taken_by<G: Gate + Sync, R: Threads + Wait + Sync>(
+fn taken_by<G: Gate + Sync, R: Threads + Wait + Abort + Sync>(
     rt: &R,
     alloc: Global,
     poll: &Poll,
     lines: &str,
     desks: u8,
     gate: &G,
-) -> Result<Result<Audited, VoteFault>, Fail>
+) -> Result<Audited, VoteFault>
     requires { (1 ≤ desks) × (desks ≤ MAX_DESKS) }
 {
-    let lines = Lines::split(alloc, lines.as_bytes())?;
-    Ok(take_votes(rt, alloc, poll, &lines, desks, gate))
+    let lines = lines_of(rt, alloc, lines)?;
+    take_votes(rt, alloc, poll, &lines, desks, gate)
 }
 
 /// Takes the votes of the lines of a text by the nine electors' poll.
-fn taken<G: Gate + Sync, R: Threads + Wait + Sync>(
+fn taken<G: Gate + Sync, R: Threads + Wait + Abort + Sync>(
     rt: &R,
     alloc: Global,
     lines: &str,
     desks: u8,
     gate: &G,
-) -> Result<Result<Audited, VoteFault>, Fail>
+) -> Result<Audited, VoteFault>
     requires { (1 ≤ desks) × (desks ≤ MAX_DESKS) }
 {
-    let poll = Poll::from_text(alloc, CYCLE.as_bytes())?;
+    let poll = poll_of(rt, alloc, CYCLE)?;
     taken_by(rt, alloc, &poll, lines, desks, gate)
 }
 
@@ -61,6 +62,13 @@ fn taken<G: Gate + Sync, R: Threads + Wait + Sync>(
 struct Told {
     before: OnceLock<u8>,
     after: OnceLock<(u8, Slip)>,
+}
+
+impl Told {
+    /// By which desk it was asked, and of which cast it was told.
+    fn both(&self) -> (Option<u8>, Option<(u8, Slip)>) {
+        (self.before.get().copied(), self.after.get().copied())
+    }
 }
 
 /// When a gate lets envelopes pass.
@@ -126,10 +134,7 @@ impl Turnstile {
     fn assert_told(&self, rt: &impl Abort, desk: u8, sheet: &[Slip]) {
         for slip in sheet {
             let told = self.told.get(slip.stamp as usize).expect(rt, "the stamp");
-            assert_eq!(rt;
-                (told.before.get(), told.after.get()),
-                (Some(&desk), Some(&(desk, *slip)))
-            );
+            assert_same(rt, told.both(), (Some(desk), Some((desk, *slip))));
         }
     }
 }
@@ -166,7 +171,8 @@ fn last_cast(ballot_box: &BallotBox) -> Option<u32> {
 
 /// Asserts that a gate was asked for nine envelopes of two desks and told of each cast.
 fn assert_nine_told(rt: &impl Abort, gate: &Turnstile, audited: &Audited) {
-    assert_eq!(rt; (gate.counts(), audited.desks()), ((9, 9), 2));
+    assert!(rt; audited.desks() == 2);
+    assert_same(rt, gate.counts(), (9, 9));
     gate.assert_told(rt, 1, audited.sheet_of(1));
     gate.assert_told(rt, 2, audited.sheet_of(2));
 }
@@ -176,8 +182,8 @@ fn last_through<R: Threads + Wait + Abort + Sync>(
     rt: &R,
     alloc: Global,
     gate: &Turnstile,
-) -> Result<Option<u32>, Fail> {
-    let audited = taken(rt, alloc, BALLOTS, 2, gate)??;
+) -> Result<Option<u32>, VoteFault> {
+    let audited = taken(rt, alloc, BALLOTS, 2, gate)?;
     assert_nine_told(rt, gate, &audited);
     Ok(last_cast(audited.ballot_box()))
 }
@@ -187,7 +193,7 @@ fn last_taken<R: Threads + Wait + Abort + Sync>(
     rt: &R,
     alloc: Global,
     passes: Passes,
-) -> Result<Option<u32>, Fail> {
+) -> Result<Option<u32>, VoteFault> {
     let gate = Turnstile::new(alloc, passes)?;
     last_through(rt, alloc, &gate)
 }
@@ -198,46 +204,44 @@ fn envelopes_wait_for_one_another(rt: HostRuntime) -> Result<(), Fail> {
     let _ = last_taken(&rt, alloc, Passes::Together)?;
     let first = last_taken(&rt, alloc, Passes::Behind(1, 8))?;
     let fifth = last_taken(&rt, alloc, Passes::Behind(5, 8))?;
-    assert_eq!(rt; (first, fifth), (Some(1), Some(5)));
+    assert_same(&rt, (first, fifth), (Some(1), Some(5)));
     Ok(())
 }
 
-/// Takes lines by a gate, and answers the fault, for how many envelopes the gate was asked, and of how many casts it was told.
-fn stopped<R: Threads + Wait + Sync>(
+/// A fault, for how many envelopes a gate was asked, and of how many casts it was told.
+type Stopped = (Option<VoteFault>, (u64, u64));
+
+/// Takes lines by a gate, and answers how it was stopped.
+fn stopped<R: Threads + Wait + Abort + Sync>(
     rt: &R,
     alloc: Global,
     lines: &str,
     desks: u8,
     passes: Passes,
-) -> Result<(Option<VoteFault>, (u64, u64)), Fail>
+) -> Result<Stopped, AllocError>
     requires { (1 ≤ desks) × (desks ≤ MAX_DESKS) }
 {
     let gate = Turnstile::new(alloc, passes)?;
-    let fault = taken(rt, alloc, lines, desks, &gate)?.err();
+    let fault = taken(rt, alloc, lines, desks, &gate).err();
     Ok((fault, gate.counts()))
 }
 
 #[test]
 fn the_least_desk_that_stopped_is_named(rt: HostRuntime) -> Result<(), Fail> {
     let alloc = rt.alloc();
-    let fifth = stopped(&rt, alloc, BALLOTS, 1, Passes::AllBut(5))?;
-    let each = stopped(&rt, alloc, BALLOTS, MAX_DESKS, Passes::Never)?;
-    let none = stopped(&rt, alloc, "", MAX_DESKS, Passes::Never)?;
     let first = Some(VoteFault::Gate(1));
-    assert_eq!(rt;
-        (fifth, each, none),
-        (
-            (first, (5, 4)),
-            (first, (u64::from(MAX_DESKS), 0)),
-            (None, (0, 0))
-        )
-    );
+    let fifth = stopped(&rt, alloc, BALLOTS, 1, Passes::AllBut(5))?;
+    assert_same(&rt, fifth, (first, (5, 4)));
+    let each = stopped(&rt, alloc, BALLOTS, MAX_DESKS, Passes::Never)?;
+    assert_same(&rt, each, (first, (u64::from(MAX_DESKS), 0)));
+    let none = stopped(&rt, alloc, "", MAX_DESKS, Passes::Never)?;
+    assert_same(&rt, none, (None, (0, 0)));
     Ok(())
 }
 
 #[test]
 fn memory_of_take_votes(rt: HostRuntime) -> Result<(), Fail> {
-    match taken(&rt, rt.alloc(), BALLOTS, 2, &NoGate)? {
+    match taken(&rt, rt.alloc(), BALLOTS, 2, &NoGate) {
         Ok(audited) => {
             assert_nine(&rt, audited.ballot_box());
             Ok(())
@@ -251,13 +255,13 @@ fn memory_of_take_votes(rt: HostRuntime) -> Result<(), Fail> {
 
 #[test]
 fn threads_of_take_votes(rt: HostRuntime) -> Result<(), Fail> {
-    match taken(&rt, rt.alloc(), BALLOTS, 3, &NoGate)? {
+    match taken(&rt, rt.alloc(), BALLOTS, 3, &NoGate) {
         Ok(audited) => {
-            assert_eq!(rt; audited.desks(), 3);
+            assert_same(&rt, audited.desks(), 3);
             Ok(())
         }
         Err(fault) => {
-            assert_eq!(rt; fault, VoteFault::Thread);
+            assert_same(&rt, fault, VoteFault::Thread);
             Err("refused".into())
         }
     }

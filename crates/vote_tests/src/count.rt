@@ -3,6 +3,7 @@ ghost use Rattle.std.specs.Prelude.{◌≡◌, ◌<◌, ◌≤◌, IfOk, All, le
 ghost use Rattle.vote_poll.specs.PollContent.{option_count};
 ghost use Rattle.vote_count.specs.Ballots.{IsBallotOf};
 
+use crate::same::assert_same;
 use std::alloc::{AllocError, Global};
 use std::process::Abort;
 use std::test::Fail;
@@ -318,7 +319,7 @@ fn agrees(alloc: Global, poll: &Poll, relation: u16) -> Result<(bool, bool), Fai
 fn assert_agreement(rt: &impl Abort, alloc: Global, poll: &Poll) -> Result<(), Fail> {
     for relation in 0..729 {
         let found = agrees(alloc, poll, relation)?;
-        assert_eq!(rt; found, (true, true));
+        assert_same(rt, found, (true, true));
     }
     Ok(())
 }
@@ -351,7 +352,7 @@ fn rows_by_poll(alloc: Global) -> Result<(Word, Word, Word), Fail> {
 #[test]
 fn rows_as_words(rt: HostRuntime) -> Result<(), Fail> {
     let rows = rows_by_poll(rt.alloc())?;
-    assert_eq!(rt; rows, (0xFFFF_FFFE, 0x8000_0000, 0));
+    assert_same(&rt, rows, (0xFFFF_FFFE, 0x8000_0000, 0));
     Ok(())
 }
 
@@ -367,7 +368,7 @@ fn a_cycle_without_its_weakest_defeat(rt: HostRuntime) -> Result<(), Fail> {
     let words = words_of_cycle(rt.alloc())?;
     let whole = (6, [0b1111, 0b1111, 0b1111, 0]);
     let left = (5, [0b1110, 0b1100, 0b1000, 0]);
-    assert_eq!(rt; words, (whole, left));
+    assert_same(&rt, words, (whole, left));
     Ok(())
 }
 
@@ -423,6 +424,6 @@ fn compared_by_poll(alloc: Global) -> Result<(bool, bool, bool), Fail> {
 #[test]
 fn exchange_is_take_out_and_add(rt: HostRuntime) -> Result<(), Fail> {
     let found = compared_by_poll(rt.alloc())?;
-    assert_eq!(rt; found, (true, true, false));
+    assert_same(&rt, found, (true, true, false));
     Ok(())
 }

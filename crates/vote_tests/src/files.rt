@@ -6,6 +6,7 @@
 
 ghost use Rattle.std.specs.Prelude.{◌≡◌};
 
+use crate::same::assert_same;
 use std::alloc::{AllocError, Global};
 use std::marker::Brand;
 use std::snapshot::Snapshot;
@@ -145,9 +146,10 @@ fn written_of_text(
 
 #[test]
 fn a_text_is_written_whole_or_to_the_fault(rt: HostRuntime) {
-    for (at_once, limit, flushes, len, ends) in WRITTEN {
-        let found = written_of_text(rt.alloc(), *at_once, *limit, *flushes);
-        assert_eq!(rt; found, (true, *len, *ends));
+    for line in WRITTEN {
+        let (at_once, limit, flushes, len, ends) = *line;
+        let found = written_of_text(rt.alloc(), at_once, limit, flushes);
+        assert_same(&rt, found, (true, len, ends));
     }
 }
 
@@ -240,9 +242,10 @@ const FIVE_BYTES: &[(u32, usize, bool, Option<ReadFault>)] = &[
 
 #[test]
 fn an_input_is_read_to_its_end_or_refused(rt: HostRuntime) {
-    for (reads, limit, whole, fault) in FIVE_BYTES {
-        let found = read_whole(rt.alloc(), b"hello", 3, *reads, *limit);
-        assert_eq!(rt; found, (*whole, *fault));
+    for line in FIVE_BYTES {
+        let (reads, limit, whole, fault) = *line;
+        let found = read_whole(rt.alloc(), b"hello", 3, reads, limit);
+        assert_same(&rt, found, (whole, fault));
     }
 }
 
@@ -262,7 +265,7 @@ fn an_input_of_a_mebibyte_and_a_byte_is_too_long(rt: HostRuntime) -> Result<(), 
     let most = read_many(rt.alloc(), 1_048_576, u32::MAX, 1_048_576)?;
     let more = read_many(rt.alloc(), 1_048_577, u32::MAX, 1_048_576)?;
     let refused = Some(ReadFault::TooLong);
-    assert_eq!(rt; (most, more), ((true, None), (false, refused)));
+    assert_same(&rt, (most, more), ((true, None), (false, refused)));
     Ok(())
 }
 
@@ -272,6 +275,6 @@ fn memory_of_read_limited(rt: HostRuntime) -> Result<(), Fail> {
     if found.1 == Some(ReadFault::Memory) {
         return Err(Fail::from("refused"));
     }
-    assert_eq!(rt; found, (true, None));
+    assert_same(&rt, found, (true, None));
     Ok(())
 }

@@ -1,5 +1,6 @@
 //! What is found in a poll file, with the memory of the call refused in turn (tests/refused-memory).
 
+use crate::same::assert_same;
 use std::alloc::{AllocError, Global};
 use std::test::Fail;
 use vote_findings::explain_poll;
@@ -31,8 +32,8 @@ fn explained(alloc: Global, text: &[u8]) -> Result<(String, Option<PollFault>), 
 fn memory_of_explain_poll(rt: HostRuntime) -> Result<(), Fail> {
     match explained(rt.alloc(), FAULTY.as_bytes()) {
         Ok((findings, fault)) => {
-            let title = Some(PollFault::Key(PollKey::Title));
-            assert_eq!(rt; (findings.as_str(), fault), (FINDINGS, title));
+            assert_same(&rt, fault, Some(PollFault::Key(PollKey::Title)));
+            assert!(rt; findings.as_str() == FINDINGS, "{}", findings);
             Ok(())
         }
         Err(AllocError) => Err(Fail::from("refused")),

@@ -2,7 +2,8 @@
 //! command of the program shows, as a refused growth or a device that fails.
 //!
 //! Tests are crates of their own, this one and `vote_run_tests`, since the kit proves a crate with tests twice, with them and without.
-//! A module has the tests of one crate and is named by it, as `count` by `vote_count`; it names public calls alone.
+//! A module has the tests of one crate and is named by it, as `count` by `vote_count`; it names public calls alone. `same` has
+//! the assertion that they share.
 
 #![tactic(auto)]
 
@@ -14,6 +15,8 @@ mod files;
 mod findings;
 #[cfg(test)]
 mod poll;
+#[cfg(test)]
+mod same;
 #[cfg(test)]
 mod steps;
 #[cfg(test)]

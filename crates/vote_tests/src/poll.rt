@@ -1,4 +1,6 @@
+use crate::same::assert_same;
 use std::alloc::{AllocError, Global};
+use std::fmt::Display;
 use std::process::Abort;
 use std::test::Fail;
 use vote_poll::{
@@ -23,7 +25,7 @@ const NO_TEXT: &[&[u8]] = &[b"\xFF", b"A\xFF", b"v0\xFF"];
 #[test]
 fn names_that_are_no_text(rt: HostRuntime) -> Result<(), Fail> {
     for name in NO_TEXT {
-        assert_eq!(rt; named(rt.alloc(), name)?, (None, None));
+        assert_same(&rt, named(rt.alloc(), name)?, (None, None));
     }
     Ok(())
 }
@@ -36,14 +38,12 @@ fn read_small(alloc: Global, line: &[u8]) -> Result<Reading, PollFault> {
 
 /// Asserts the voter and the ranks of the ballot.
 fn assert_ballot(rt: &impl Abort, voter: usize, ranks: &Ranks) {
-    assert_eq!(rt; (voter, ranks.options()), (10, 3));
-    let read = (ranks.rank(1), ranks.rank(2), ranks.rank(3));
+    assert!(rt; ranks.options() == 3);
+    let read = [ranks.rank(1), ranks.rank(2), ranks.rank(3)];
+    assert_same(rt, (voter, read), (10, [Some(10), None, Some(9)]));
     let keys = ranks.sort_keys();
-    let keys = (keys[0], keys[1], keys[2], keys[3]);
-    assert_eq!(rt;
-        (read, keys),
-        ((Some(10), None, Some(9)), (10, UNRANKED, 9, 0))
-    );
+    let keys = [keys[0], keys[1], keys[2], keys[3]];
+    assert_same(rt, keys, [10, UNRANKED, 9, 0]);
 }
 
 #[test]
@@ -57,12 +57,17 @@ fn a_ballot_as_read(rt: HostRuntime) -> Result<(), Fail> {
     }
 }
 
+/// Whether a fault is told as a want of memory.
+fn is_told_as_memory<F: Display + Drop>(alloc: Global, fault: F) -> Result<bool, AllocError> {
+    let text = format!(in alloc; "{fault}")?;
+    Ok(text.as_str() == "out of memory")
+}
+
 #[test]
 fn words_of_refused_memory(rt: HostRuntime) -> Result<(), Fail> {
-    let of_poll = format!(in rt.alloc(); "{}", PollFault::Memory)?;
-    let of_lines = format!(in rt.alloc(); "{}", LinesFault::Memory)?;
-    let words = (of_poll.as_str(), of_lines.as_str());
-    assert_eq!(rt; words, ("out of memory", "out of memory"));
+    let of_poll = is_told_as_memory(rt.alloc(), PollFault::Memory)?;
+    let of_lines = is_told_as_memory(rt.alloc(), LinesFault::Memory)?;
+    assert_same(&rt, (of_poll, of_lines), (true, true));
     Ok(())
 }
 
@@ -70,10 +75,8 @@ fn words_of_refused_memory(rt: HostRuntime) -> Result<(), Fail> {
 fn assert_numbers(rt: &impl Abort, poll: &Poll) {
     let options = (poll.options(), poll.option_of(b"None"));
     let electors = (poll.electors(), poll.voter_of(b"v10"));
-    assert_eq!(rt;
-        (poll.title(), options, poll.quorum_multiple(), electors),
-        ("Small", (3, Some(3)), 2, (11, Some(10)))
-    );
+    assert_same(rt, (options, electors), ((3, Some(3)), (11, Some(10))));
+    assert_same(rt, (poll.title(), poll.quorum_multiple()), ("Small", 2));
 }
 
 #[test]
@@ -84,7 +87,7 @@ fn memory_of_from_text(rt: HostRuntime) -> Result<(), Fail> {
             Ok(())
         }
         Err(fault) => {
-            assert_eq!(rt; fault, PollFault::Memory);
+            assert_same(&rt, fault, PollFault::Memory);
             Err(Fail::from("refused"))
         }
     }
@@ -99,7 +102,7 @@ fn memory_of_from_text_at_a_fault(rt: HostRuntime) -> Result<(), Fail> {
     if fault == Some(PollFault::Memory) {
         return Err(Fail::from("refused"));
     }
-    assert_eq!(rt; fault, Some(PollFault::Ratio));
+    assert_same(&rt, fault, Some(PollFault::Ratio));
     Ok(())
 }
 
@@ -112,33 +115,42 @@ fn fault_of_too_many(alloc: Global) -> Result<Option<LinesFault>, AllocError> {
 
 /// Asserts that lines are `a`, an empty one and `b`.
 fn assert_three_lines(rt: &impl Abort, lines: &Lines<'_>) {
-    assert_eq!(rt; lines.len(), 3);
-    let read = (lines.line(0), lines.line(1), lines.line(2));
-    assert_eq!(rt; read, (b"a".as_slice(), b"".as_slice(), b"b".as_slice()));
+    assert!(rt; lines.len() == 3);
+    assert_same(rt, lines.line(0), b"a");
+    assert_same(rt, lines.line(1), b"");
+    assert_same(rt, lines.line(2), b"b");
 }
 
 #[test]
 fn memory_of_split(rt: HostRuntime) -> Result<(), Fail> {
     let too_many = fault_of_too_many(rt.alloc())?;
-    assert_eq!(rt; too_many, Some(LinesFault::TooMany));
+    assert_same(&rt, too_many, Some(LinesFault::TooMany));
     match Lines::split(rt.alloc(), b"a\n\nb") {
         Ok(lines) => {
             assert_three_lines(&rt, &lines);
             Ok(())
         }
         Err(fault) => {
-            assert_eq!(rt; fault, LinesFault::Memory);
+            assert_same(&rt, fault, LinesFault::Memory);
             Err(Fail::from("refused"))
         }
     }
 }
 
+/// How four bytes of five are shown.
+fn shown(alloc: Global) -> Result<String, AllocError> {
+    let mut text = String::new(alloc);
+    push_shown(&mut text, b"A \r\xFFB", 4)?;
+    Ok(text)
+}
+
 #[test]
 fn memory_of_push_shown(rt: HostRuntime) -> Result<(), Fail> {
-    let mut text = String::new(rt.alloc());
-    if push_shown(&mut text, b"A \r\xFFB", 4).is_err() {
-        return Err(Fail::from("refused"));
+    match shown(rt.alloc()) {
+        Ok(text) => {
+            assert_same(&rt, text.as_str(), "A \\x0D\\xFF");
+            Ok(())
+        }
+        Err(AllocError) => Err(Fail::from("refused")),
     }
-    assert_eq!(rt; text.as_str(), "A \\x0D\\xFF");
-    Ok(())
 }

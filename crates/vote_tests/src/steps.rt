@@ -1,6 +1,7 @@
 //! Worked examples, whose readings are the poll's own.
 ghost use Rattle.std.specs.Prelude.{◌<◌, ◌≤◌};
 
+use crate::same::assert_same;
 use std::alloc::{AllocError, Global};
 use std::process::Abort;
 use std::test::Fail;
@@ -49,8 +50,8 @@ fn cast_line(
     stamp: u32,
     line: &str,
 ) -> Result<Reply, StepFault> {
-    let sizes = (ballot_box.options(), ballot_box.electors());
-    assert_eq!(rt; (poll.options(), poll.electors()), sizes);
+    assert!(rt; poll.options() == ballot_box.options());
+    assert!(rt; poll.electors() == ballot_box.electors());
     ballot_box.cast(1, stamp, read_line(poll, line.as_bytes()))
 }
 
@@ -61,25 +62,30 @@ enum Act<'l> {
     Close(Result<(), AlreadyClosed>),
 }
 
+// Does one of them, and looks at its answer.
+fn play_one(rt: &impl Abort, ballot_box: &mut BallotBox, poll: &Poll, act: Act<'_>) {
+    match act {
+        Act::Cast(stamp, line, answer) => {
+            let found = cast_line(rt, ballot_box, poll, stamp, line);
+            assert_same(rt, (stamp, found), (stamp, answer));
+        }
+        Act::Close(answer) => {
+            assert_same(rt, ballot_box.close(), answer);
+            assert!(rt; !ballot_box.is_open());
+        }
+    }
+}
+
 // Does what is listed, and looks at each answer.
 fn play(rt: &impl Abort, ballot_box: &mut BallotBox, poll: &Poll, acts: &[Act<'_>]) {
     for act in acts {
-        match act {
-            Act::Cast(stamp, line, answer) => {
-                let found = cast_line(rt, ballot_box, poll, *stamp, line);
-                assert_eq!(rt; found, *answer, "stamp {stamp}");
-            }
-            Act::Close(answer) => {
-                assert_eq!(rt; ballot_box.close(), *answer);
-                assert!(rt; !ballot_box.is_open());
-            }
-        }
+        play_one(rt, ballot_box, poll, *act);
     }
 }
 
 // The votes of each of three options over each.
 fn table(rt: &impl Abort, matrix: &Matrix) -> [[u32; 3]; 3] {
-    assert_eq!(rt; matrix.options(), 3);
+    assert!(rt; matrix.options() == 3);
     let row = |a| [matrix.votes(a, 1), matrix.votes(a, 2), matrix.votes(a, 3)];
     [row(1), row(2), row(3)]
 }
@@ -92,8 +98,8 @@ fn look(rt: &impl Abort, ballot_box: &BallotBox, totals: [u64; 3], votes: [[u32;
         refused,
         voters,
     };
-    let found = (ballot_box.totals(), table(rt, &ballot_box.matrix()));
-    assert_eq!(rt; found, (totals, votes));
+    assert_same(rt, ballot_box.totals(), totals);
+    assert_same(rt, table(rt, &ballot_box.matrix()), votes);
 }
 
 // The matrix of a recount of the ballots that stand.
@@ -116,7 +122,7 @@ fn assert_recounted(
     let recounted = recounted(alloc, ballot_box)?;
     let votes = table(rt, &recounted);
     let found = table(rt, &ballot_box.matrix());
-    assert_eq!(rt; found, votes, "order {order}, stamp {stamp}");
+    assert_same(rt, (order, stamp, found), (order, stamp, votes));
     Ok(())
 }
 
@@ -124,17 +130,17 @@ fn assert_recounted(
 fn cast_hundred(
     rt: &impl Abort,
     alloc: Global,
+    ballot_box: &mut BallotBox,
     poll: &Poll,
     order: usize,
-) -> Result<BallotBox, AllocError> {
-    let mut ballot_box = BallotBox::new(alloc, 3, 10, 100, 100_000)?;
+) -> Result<(), AllocError> {
     for turn in 0..100 {
         let stamp = stamp_at(order, turn);
-        let answer = cast_line(rt, &mut ballot_box, poll, stamp, line_of(stamp));
+        let answer = cast_line(rt, ballot_box, poll, stamp, line_of(stamp));
         assert!(rt; answer.is_ok());
-        assert_recounted(rt, alloc, &ballot_box, order, stamp)?;
+        assert_recounted(rt, alloc, ballot_box, order, stamp)?;
     }
-    Ok(ballot_box)
+    Ok(())
 }
 
 // Does what is listed, looks at the totals and the votes, and answers how many steps there are.
@@ -170,7 +176,7 @@ fn played_by(
     acts: &[Act<'_>],
     totals: [u64; 3],
     votes: [[u32; 3]; 3],
-) -> Result<usize, Fail>
+) -> Result<usize, AllocError>
     requires { (limit ≤ MAX_LINES) × (last ≤ MAX_LINES) }
 {
     let mut ballot_box = BallotBox::new(alloc, 3, 2, limit, last)?;
@@ -187,10 +193,10 @@ fn played(
     acts: &[Act<'_>],
     totals: [u64; 3],
     votes: [[u32; 3]; 3],
-) -> Result<usize, Fail>
+) -> Result<usize, AllocError>
     requires { (limit ≤ MAX_LINES) × (last ≤ MAX_LINES) }
 {
-    let poll = Poll::from_text(alloc, TWO_ELECTORS.as_bytes())?;
+    let poll = poll_of_two(rt, alloc)?;
     played_by(rt, alloc, &poll, limit, last, acts, totals, votes)
 }
 
@@ -232,7 +238,7 @@ const REFUSALS: &[Act<'static>] = &[
 fn refusals_and_replies(rt: HostRuntime) -> Result<(), Fail> {
     let votes = [[0, 1, 1], [0, 0, 1], [0, 0, 0]];
     let steps = played(&rt, rt.alloc(), 2, 100_000, REFUSALS, [1, 1, 1], votes)?;
-    assert_eq!(rt; steps, 3);
+    assert_same(&rt, steps, 3);
     Ok(())
 }
 
@@ -279,7 +285,8 @@ fn replies_to_hundred(
     poll: &Poll,
     order: usize,
 ) -> Result<[usize; 4], AllocError> {
-    let ballot_box = cast_hundred(rt, alloc, poll, order)?;
+    let mut ballot_box = BallotBox::new(alloc, 3, 10, 100, 100_000)?;
+    cast_hundred(rt, alloc, &mut ballot_box, poll, order)?;
     let votes = [[0, 5, 10], [5, 0, 10], [0, 0, 0]];
     look(rt, &ballot_box, [95, 5, 10], votes);
     Ok(reply_counts(&ballot_box))
@@ -294,9 +301,9 @@ const ORDERS: &[(usize, [usize; 4])] = &[
 
 // Asserts how often each reply comes in each order.
 fn assert_orders(rt: &impl Abort, alloc: Global, poll: &Poll) -> Result<(), Fail> {
-    for (order, counts) in ORDERS {
-        let found = replies_to_hundred(rt, alloc, poll, *order)?;
-        assert_eq!(rt; found, *counts);
+    for line in ORDERS {
+        let (order, counts) = *line;
+        assert_same(rt, replies_to_hundred(rt, alloc, poll, order)?, counts);
     }
     Ok(())
 }
@@ -307,13 +314,13 @@ fn a_hundred_envelopes_in_three_orders(rt: HostRuntime) -> Result<(), Fail> {
     assert_orders(&rt, rt.alloc(), &poll)
 }
 
-// The poll of two electors, or `refused` where its memory was.
-fn poll_of_two(rt: &impl Abort, alloc: Global) -> Result<Poll, &'static str> {
+// The poll of two electors. Its only fault is a want of memory.
+fn poll_of_two(rt: &impl Abort, alloc: Global) -> Result<Poll, AllocError> {
     match Poll::from_text(alloc, TWO_ELECTORS.as_bytes()) {
         Ok(poll) => Ok(poll),
         Err(fault) => {
-            assert_eq!(rt; fault, PollFault::Memory);
-            Err("refused")
+            assert_same(rt, fault, PollFault::Memory);
+            Err(AllocError)
         }
     }
 }
@@ -339,7 +346,7 @@ const THREE: &[Act<'static>] = &[
 fn assert_takes_three(rt: &impl Abort, ballot_box: &mut BallotBox, poll: &Poll) {
     let votes = [[0, 0, 1], [2, 0, 1], [1, 1, 0]];
     let steps = play_to(rt, ballot_box, poll, THREE, [3, 0, 2], votes);
-    assert_eq!(rt; steps, 4);
+    assert_same(rt, steps, 4);
 }
 
 // Makes a box, and asserts that it is new and takes three envelopes.
@@ -350,44 +357,45 @@ fn assert_made(rt: &impl Abort, alloc: Global, poll: &Poll) -> Result<(), AllocE
     Ok(())
 }
 
+// The same by the poll of two electors.
+fn assert_made_for_two(rt: &impl Abort, alloc: Global) -> Result<(), AllocError> {
+    let poll = poll_of_two(rt, alloc)?;
+    assert_made(rt, alloc, &poll)
+}
+
 // A box is made whole, with room for a step with each stamp and for the close, or is refused for want of memory.
 #[test]
 fn memory_of_new(rt: HostRuntime) -> Result<(), Fail> {
-    let poll = poll_of_two(&rt, rt.alloc())?;
-    match assert_made(&rt, rt.alloc(), &poll) {
+    match assert_made_for_two(&rt, rt.alloc()) {
         Ok(()) => Ok(()),
-        Err(AllocError) => Err("refused".into()),
+        Err(AllocError) => Err(Fail::from("refused")),
     }
 }
 
-// The lines of a ballot file, or `refused` where their memory was.
-fn lines_of<'a>(rt: &impl Abort, alloc: Global, text: &'a str) -> Result<Lines<'a>, &'static str> {
+// The lines of a ballot file. Their only fault is a want of memory.
+fn lines_of<'a>(rt: &impl Abort, alloc: Global, text: &'a str) -> Result<Lines<'a>, AllocError> {
     match Lines::split(alloc, text.as_bytes()) {
         Ok(lines) => Ok(lines),
         Err(fault) => {
-            assert_eq!(rt; fault, LinesFault::Memory);
-            Err("refused")
+            assert_same(rt, fault, LinesFault::Memory);
+            Err(AllocError)
         }
     }
 }
 
-// The box in which one desk cast the lines of a text by a poll, or `refused` where the memory of the lines was.
+// The box in which one desk cast the lines of a text by a poll.
 fn all_cast_by(
     rt: &impl Abort,
     alloc: Global,
     poll: &Poll,
     text: &str,
-) -> Result<Result<BallotBox, AllocError>, &'static str> {
+) -> Result<BallotBox, AllocError> {
     let lines = lines_of(rt, alloc, text)?;
-    Ok(cast_all(alloc, poll, &lines))
+    cast_all(alloc, poll, &lines)
 }
 
-// The box in which one desk cast the lines of a text, or `refused` where the memory of the poll or of the lines was.
-fn all_cast(
-    rt: &impl Abort,
-    alloc: Global,
-    text: &str,
-) -> Result<Result<BallotBox, AllocError>, &'static str> {
+// The box in which one desk cast the lines of a text.
+fn all_cast(rt: &impl Abort, alloc: Global, text: &str) -> Result<BallotBox, AllocError> {
     let poll = poll_of_two(rt, alloc)?;
     all_cast_by(rt, alloc, &poll, text)
 }
@@ -397,17 +405,17 @@ fn assert_three_cast(rt: &impl Abort, ballot_box: &BallotBox) {
     assert!(rt; !ballot_box.is_open());
     let votes = [[0, 0, 1], [2, 0, 1], [1, 1, 0]];
     look(rt, ballot_box, [3, 0, 2], votes);
-    assert_eq!(rt; count_of(ballot_box, Reply::Replaced), 1);
+    assert_same(rt, count_of(ballot_box, Reply::Replaced), 1);
 }
 
 // One desk casts all lines in their order and closes the box, or is refused for want of memory.
 #[test]
 fn memory_of_cast_all(rt: HostRuntime) -> Result<(), Fail> {
-    match all_cast(&rt, rt.alloc(), "ann 1,2,3\nbob 2,1,3\nann 3,2,1\n")? {
+    match all_cast(&rt, rt.alloc(), "ann 1,2,3\nbob 2,1,3\nann 3,2,1\n") {
         Ok(ballot_box) => {
             assert_three_cast(&rt, &ballot_box);
             Ok(())
         }
-        Err(AllocError) => Err("refused".into()),
+        Err(AllocError) => Err(Fail::from("refused")),
     }
 }

@@ -1,6 +1,7 @@
 ghost use Rattle.std.specs.Prelude.{◌≡◌, ◌≤◌, IfOk};
 ghost use Rattle.vote_tray.specs.Passes.{new_pass};
 
+use crate::same::assert_same;
 use std::alloc::{AllocError, Global};
 use std::test::Fail;
 use std::thread::{Threads, join};
@@ -61,7 +62,7 @@ fn taken_of_none(alloc: Global) -> Result<(Take, Option<u64>, u64), Fail> {
 #[test]
 fn an_empty_tray_has_no_place(rt: HostRuntime) -> Result<(), Fail> {
     let found = taken_of_none(rt.alloc())?;
-    assert_eq!(rt; found, (Take::Empty, None, 0));
+    assert_same(&rt, found, (Take::Empty, None, 0));
     Ok(())
 }
 
@@ -81,7 +82,7 @@ fn the_slower_pass_loses_the_only_place(rt: HostRuntime) -> Result<(), Fail> {
     let found = taken_of_one(rt.alloc())?;
     let first = (Take::Got(0), Take::Empty);
     let second = (Take::Lost(1), Take::Empty);
-    assert_eq!(rt; found, (first, second, None, 1));
+    assert_same(&rt, found, (first, second, None, 1));
     Ok(())
 }
 
@@ -96,7 +97,7 @@ fn fault_of(alloc: Global, size: u64, passes: u8) -> Option<TrayFault>
 fn one_place_more_than_the_most_is_too_many(rt: HostRuntime) {
     let more = fault_of(rt.alloc(), 100_001, 1);
     let most = fault_of(rt.alloc(), MAX_PLACES, MAX_PASSES);
-    assert_eq!(rt; (more, most), (Some(TrayFault::TooMany), None));
+    assert_same(&rt, (more, most), (Some(TrayFault::TooMany), None));
 }
 
 // How many passes a tray with three places has for two, and whether the first gets the first place and the other loses it.
@@ -116,22 +117,27 @@ fn tried_by_two(alloc: Global) -> Result<(usize, bool), TrayFault> {
 fn memory_of_new(rt: HostRuntime) -> Result<(), Fail> {
     match tried_by_two(rt.alloc()) {
         Ok(found) => {
-            assert_eq!(rt; found, (2, true));
+            assert_same(&rt, found, (2, true));
             Ok(())
         }
         Err(fault) => {
-            assert_eq!(rt; fault, TrayFault::Memory);
+            assert_same(&rt, fault, TrayFault::Memory);
             Err("refused".into())
         }
     }
 }
 
-// How many places were taken in all, and the places that two passes took, in order.
+// Whether these are the first thousand places, in order.
+fn are_thousand(places: &[u64]) -> bool {
+    places.iter().copied().eq(0..1000)
+}
+
+// How many places were taken in all, and whether those that two passes took are the first thousand, each once.
 fn finished(
     tray: Tray,
     first: Result<(Pass, Vec<u64>), AllocError>,
     second: Result<(Pass, Vec<u64>), AllocError>,
-) -> Result<(u64, Vec<u64>), AllocError>
+) -> Result<(u64, bool), AllocError>
     requires first { IfOk first (λ t. t.0.tray ≡ tray) }
     requires second { IfOk second (λ t. t.0.tray ≡ tray) }
 {
@@ -141,7 +147,7 @@ fn finished(
     let number = tray.finish(both);
     places.extend_from_slice(others.as_slice())?;
     places.sort()?;
-    Ok((number, places))
+    Ok((number, are_thousand(places.as_slice())))
 }
 
 #[test]
@@ -154,8 +160,6 @@ fn two_threads_take_each_place_once(rt: HostRuntime) -> Result<(), Fail> {
         move || take_all(shared, p, alloc),
         || take_all_in_a_thread(&rt, shared, q, alloc),
     );
-    let (number, places) = finished(tray, a, b)?;
-    let is_each = places.iter().copied().eq(0..1000);
-    assert_eq!(rt; (number, is_each), (1000, true));
+    assert_same(&rt, finished(tray, a, b)?, (1000, true));
     Ok(())
 }
