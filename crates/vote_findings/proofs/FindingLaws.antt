@@ -7,7 +7,7 @@ use Rattle.std.proofs.lemmas.Bool.Decides.{nat_tests}
 use Rattle.std.proofs.lemmas.List.Elements.{All-nil, All-cons, All-append, filter-append}
 use Rattle.std.proofs.lemmas.List.{map-append}
 use Rattle.std.proofs.lemmas.List.Concat.{concat_is, flat_map-append}
-use Rattle.vote_findings.specs.Findings.{AddsFindings, AddsKeyLines, AreFindings, IsKeyLine, fault_words, finding}
+use Rattle.vote_findings.specs.Findings.{AddsFindings, AddsKeyLines, AreFindings, EndsFinding, IsKeyLine, fault_words, finding}
 use Rattle.vote_poll.specs.Lines.{IsUnbroken, line_feed}
 use Rattle.vote_poll.specs.Names.{is_printable}
 use Rattle.vote_poll.specs.PollFaults.{fault_unless}
@@ -62,19 +62,28 @@ five_behind text a b c d e =
     ∙ ap (λ t. t ++ e) (append_assoc text (a ++ b ++ c) d)
     ∙ append_assoc text (a ++ b ++ c ++ d) e
 
--- the line of a fault
-pub adds_one : (e : PollFault) (faults : List PollFault) (words hint before after : List ℕ) → faults ≡ e ∷ [] → fault_words e ≡ words
-    → after ≡ before ++ codes "poll: " ++ words ++ codes ": " ++ shown (length hint) hint ++ line_feed → AddsFindings faults before after
-adds_one e faults words hint before after one worded added =
-    let said : List ℕ = shown (length hint) hint in
-    let are : AreFindings (e ∷ []) (finding e said) = (said, [], shown_unbroken (length hint) hint, refl, sym (append-nil (finding e said))) in
-    let same : after ≡ before ++ finding e said = rw worded (added ∙ five_behind before (codes "poll: ") words (codes ": ") said line_feed) in
-    (finding e said, subst (λ (es : List PollFault). AreFindings es (finding e said)) (sym one) are, same)
+-- the end of the line of a fault
+pub on_ended : {X E : Type 0} (r : Result X E) (hint before after : List ℕ) → OnOk r (after ≡ before ++ codes ": " ++ shown (length hint) hint ++ line_feed)
+    → OnOk r (EndsFinding before after)
+on_ended (Ok x) hint before after ended = (shown (length hint) hint, shown_unbroken (length hint) hint, ended)
+on_ended (Err x) hint before after ended = tt
 
-pub on_finding : {X E : Type 0} (r : Result X E) (e : PollFault) (faults : List PollFault) (words hint before after : List ℕ) → faults ≡ e ∷ [] → fault_words e ≡ words
-    → OnOk r (after ≡ before ++ codes "poll: " ++ words ++ codes ": " ++ shown (length hint) hint ++ line_feed) → OnOk r (AddsFindings faults before after)
-on_finding (Ok x) e faults words hint before after one worded added = adds_one e faults words hint before after one worded added
-on_finding (Err x) e faults words hint before after one worded added = tt
+-- the line of a fault
+adds_one : (e : PollFault) (words before after : List ℕ) → fault_words e ≡ words → EndsFinding (before ++ codes "poll: " ++ words) after → AddsFindings (e ∷ []) before after
+adds_one e words before after worded ended =
+    let line : List ℕ = finding e ended.0 in
+    let are : AreFindings (e ∷ []) line = (ended.0, [], ended.1, refl, sym (append-nil line)) in
+    let same : after ≡ before ++ line = rw worded (ended.2 ∙ five_behind before (codes "poll: ") words (codes ": ") ended.0 line_feed) in
+    (line, are, same)
+
+pub on_one : {X E : Type 0} (r : Result X E) (e : PollFault) (words before after : List ℕ) → fault_words e ≡ words → OnOk r (EndsFinding (before ++ codes "poll: " ++ words) after)
+    → OnOk r (AddsFindings (e ∷ []) before after)
+on_one (Ok x) e words before after worded ended = adds_one e words before after worded ended
+on_one (Err x) e words before after worded ended = tt
+
+pub on_finding : {X E : Type 0} (r : Result X E) (e : PollFault) (faults : List PollFault) (words before after : List ℕ) → faults ≡ e ∷ [] → fault_words e ≡ words
+    → OnOk r (EndsFinding (before ++ codes "poll: " ++ words) after) → OnOk r (AddsFindings faults before after)
+on_finding r e faults words before after one worded ended = rw one (on_one r e words before after worded ended)
 
 pub on_then : {X E : Type 0} (r : Result X E) (xs ys : List PollFault) (before between after : List ℕ) → AddsFindings xs before between → OnOk r (AddsFindings ys between after) → OnOk r (AddsFindings (xs ++ ys) before after)
 on_then (Ok x) xs ys before between after first more = adds_then xs ys before between after first more
@@ -84,14 +93,6 @@ on_then (Err x) xs ys before between after first more = tt
 pub on_ok : {X E : Type 0} (r : Result X E) (P : Type 0) → P → OnOk r P
 on_ok (Ok x) P p = p
 on_ok (Err x) P p = tt
-
--- the same test by another name
-pub judged : (b d : Bool) (e : PollFault) (before after : List ℕ) → b ≡ d → AddsFindings (fault_unless b e) before after → AddsFindings (fault_unless d e) before after
-judged b d e before after same h = subst (λ (r : Bool). AddsFindings (fault_unless r e) before after) same h
-
-pub on_judged : {X E : Type 0} (r : Result X E) (b d : Bool) (e : PollFault) (before after : List ℕ) → b ≡ d → OnOk r (AddsFindings (fault_unless b e) before after) → OnOk r (AddsFindings (fault_unless d e) before after)
-on_judged (Ok x) b d e before after same h = judged b d e before after same h
-on_judged (Err x) b d e before after same h = tt
 
 -- ---- places that pass a test
 range_more : (a n : ℕ) → range_with_len a (suc n) ≡ range_with_len a n ++ (a + n) ∷ []

@@ -68,7 +68,7 @@ fn push_findings(
 ) -> Result<(), AllocError>
     ensures { OnOk result ((between : List ℕ) × AddsFindings (of_keys (table_view table.now) (found_view found.now) ++ of_contents (found_view found.now)) (string_bytes text.old) between × AddsKeyLines between (string_bytes text.new)) }
 {
-    push_keys(text, table, found, unread)?;
+    push_keys(alloc, text, table, found, unread)?;
     push_contents(alloc, text, found)?;
     push_unread_keys(text, unread)
 }

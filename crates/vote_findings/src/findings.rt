@@ -2,7 +2,7 @@
 ghost use Rattle.std.specs.Prelude.{◌≡◌, ◌+◌, ◌++◌, ◌&&◌, ◌||◌, ◌==◌, IfOk, OnOk, codes, length, map, option_copied, option_to_list, string_bytes};
 ghost use Rattle.std.specs.List.{list_all};
 ghost use Rattle.std.specs.Str.{bytes_eq};
-ghost use Rattle.vote_findings.specs.Findings.{AddsFindings};
+ghost use Rattle.vote_findings.specs.Findings.{AddsFindings, EndsFinding};
 ghost use Rattle.vote_findings.specs.FoundView.{found_view};
 ghost use Rattle.vote_poll.specs.Lines.{line_feed};
 ghost use Rattle.vote_poll.specs.Names.{is_within};
@@ -12,9 +12,7 @@ ghost use Rattle.vote_poll.specs.Shown.{shown};
 ghost use Rattle.vote_poll.specs.declared.TheConstants.{MAX_ELECTORS, MAX_OPTIONS, MAX_RATIO};
 
 use crate::found::Found;
-use crate::hints::{
-    Named, options_hint, range_hint, ratios_hint, roll_hint, shape_hint, wording_hint,
-};
+use crate::hints::{Hint, Named, words_of};
 use crate::name_findings::{NameList, push_bad_names};
 use std::alloc::{AllocError, Global};
 use vote_poll::{
@@ -37,13 +35,29 @@ pub(crate) fn push_hint(text: &mut String, hint: &str) -> Result<(), AllocError>
     end_line(text, hint)
 }
 
+/// Ends the line of a fault with what was found.
+pub(crate) fn end_finding(
+    alloc: Global,
+    text: &mut String,
+    hint: Hint<'_>,
+) -> Result<(), AllocError>
+    ensures { OnOk result (EndsFinding (string_bytes text.old) (string_bytes text.new)) }
+{
+    push_hint(text, &words_of(alloc, hint)?)
+}
+
 /// Adds the line of a fault that has these words.
-fn push_finding(text: &mut String, words: &str, hint: &str) -> Result<(), AllocError>
-    ensures { OnOk result (string_bytes text.new ≡ string_bytes text.old ++ codes "poll: " ++ words.now ++ codes ": " ++ shown (length hint.now) hint.now ++ line_feed) }
+fn push_finding(
+    alloc: Global,
+    text: &mut String,
+    words: &str,
+    hint: Hint<'_>,
+) -> Result<(), AllocError>
+    ensures { OnOk result (EndsFinding (string_bytes text.old ++ codes "poll: " ++ words.now) (string_bytes text.new)) }
 {
     text.push_str("poll: ")?;
     text.push_str(words)?;
-    push_hint(text, hint)
+    end_finding(alloc, text, hint)
 }
 
 /// The title.
@@ -57,7 +71,7 @@ fn push_title(alloc: Global, text: &mut String, found: &Found<'_>) -> Result<(),
     if is_title(title.as_bytes()) {
         return Ok(());
     }
-    push_finding(text, "title", &shape_hint(alloc, Named::Poll, title)?)
+    push_finding(alloc, text, "title", Hint::Shape(Named::Poll, title))
 }
 
 /// Whether a poll can have so many options but the default.
@@ -78,8 +92,12 @@ fn push_option_count(alloc: Global, text: &mut String, found: &Found<'_>) -> Res
     if is_option_count(options.len()) {
         return Ok(());
     }
-    let hint = options_hint(alloc, options.len())?;
-    push_finding(text, "number of options", &hint)
+    push_finding(
+        alloc,
+        text,
+        "number of options",
+        Hint::OptionCount(options.len()),
+    )
 }
 
 /// The options but the default, and then the default, where it is there.
@@ -144,8 +162,7 @@ fn push_ratios(alloc: Global, text: &mut String, found: &Found<'_>) -> Result<()
     if are_ratios(ratios, options.len()) {
         return Ok(());
     }
-    let hint = ratios_hint(alloc, ratios, options.len())?;
-    push_finding(text, "ratios", &hint)
+    push_finding(alloc, text, "ratios", Hint::Ratios(ratios, options.len()))
 }
 
 /// Whether a number is one from low to high.
@@ -167,7 +184,7 @@ fn push_quorum(alloc: Global, text: &mut String, found: &Found<'_>) -> Result<()
     if is_from(quorum, 0, most) {
         return Ok(());
     }
-    push_finding(text, "quorum", &range_hint(alloc, quorum, 0, most)?)
+    push_finding(alloc, text, "quorum", Hint::Range(quorum, 0, most))
 }
 
 /// Whether a roll can have so many names.
@@ -188,7 +205,7 @@ fn push_roll_size(alloc: Global, text: &mut String, found: &Found<'_>) -> Result
     if is_roll_size(roll.len()) {
         return Ok(());
     }
-    push_finding(text, "size of roll", &roll_hint(alloc, roll.len())?)
+    push_finding(alloc, text, "size of roll", Hint::RollSize(roll.len()))
 }
 
 /// The names of the voters.
@@ -214,7 +231,7 @@ fn push_last_envelope(alloc: Global, text: &mut String, found: &Found<'_>) -> Re
     if is_from(last, 0, most) {
         return Ok(());
     }
-    push_finding(text, "last envelope", &range_hint(alloc, last, 0, most)?)
+    push_finding(alloc, text, "last envelope", Hint::Range(last, 0, most))
 }
 
 /// Whether a text names a wording.
@@ -235,7 +252,7 @@ fn push_wording(alloc: Global, text: &mut String, found: &Found<'_>) -> Result<(
     if is_wording(wording) {
         return Ok(());
     }
-    push_finding(text, "wording", &wording_hint(alloc, wording)?)
+    push_finding(alloc, text, "wording", Hint::Wording(wording))
 }
 
 /// What the keys say, in the order of the faults.

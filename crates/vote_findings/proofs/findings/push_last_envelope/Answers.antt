@@ -18,4 +18,4 @@ returns c =
     let judged = rw (to_z-of_z w64 c.in-Some.last fits) at c.is_from.ensures in
     let bad : is_integer_within 0 MAX_LINES c.in-Some.last ≡ false = cc in
     let told : of_last_envelope (found_view c.args.found.now) ≡ fault.LastEnvelope ∷ [] = rw (there, bad) in
-    on_finding c.push_finding.result fault.LastEnvelope _ (codes "last envelope") _ _ _ told refl c.push_finding.ensures
+    on_finding c.push_finding.result fault.LastEnvelope _ (codes "last envelope") _ _ told refl c.push_finding.ensures

@@ -14,4 +14,4 @@ returns c =
     let there : c.args.found.now.options ≡ Some c.in-Some.options = cc in
     let bad : is_within 2 MAX_OPTIONS (length (map now c.in-Some.options.items) + 1) ≡ false = rw (length-map) cc in
     let told : of_option_count (found_view c.args.found.now) ≡ fault.OptionCount ∷ [] = rw (there, bad) in
-    on_finding c.push_finding.result fault.OptionCount _ (codes "number of options") _ _ _ told refl c.push_finding.ensures
+    on_finding c.push_finding.result fault.OptionCount _ (codes "number of options") _ _ told refl c.push_finding.ensures

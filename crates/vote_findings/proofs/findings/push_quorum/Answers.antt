@@ -18,4 +18,4 @@ returns c =
     let judged = rw (to_z-of_z w64 c.in-Some.quorum fits) at c.is_from.ensures in
     let bad : is_integer_within 0 MAX_QUORUM_MULTIPLE c.in-Some.quorum ≡ false = cc in
     let told : of_quorum (found_view c.args.found.now) ≡ fault.Quorum ∷ [] = rw (there, bad) in
-    on_finding c.push_finding.result fault.Quorum _ (codes "quorum") _ _ _ told refl c.push_finding.ensures
+    on_finding c.push_finding.result fault.Quorum _ (codes "quorum") _ _ told refl c.push_finding.ensures

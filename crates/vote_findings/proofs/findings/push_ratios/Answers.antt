@@ -16,4 +16,4 @@ returns c =
     let ratios : c.args.found.now.ratios ≡ Some c.in-Some-ratios.ratios = cc in
     let bad : (length c.in-Some-ratios.ratios.items == length (map now c.in-Some.options.items)) && list_all (is_integer_within 1 MAX_RATIO) c.in-Some-ratios.ratios.items ≡ false = rw (length-map) cc in
     let told : of_ratios (found_view c.args.found.now) ≡ fault.Ratio ∷ [] = rw (options, ratios, bad) in
-    on_finding c.push_finding.result fault.Ratio _ (codes "ratios") _ _ _ told refl c.push_finding.ensures
+    on_finding c.push_finding.result fault.Ratio _ (codes "ratios") _ _ told refl c.push_finding.ensures

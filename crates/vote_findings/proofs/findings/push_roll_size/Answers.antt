@@ -14,4 +14,4 @@ returns c =
     let there : c.args.found.now.roll ≡ Some c.in-Some.roll = cc in
     let bad : is_within 1 MAX_ELECTORS (length (map now c.in-Some.roll.items)) ≡ false = rw (length-map) cc in
     let told : of_roll_size (found_view c.args.found.now) ≡ fault.RollSize ∷ [] = rw (there, bad) in
-    on_finding c.push_finding.result fault.RollSize _ (codes "size of roll") _ _ _ told refl c.push_finding.ensures
+    on_finding c.push_finding.result fault.RollSize _ (codes "size of roll") _ _ told refl c.push_finding.ensures

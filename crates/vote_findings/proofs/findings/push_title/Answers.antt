@@ -12,4 +12,4 @@ returns c =
     let there : c.args.found.now.title ≡ Some c.in-Some.title = cc in
     let bad : is_title c.in-Some.title.now ≡ false = cc in
     let told : of_title (found_view c.args.found.now) ≡ fault.Title ∷ [] = rw (there, bad) in
-    on_finding c.push_finding.result fault.Title _ (codes "title") _ _ _ told refl c.push_finding.ensures
+    on_finding c.push_finding.result fault.Title _ (codes "title") _ _ told refl c.push_finding.ensures

@@ -14,4 +14,4 @@ returns c =
     let bad : (bytes_eq c.in-Some.wording.now (codes "at_least") || bytes_eq c.in-Some.wording.now (codes "more_than")) ≡ false = cc in
     let (first, second) = or_parts (bytes_eq c.in-Some.wording.now (codes "at_least")) (bytes_eq c.in-Some.wording.now (codes "more_than")) bad in
     let told : of_wording (found_view c.args.found.now) ≡ fault.Wording ∷ [] = rw (there, first, second) in
-    on_finding c.push_finding.result fault.Wording _ (codes "wording") _ _ _ told refl c.push_finding.ensures
+    on_finding c.push_finding.result fault.Wording _ (codes "wording") _ _ told refl c.push_finding.ensures

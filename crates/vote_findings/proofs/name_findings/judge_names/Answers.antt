@@ -7,7 +7,7 @@ use Rattle.vote_keys.specs.declared.fault.PollFault.{PollFault}
 use Rattle.std.proofs.lemmas.List.{length-map, get_or-map}
 use Rattle.vote_findings.proofs.FindingLaws.{now, no_text}
 use Rattle.vote_findings.proofs.SeenLaws.{judged_more, seen_more}
-use Rattle.vote_findings.proofs.name_findings.push_bad_names.Goals as goal
+use Rattle.vote_findings.proofs.name_findings.judge_names.Goals as goal
 
 pub loop-place-preserved : goal.loop-place-preserved
 loop-place-preserved c =
@@ -18,7 +18,7 @@ loop-place-preserved c =
     )
 
 pub loop-place-init : goal.loop-place-init
-loop-place-init c = ((λ other. rw c.new.ensures.empty refl), ([], refl, sym (append-nil (string_bytes c.args.text.now))))
+loop-place-init c = ((λ other. rw c.requires refl), ([], refl, sym (append-nil (string_bytes c.args.text.now))))
 
 pub returns : goal.returns
 returns c =

@@ -4,7 +4,7 @@ use Rattle.std.specs.Str.{bytes_eq}
 use Rattle.vote_findings.specs.Findings.{AddsFindings}
 use Rattle.vote_findings.specs.NameFindings.{bad_name, has_shape}
 use Rattle.vote_poll.specs.Names.{is_bad_at}
-use Rattle.vote_findings.proofs.name_findings.push_bad_names.Given as goal
+use Rattle.vote_findings.proofs.name_findings.judge_names.Given as goal
 
 abbrev pub invariant-loop-place : goal.invariant-loop-place
 invariant-loop-place l =
