@@ -7,7 +7,7 @@ use Rattle.std.proofs.lemmas.Bool.Decides.{nat_tests}
 use Rattle.std.proofs.lemmas.List.Elements.{All-nil, All-cons, All-append, filter-append}
 use Rattle.std.proofs.lemmas.List.{map-append}
 use Rattle.std.proofs.lemmas.List.Concat.{concat_is, flat_map-append}
-use Rattle.vote_findings.specs.Findings.{AddsFindings, AddsKeyLines, AreFindings, EndsFinding, IsKeyLine, fault_words, finding}
+use Rattle.vote_findings.specs.Findings.{AddsFindings, AddsKeyLine, AddsKeyLines, AreFindings, EndsFinding, IsKeyLine, fault_words, finding}
 use Rattle.vote_poll.specs.Lines.{IsUnbroken, line_feed}
 use Rattle.vote_poll.specs.Names.{is_printable}
 use Rattle.vote_poll.specs.PollFaults.{fault_unless}
@@ -114,18 +114,22 @@ places_more p naming n =
     one false e = rw e refl
 
 -- ---- lines of keys
-pub one_key_line : (path remark before between after : List ℕ) (most n : ℕ) → AddsKeyLines before between
-    → after ≡ between ++ codes "poll: key " ++ shown most path ++ codes " is not read" ++ shown n remark ++ line_feed → AddsKeyLines before after
-one_key_line path remark before between after most n first added =
-    let text : List ℕ = codes "poll: key " ++ shown most path ++ codes " is not read" ++ shown n remark ++ line_feed in
-    let is : IsKeyLine text = record { path = shown most path; remark = shown n remark; path_unbroken = shown_unbroken most path; remark_unbroken = shown_unbroken n remark; is_text = refl } in
-    let lines : List (List ℕ) = first.0 ++ text ∷ [] in
-    let joined : concat (first.0 ++ text ∷ []) ≡ concat first.0 ++ text =
-    concat_is (first.0 ++ text ∷ []) ∙ flat_map-append (λ x. x) first.0 (text ∷ []) ∙ ap (λ t. t ++ (text ++ [])) (sym (concat_is first.0)) ∙ ap (λ t. concat first.0 ++ t) (append-nil text) in (
-      lines,
-      All-append IsKeyLine first.0 (text ∷ []) first.1 (All-cons IsKeyLine text [] is (All-nil IsKeyLine)),
-      added ∙ five_behind between (codes "poll: key ") (shown most path) (codes " is not read") (shown n remark) line_feed ∙ ap (λ t. t ++ text) first.2
-          ∙ append_assoc before (concat first.0) text ∙ ap (λ t. before ++ t) (sym joined),
+pub on_key_line : {X E : Type 0} (r : Result X E) (path remark before after : List ℕ) (most n : ℕ)
+    → OnOk r (after ≡ before ++ codes "poll: key " ++ shown most path ++ codes " is not read" ++ shown n remark ++ line_feed) → OnOk r (AddsKeyLine before after)
+on_key_line (Err x) path remark before after most n added = tt
+on_key_line (Ok x) path remark before after most n added =
+    let line : List ℕ = codes "poll: key " ++ shown most path ++ codes " is not read" ++ shown n remark ++ line_feed in
+    let is : IsKeyLine line = record { path = shown most path; remark = shown n remark; path_unbroken = shown_unbroken most path; remark_unbroken = shown_unbroken n remark; is_text = refl } in
+    (line, is, added ∙ five_behind before (codes "poll: key ") (shown most path) (codes " is not read") (shown n remark) line_feed)
+
+pub one_key_line : (before between after : List ℕ) → AddsKeyLines before between → AddsKeyLine between after → AddsKeyLines before after
+one_key_line before between after first more =
+    let line : List ℕ = more.0 in
+    let joined : concat (first.0 ++ line ∷ []) ≡ concat first.0 ++ line =
+    concat_is (first.0 ++ line ∷ []) ∙ flat_map-append (λ x. x) first.0 (line ∷ []) ∙ ap (λ t. t ++ (line ++ [])) (sym (concat_is first.0)) ∙ ap (λ t. concat first.0 ++ t) (append-nil line) in (
+      first.0 ++ line ∷ [],
+      All-append IsKeyLine first.0 (line ∷ []) first.1 (All-cons IsKeyLine line [] more.1 (All-nil IsKeyLine)),
+      more.2 ∙ ap (λ t. t ++ line) first.2 ∙ append_assoc before (concat first.0) line ∙ ap (λ t. before ++ t) (sym joined),
     )
 
 -- ---- all findings

@@ -58,6 +58,10 @@ AddsFindings faults before after = (lines : List ℕ) × AreFindings faults line
 abbrev pub EndsFinding : List ℕ → List ℕ → Type 0
 EndsFinding before after = (hint : List ℕ) × IsUnbroken hint × (after ≡ before ++ codes ": " ++ hint ++ line_feed)
 
+-- the line of a key was added to a text
+abbrev pub AddsKeyLine : List ℕ → List ℕ → Type 0
+AddsKeyLine before after = (line : List ℕ) × IsKeyLine line × (after ≡ before ++ line)
+
 -- lines of keys were added to a text
 abbrev pub AddsKeyLines : List ℕ → List ℕ → Type 0
 AddsKeyLines before after = (lines : List (List ℕ)) × All IsKeyLine lines × (after ≡ before ++ concat lines)

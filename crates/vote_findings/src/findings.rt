@@ -109,9 +109,7 @@ fn option_names<'t>(
     ensures { IfOk result (λ names. map (λ name. name.now) names.items ≡ map (λ option. option.now) options.now ++ option_to_list (option_copied default_option.entry)) }
 {
     let mut names = Vec::from_slice(alloc, options)?;
-    if let Some(name) = default_option {
-        names.push(name)?;
-    }
+    names.extend_from_slice(default_option.as_slice())?;
     Ok(names)
 }
 

@@ -71,16 +71,17 @@ fn push_quoted(words: &mut String, text: &str) -> Result<(), AllocError> {
 
 /// Adds what a byte is.
 fn push_byte_words(words: &mut String, byte: u8) -> Result<(), AllocError> {
-    match byte {
-        b' ' => words.push_str("a space"),
-        b'\t' => words.push_str("a tab"),
-        b'\n' => words.push_str("a line feed"),
-        b'\r' => words.push_str("a carriage return"),
-        b',' => words.push_str("a comma"),
-        b'A'..=b'Z' => words.push_str("a capital letter"),
-        0x21..=0x7E => write!(words, "the character {}", byte as char),
-        _ => write!(words, "the byte 0x{byte:02X}"),
-    }
+    let kind = match byte {
+        b' ' => "a space",
+        b'\t' => "a tab",
+        b'\n' => "a line feed",
+        b'\r' => "a carriage return",
+        b',' => "a comma",
+        b'A'..=b'Z' => "a capital letter",
+        0x21..=0x7E => return write!(words, "the character {}", byte as char),
+        _ => return write!(words, "the byte 0x{byte:02X}"),
+    };
+    words.push_str(kind)
 }
 
 /// Adds which byte a name may not have, or which of its ends is a space.

@@ -1,7 +1,7 @@
 //! The keys of a poll file that are missing, of the wrong kind, or not read.
 ghost use Rattle.std.specs.Prelude.{◌≡◌, ◌++◌, ◌∷◌, [], OnOk, codes, length, string_bytes};
 ghost use Rattle.toml.specs.View.{table_view};
-ghost use Rattle.vote_findings.specs.Findings.{AddsFindings, AddsKeyLines};
+ghost use Rattle.vote_findings.specs.Findings.{AddsFindings, AddsKeyLine, AddsKeyLines};
 ghost use Rattle.vote_findings.specs.FoundView.{found_view};
 ghost use Rattle.vote_findings.specs.KeyFindings.{is_right, may_be_missing, of_key};
 ghost use Rattle.vote_poll.specs.Lines.{line_feed};
@@ -15,7 +15,7 @@ use crate::MAX_SHOWN;
 use crate::findings::{end_finding, end_line};
 use crate::found::Found;
 use crate::hints::Hint;
-use crate::unread::UnreadKeys;
+use crate::unread::{UnreadKey, UnreadKeys};
 use std::alloc::{AllocError, Global};
 use toml::Table;
 use vote_keys::{PollKey, value_at};
@@ -93,7 +93,7 @@ pub(crate) fn push_keys(
 }
 
 /// Adds that the key with this path is not read, and what is remarked of it.
-fn push_unread_key(text: &mut String, path: &[u8], remark: &str) -> Result<(), AllocError>
+fn push_key_line(text: &mut String, path: &[u8], remark: &str) -> Result<(), AllocError>
     ensures { OnOk result (string_bytes text.new ≡ string_bytes text.old ++ codes "poll: key " ++ shown MAX_SHOWN path.now ++ codes " is not read" ++ shown (length remark.now) remark.now ++ line_feed) }
 {
     text.push_str("poll: key ")?;
@@ -102,12 +102,23 @@ fn push_unread_key(text: &mut String, path: &[u8], remark: &str) -> Result<(), A
     end_line(text, remark)
 }
 
+/// Adds that a key is not read.
+fn push_unread_key(
+    text: &mut String,
+    unread: &UnreadKeys<'_>,
+    key: &UnreadKey<'_>,
+) -> Result<(), AllocError>
+    ensures { OnOk result (AddsKeyLine (string_bytes text.old) (string_bytes text.new)) }
+{
+    push_key_line(text, &unread.path_of(key)?, &unread.remark(key)?)
+}
+
 /// The keys that are not read.
 pub(crate) fn push_unread_keys(text: &mut String, unread: &UnreadKeys<'_>) -> Result<(), AllocError>
     ensures { OnOk result (AddsKeyLines (string_bytes text.old) (string_bytes text.new)) }
 {
     for key in unread.keys() {
-        push_unread_key(text, &unread.path_of(key)?, &unread.remark(key)?)?;
+        push_unread_key(text, unread, key)?;
     }
     Ok(())
 }
