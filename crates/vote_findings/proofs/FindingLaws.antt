@@ -81,9 +81,16 @@ pub on_one : {X E : Type 0} (r : Result X E) (e : PollFault) (words before after
 on_one (Ok x) e words before after worded ended = adds_one e words before after worded ended
 on_one (Err x) e words before after worded ended = tt
 
-pub on_finding : {X E : Type 0} (r : Result X E) (e : PollFault) (faults : List PollFault) (words before after : List ℕ) → faults ≡ e ∷ [] → fault_words e ≡ words
-    → OnOk r (EndsFinding (before ++ codes "poll: " ++ words) after) → OnOk r (AddsFindings faults before after)
-on_finding r e faults words before after one worded ended = rw one (on_one r e words before after worded ended)
+pub on_each : {X E : Type 0} (r : Result X E) (words before after : List ℕ) → OnOk r (EndsFinding (before ++ codes "poll: " ++ words) after)
+    → OnOk r ((e : PollFault) → fault_words e ≡ words → AddsFindings (e ∷ []) before after)
+on_each (Ok x) words before after ended = λ e worded. adds_one e words before after worded ended
+on_each (Err x) words before after ended = tt
+
+-- the fault of these words was judged
+pub on_judged : {X E : Type 0} (r : Result X E) (e : PollFault) (faults : List PollFault) (right : Bool) (words before after : List ℕ) → fault_unless right e ≡ faults → fault_words e ≡ words
+    → OnOk r ((d : PollFault) → fault_words d ≡ words → AddsFindings (fault_unless right d) before after) → OnOk r (AddsFindings faults before after)
+on_judged (Ok x) e faults right words before after are worded judged = subst (λ (es : List PollFault). AddsFindings es before after) are (judged e worded)
+on_judged (Err x) e faults right words before after are worded judged = tt
 
 pub on_then : {X E : Type 0} (r : Result X E) (xs ys : List PollFault) (before between after : List ℕ) → AddsFindings xs before between → OnOk r (AddsFindings ys between after) → OnOk r (AddsFindings (xs ++ ys) before after)
 on_then (Ok x) xs ys before between after first more = adds_then xs ys before between after first more

@@ -54,7 +54,7 @@ pub(crate) enum Hint<'t> {
     Range(i64, u32, u32),
     /// There are so many options but the default, which is too few or too many.
     OptionCount(usize),
-    /// The ratios of so many options are as many or as few, or one is out of its limits.
+    /// The ratios are not one for each of so many options, or one is out of its limits.
     Ratios(&'t [i64], usize),
     /// The roll has so many names, which is too few or too many.
     RollSize(usize),

@@ -1,14 +1,11 @@
-use Rattle.std.proofs.Common.{◌≡◌, ◌∷◌, [], false, refl, codes, Some, rules}
+use Rattle.std.proofs.Common.{◌≡◌, false, Some, rules}
 use Rattle.std.proofs.lemmas.Int.{to_z-of_z}
 use mir.Val.{SFits}
 use mir.Syntax.{w64}
 use Rattle.vote_poll.specs.PollFile.{is_integer_within}
 use Rattle.vote_poll.specs.declared.TheConstants.{MAX_QUORUM_MULTIPLE}
-use Rattle.vote_findings.specs.FoundView.{found_view}
 use Rattle.vote_poll.specs.PollFaults.{of_quorum}
-use Rattle.vote_keys.specs.declared.fault.PollFault.TheVariants as fault
-use Rattle.vote_findings.proofs.FindingLaws.{on_finding}
-use Rattle.vote_findings.proofs.findings.push_quorum.Goals as goal
+use Rattle.vote_findings.proofs.findings.quorum_hint.Goals as goal
 
 pub returns : goal.returns
 unfolding of_quorum
@@ -17,5 +14,4 @@ returns c =
     let fits : SFits w64 c.in-Some.quorum = search rules in
     let judged = rw (to_z-of_z w64 c.in-Some.quorum fits) at c.is_from.ensures in
     let bad : is_integer_within 0 MAX_QUORUM_MULTIPLE c.in-Some.quorum ≡ false = cc in
-    let told : of_quorum (found_view c.args.found.now) ≡ fault.Quorum ∷ [] = rw (there, bad) in
-    on_finding c.push_finding.result fault.Quorum _ (codes "quorum") _ _ told refl c.push_finding.ensures
+    rw (there, bad)

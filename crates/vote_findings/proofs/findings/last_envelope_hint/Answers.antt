@@ -1,14 +1,11 @@
-use Rattle.std.proofs.Common.{◌≡◌, ◌∷◌, [], false, refl, codes, Some, rules}
+use Rattle.std.proofs.Common.{◌≡◌, false, Some, rules}
 use Rattle.std.proofs.lemmas.Int.{to_z-of_z}
 use mir.Val.{SFits}
 use mir.Syntax.{w64}
 use Rattle.vote_poll.specs.PollFile.{is_integer_within}
 use Rattle.vote_poll.specs.declared.lines.TheConstants.{MAX_LINES}
-use Rattle.vote_findings.specs.FoundView.{found_view}
 use Rattle.vote_poll.specs.PollFaults.{of_last_envelope}
-use Rattle.vote_keys.specs.declared.fault.PollFault.TheVariants as fault
-use Rattle.vote_findings.proofs.FindingLaws.{on_finding}
-use Rattle.vote_findings.proofs.findings.push_last_envelope.Goals as goal
+use Rattle.vote_findings.proofs.findings.last_envelope_hint.Goals as goal
 
 pub returns : goal.returns
 unfolding of_last_envelope
@@ -17,5 +14,4 @@ returns c =
     let fits : SFits w64 c.in-Some.last = search rules in
     let judged = rw (to_z-of_z w64 c.in-Some.last fits) at c.is_from.ensures in
     let bad : is_integer_within 0 MAX_LINES c.in-Some.last ≡ false = cc in
-    let told : of_last_envelope (found_view c.args.found.now) ≡ fault.LastEnvelope ∷ [] = rw (there, bad) in
-    on_finding c.push_finding.result fault.LastEnvelope _ (codes "last envelope") _ _ told refl c.push_finding.ensures
+    rw (there, bad)
