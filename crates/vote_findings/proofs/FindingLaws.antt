@@ -7,7 +7,7 @@ use Rattle.std.proofs.lemmas.Bool.Decides.{nat_tests}
 use Rattle.std.proofs.lemmas.List.Elements.{All-nil, All-cons, All-append, filter-append}
 use Rattle.std.proofs.lemmas.List.{map-append}
 use Rattle.std.proofs.lemmas.List.Concat.{concat_is, flat_map-append}
-use Rattle.vote_findings.specs.Findings.{AddsFindings, AddsKeyLines, AreFindings, IsKeyLine, fault_words, finding}
+use Rattle.vote_findings.specs.Findings.{AddsFindings, AddsKeyLine, AddsKeyLines, AreFindings, EndsFinding, IsKeyLine, fault_words, finding}
 use Rattle.vote_poll.specs.Lines.{IsUnbroken, line_feed}
 use Rattle.vote_poll.specs.Names.{is_printable}
 use Rattle.vote_poll.specs.PollFaults.{fault_unless}
@@ -62,19 +62,35 @@ five_behind text a b c d e =
     ∙ ap (λ t. t ++ e) (append_assoc text (a ++ b ++ c) d)
     ∙ append_assoc text (a ++ b ++ c ++ d) e
 
--- the line of a fault
-pub adds_one : (e : PollFault) (faults : List PollFault) (words hint before after : List ℕ) → faults ≡ e ∷ [] → fault_words e ≡ words
-    → after ≡ before ++ codes "poll: " ++ words ++ codes ": " ++ shown (length hint) hint ++ line_feed → AddsFindings faults before after
-adds_one e faults words hint before after one worded added =
-    let said : List ℕ = shown (length hint) hint in
-    let are : AreFindings (e ∷ []) (finding e said) = (said, [], shown_unbroken (length hint) hint, refl, sym (append-nil (finding e said))) in
-    let same : after ≡ before ++ finding e said = rw worded (added ∙ five_behind before (codes "poll: ") words (codes ": ") said line_feed) in
-    (finding e said, subst (λ (es : List PollFault). AreFindings es (finding e said)) (sym one) are, same)
+-- the end of the line of a fault
+pub on_ended : {X E : Type 0} (r : Result X E) (hint before after : List ℕ) → OnOk r (after ≡ before ++ codes ": " ++ shown (length hint) hint ++ line_feed)
+    → OnOk r (EndsFinding before after)
+on_ended (Ok x) hint before after ended = (shown (length hint) hint, shown_unbroken (length hint) hint, ended)
+on_ended (Err x) hint before after ended = tt
 
-pub on_finding : {X E : Type 0} (r : Result X E) (e : PollFault) (faults : List PollFault) (words hint before after : List ℕ) → faults ≡ e ∷ [] → fault_words e ≡ words
-    → OnOk r (after ≡ before ++ codes "poll: " ++ words ++ codes ": " ++ shown (length hint) hint ++ line_feed) → OnOk r (AddsFindings faults before after)
-on_finding (Ok x) e faults words hint before after one worded added = adds_one e faults words hint before after one worded added
-on_finding (Err x) e faults words hint before after one worded added = tt
+-- the line of a fault
+adds_one : (e : PollFault) (words before after : List ℕ) → fault_words e ≡ words → EndsFinding (before ++ codes "poll: " ++ words) after → AddsFindings (e ∷ []) before after
+adds_one e words before after worded ended =
+    let line : List ℕ = finding e ended.0 in
+    let are : AreFindings (e ∷ []) line = (ended.0, [], ended.1, refl, sym (append-nil line)) in
+    let same : after ≡ before ++ line = rw worded (ended.2 ∙ five_behind before (codes "poll: ") words (codes ": ") ended.0 line_feed) in
+    (line, are, same)
+
+pub on_one : {X E : Type 0} (r : Result X E) (e : PollFault) (words before after : List ℕ) → fault_words e ≡ words → OnOk r (EndsFinding (before ++ codes "poll: " ++ words) after)
+    → OnOk r (AddsFindings (e ∷ []) before after)
+on_one (Ok x) e words before after worded ended = adds_one e words before after worded ended
+on_one (Err x) e words before after worded ended = tt
+
+pub on_each : {X E : Type 0} (r : Result X E) (words before after : List ℕ) → OnOk r (EndsFinding (before ++ codes "poll: " ++ words) after)
+    → OnOk r ((e : PollFault) → fault_words e ≡ words → AddsFindings (e ∷ []) before after)
+on_each (Ok x) words before after ended = λ e worded. adds_one e words before after worded ended
+on_each (Err x) words before after ended = tt
+
+-- the fault of these words was judged
+pub on_judged : {X E : Type 0} (r : Result X E) (e : PollFault) (faults : List PollFault) (right : Bool) (words before after : List ℕ) → fault_unless right e ≡ faults → fault_words e ≡ words
+    → OnOk r ((d : PollFault) → fault_words d ≡ words → AddsFindings (fault_unless right d) before after) → OnOk r (AddsFindings faults before after)
+on_judged (Ok x) e faults right words before after are worded judged = subst (λ (es : List PollFault). AddsFindings es before after) are (judged e worded)
+on_judged (Err x) e faults right words before after are worded judged = tt
 
 pub on_then : {X E : Type 0} (r : Result X E) (xs ys : List PollFault) (before between after : List ℕ) → AddsFindings xs before between → OnOk r (AddsFindings ys between after) → OnOk r (AddsFindings (xs ++ ys) before after)
 on_then (Ok x) xs ys before between after first more = adds_then xs ys before between after first more
@@ -84,14 +100,6 @@ on_then (Err x) xs ys before between after first more = tt
 pub on_ok : {X E : Type 0} (r : Result X E) (P : Type 0) → P → OnOk r P
 on_ok (Ok x) P p = p
 on_ok (Err x) P p = tt
-
--- the same test by another name
-pub judged : (b d : Bool) (e : PollFault) (before after : List ℕ) → b ≡ d → AddsFindings (fault_unless b e) before after → AddsFindings (fault_unless d e) before after
-judged b d e before after same h = subst (λ (r : Bool). AddsFindings (fault_unless r e) before after) same h
-
-pub on_judged : {X E : Type 0} (r : Result X E) (b d : Bool) (e : PollFault) (before after : List ℕ) → b ≡ d → OnOk r (AddsFindings (fault_unless b e) before after) → OnOk r (AddsFindings (fault_unless d e) before after)
-on_judged (Ok x) b d e before after same h = judged b d e before after same h
-on_judged (Err x) b d e before after same h = tt
 
 -- ---- places that pass a test
 range_more : (a n : ℕ) → range_with_len a (suc n) ≡ range_with_len a n ++ (a + n) ∷ []
@@ -113,18 +121,22 @@ places_more p naming n =
     one false e = rw e refl
 
 -- ---- lines of keys
-pub one_key_line : (path remark before between after : List ℕ) (most n : ℕ) → AddsKeyLines before between
-    → after ≡ between ++ codes "poll: key " ++ shown most path ++ codes " is not read" ++ shown n remark ++ line_feed → AddsKeyLines before after
-one_key_line path remark before between after most n first added =
-    let text : List ℕ = codes "poll: key " ++ shown most path ++ codes " is not read" ++ shown n remark ++ line_feed in
-    let is : IsKeyLine text = record { path = shown most path; remark = shown n remark; path_unbroken = shown_unbroken most path; remark_unbroken = shown_unbroken n remark; is_text = refl } in
-    let lines : List (List ℕ) = first.0 ++ text ∷ [] in
-    let joined : concat (first.0 ++ text ∷ []) ≡ concat first.0 ++ text =
-    concat_is (first.0 ++ text ∷ []) ∙ flat_map-append (λ x. x) first.0 (text ∷ []) ∙ ap (λ t. t ++ (text ++ [])) (sym (concat_is first.0)) ∙ ap (λ t. concat first.0 ++ t) (append-nil text) in (
-      lines,
-      All-append IsKeyLine first.0 (text ∷ []) first.1 (All-cons IsKeyLine text [] is (All-nil IsKeyLine)),
-      added ∙ five_behind between (codes "poll: key ") (shown most path) (codes " is not read") (shown n remark) line_feed ∙ ap (λ t. t ++ text) first.2
-          ∙ append_assoc before (concat first.0) text ∙ ap (λ t. before ++ t) (sym joined),
+pub on_key_line : {X E : Type 0} (r : Result X E) (path remark before after : List ℕ) (most n : ℕ)
+    → OnOk r (after ≡ before ++ codes "poll: key " ++ shown most path ++ codes " is not read" ++ shown n remark ++ line_feed) → OnOk r (AddsKeyLine before after)
+on_key_line (Err x) path remark before after most n added = tt
+on_key_line (Ok x) path remark before after most n added =
+    let line : List ℕ = codes "poll: key " ++ shown most path ++ codes " is not read" ++ shown n remark ++ line_feed in
+    let is : IsKeyLine line = record { path = shown most path; remark = shown n remark; path_unbroken = shown_unbroken most path; remark_unbroken = shown_unbroken n remark; is_text = refl } in
+    (line, is, added ∙ five_behind before (codes "poll: key ") (shown most path) (codes " is not read") (shown n remark) line_feed)
+
+pub one_key_line : (before between after : List ℕ) → AddsKeyLines before between → AddsKeyLine between after → AddsKeyLines before after
+one_key_line before between after first more =
+    let line : List ℕ = more.0 in
+    let joined : concat (first.0 ++ line ∷ []) ≡ concat first.0 ++ line =
+    concat_is (first.0 ++ line ∷ []) ∙ flat_map-append (λ x. x) first.0 (line ∷ []) ∙ ap (λ t. t ++ (line ++ [])) (sym (concat_is first.0)) ∙ ap (λ t. concat first.0 ++ t) (append-nil line) in (
+      first.0 ++ line ∷ [],
+      All-append IsKeyLine first.0 (line ∷ []) first.1 (All-cons IsKeyLine line [] more.1 (All-nil IsKeyLine)),
+      more.2 ∙ ap (λ t. t ++ line) first.2 ∙ append_assoc before (concat first.0) line ∙ ap (λ t. before ++ t) (sym joined),
     )
 
 -- ---- all findings

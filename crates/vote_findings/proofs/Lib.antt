@@ -1,3 +1,4 @@
 mod FindingLaws
 mod FoundLaws
+mod KeyLaws
 mod SeenLaws

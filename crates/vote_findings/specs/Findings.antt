@@ -54,6 +54,14 @@ pub record IsSyntaxFinding (text : List ℕ) : Type 0 where
 abbrev pub AddsFindings : List PollFault → List ℕ → List ℕ → Type 0
 AddsFindings faults before after = (lines : List ℕ) × AreFindings faults lines × (after ≡ before ++ lines)
 
+-- the line of a fault, which had come as far as its words, was ended
+abbrev pub EndsFinding : List ℕ → List ℕ → Type 0
+EndsFinding before after = (hint : List ℕ) × IsUnbroken hint × (after ≡ before ++ codes ": " ++ hint ++ line_feed)
+
+-- the line of a key was added to a text
+abbrev pub AddsKeyLine : List ℕ → List ℕ → Type 0
+AddsKeyLine before after = (line : List ℕ) × IsKeyLine line × (after ≡ before ++ line)
+
 -- lines of keys were added to a text
 abbrev pub AddsKeyLines : List ℕ → List ℕ → Type 0
 AddsKeyLines before after = (lines : List (List ℕ)) × All IsKeyLine lines × (after ≡ before ++ concat lines)

@@ -35,9 +35,3 @@ abbrev pub IsKnown : {X : Type 0} → Result X PollFault → Option X → Type 0
 IsKnown (Ok x) value = value ≡ Some x
 IsKnown (Err fault.Memory) value = ⊥
 IsKnown (Err e) value = value ≡ None
-
--- what was read, where it was not refused for memory
-abbrev pub IsTold : {X : Type 0} → Result X PollFault → Result X PollFault → Type 0
-IsTold (Ok x) told = told ≡ Ok x
-IsTold (Err fault.Memory) told = ⊥
-IsTold (Err e) told = told ≡ Err e

@@ -2,4 +2,5 @@
 pub mod Findings
 -- what types stand for, and what private functions say of their parts
 pub mod FoundView
+pub mod KeyFindings
 pub mod NameFindings

@@ -2,8 +2,7 @@
 ghost use Rattle.std.specs.Prelude.{◌≡◌, ◌≢◌, ℕ, ◌++◌, List, Ok, Err, IfOk, OnOk, codes, decimal, string_bytes};
 ghost use Rattle.toml.specs.View.{table_view};
 ghost use Rattle.vote_findings.specs.Findings.{AddsFindings, AddsKeyLines, AreFindingsOf, IsSyntaxFinding};
-ghost use Rattle.vote_findings.specs.FoundView.{IsTold, found_view};
-ghost use Rattle.vote_poll.specs.PollFaults.{of_contents, of_keys};
+ghost use Rattle.vote_poll.specs.PollFaults.{faults_in};
 ghost use Rattle.vote_keys.specs.Keys.{Gives, document};
 ghost use Rattle.vote_poll.specs.PollFile.{poll_in, poll_in_table};
 ghost use Rattle.vote_keys.specs.declared.fault.PollFault.TheVariants.{Memory, Syntax};
@@ -58,42 +57,36 @@ fn syntax_finding(alloc: Global, text: &[u8], error: &toml::de::Error) -> Result
     Ok(finding)
 }
 
-/// Adds the findings of a table: on its keys, on what they say, and the keys that are not read.
-fn push_findings(
+/// Adds the findings on the keys of a table, and on what they say.
+fn push_faults(
     alloc: Global,
     text: &mut String,
     table: &Table,
-    found: &Found<'_>,
     unread: &UnreadKeys<'_>,
 ) -> Result<(), AllocError>
-    ensures { OnOk result ((between : List ℕ) × AddsFindings (of_keys (table_view table.now) (found_view found.now) ++ of_contents (found_view found.now)) (string_bytes text.old) between × AddsKeyLines between (string_bytes text.new)) }
+    ensures { OnOk result (AddsFindings (faults_in (Ok (table_view table.now))) (string_bytes text.old) (string_bytes text.new)) }
 {
-    push_keys(text, table, found, unread)?;
-    push_contents(alloc, text, found)?;
-    push_unread_keys(text, unread)
+    let found = Found::of_table(alloc, table)?;
+    push_keys(alloc, text, table, &found, unread)?;
+    push_contents(alloc, text, &found)
+}
+
+/// Adds the findings of a table: its faults, and the keys that are not read.
+fn push_findings(alloc: Global, text: &mut String, table: &Table) -> Result<(), AllocError>
+    ensures { OnOk result ((between : List ℕ) × AddsFindings (faults_in (Ok (table_view table.now))) (string_bytes text.old) between × AddsKeyLines between (string_bytes text.new)) }
+{
+    let unread = UnreadKeys::of_table(alloc, table)?;
+    push_faults(alloc, text, table, &unread)?;
+    push_unread_keys(text, &unread)
 }
 
 /// The findings of a table.
 fn findings_of(alloc: Global, table: &Table) -> Result<String, AllocError>
     ensures { IfOk result (λ findings. AreFindingsOf (Ok (table_view table.now)) (string_bytes findings)) }
 {
-    let found = Found::of_table(alloc, table)?;
-    let unread = UnreadKeys::of_table(alloc, table)?;
     let mut findings = String::new(alloc);
-    push_findings(alloc, &mut findings, table, &found, &unread)?;
+    push_findings(alloc, &mut findings, table)?;
     Ok(findings)
-}
-
-/// The poll, or its first fault, where memory was not what was wrong.
-fn told(read: Result<Poll, PollFault>) -> Result<Result<Poll, PollFault>, AllocError>
-    ensures read { IfOk result (IsTold read) }
-    ensures known { IfOk result (λ told. told ≢ Err Memory) }
-{
-    match read {
-        Ok(poll) => Ok(Ok(poll)),
-        Err(PollFault::Memory) => Err(AllocError),
-        Err(fault) => Ok(Err(fault)),
-    }
 }
 
 /// The poll of a table, or its first fault.
@@ -109,7 +102,11 @@ fn outcome_of(alloc: Global, table: &Table) -> Result<Result<Poll, PollFault>, A
     ensures read { IfOk result (λ outcome. outcome ≡ poll_in_table (table_view table.now)) }
     ensures known { IfOk result (λ outcome. outcome ≢ Err Memory) }
 {
-    told(poll_of(alloc, table))
+    match poll_of(alloc, table) {
+        Ok(poll) => Ok(Ok(poll)),
+        Err(PollFault::Memory) => Err(AllocError),
+        Err(fault) => Ok(Err(fault)),
+    }
 }
 
 /// What the table of a poll file says, and all that is wrong with it.

@@ -1,20 +1,20 @@
 //! The faults of what the keys of a poll file say.
-ghost use Rattle.std.specs.Prelude.{◌≡◌, ◌+◌, ◌++◌, ◌&&◌, ◌||◌, ◌==◌, IfOk, OnOk, codes, length, map, option_copied, option_to_list, string_bytes};
+ghost use Rattle.std.specs.Prelude.{◌≡◌, ◌+◌, ◌++◌, ◌&&◌, ◌||◌, ◌==◌, IfOk, OnOk, codes, is_none, length, map, option_copied, option_to_list, string_bytes};
 ghost use Rattle.std.specs.List.{list_all};
 ghost use Rattle.std.specs.Str.{bytes_eq};
-ghost use Rattle.vote_findings.specs.Findings.{AddsFindings};
+ghost use Rattle.vote_findings.specs.Findings.{AddsFindings, EndsFinding, fault_words};
 ghost use Rattle.vote_findings.specs.FoundView.{found_view};
 ghost use Rattle.vote_poll.specs.Lines.{line_feed};
 ghost use Rattle.vote_poll.specs.Names.{is_within};
-ghost use Rattle.vote_poll.specs.PollFaults.{of_contents, of_last_envelope, of_option_count, of_option_names, of_quorum, of_ratios, of_roll_size, of_title, of_voter_names, of_wording};
+ghost use Rattle.vote_poll.specs.PollFaults.{fault_unless, of_contents, of_last_envelope, of_option_count, of_option_names, of_quorum, of_ratios, of_roll_size, of_title, of_voter_names, of_wording};
 ghost use Rattle.vote_poll.specs.PollFile.{is_integer_within};
 ghost use Rattle.vote_poll.specs.Shown.{shown};
+ghost use Rattle.vote_keys.specs.declared.fault.PollFault.{PollFault};
+ghost use Rattle.vote_keys.specs.declared.fault.PollFault.TheVariants as fault;
 ghost use Rattle.vote_poll.specs.declared.TheConstants.{MAX_ELECTORS, MAX_OPTIONS, MAX_RATIO};
 
 use crate::found::Found;
-use crate::hints::{
-    Named, options_hint, range_hint, ratios_hint, roll_hint, shape_hint, wording_hint,
-};
+use crate::hints::{Hint, Named, words_of};
 use crate::name_findings::{NameList, push_bad_names};
 use std::alloc::{AllocError, Global};
 use vote_poll::{
@@ -37,27 +37,58 @@ pub(crate) fn push_hint(text: &mut String, hint: &str) -> Result<(), AllocError>
     end_line(text, hint)
 }
 
+/// Ends the line of a fault with what was found.
+pub(crate) fn end_finding(
+    alloc: Global,
+    text: &mut String,
+    hint: Hint<'_>,
+) -> Result<(), AllocError>
+    ensures { OnOk result (EndsFinding (string_bytes text.old) (string_bytes text.new)) }
+{
+    push_hint(text, &words_of(alloc, hint)?)
+}
+
 /// Adds the line of a fault that has these words.
-fn push_finding(text: &mut String, words: &str, hint: &str) -> Result<(), AllocError>
-    ensures { OnOk result (string_bytes text.new ≡ string_bytes text.old ++ codes "poll: " ++ words.now ++ codes ": " ++ shown (length hint.now) hint.now ++ line_feed) }
+fn push_finding(
+    alloc: Global,
+    text: &mut String,
+    words: &str,
+    hint: Hint<'_>,
+) -> Result<(), AllocError>
+    ensures { OnOk result (EndsFinding (string_bytes text.old ++ codes "poll: " ++ words.now) (string_bytes text.new)) }
 {
     text.push_str("poll: ")?;
     text.push_str(words)?;
-    push_hint(text, hint)
+    end_finding(alloc, text, hint)
 }
 
-/// The title.
+/// Adds the line of the fault that has these words, if a hint says that it is there.
+fn push_judged(
+    alloc: Global,
+    text: &mut String,
+    words: &str,
+    hint: Option<Hint<'_>>,
+) -> Result<(), AllocError>
+    ensures { OnOk result ((e : PollFault) → fault_words e ≡ words.now → AddsFindings (fault_unless (is_none hint.entry) e) (string_bytes text.old) (string_bytes text.new)) }
+{
+    match hint {
+        Some(hint) => push_finding(alloc, text, words, hint),
+        None => Ok(()),
+    }
+}
+
+/// What is wrong with the title, if anything.
 #[tactic(auto, unfolding(vote_poll::specs::PollFaults::of_title))]
-fn push_title(alloc: Global, text: &mut String, found: &Found<'_>) -> Result<(), AllocError>
-    ensures { OnOk result (AddsFindings (of_title (found_view found.now)) (string_bytes text.old) (string_bytes text.new)) }
+fn title_hint<'f>(found: &'f Found<'_>) -> Option<Hint<'f>>
+    ensures { fault_unless (is_none result) fault.Title ≡ of_title (found_view found.now) }
 {
     let Some(title) = found.title else {
-        return Ok(());
+        return None;
     };
     if is_title(title.as_bytes()) {
-        return Ok(());
+        return None;
     }
-    push_finding(text, "title", &shape_hint(alloc, Named::Poll, title)?)
+    Some(Hint::Shape(Named::Poll, title))
 }
 
 /// Whether a poll can have so many options but the default.
@@ -67,19 +98,18 @@ fn is_option_count(options: usize) -> bool
     1 <= options && options < MAX_OPTIONS
 }
 
-/// The number of options, with the default.
+/// What is wrong with the number of options, the default among them, if anything.
 #[tactic(auto, unfolding(vote_poll::specs::PollFaults::of_option_count))]
-fn push_option_count(alloc: Global, text: &mut String, found: &Found<'_>) -> Result<(), AllocError>
-    ensures { OnOk result (AddsFindings (of_option_count (found_view found.now)) (string_bytes text.old) (string_bytes text.new)) }
+fn option_count_hint<'f>(found: &'f Found<'_>) -> Option<Hint<'f>>
+    ensures { fault_unless (is_none result) fault.OptionCount ≡ of_option_count (found_view found.now) }
 {
     let Some(options) = &found.options else {
-        return Ok(());
+        return None;
     };
     if is_option_count(options.len()) {
-        return Ok(());
+        return None;
     }
-    let hint = options_hint(alloc, options.len())?;
-    push_finding(text, "number of options", &hint)
+    Some(Hint::OptionCount(options.len()))
 }
 
 /// The options but the default, and then the default, where it is there.
@@ -91,9 +121,7 @@ fn option_names<'t>(
     ensures { IfOk result (λ names. map (λ name. name.now) names.items ≡ map (λ option. option.now) options.now ++ option_to_list (option_copied default_option.entry)) }
 {
     let mut names = Vec::from_slice(alloc, options)?;
-    if let Some(name) = default_option {
-        names.push(name)?;
-    }
+    names.extend_from_slice(default_option.as_slice())?;
     Ok(names)
 }
 
@@ -130,22 +158,21 @@ fn are_ratios(numbers: &[i64], count: usize) -> bool
     numbers.len() == count && are_all_ratios(numbers)
 }
 
-/// The ratios.
+/// What is wrong with the ratios, if anything.
 #[tactic(auto, unfolding(vote_poll::specs::PollFaults::of_ratios))]
-fn push_ratios(alloc: Global, text: &mut String, found: &Found<'_>) -> Result<(), AllocError>
-    ensures { OnOk result (AddsFindings (of_ratios (found_view found.now)) (string_bytes text.old) (string_bytes text.new)) }
+fn ratios_hint<'f>(found: &'f Found<'_>) -> Option<Hint<'f>>
+    ensures { fault_unless (is_none result) fault.Ratio ≡ of_ratios (found_view found.now) }
 {
     let Some(options) = &found.options else {
-        return Ok(());
+        return None;
     };
     let Some(ratios) = &found.ratios else {
-        return Ok(());
+        return None;
     };
     if are_ratios(ratios, options.len()) {
-        return Ok(());
+        return None;
     }
-    let hint = ratios_hint(alloc, ratios, options.len())?;
-    push_finding(text, "ratios", &hint)
+    Some(Hint::Ratios(ratios, options.len()))
 }
 
 /// Whether a number is one from low to high.
@@ -155,19 +182,19 @@ fn is_from(number: i64, low: u32, high: u32) -> bool
     i64::from(low) <= number && number <= i64::from(high)
 }
 
-/// The multiple of Q.
+/// What is wrong with the multiple of Q, if anything.
 #[tactic(auto, unfolding(vote_poll::specs::PollFaults::of_quorum))]
-fn push_quorum(alloc: Global, text: &mut String, found: &Found<'_>) -> Result<(), AllocError>
-    ensures { OnOk result (AddsFindings (of_quorum (found_view found.now)) (string_bytes text.old) (string_bytes text.new)) }
+fn quorum_hint<'f>(found: &'f Found<'_>) -> Option<Hint<'f>>
+    ensures { fault_unless (is_none result) fault.Quorum ≡ of_quorum (found_view found.now) }
 {
     let Some(quorum) = found.quorum else {
-        return Ok(());
+        return None;
     };
     let most = u32::from(MAX_QUORUM_MULTIPLE);
     if is_from(quorum, 0, most) {
-        return Ok(());
+        return None;
     }
-    push_finding(text, "quorum", &range_hint(alloc, quorum, 0, most)?)
+    Some(Hint::Range(quorum, 0, most))
 }
 
 /// Whether a roll can have so many names.
@@ -177,18 +204,18 @@ fn is_roll_size(electors: usize) -> bool
     1 <= electors && electors <= MAX_ELECTORS
 }
 
-/// The number of electors.
+/// What is wrong with the number of electors, if anything.
 #[tactic(auto, unfolding(vote_poll::specs::PollFaults::of_roll_size))]
-fn push_roll_size(alloc: Global, text: &mut String, found: &Found<'_>) -> Result<(), AllocError>
-    ensures { OnOk result (AddsFindings (of_roll_size (found_view found.now)) (string_bytes text.old) (string_bytes text.new)) }
+fn roll_size_hint<'f>(found: &'f Found<'_>) -> Option<Hint<'f>>
+    ensures { fault_unless (is_none result) fault.RollSize ≡ of_roll_size (found_view found.now) }
 {
     let Some(roll) = &found.roll else {
-        return Ok(());
+        return None;
     };
     if is_roll_size(roll.len()) {
-        return Ok(());
+        return None;
     }
-    push_finding(text, "size of roll", &roll_hint(alloc, roll.len())?)
+    Some(Hint::RollSize(roll.len()))
 }
 
 /// The names of the voters.
@@ -202,19 +229,19 @@ fn push_voter_names(alloc: Global, text: &mut String, found: &Found<'_>) -> Resu
     }
 }
 
-/// The last envelope.
+/// What is wrong with the last envelope, if anything.
 #[tactic(auto, unfolding(vote_poll::specs::PollFaults::of_last_envelope))]
-fn push_last_envelope(alloc: Global, text: &mut String, found: &Found<'_>) -> Result<(), AllocError>
-    ensures { OnOk result (AddsFindings (of_last_envelope (found_view found.now)) (string_bytes text.old) (string_bytes text.new)) }
+fn last_envelope_hint<'f>(found: &'f Found<'_>) -> Option<Hint<'f>>
+    ensures { fault_unless (is_none result) fault.LastEnvelope ≡ of_last_envelope (found_view found.now) }
 {
     let Some(last) = found.last_envelope else {
-        return Ok(());
+        return None;
     };
     let most = MAX_LINES as u32;
     if is_from(last, 0, most) {
-        return Ok(());
+        return None;
     }
-    push_finding(text, "last envelope", &range_hint(alloc, last, 0, most)?)
+    Some(Hint::Range(last, 0, most))
 }
 
 /// Whether a text names a wording.
@@ -224,18 +251,18 @@ fn is_wording(text: &str) -> bool
     text == "at_least" || text == "more_than"
 }
 
-/// The wording.
+/// What is wrong with the wording, if anything.
 #[tactic(auto, unfolding(vote_poll::specs::PollFaults::of_wording))]
-fn push_wording(alloc: Global, text: &mut String, found: &Found<'_>) -> Result<(), AllocError>
-    ensures { OnOk result (AddsFindings (of_wording (found_view found.now)) (string_bytes text.old) (string_bytes text.new)) }
+fn wording_hint<'f>(found: &'f Found<'_>) -> Option<Hint<'f>>
+    ensures { fault_unless (is_none result) fault.Wording ≡ of_wording (found_view found.now) }
 {
     let Some(wording) = found.wording else {
-        return Ok(());
+        return None;
     };
     if is_wording(wording) {
-        return Ok(());
+        return None;
     }
-    push_finding(text, "wording", &wording_hint(alloc, wording)?)
+    Some(Hint::Wording(wording))
 }
 
 /// What the keys say, in the order of the faults.
@@ -246,13 +273,13 @@ pub(crate) fn push_contents(
 ) -> Result<(), AllocError>
     ensures { OnOk result (AddsFindings (of_contents (found_view found.now)) (string_bytes text.old) (string_bytes text.new)) }
 {
-    push_title(alloc, text, found)?;
-    push_option_count(alloc, text, found)?;
+    push_judged(alloc, text, "title", title_hint(found))?;
+    push_judged(alloc, text, "number of options", option_count_hint(found))?;
     push_option_names(alloc, text, found)?;
-    push_ratios(alloc, text, found)?;
-    push_quorum(alloc, text, found)?;
-    push_roll_size(alloc, text, found)?;
+    push_judged(alloc, text, "ratios", ratios_hint(found))?;
+    push_judged(alloc, text, "quorum", quorum_hint(found))?;
+    push_judged(alloc, text, "size of roll", roll_size_hint(found))?;
     push_voter_names(alloc, text, found)?;
-    push_last_envelope(alloc, text, found)?;
-    push_wording(alloc, text, found)
+    push_judged(alloc, text, "last envelope", last_envelope_hint(found))?;
+    push_judged(alloc, text, "wording", wording_hint(found))
 }

@@ -39,132 +39,145 @@ impl Named {
     }
 }
 
+/// What was found where a poll file has a fault.
+#[derive(Clone, Copy)]
+pub(crate) enum Hint<'t> {
+    /// The key is missing. The path is that of a table below which one of its name stands, where there is one.
+    Missing(Option<&'t [u8]>),
+    /// The key has a value of the wrong kind.
+    Kind(PollKey, &'t Value),
+    /// The name is misshapen.
+    Shape(Named, &'t str),
+    /// The name is also that of an earlier option or voter, which has this place.
+    Double(Named, &'t str, usize),
+    /// The number is not from the first of its limits to the second.
+    Range(i64, u32, u32),
+    /// There are so many options but the default, which is too few or too many.
+    OptionCount(usize),
+    /// The ratios are not one for each of so many options, or one is out of its limits.
+    Ratios(&'t [i64], usize),
+    /// The roll has so many names, which is too few or too many.
+    RollSize(usize),
+    /// The text is neither wording.
+    Wording(&'t str),
+}
+
 /// Adds a text in quotes, at most so many of its bytes as are shown.
-fn push_quoted(hint: &mut String, text: &str) -> Result<(), AllocError> {
-    hint.push('"')?;
-    push_shown(hint, text.as_bytes(), MAX_SHOWN)?;
-    hint.push('"')
+fn push_quoted(words: &mut String, text: &str) -> Result<(), AllocError> {
+    words.push('"')?;
+    push_shown(words, text.as_bytes(), MAX_SHOWN)?;
+    words.push('"')
 }
 
 /// Adds what a byte is.
-fn push_byte_words(hint: &mut String, byte: u8) -> Result<(), AllocError> {
-    match byte {
-        b' ' => hint.push_str("a space"),
-        b'\t' => hint.push_str("a tab"),
-        b'\n' => hint.push_str("a line feed"),
-        b'\r' => hint.push_str("a carriage return"),
-        b',' => hint.push_str("a comma"),
-        b'A'..=b'Z' => hint.push_str("a capital letter"),
-        0x21..=0x7E => write!(hint, "the character {}", byte as char),
-        _ => write!(hint, "the byte 0x{byte:02X}"),
-    }
+fn push_byte_words(words: &mut String, byte: u8) -> Result<(), AllocError> {
+    let kind = match byte {
+        b' ' => "a space",
+        b'\t' => "a tab",
+        b'\n' => "a line feed",
+        b'\r' => "a carriage return",
+        b',' => "a comma",
+        b'A'..=b'Z' => "a capital letter",
+        0x21..=0x7E => return write!(words, "the character {}", byte as char),
+        _ => return write!(words, "the byte 0x{byte:02X}"),
+    };
+    words.push_str(kind)
 }
 
 /// Adds which byte a name may not have, or which of its ends is a space.
-fn push_spelling(hint: &mut String, named: Named, name: &str) -> Result<(), AllocError> {
-    match name.as_bytes().iter().find(|byte| !named.may_have(**byte)) {
-        Some(byte) => {
-            hint.push_str(" has ")?;
-            push_byte_words(hint, *byte)
+fn push_spelling(words: &mut String, named: Named, name: &str) -> Result<(), AllocError> {
+    for byte in name.as_bytes() {
+        if !named.may_have(*byte) {
+            words.push_str(" has ")?;
+            return push_byte_words(words, *byte);
         }
-        None if name.starts_with(' ') => hint.push_str(" begins with a space"),
-        None => hint.push_str(" ends with a space"),
+    }
+    if name.starts_with(' ') {
+        words.push_str(" begins with a space")
+    } else {
+        words.push_str(" ends with a space")
     }
 }
 
-/// What is wrong with the shape of a name.
-pub(crate) fn shape_hint(alloc: Global, named: Named, name: &str) -> Result<String, AllocError> {
-    let mut hint = String::new(alloc);
+/// Adds what is wrong with the shape of a name.
+fn push_shape(words: &mut String, named: Named, name: &str) -> Result<(), AllocError> {
     if name.is_empty() {
-        hint.push_str("it is empty")?;
-        return Ok(hint);
+        return words.push_str("it is empty");
     }
-    push_quoted(&mut hint, name)?;
+    push_quoted(words, name)?;
     let most = named.most();
     if name.len() > most {
-        write!(hint, " has {} bytes, {most} are the most", name.len())?;
+        write!(words, " has {} bytes, {most} are the most", name.len())
     } else {
-        push_spelling(&mut hint, named, name)?;
+        push_spelling(words, named, name)
     }
-    Ok(hint)
 }
 
 /// Adds that an earlier option or voter has the name too, which has this place.
-fn push_earlier(hint: &mut String, named: Named, place: usize) -> Result<(), AllocError> {
+fn push_earlier(words: &mut String, named: Named, place: usize) -> Result<(), AllocError> {
     match named {
-        Named::Voter => write!(hint, " stands at position {place} too"),
-        Named::Poll | Named::Option => write!(hint, " is option {} too", place.saturating_add(1)),
+        Named::Voter => write!(words, " stands at position {place} too"),
+        Named::Poll | Named::Option => write!(words, " is option {} too", place.saturating_add(1)),
     }
 }
 
-/// That a name is also that of an earlier option or voter, which has this place.
-pub(crate) fn double_hint(
-    alloc: Global,
+/// Adds that a name is also that of an earlier option or voter, which has this place.
+fn push_double(
+    words: &mut String,
     named: Named,
     name: &str,
     place: usize,
-) -> Result<String, AllocError> {
-    let mut hint = String::new(alloc);
-    push_quoted(&mut hint, name)?;
-    push_earlier(&mut hint, named, place)?;
-    Ok(hint)
+) -> Result<(), AllocError> {
+    push_quoted(words, name)?;
+    push_earlier(words, named, place)
 }
 
-/// That a number is not within its limits.
-pub(crate) fn range_hint(
-    alloc: Global,
-    number: i64,
-    low: u32,
-    high: u32,
-) -> Result<String, AllocError> {
-    format!(in alloc; "{number} is not from {low} to {high}")
+/// Adds that a number is not within its limits.
+fn push_range(words: &mut String, number: i64, low: u32, high: u32) -> Result<(), AllocError> {
+    write!(words, "{number} is not from {low} to {high}")
 }
 
-/// That there are too few options but the default, or too many.
-pub(crate) fn options_hint(alloc: Global, options: usize) -> Result<String, AllocError> {
+/// Adds that there are too few options but the default, or too many.
+fn push_number_of_options(words: &mut String, options: usize) -> Result<(), AllocError> {
     let count = options.saturating_add(1);
     if count < 2 {
-        String::from_str(alloc, "the default alone, 2 are the least")
+        words.push_str("the default alone, 2 are the least")
     } else {
-        format!(in alloc; "{count} with the default, {MAX_OPTIONS} are the most")
+        write!(
+            words,
+            "{count} with the default, {MAX_OPTIONS} are the most"
+        )
     }
 }
 
-/// That there are too few electors, or too many.
-pub(crate) fn roll_hint(alloc: Global, electors: usize) -> Result<String, AllocError> {
+/// Adds that there are too few electors, or too many.
+fn push_number_of_names(words: &mut String, electors: usize) -> Result<(), AllocError> {
     if electors == 0 {
-        String::from_str(alloc, "no name, 1 is the least")
+        words.push_str("no name, 1 is the least")
     } else {
-        format!(in alloc; "{electors} names, {MAX_ELECTORS} are the most")
+        write!(words, "{electors} names, {MAX_ELECTORS} are the most")
     }
 }
 
-/// That a text is neither wording.
-pub(crate) fn wording_hint(alloc: Global, text: &str) -> Result<String, AllocError> {
-    let mut hint = String::new(alloc);
-    push_quoted(&mut hint, text)?;
-    hint.push_str(" is neither at_least nor more_than")?;
-    Ok(hint)
+/// Adds that a text is neither wording.
+fn push_no_wording(words: &mut String, text: &str) -> Result<(), AllocError> {
+    push_quoted(words, text)?;
+    words.push_str(" is neither at_least nor more_than")
 }
 
-/// What is wrong with the ratios of so many options: their number, or the first that is out of its limits.
-pub(crate) fn ratios_hint(
-    alloc: Global,
-    ratios: &[i64],
-    options: usize,
-) -> Result<String, AllocError> {
+/// Adds what is wrong with the ratios of so many options: their number, or the first that is out of its limits.
+fn push_bad_ratios(words: &mut String, ratios: &[i64], options: usize) -> Result<(), AllocError> {
     let count = ratios.len();
-    let most = u32::from(MAX_RATIO);
     if count != options {
-        return format!(in alloc; "{count} ratios for {options} options");
+        return write!(words, "{count} ratios for {options} options");
     }
-    match ratios
-        .iter()
-        .find(|ratio| **ratio < 1 || **ratio > i64::from(most))
-    {
-        Some(ratio) => range_hint(alloc, *ratio, 1, most),
-        None => Ok(String::new(alloc)),
+    let most = u32::from(MAX_RATIO);
+    for ratio in ratios {
+        if *ratio < 1 || *ratio > i64::from(most) {
+            return push_range(words, *ratio, 1, most);
+        }
     }
+    Ok(())
 }
 
 /// What a value is.
@@ -189,43 +202,78 @@ fn is_wrong_entry(key: PollKey, entry: &Value) -> bool {
     }
 }
 
-/// That the list at a key has this entry at a place, from 0.
-fn entry_hint(
-    alloc: Global,
+/// Adds that the list at a key has this entry at a place, from 0.
+fn push_entry(
+    words: &mut String,
     key: PollKey,
     place: usize,
     entry: &Value,
-) -> Result<String, AllocError> {
-    let words = kind_words(entry);
+) -> Result<(), AllocError> {
+    let kind = kind_words(entry);
     if key == PollKey::Roll {
-        format!(in alloc; "a list with {words} at position {place}")
+        write!(words, "a list with {kind} at position {place}")
     } else {
-        format!(in alloc; "a list with {words} at option {}", place.saturating_add(1))
+        write!(
+            words,
+            "a list with {kind} at option {}",
+            place.saturating_add(1)
+        )
     }
 }
 
-/// What is wrong in the list at a key: its first entry of the wrong kind, by the number of its option or by its position on the
-/// roll.
-fn list_hint(alloc: Global, key: PollKey, entries: &[Value]) -> Result<String, AllocError> {
+/// Adds what is wrong in the list at a key: its first entry of the wrong kind, by the number of its option or by its position
+/// on the roll.
+fn push_list(words: &mut String, key: PollKey, entries: &[Value]) -> Result<(), AllocError> {
     for (place, entry) in entries.iter().enumerate() {
         if is_wrong_entry(key, entry) {
-            return entry_hint(alloc, key, place, entry);
+            return push_entry(words, key, place, entry);
         }
     }
-    String::from_str(alloc, "a list")
+    words.push_str("a list")
 }
 
-/// What stands at a key in place of what is wanted.
-pub(crate) fn kind_hint(alloc: Global, key: PollKey, value: &Value) -> Result<String, AllocError> {
+/// Adds what stands at a key in place of what is wanted.
+fn push_kind(words: &mut String, key: PollKey, value: &Value) -> Result<(), AllocError> {
     match value {
-        Value::Array(entries) => list_hint(alloc, key, entries),
-        other => String::from_str(alloc, kind_words(other)),
+        Value::Array(entries) => push_list(words, key, entries),
+        other => words.push_str(kind_words(other)),
     }
 }
 
 /// Adds that a key stands below a table.
-pub(crate) fn push_below(hint: &mut String, table: &[u8]) -> Result<(), AllocError> {
-    hint.push_str("; it stands below [")?;
-    push_shown(hint, table, MAX_SHOWN)?;
-    hint.push_str("], and is read above all tables only")
+pub(crate) fn push_below(words: &mut String, table: &[u8]) -> Result<(), AllocError> {
+    words.push_str("; it stands below [")?;
+    push_shown(words, table, MAX_SHOWN)?;
+    words.push_str("], and is read above all tables only")
+}
+
+/// Adds that a key is missing, and below which table one of its name stands.
+fn push_missing(words: &mut String, table: Option<&[u8]>) -> Result<(), AllocError> {
+    words.push_str("it is missing")?;
+    match table {
+        Some(table) => push_below(words, table),
+        None => Ok(()),
+    }
+}
+
+/// Adds the words of a hint.
+fn push_words(words: &mut String, hint: Hint<'_>) -> Result<(), AllocError> {
+    match hint {
+        Hint::Missing(table) => push_missing(words, table),
+        Hint::Kind(key, value) => push_kind(words, key, value),
+        Hint::Shape(named, name) => push_shape(words, named, name),
+        Hint::Double(named, name, place) => push_double(words, named, name, place),
+        Hint::Range(number, low, high) => push_range(words, number, low, high),
+        Hint::OptionCount(options) => push_number_of_options(words, options),
+        Hint::Ratios(ratios, options) => push_bad_ratios(words, ratios, options),
+        Hint::RollSize(electors) => push_number_of_names(words, electors),
+        Hint::Wording(text) => push_no_wording(words, text),
+    }
+}
+
+/// The words of a hint.
+pub(crate) fn words_of(alloc: Global, hint: Hint<'_>) -> Result<String, AllocError> {
+    let mut words = String::new(alloc);
+    push_words(&mut words, hint)?;
+    Ok(words)
 }

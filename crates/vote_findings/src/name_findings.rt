@@ -1,15 +1,13 @@
 //! The names of a poll file that are misshapen or double.
-ghost use Rattle.std.specs.Prelude.{◌≡◌, ◌<◌, ◌^◌, ◌++◌, ℕ, List, IfOk, OnOk, codes, decimal, map, not, string_bytes, ◌+◌, ◌||◌, length};
+ghost use Rattle.std.specs.Prelude.{◌≡◌, ◌<◌, ◌^◌, ◌++◌, ◌∷◌, [], ℕ, List, IfOk, OnOk, codes, map, not, string_bytes, ◌+◌, ◌||◌};
 ghost use Rattle.std.specs.List.{list_any};
 ghost use Rattle.std.specs.Str.{bytes_eq};
 ghost use Rattle.vote_findings.specs.Findings.{AddsFindings, fault_words};
-ghost use Rattle.vote_poll.specs.Lines.{line_feed};
 ghost use Rattle.vote_findings.specs.NameFindings.{bad_name, has_shape};
 ghost use Rattle.vote_poll.specs.PollFaults.{bad_places, fault_unless};
-ghost use Rattle.vote_poll.specs.Shown.{shown};
 
-use crate::findings::push_hint;
-use crate::hints::{Named, double_hint, shape_hint};
+use crate::findings::end_finding;
+use crate::hints::{Hint, Named};
 use indexmap::IndexSet;
 use std::alloc::{AllocError, Global};
 use vote_poll::{is_option_name, is_voter_name};
@@ -66,36 +64,30 @@ impl<'t> SeenNames<'t> {
     }
 }
 
-/// Adds that the name of an option is bad.
-fn push_bad_option(text: &mut String, option: usize, hint: &str) -> Result<(), AllocError>
-    ensures { OnOk result (string_bytes text.new ≡ string_bytes text.old ++ codes "poll: " ++ (codes "name of option " ++ decimal option) ++ codes ": " ++ shown (length hint.now) hint.now ++ line_feed) }
+/// Adds the words of the fault that the name at a place is misshapen or double.
+fn push_name_words(text: &mut String, list: NameList, place: usize) -> Result<(), AllocError>
+    requires { place + 1 < 2 ^ 64 }
+    ensures { OnOk result (string_bytes text.new ≡ string_bytes text.old ++ codes "poll: " ++ fault_words (bad_name list place)) }
 {
-    write!(text, "poll: name of option {option}")?;
-    push_hint(text, hint)
-}
-
-/// Adds that the name of the voter at a place is bad.
-fn push_bad_voter(text: &mut String, place: usize, hint: &str) -> Result<(), AllocError>
-    ensures { OnOk result (string_bytes text.new ≡ string_bytes text.old ++ codes "poll: " ++ (codes "voter at position " ++ decimal place) ++ codes ": " ++ shown (length hint.now) hint.now ++ line_feed) }
-{
-    write!(text, "poll: voter at position {place}")?;
-    push_hint(text, hint)
+    match list {
+        NameList::Options => write!(text, "poll: name of option {}", place + 1),
+        NameList::Roll => write!(text, "poll: voter at position {place}"),
+    }
 }
 
 /// Adds that the name at a place is misshapen or double.
 fn push_bad_name(
+    alloc: Global,
     text: &mut String,
     list: NameList,
     place: usize,
-    hint: &str,
+    hint: Hint<'_>,
 ) -> Result<(), AllocError>
     requires { place + 1 < 2 ^ 64 }
-    ensures { OnOk result (string_bytes text.new ≡ string_bytes text.old ++ codes "poll: " ++ fault_words (bad_name list place) ++ codes ": " ++ shown (length hint.now) hint.now ++ line_feed) }
+    ensures { OnOk result (AddsFindings (bad_name list place ∷ []) (string_bytes text.old) (string_bytes text.new)) }
 {
-    match list {
-        NameList::Options => push_bad_option(text, place + 1, hint),
-        NameList::Roll => push_bad_voter(text, place, hint),
-    }
+    push_name_words(text, list, place)?;
+    end_finding(alloc, text, hint)
 }
 
 /// Judges the name at a place, which was seen before or not, and where.
@@ -113,10 +105,10 @@ fn judge_name(
     let (is_double, first) = seen;
     let named = list.named();
     if !list.has_shape(name.as_bytes()) {
-        return push_bad_name(text, list, place, &shape_hint(alloc, named, name)?);
+        return push_bad_name(alloc, text, list, place, Hint::Shape(named, name));
     }
     if is_double {
-        return push_bad_name(text, list, place, &double_hint(alloc, named, name, first)?);
+        return push_bad_name(alloc, text, list, place, Hint::Double(named, name, first));
     }
     Ok(())
 }
@@ -138,6 +130,23 @@ fn judge_next<'t>(
     judge_name(alloc, text, list, name, place, earlier)
 }
 
+/// Judges the names of a list, none of which was seen before.
+fn judge_names<'t>(
+    alloc: Global,
+    text: &mut String,
+    list: NameList,
+    names: &[&'t str],
+    seen: &mut SeenNames<'t>,
+) -> Result<(), AllocError>
+    requires { seen.old.names.keys ≡ [] }
+    ensures { OnOk result (AddsFindings (map (bad_name list) (bad_places (has_shape list) (map (λ name. name.now) names.now))) (string_bytes text.old) (string_bytes text.new)) }
+{
+    for (place, name) in names.iter().enumerate() {
+        judge_next(alloc, text, list, name, place, seen)?;
+    }
+    Ok(())
+}
+
 /// Adds the findings on the names of a list.
 pub(crate) fn push_bad_names(
     alloc: Global,
@@ -151,8 +160,5 @@ pub(crate) fn push_bad_names(
         names: IndexSet::new(alloc),
         places: Vec::new(alloc),
     };
-    for (place, name) in names.iter().enumerate() {
-        judge_next(alloc, text, list, name, place, &mut seen)?;
-    }
-    Ok(())
+    judge_names(alloc, text, list, names, &mut seen)
 }

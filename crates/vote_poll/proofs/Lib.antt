@@ -2,6 +2,7 @@ mod Assembly
 pub mod Equality
 mod BallotLaws
 mod FirstBad
+mod Gives
 mod GrammarLaws
 mod LinesLaws
 mod NamesLaws

@@ -1,5 +1,5 @@
 -- What a poll file means: a poll, or the first of its faults.
-use Rattle.std.specs.Prelude.{◌≡◌, ℕ, ◌+◌, List, [], ◌∷◌, ◌++◌, map, length, Bool, ◌&&◌, ◌==◌, if◌then◌else◌, ℤ, nat_abs, pos, int_le, Option, Some, None, option_map, Result, Ok, Err, codes}
+use Rattle.std.specs.Prelude.{ℕ, ◌+◌, List, [], ◌∷◌, ◌++◌, map, length, Bool, ◌&&◌, ◌==◌, if◌then◌else◌, ℤ, nat_abs, pos, int_le, Option, Some, None, option_map, Result, Ok, Err, codes}
 use Rattle.std.specs.List.{list_all}
 use Rattle.std.specs.Str.{bytes_eq}
 use Rattle.toml.specs.Data.{Members}

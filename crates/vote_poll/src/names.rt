@@ -1,13 +1,14 @@
 //! The names of a poll: its title, its options and the voters on its roll.
-ghost use Rattle.std.specs.Prelude.{◌≡◌, ◌+◌, ◌<◌, ◌≤◌, length, map, option_map, position, string_bytes};
+ghost use Rattle.std.specs.Prelude.{◌≡◌, ◌+◌, ◌<◌, [], ◌∷◌, ◌++◌, length, map, position, string_bytes};
 ghost use Rattle.std.specs.List.{list_all, list_any};
 ghost use Rattle.std.specs.Str.{bytes_eq};
-ghost use Rattle.vote_poll.specs.Names.{first_bad, has_outer_space, is_bad_after, is_option_name, is_printable, is_title, is_voter_byte, is_voter_name};
+ghost use Rattle.vote_poll.specs.Names.{has_outer_space, is_bad_after, is_option_name, is_printable, is_title, is_voter_byte, is_voter_name};
 ghost use Rattle.vote_keys.specs.Keys.{Gives};
-ghost use Rattle.vote_poll.specs.PollFile.{err_or};
+ghost use Rattle.vote_poll.specs.Parsing.{names_with};
+ghost use Rattle.vote_poll.specs.PollFile.{option_names_in, roll_in};
 ghost use Rattle.vote_keys.specs.declared.fault.PollFault.TheVariants as fault;
 
-use crate::{MAX_OPTION_NAME, MAX_OPTIONS, MAX_TITLE, MAX_VOTER_NAME};
+use crate::{MAX_ELECTORS, MAX_OPTION_NAME, MAX_OPTIONS, MAX_TITLE, MAX_VOTER_NAME};
 use indexmap::IndexSet;
 use std::alloc::Global;
 use vote_keys::PollFault;
@@ -86,37 +87,65 @@ fn is_bad_after(names: &[String], name: &[u8]) -> bool
     !is_option_name(name) || is_among(names, name)
 }
 
-/// The names of the options, the default among them.
-pub(crate) fn parse_option_names(alloc: Global, texts: &[&str]) -> Result<Vec<String>, PollFault>
-    requires { length texts.now ≤ MAX_OPTIONS }
-    ensures { Gives (λ names. map string_bytes names.items) result (err_or (option_map (λ place. fault.OptionName (place + 1)) (first_bad is_option_name (map (λ text. text.now) texts.now))) (map (λ text. text.now) texts.now)) }
+/// Adds the name of the next option, where it is well formed and no option before has it.
+fn push_option_name(alloc: Global, names: &mut Vec<String>, name: &str) -> Result<(), PollFault>
+    requires { length names.old.items < MAX_OPTIONS }
+    ensures { Gives (λ _. map string_bytes names.new.items) result (names_with is_option_name (λ place. fault.OptionName (place + 1)) (map string_bytes names.old.items) name.now) }
 {
-    let mut names = Vec::new(alloc);
-    for (place, text) in texts.iter().enumerate() {
-        if is_bad_after(&names, text.as_bytes()) {
-            return Err(PollFault::OptionName(place as u8 + 1));
-        }
-        names.push(String::from_str(alloc, text)?)?;
+    if is_bad_after(names, name.as_bytes()) {
+        return Err(PollFault::OptionName(names.len() as u8 + 1));
     }
+    names.push(String::from_str(alloc, name)?)?;
+    Ok(())
+}
+
+/// The names of the options, the default behind the others.
+pub(crate) fn parse_option_names(
+    alloc: Global,
+    others: &[&str],
+    default_option: &str,
+) -> Result<Vec<String>, PollFault>
+    ensures { Gives (λ names. map string_bytes names.items) result (option_names_in (map (λ other. other.now) others.now ++ default_option.now ∷ [])) }
+{
+    if others.is_empty() || others.len() >= MAX_OPTIONS {
+        return Err(PollFault::OptionCount);
+    }
+    let mut names = Vec::new(alloc);
+    for other in others {
+        push_option_name(alloc, &mut names, other)?;
+    }
+    push_option_name(alloc, &mut names, default_option)?;
     Ok(names)
 }
 
-/// The names of the voters. The number of a voter is the place of the name.
+/// Adds the name of the next voter, where it is well formed and no voter before has it.
+fn push_voter_name(alloc: Global, roll: &mut IndexSet<String>, name: &str) -> Result<(), PollFault>
+    ensures { Gives (λ _. map string_bytes roll.new.keys) result (names_with is_voter_name fault.VoterName (map string_bytes roll.old.keys) name.now) }
+{
+    let place = roll.len();
+    if !is_voter_name(name.as_bytes()) {
+        return Err(PollFault::VoterName(place));
+    }
+    let is_new = roll.insert(String::from_str(alloc, name)?)?;
+    if !is_new {
+        return Err(PollFault::VoterName(place));
+    }
+    Ok(())
+}
+
+/// The roll of voters. The number of a voter is the place of the name.
 pub(crate) fn parse_voter_names(
     alloc: Global,
-    texts: &[&str],
+    names: &[&str],
 ) -> Result<IndexSet<String>, PollFault>
-    ensures { Gives (λ roll. map string_bytes roll.keys) result (err_or (option_map fault.VoterName (first_bad is_voter_name (map (λ text. text.now) texts.now))) (map (λ text. text.now) texts.now)) }
+    ensures { Gives (λ roll. map string_bytes roll.keys) result (roll_in (map (λ name. name.now) names.now)) }
 {
-    let mut roll = IndexSet::with_capacity(alloc, texts.len())?;
-    for (place, text) in texts.iter().enumerate() {
-        if !is_voter_name(text.as_bytes()) {
-            return Err(PollFault::VoterName(place));
-        }
-        let is_new = roll.insert(String::from_str(alloc, text)?)?;
-        if !is_new {
-            return Err(PollFault::VoterName(place));
-        }
+    if names.is_empty() || names.len() > MAX_ELECTORS {
+        return Err(PollFault::RollSize);
+    }
+    let mut roll = IndexSet::with_capacity(alloc, names.len())?;
+    for name in names {
+        push_voter_name(alloc, &mut roll, name)?;
     }
     Ok(roll)
 }

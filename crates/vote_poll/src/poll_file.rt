@@ -1,15 +1,17 @@
 //! Reading a poll file.
-ghost use Rattle.std.specs.Prelude.{◌≡◌, [], ◌∷◌, ◌++◌, map, string_bytes};
+ghost use Rattle.std.specs.Prelude.{◌≡◌, map, string_bytes};
+ghost use Rattle.std.specs.Option.{option_copied};
 ghost use Rattle.vote_keys.specs.FieldsView.{fields_view};
 ghost use Rattle.vote_keys.specs.Keys.{Gives};
 ghost use Rattle.vote_poll.specs.PollFaults.{FirstIsTold};
-ghost use Rattle.vote_poll.specs.PollFile.{last_envelope_in, option_names_in, poll_in, poll_of, quorum_in, ratios_in, roll_in, title_in};
+ghost use Rattle.vote_poll.specs.Parsing.{optional_rules_in, roll_and_rules_in, thresholds_in};
+ghost use Rattle.vote_poll.specs.PollFile.{last_envelope_in, poll_in, poll_of, quorum_in, ratios_in, title_in};
 
 use crate::lines::MAX_LINES;
 use crate::names::{is_title, parse_option_names, parse_voter_names};
 use crate::poll::Poll;
-use crate::wording::parse_wording;
-use crate::{MAX_ELECTORS, MAX_OPTIONS, MAX_QUORUM_MULTIPLE, MAX_RATIO};
+use crate::wording::{Wording, parse_wording};
+use crate::{MAX_QUORUM_MULTIPLE, MAX_RATIO};
 use indexmap::IndexSet;
 use std::alloc::Global;
 use vote_keys::{Fields, PollFault, document, fields_of};
@@ -25,30 +27,15 @@ fn parse_title(alloc: Global, text: &str) -> Result<String, PollFault>
     Ok(title)
 }
 
-/// The names of the options, the default behind the others.
-fn parse_options<'t>(
-    alloc: Global,
-    mut names: Vec<&'t str>,
-    default_option: &'t str,
-) -> Result<Vec<String>, PollFault>
-    ensures { Gives (λ options. map string_bytes options.items) result (option_names_in (map (λ name. name.now) names.entry.items ++ default_option.now ∷ [])) }
-{
-    names.push(default_option)?;
-    if names.len() < 2 || names.len() > MAX_OPTIONS {
-        return Err(PollFault::OptionCount);
-    }
-    parse_option_names(alloc, &names)
-}
-
 /// The majority ratios of so many options.
-fn parse_ratios(alloc: Global, numbers: Vec<i64>, count: usize) -> Result<Vec<u8>, PollFault>
-    ensures { Gives (λ ratios. ratios.items) result (ratios_in count numbers.items) }
+fn parse_ratios(alloc: Global, numbers: &[i64], count: usize) -> Result<Vec<u8>, PollFault>
+    ensures { Gives (λ ratios. ratios.items) result (ratios_in count numbers.now) }
 {
     if numbers.len() != count {
         return Err(PollFault::Ratio);
     }
     let mut ratios = Vec::new(alloc);
-    for number in &numbers {
+    for number in numbers {
         if *number < 1 || *number > i64::from(MAX_RATIO) {
             return Err(PollFault::Ratio);
         }
@@ -67,14 +54,18 @@ fn parse_quorum(number: i64) -> Result<u8, PollFault>
     Ok(number as u8)
 }
 
-/// The roll of voters.
-fn parse_roll(alloc: Global, names: Vec<&str>) -> Result<IndexSet<String>, PollFault>
-    ensures { Gives (λ roll. map string_bytes roll.keys) result (roll_in (map (λ name. name.now) names.entry.items)) }
+/// What an option has to reach: the majority ratios of so many options, and the multiple of Q that is the quorum.
+fn parse_thresholds(
+    alloc: Global,
+    ratios: &[i64],
+    count: usize,
+    quorum: i64,
+) -> Result<(Vec<u8>, u8), PollFault>
+    ensures { Gives (λ thresholds. (thresholds.0.items, thresholds.1)) result (thresholds_in count ratios.now quorum) }
 {
-    if names.is_empty() || names.len() > MAX_ELECTORS {
-        return Err(PollFault::RollSize);
-    }
-    parse_voter_names(alloc, &names)
+    let ratios = parse_ratios(alloc, ratios, count)?;
+    let quorum_multiple = parse_quorum(quorum)?;
+    Ok((ratios, quorum_multiple))
 }
 
 /// The last envelope that is not late, where there is one.
@@ -90,6 +81,62 @@ fn parse_last_envelope(number: Option<i64>) -> Result<Option<u32>, PollFault>
     Ok(Some(number as u32))
 }
 
+/// The rules that a poll file may leave out: the last envelope that is not late, and the wording of a majority.
+fn parse_optional_rules(
+    last_envelope: Option<i64>,
+    wording: Option<&str>,
+) -> Result<(Option<u32>, Wording), PollFault>
+    ensures { Gives (λ rules. rules) result (optional_rules_in last_envelope (option_copied wording.entry)) }
+{
+    let last_envelope = parse_last_envelope(last_envelope)?;
+    let wording = parse_wording(wording)?;
+    Ok((last_envelope, wording))
+}
+
+/// The roll of voters, and the rules that a poll file may leave out.
+fn parse_roll_and_rules(
+    alloc: Global,
+    roll: &[&str],
+    last_envelope: Option<i64>,
+    wording: Option<&str>,
+) -> Result<(IndexSet<String>, (Option<u32>, Wording)), PollFault>
+    ensures { Gives (λ parts. (map string_bytes parts.0.keys, parts.1)) result (roll_and_rules_in (map (λ name. name.now) roll.now) last_envelope (option_copied wording.entry)) }
+{
+    let roll = parse_voter_names(alloc, roll)?;
+    let rules = parse_optional_rules(last_envelope, wording)?;
+    Ok((roll, rules))
+}
+
+/// The poll that the keys of a poll file give, or the first of its faults. Each key is judged where those before it are right.
+fn parse_poll(alloc: Global, fields: &Fields<'_>) -> Result<Poll, PollFault>
+    ensures { Gives (λ poll. poll) result (poll_of (fields_view fields.now)) }
+{
+    let title = parse_title(alloc, fields.title)?;
+    let options = parse_option_names(alloc, &fields.options, fields.default_option)?;
+    let ratio_count = fields.options.len();
+    let (ratios, quorum_multiple) = parse_thresholds(
+        alloc,
+        &fields.ratios,
+        ratio_count,
+        fields.quorum,
+    )?;
+    let (roll, (last_envelope, wording)) = parse_roll_and_rules(
+        alloc,
+        &fields.roll,
+        fields.last_envelope,
+        fields.wording,
+    )?;
+    Ok(Poll {
+        title,
+        options,
+        ratios,
+        quorum_multiple,
+        roll,
+        last_envelope,
+        wording,
+    })
+}
+
 impl Poll {
     /// The poll that the keys of a poll file give, or the first of its faults.
     ///
@@ -97,37 +144,10 @@ impl Poll {
     ///
     /// The first [`PollFault`] that holds, in the order of that type, each just where it holds, but for
     /// [`PollFault::Syntax`] and [`PollFault::Key`]; or [`PollFault::Memory`].
-    #[tactic(auto, unfolding(crate::specs::PollFile::poll_of))]
     pub fn from_fields(alloc: Global, fields: Fields<'_>) -> Result<Poll, PollFault>
         ensures { Gives (λ poll. poll) result (poll_of (fields_view fields.entry)) }
     {
-        let Fields {
-            title,
-            options,
-            ratios,
-            default_option,
-            quorum,
-            roll,
-            last_envelope,
-            wording,
-        } = fields;
-        let title = parse_title(alloc, title)?;
-        let ratio_count = options.len();
-        let options = parse_options(alloc, options, default_option)?;
-        let ratios = parse_ratios(alloc, ratios, ratio_count)?;
-        let quorum_multiple = parse_quorum(quorum)?;
-        let roll = parse_roll(alloc, roll)?;
-        let last_envelope = parse_last_envelope(last_envelope)?;
-        let wording = parse_wording(wording)?;
-        Ok(Poll {
-            title,
-            options,
-            ratios,
-            quorum_multiple,
-            roll,
-            last_envelope,
-            wording,
-        })
+        parse_poll(alloc, &fields)
     }
 
     /// The poll that the text of a poll file means, or the first of its faults. The text is TOML. Its table has the keys of

@@ -1,14 +1,10 @@
-use Rattle.std.proofs.Common.{◌≡◌, ◌∷◌, [], false, refl}
-use Rattle.vote_findings.specs.Findings.{fault_words}
-use Rattle.vote_poll.specs.PollFaults.{fault_unless}
-use Rattle.vote_keys.specs.declared.fault.PollFault.{PollFault}
-use Rattle.vote_keys.specs.declared.fault.PollFault.TheVariants as fault
-use Rattle.vote_findings.proofs.FindingLaws.{on_finding}
+use Rattle.std.proofs.Common.{◌≡◌, false}
+use Rattle.toml.specs.View.{table_view}
+use Rattle.vote_findings.specs.FoundView.{found_view}
+use Rattle.vote_findings.specs.KeyFindings.{is_right}
 use Rattle.vote_findings.proofs.key_findings.push_key.Goals as goal
 
 pub returns : goal.returns
 returns c =
-    let e : PollFault = fault.Key c.args.key in
-    let wrong : c.args.is_right ≡ false = cc in
-    let told : fault_unless c.args.is_right e ≡ e ∷ [] = rw wrong in
-    on_finding c.push_bad_key.result e _ (fault_words e) _ _ _ told refl c.push_bad_key.ensures
+    let wrong : is_right (table_view c.args.table.now) (found_view c.args.found.now) c.args.key ≡ false = cc in
+    rw wrong c.push_bad_key.ensures
