@@ -1,3 +1,4 @@
 -- what the contracts of public calls say
 pub mod CommandLine
 pub mod Order
+pub mod Subcommands

@@ -1,12 +1,13 @@
 //! The command line.
 
-ghost use Rattle.std.specs.Prelude.{◌≡◌, ℕ, IfErr, IfNone, IfOk, IfSome, IsOkAnd, OnOk, [], codes, map, option_map, false};
+ghost use Rattle.std.specs.Prelude.{◌≡◌, ℕ, IfErr, IfNone, IfOk, IfSome, OnOk, [], codes, map, option_map, false};
 ghost use Rattle.clap.specs.Faults.{fault_of};
 ghost use Rattle.clap.specs.Values.{kind_of};
 ghost use Rattle.clap.specs.declared.builder.command.Command.TheViews.{out-Command as fields_of};
-ghost use Rattle.clap.specs.Words.{app_of, first_of, found_of, rows_of, rule_of, subcommand_of, subcommand_rows_of, with_subcommand};
-ghost use Rattle.vote_command.specs.CommandLine.{ballots_command, bare_command, check_command, count_command, counting_command, debvote_command, desks_flag, explain_command, flag, picture_command, required_flag, standing_command, steps_command, verify_command};
+ghost use Rattle.clap.specs.Words.{app_of, first_of, found_of, rows_of, rule_of, subcommand_of, subcommand_rows_of};
+ghost use Rattle.vote_command.specs.CommandLine.{bare_command, debvote_command, desks_flag, flag, required_flag};
 ghost use Rattle.vote_command.specs.Order.{AsksFor, DesksFit, HasDesks, HasValues, HelpsIfAsked, IsFaultOfKind, RefusesIfAtFault, subcommand_name};
+ghost use Rattle.vote_command.specs.Subcommands.{flag_rule, flags_of, name_of, subcommand_app};
 ghost use Rattle.vote_command.specs.declared.command_line.Task.{Task};
 
 use crate::{MAX_DESKS, VERSION};
@@ -95,6 +96,7 @@ fn value_arg<'a>(alloc: Global, id: &'a str, value: &'a str, help: &'a str) -> A
         .help(help)
 }
 
+/// A flag with one file, which has to be given.
 fn file_arg<'a>(alloc: Global, id: &'a str, help: &'a str) -> Arg<'a>
     ensures rule { rule_of result ≡ required_flag id.entry.now }
     ensures local { result.global ≡ false }
@@ -105,74 +107,24 @@ fn file_arg<'a>(alloc: Global, id: &'a str, help: &'a str) -> Arg<'a>
 /// What a ballot file is.
 const BALLOTS_HELP: &str = "The ballot file, one ballot a line: name 1,2,3";
 
-fn poll_arg<'a>(alloc: Global) -> Arg<'a>
-    ensures rule { rule_of result ≡ required_flag (codes "poll") }
-    ensures local { result.global ≡ false }
-{
-    file_arg(alloc, "poll", "The poll file, in TOML")
+/// A flag of the commands.
+#[derive(Clone, Copy)]
+enum Flag {
+    /// The poll file.
+    Poll,
+    /// The ballot file.
+    Ballots,
+    /// The ballot file, where it may be left out.
+    BallotsIfGiven,
+    /// The published sheet.
+    Sheet,
+    /// How many desks enter the ballots.
+    Desks,
+    /// The option that the casting vote chooses.
+    Casting,
 }
 
-fn ballots_arg<'a>(alloc: Global) -> Arg<'a>
-    ensures rule { rule_of result ≡ required_flag (codes "ballots") }
-    ensures local { result.global ≡ false }
-{
-    file_arg(alloc, "ballots", BALLOTS_HELP)
-}
-
-fn casting_arg<'a>(alloc: Global) -> Arg<'a>
-    ensures rule { rule_of result ≡ flag (codes "casting") }
-    ensures local { result.global ≡ false }
-{
-    value_arg(
-        alloc,
-        "casting",
-        "NAME",
-        "The exact name of the option that the casting vote chooses in a tie",
-    )
-}
-
-fn check_command<'a>(alloc: Global) -> Result<Command<'a>, AllocError>
-    ensures app { IfOk result (λ c. app_of c ≡ check_command) }
-    ensures local { IfOk result (λ c. (fields_of c).has_globals ≡ false) }
-{
-    Command::new(alloc, "check")
-        .about("Checks a poll file")
-        .arg(poll_arg(alloc))
-}
-
-/// A command on a poll and its ballots.
-fn ballots_command<'a>(
-    alloc: Global,
-    name: &'a str,
-    about: &'a str,
-) -> Result<Command<'a>, AllocError>
-    ensures app { IfOk result (λ c. app_of c ≡ ballots_command name.entry.now) }
-    ensures local { IfOk result (λ c. (fields_of c).has_globals ≡ false) }
-{
-    Command::new(alloc, name)
-        .about(about)
-        .arg(poll_arg(alloc))?
-        .arg(ballots_arg(alloc))
-}
-
-fn steps_command<'a>(alloc: Global) -> Result<Command<'a>, AllocError>
-    ensures app { IfOk result (λ c. app_of c ≡ steps_command) }
-    ensures local { IfOk result (λ c. (fields_of c).has_globals ≡ false) }
-{
-    ballots_command(alloc, "steps", "Prints the reply to each ballot")
-}
-
-fn standing_command<'a>(alloc: Global) -> Result<Command<'a>, AllocError>
-    ensures app { IfOk result (λ c. app_of c ≡ standing_command) }
-    ensures local { IfOk result (λ c. (fields_of c).has_globals ≡ false) }
-{
-    ballots_command(
-        alloc,
-        "standing",
-        "Prints the ballots that stand, the last valid one of each elector",
-    )
-}
-
+/// The flag with the number of desks.
 fn desks_arg<'a>(alloc: Global) -> Arg<'a>
     ensures rule { rule_of result ≡ desks_flag }
     ensures local { result.global ≡ false }
@@ -182,59 +134,123 @@ fn desks_arg<'a>(alloc: Global) -> Arg<'a>
         .default_value("1")
 }
 
-/// A command that counts, where the casting vote may choose.
-fn counting_command<'a>(
-    alloc: Global,
-    name: &'a str,
-    about: &'a str,
-) -> Result<Command<'a>, AllocError>
-    ensures app { IfOk result (λ c. app_of c ≡ counting_command name.entry.now) }
-    ensures local { IfOk result (λ c. (fields_of c).has_globals ≡ false) }
+/// The flag, as `clap` takes it.
+fn arg_of<'a>(alloc: Global, flag: Flag) -> Arg<'a>
+    ensures rule { rule_of result ≡ flag_rule flag }
+    ensures local { result.global ≡ false }
 {
-    ballots_command(alloc, name, about)?
-        .arg(desks_arg(alloc))?
-        .arg(casting_arg(alloc))
+    match flag {
+        Flag::Poll => file_arg(alloc, "poll", "The poll file, in TOML"),
+        Flag::Ballots => file_arg(alloc, "ballots", BALLOTS_HELP),
+        Flag::BallotsIfGiven => value_arg(alloc, "ballots", "FILE", BALLOTS_HELP),
+        Flag::Sheet => file_arg(alloc, "sheet", "The sheet that was published"),
+        Flag::Desks => desks_arg(alloc),
+        Flag::Casting => value_arg(
+            alloc,
+            "casting",
+            "NAME",
+            "The exact name of the option that the casting vote chooses in a tie",
+        ),
+    }
 }
 
-fn count_command<'a>(alloc: Global) -> Result<Command<'a>, AllocError>
-    ensures app { IfOk result (λ c. app_of c ≡ count_command) }
-    ensures local { IfOk result (λ c. (fields_of c).has_globals ≡ false) }
-{
-    counting_command(alloc, "count", "Counts the ballots and prints the result")
+/// A command of the program, by its task.
+#[derive(Clone, Copy)]
+enum Subcommand {
+    Count,
+    Steps,
+    Check,
+    Explain,
+    Standing,
+    Verify,
+    Picture,
 }
 
-fn picture_command<'a>(alloc: Global) -> Result<Command<'a>, AllocError>
-    ensures app { IfOk result (λ c. app_of c ≡ picture_command) }
-    ensures local { IfOk result (λ c. (fields_of c).has_globals ≡ false) }
-{
-    counting_command(
-        alloc,
-        "picture",
-        "Counts the ballots and prints the result as a graph for Graphviz",
-    )
+/// The commands, in the order in which help lists them.
+const SUBCOMMANDS: [Subcommand; 7] = [
+    Subcommand::Count,
+    Subcommand::Steps,
+    Subcommand::Check,
+    Subcommand::Explain,
+    Subcommand::Standing,
+    Subcommand::Verify,
+    Subcommand::Picture,
+];
+
+/// The flags of a command that reads the poll alone.
+const CHECK_FLAGS: [Flag; 1] = [Flag::Poll];
+
+/// The flags of a command on a poll and its ballots.
+const BALLOTS_FLAGS: [Flag; 2] = [Flag::Poll, Flag::Ballots];
+
+/// The flags of the command that says what is wrong.
+const EXPLAIN_FLAGS: [Flag; 2] = [Flag::Poll, Flag::BallotsIfGiven];
+
+/// The flags of a command that counts, where the casting vote may choose.
+const COUNT_FLAGS: [Flag; 4] = [Flag::Poll, Flag::Ballots, Flag::Desks, Flag::Casting];
+
+/// The flags of the command that compares with a sheet.
+const VERIFY_FLAGS: [Flag; 4] = [Flag::Poll, Flag::Ballots, Flag::Sheet, Flag::Desks];
+
+impl Subcommand {
+    /// The word that asks for the command.
+    fn name<'a>(self) -> &'a str
+        ensures { result.now ≡ name_of self }
+    {
+        match self {
+            Subcommand::Count => "count",
+            Subcommand::Steps => "steps",
+            Subcommand::Check => "check",
+            Subcommand::Explain => "explain",
+            Subcommand::Standing => "standing",
+            Subcommand::Verify => "verify",
+            Subcommand::Picture => "picture",
+        }
+    }
+
+    /// What help says of the command.
+    fn about<'a>(self) -> &'a str {
+        match self {
+            Subcommand::Count => "Counts the ballots and prints the result",
+            Subcommand::Steps => "Prints the reply to each ballot",
+            Subcommand::Check => "Checks a poll file",
+            Subcommand::Explain => "Says all that is wrong with a poll and its ballots, and where",
+            Subcommand::Standing => {
+                "Prints the ballots that stand, the last valid one of each elector"
+            }
+            Subcommand::Verify => {
+                "Counts the ballots and compares the result with a published sheet"
+            }
+            Subcommand::Picture => {
+                "Counts the ballots and prints the result as a graph for Graphviz"
+            }
+        }
+    }
+
+    /// The flags of the command, in the order in which help lists them.
+    fn flags(self) -> &'static [Flag]
+        ensures { result.now ≡ flags_of self }
+    {
+        match self {
+            Subcommand::Count | Subcommand::Picture => &COUNT_FLAGS,
+            Subcommand::Steps | Subcommand::Standing => &BALLOTS_FLAGS,
+            Subcommand::Check => &CHECK_FLAGS,
+            Subcommand::Explain => &EXPLAIN_FLAGS,
+            Subcommand::Verify => &VERIFY_FLAGS,
+        }
+    }
 }
 
-fn verify_command<'a>(alloc: Global) -> Result<Command<'a>, AllocError>
-    ensures app { IfOk result (λ c. app_of c ≡ verify_command) }
+/// The command with its flags, as `clap` takes it.
+fn command_of<'a>(alloc: Global, subcommand: Subcommand) -> Result<Command<'a>, AllocError>
+    ensures app { IfOk result (λ c. app_of c ≡ subcommand_app subcommand) }
     ensures local { IfOk result (λ c. (fields_of c).has_globals ≡ false) }
 {
-    ballots_command(
-        alloc,
-        "verify",
-        "Counts the ballots and compares the result with a published sheet",
-    )?
-    .arg(file_arg(alloc, "sheet", "The sheet that was published"))?
-    .arg(desks_arg(alloc))
-}
-
-fn explain_command<'a>(alloc: Global) -> Result<Command<'a>, AllocError>
-    ensures app { IfOk result (λ c. app_of c ≡ explain_command) }
-    ensures local { IfOk result (λ c. (fields_of c).has_globals ≡ false) }
-{
-    Command::new(alloc, "explain")
-        .about("Says all that is wrong with a poll and its ballots, and where")
-        .arg(poll_arg(alloc))?
-        .arg(value_arg(alloc, "ballots", "FILE", BALLOTS_HELP))
+    let mut command = Command::new(alloc, subcommand.name()).about(subcommand.about());
+    for flag in subcommand.flags() {
+        command = command.arg(arg_of(alloc, *flag))?;
+    }
+    Ok(command)
 }
 
 /// What the exit statuses say.
@@ -265,32 +281,16 @@ fn bare_command<'a>(alloc: Global) -> Result<Command<'a>, AllocError>
         .bin_name("debvote")
 }
 
-/// The program with one more command, where both were made.
-fn with_command<'a>(
-    program: Result<Command<'a>, AllocError>,
-    made: Result<Command<'a>, AllocError>,
-) -> Result<Command<'a>, AllocError>
-    requires program { IfOk program (λ c. (fields_of c).has_globals ≡ false) }
-    requires made { IfOk made (λ added. (fields_of added).has_globals ≡ false) }
-    ensures app { IfOk result (λ c. IsOkAnd program.entry (λ before. IsOkAnd made.entry (λ added. app_of c ≡ with_subcommand (app_of before) (app_of added).top))) }
-    ensures local { IfOk result (λ c. (fields_of c).has_globals ≡ false) }
-{
-    program?.subcommand(made?)
-}
-
-// No command that can't be made is dropped here, so that there is one way out.
+/// The program with its commands.
 fn debvote_command<'a>(alloc: Global) -> Result<Command<'a>, AllocError>
     ensures app { IfOk result (λ c. app_of c ≡ debvote_command) }
     ensures local { IfOk result (λ c. (fields_of c).has_globals ≡ false) }
 {
-    let program = bare_command(alloc);
-    let program = with_command(program, count_command(alloc));
-    let program = with_command(program, steps_command(alloc));
-    let program = with_command(program, check_command(alloc));
-    let program = with_command(program, explain_command(alloc));
-    let program = with_command(program, standing_command(alloc));
-    let program = with_command(program, verify_command(alloc));
-    with_command(program, picture_command(alloc))
+    let mut program = bare_command(alloc)?;
+    for subcommand in SUBCOMMANDS {
+        program = program.subcommand(command_of(alloc, subcommand)?)?;
+    }
+    Ok(program)
 }
 
 fn desks(given: &ArgMatches<'_>) -> Option<u8>
