@@ -6,7 +6,7 @@ use Rattle.std.proofs.lemmas.Bool.Decides.{nat_tests}
 use Rattle.std.proofs.lemmas.List.Elements.{All-cons, All-head, All-tail}
 use Rattle.std.proofs.lemmas.List.{take_more, take-take, length-append}
 use Rattle.vote_poll.specs.BallotLine.{IsRank, rank_text}
-use Rattle.vote_poll.specs.Names.{is_voter_byte, is_within}
+use Rattle.vote_text.specs.Names.{is_voter_byte, is_within}
 use Rattle.vote_explain.specs.Column.{IsBallotText, IsColumn, IsFront}
 use Rattle.vote_explain.specs.Fronts.{AreRanks, Completes, IsIn, IsNext, IsNextState, IsReached, IsState, Part, Name, Rank, Digit, Comma, more_text}
 use Rattle.vote_explain.proofs.RankTexts.{within_bounds, within_from}

@@ -5,7 +5,7 @@ use Rattle.std.specs.List.{range_with_len}
 use Rattle.std.proofs.lemmas.Bool.{cases_Bool}
 use Rattle.std.proofs.lemmas.Bool.Decides.{nat_tests}
 use Rattle.std.proofs.lemmas.List.FromFn.{get_or-map-range_with_len}
-use Rattle.vote_poll.specs.Names.{is_within}
+use Rattle.vote_text.specs.Names.{is_within}
 use Rattle.vote_explain.specs.declared.fronts.TheConstants.{NEXT, COMMAS, HYPHENS, ZEROS, DIGITS, OTHERS}
 use Rattle.vote_explain.specs.Fronts.{IsNext, IsNextState, IsState, Part, Name, Rank, Digit, Comma}
 use Rattle.vote_explain.proofs.Steps.{comma_goes_on, digit_begins_rank, hyphen_is_rank, no_comma, no_rank, no_second_digit, second_digit}

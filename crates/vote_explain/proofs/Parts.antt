@@ -4,7 +4,7 @@ use Rattle.std.specs.List.{All, list_all}
 use Rattle.std.proofs.lemmas.Bool.{and_parts}
 use Rattle.std.proofs.lemmas.List.Elements.{All-nil, All-cons, All-head, All-tail}
 use Rattle.vote_poll.specs.BallotLine.{IsRank, rank_text}
-use Rattle.vote_poll.specs.Names.{is_voter_byte, is_within}
+use Rattle.vote_text.specs.Names.{is_voter_byte, is_within}
 use Rattle.vote_explain.specs.Fronts.{AreMore, AreRanks, IsDigit, IsNamed, more_text}
 use Rattle.vote_explain.proofs.RankTexts.{IsSpelled, IsText, digit_is_text, digits_are_text, hyphen_is_text, rank_is_spelled}
 

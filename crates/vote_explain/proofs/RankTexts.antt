@@ -5,7 +5,7 @@ use Rattle.std.proofs.lemmas.Fmt.{decimal_digit, decimal_step}
 use Rattle.std.proofs.lemmas.Bool.{cases_Bool}
 use Rattle.std.proofs.lemmas.Bool.Decides.{nat_tests}
 use Rattle.vote_poll.specs.BallotLine.{IsRank, rank_text}
-use Rattle.vote_poll.specs.Names.{is_within}
+use Rattle.vote_text.specs.Names.{is_within}
 
 pub within_bounds : (low high n : ℕ) → is_within low high n ≡ true → (low ≤ n) × (n ≤ high)
 within_bounds low high n h = (grind (arith, nat_tests), grind (arith, nat_tests))

@@ -1,6 +1,6 @@
 -- What a front of a ballot line is with one more byte.
 use Rattle.std.proofs.Common.{◌≡◌, ◌+◌, ◌<◌, ◌≤◌, ◌⊎◌, inl, inr, ◌↔◌, ℕ, List, ◌∷◌, length, refl, ap, sym, subst, ◌∙◌, Option, Some, None, true, arith}
-use Rattle.vote_poll.specs.Names.{is_voter_byte, is_within}
+use Rattle.vote_text.specs.Names.{is_voter_byte, is_within}
 use Rattle.vote_explain.specs.Fronts.{AreMore, AreRanks, IsDigit, IsNamed, IsNext, Part, Name, Rank, Digit, Comma}
 use Rattle.vote_explain.proofs.Parts.{more_begin, more_from, named_begins, named_from_byte, named_from_space, ranks_begin, ranks_from_digit, ranks_from_hyphen}
 

@@ -3,8 +3,8 @@ use Rattle.std.specs.Prelude.{◌≡◌, ℕ, ◌+◌, ◌-◌, ◌/◌, ◌%◌
 use Rattle.std.specs.List.{concat, starts_with}
 use Rattle.std.specs.Str.{byte}
 use Rattle.vote_poll.specs.BallotLine.{IsBallotLine}
-use Rattle.vote_poll.specs.Names.{is_printable, is_within}
-use Rattle.vote_poll.specs.Shown.{hex_digit}
+use Rattle.vote_text.specs.Names.{is_printable, is_within}
+use Rattle.vote_text.specs.Shown.{hex_digit}
 
 -- the text is a ballot line that is not too long, of some voter and with some ranks
 abbrev pub IsBallotText : List ℕ → Type 0

@@ -4,7 +4,7 @@ use Rattle.std.specs.List.{before_first, concat, ends_with, list_all}
 use Rattle.std.specs.Str.{byte}
 use Rattle.vote_poll.specs.PollContent.{PollContent, elector_count, last_in_time, option_count}
 use Rattle.vote_poll.specs.Readings.{is_space, reading}
-use Rattle.vote_poll.specs.Shown.{shown}
+use Rattle.vote_text.specs.Shown.{shown}
 use Rattle.vote_poll.specs.declared.Reading.{Reading}
 use Rattle.vote_poll.specs.declared.Reading.TheVariants.{Ballot, Bad}
 use Rattle.vote_poll.specs.declared.LineFault.TheVariants.{Shape, RankCount, Roll}

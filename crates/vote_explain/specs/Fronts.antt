@@ -3,8 +3,9 @@ use Rattle.std.specs.Prelude.{◌≡◌, ℕ, ◌+◌, ◌-◌, ◌≤◌, ◌�
 use Rattle.std.specs.List.{All, flat_map, list_all}
 use Rattle.std.specs.Str.{byte}
 use Rattle.vote_poll.specs.BallotLine.{IsRank, rank_text}
-use Rattle.vote_poll.specs.Names.{is_voter_byte, is_within}
-use Rattle.vote_poll.specs.declared.TheConstants.{MAX_LINE, MAX_VOTER_NAME}
+use Rattle.vote_text.specs.Names.{is_voter_byte, is_within}
+use Rattle.vote_poll.specs.declared.TheConstants.{MAX_LINE}
+use Rattle.vote_text.specs.declared.TheConstants.{MAX_VOTER_NAME}
 use Rattle.vote_explain.specs.Column.{IsBallotText, IsFront}
 use Rattle.vote_explain.specs.declared.fronts.TheConstants.{RANK, DIGIT, COMMA, NOWHERE}
 

@@ -8,10 +8,10 @@ use Rattle.std.proofs.lemmas.List.Elements.{All-nil, All-cons, All-append, filte
 use Rattle.std.proofs.lemmas.List.{map-append}
 use Rattle.std.proofs.lemmas.List.Concat.{concat_is, flat_map-append}
 use Rattle.vote_findings.specs.Findings.{AddsFindings, AddsKeyLine, AddsKeyLines, AreFindings, EndsFinding, IsKeyLine, fault_words, finding}
-use Rattle.vote_poll.specs.Lines.{IsUnbroken, line_feed}
-use Rattle.vote_poll.specs.Names.{is_printable}
+use Rattle.vote_text.specs.Lines.{IsUnbroken, line_feed}
+use Rattle.vote_text.specs.Names.{is_printable}
 use Rattle.vote_poll.specs.PollFaults.{fault_unless}
-use Rattle.vote_poll.specs.Shown.{hex_digit, shown, shown_byte}
+use Rattle.vote_text.specs.Shown.{hex_digit, shown, shown_byte}
 use Rattle.vote_keys.specs.declared.fault.PollFault.{PollFault}
 
 -- ---- bytes as they are shown break no line

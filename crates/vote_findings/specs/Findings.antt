@@ -4,7 +4,7 @@ use Rattle.std.specs.Prelude.{◌≡◌, ℕ, List, [], ◌∷◌, ◌++◌, Res
 use Rattle.std.specs.List.{All, concat}
 use Rattle.std.specs.Fmt.{decimal}
 use Rattle.toml.specs.Data.{Members}
-use Rattle.vote_poll.specs.Lines.{IsUnbroken, line_feed}
+use Rattle.vote_text.specs.Lines.{IsUnbroken, line_feed}
 use Rattle.vote_poll.specs.PollFaults.{faults_in}
 use Rattle.vote_keys.specs.Keys.{key_name}
 use Rattle.vote_keys.specs.declared.fault.PollFault.{PollFault}

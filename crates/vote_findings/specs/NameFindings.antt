@@ -1,6 +1,6 @@
 -- The lists of names in a poll file: the names that each can have, and the fault of a bad one.
 use Rattle.std.specs.Prelude.{ℕ, ◌+◌, List, Bool}
-use Rattle.vote_poll.specs.Names.{is_option_name, is_voter_name}
+use Rattle.vote_text.specs.Names.{is_option_name, is_voter_name}
 use Rattle.vote_keys.specs.declared.fault.PollFault.{PollFault}
 use Rattle.vote_keys.specs.declared.fault.PollFault.TheVariants.{OptionName, VoterName}
 use Rattle.vote_findings.specs.declared.name_findings.NameList.{NameList}

@@ -4,10 +4,10 @@ ghost use Rattle.toml.specs.View.{table_view};
 ghost use Rattle.vote_findings.specs.Findings.{AddsFindings, AddsKeyLine, AddsKeyLines};
 ghost use Rattle.vote_findings.specs.FoundView.{found_view};
 ghost use Rattle.vote_findings.specs.KeyFindings.{is_right, may_be_missing, of_key};
-ghost use Rattle.vote_poll.specs.Lines.{line_feed};
+ghost use Rattle.vote_text.specs.Lines.{line_feed};
 ghost use Rattle.vote_poll.specs.PollFaults.{of_keys};
 ghost use Rattle.vote_keys.specs.Keys.{key_name};
-ghost use Rattle.vote_poll.specs.Shown.{shown};
+ghost use Rattle.vote_text.specs.Shown.{shown};
 ghost use Rattle.vote_findings.specs.declared.TheConstants.{MAX_SHOWN};
 ghost use Rattle.vote_keys.specs.declared.fault.PollFault.TheVariants as fault;
 

@@ -9,7 +9,8 @@
 //! What is promised, memory aside: each call answers what the definitions of `specs/Keys.antt` say of the text or the table, and
 //! a fault just where they have it.
 //!
-//! No type of `toml` is in a public call of the crates above, so that their checks read nothing of it.
+//! No public call of the crates above has a type of `toml`: vote_poll names its tables in definitions alone, and vote_findings in
+//! private calls.
 #![tactic(auto)]
 
 mod fault;

@@ -9,7 +9,8 @@ use Rattle.std.proofs.lemmas.Int.{ints}
 use Rattle.std.proofs.lemmas.List.{length-map}
 use Rattle.std.proofs.lemmas.List.Elements.{All-map, All-weaker}
 use Rattle.std.proofs.lemmas.List.Sums.{AllPass-from_list_all}
-use Rattle.vote_poll.specs.Names.{is_within, is_voter_name, is_option_name, is_title, first_bad}
+use Rattle.vote_poll.specs.Names.{first_bad}
+use Rattle.vote_text.specs.Names.{is_within, is_voter_name, is_option_name, is_title}
 use Rattle.vote_poll.specs.PollContent.{PollContent, IsPoll}
 use Rattle.vote_keys.specs.Keys.{Fields, Fails, Gives, ◌>>=◌}
 use Rattle.vote_poll.specs.declared.wording.Wording.{Wording}
@@ -18,7 +19,7 @@ use Rattle.vote_poll.specs.PollFile.{err_or, is_integer_within, title_in, option
 use Rattle.vote_poll.proofs.Gives.{refused-then}
 use Rattle.vote_poll.proofs.NamesLaws.{within_bounds}
 use Rattle.vote_poll.specs.declared.TheConstants.{MAX_OPTIONS, MAX_ELECTORS, MAX_RATIO, MAX_QUORUM_MULTIPLE}
-use Rattle.vote_poll.specs.declared.lines.TheConstants.{MAX_LINES}
+use Rattle.vote_text.specs.declared.lines.TheConstants.{MAX_LINES}
 use Rattle.vote_keys.specs.declared.fault.PollFault.{PollFault}
 use Rattle.vote_keys.specs.declared.fault.PollFault.TheVariants as fault
 

@@ -4,7 +4,6 @@ mod BallotLaws
 mod FirstBad
 mod Gives
 mod GrammarLaws
-mod LinesLaws
 mod NamesLaws
 mod OneReading
 mod SortKeys

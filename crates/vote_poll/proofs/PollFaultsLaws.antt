@@ -5,7 +5,8 @@ use Rattle.std.specs.Option.{option_map, option_and_then, ok_or}
 use Rattle.std.specs.List.{range_with_len}
 use Rattle.std.proofs.lemmas.Bool.{cases_Bool, cases_lt}
 use Rattle.toml.specs.Data.{Data, Members, as_str, as_integer}
-use Rattle.vote_poll.specs.Names.{first_bad, is_bad_at, is_option_name, is_voter_name, is_within}
+use Rattle.vote_poll.specs.Names.{first_bad, is_bad_at}
+use Rattle.vote_text.specs.Names.{is_option_name, is_voter_name, is_within}
 use Rattle.vote_poll.specs.PollContent.{PollContent}
 use Rattle.vote_keys.specs.Keys.{◌>>=◌, Fields, document, fields_of, found, list_of, of_kind_or_none}
 use Rattle.vote_poll.specs.PollFile.{err_or, last_envelope_in, poll_in, poll_of, quorum_in, ratios_in, title_in, wording_in}

@@ -4,7 +4,7 @@ use Rattle.std.specs.List.{range_with_len}
 use Rattle.std.proofs.lemmas.List.FromFn.{get_or-map-range_with_len}
 use Rattle.std.proofs.lemmas.Bool.{cases_Bool}
 use Rattle.std.proofs.lemmas.Bool.Decides.{nat_tests}
-use Rattle.vote_poll.specs.Names.{is_within}
+use Rattle.vote_text.specs.Names.{is_within}
 use Rattle.vote_poll.specs.Parsing.{kind_of}
 use Rattle.vote_poll.specs.Readings.{rank_in}
 use Rattle.vote_poll.specs.SortKeys.{rank_of_key}

@@ -8,8 +8,6 @@ pub mod PollFaults
 pub mod BallotLine
 pub mod Readings
 pub mod Comparisons
-pub mod Lines
-pub mod Shown
 pub mod SortKeys
 -- what types stand for, and what private functions say of their parts
 pub mod PollView

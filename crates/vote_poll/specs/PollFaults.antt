@@ -3,7 +3,8 @@
 use Rattle.std.specs.Prelude.{◌≡◌, ℕ, ◌+◌, List, [], ◌∷◌, ◌++◌, map, filter, length, Bool, ◌||◌, if◌then◌else◌, ℤ, Option, Some, None, is_some, is_none, option_to_list, slice_get, Result, Ok, Err}
 use Rattle.std.specs.List.{range_with_len}
 use Rattle.toml.specs.Data.{Members, as_str, as_integer}
-use Rattle.vote_poll.specs.Names.{is_bad_at, is_option_name, is_voter_name, is_within}
+use Rattle.vote_poll.specs.Names.{is_bad_at}
+use Rattle.vote_text.specs.Names.{is_option_name, is_voter_name, is_within}
 use Rattle.vote_poll.specs.PollContent.{PollContent}
 use Rattle.vote_keys.specs.Keys.{document, found, list_of, value_at}
 use Rattle.vote_poll.specs.PollFile.{last_envelope_in, poll_in, quorum_in, ratios_in, title_in, wording_in}

@@ -6,10 +6,11 @@ use Rattle.toml.specs.Data.{Members}
 use Rattle.vote_keys.specs.Keys.{Fields, ◌>>=◌, document, fields_of}
 use Rattle.vote_keys.specs.declared.fault.PollFault.{PollFault}
 use Rattle.vote_keys.specs.declared.fault.PollFault.TheVariants as fault
-use Rattle.vote_poll.specs.Names.{first_bad, is_option_name, is_title, is_voter_name, is_within}
+use Rattle.vote_poll.specs.Names.{first_bad}
+use Rattle.vote_text.specs.Names.{is_option_name, is_title, is_voter_name, is_within}
 use Rattle.vote_poll.specs.PollContent.{PollContent}
 use Rattle.vote_poll.specs.declared.TheConstants.{MAX_OPTIONS, MAX_ELECTORS, MAX_RATIO, MAX_QUORUM_MULTIPLE}
-use Rattle.vote_poll.specs.declared.lines.TheConstants.{MAX_LINES}
+use Rattle.vote_text.specs.declared.lines.TheConstants.{MAX_LINES}
 use Rattle.vote_poll.specs.declared.wording.Wording.{Wording}
 use Rattle.vote_poll.specs.declared.wording.Wording.TheVariants.{AtLeast, MoreThan}
 

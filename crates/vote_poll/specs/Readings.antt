@@ -2,7 +2,8 @@
 use Rattle.std.specs.Prelude.{◌≡◌, ◌≢◌, ℕ, ◌<◌, List, [], ◌∷◌, length, map, Bool, true, false, ◌==◌, ◌&&◌, nat_le, if◌then◌else◌, Option, Some, None, option_map, ◌*◌, ◌+◌, ◌-◌}
 use Rattle.std.specs.List.{slice_split, before_first, after_first}
 use Rattle.std.specs.Str.{byte}
-use Rattle.vote_poll.specs.Names.{is_voter_name, is_within, place_of}
+use Rattle.vote_poll.specs.Names.{place_of}
+use Rattle.vote_text.specs.Names.{is_voter_name, is_within}
 use Rattle.vote_poll.specs.BallotLine.{IsBallotLine}
 use Rattle.vote_keys.specs.Lists.{all_some}
 use Rattle.vote_poll.specs.PollContent.{PollContent, option_count}

@@ -7,15 +7,11 @@
 //!   its majorities.
 //!   [`Poll::from_text`] reads it, or answers the first [`PollFault`], and [`Poll::from_fields`] does so for the keys of a poll
 //!   file, as `vote_keys` reads them.
-//! - [`Lines`]: the lines of a ballot file, each an envelope. [`Lines::split`] makes them.
 //! - [`Ranks`]: what one ballot says of the options, and which option it prefers to which.
 //! - [`Reading`]: what a poll reads in a line, by [`read_line`]: a ballot of an elector, or a [`LineFault`].
 //!   [`is_reading`] says whether a reading is that of a line.
-//! - [`push_shown`]: adds bytes of a file to a text, so that what is no printable ASCII is seen by its number, in the digits of
-//!   [`hex_digit`].
-//!
-//! The crates that say what is wrong with a file judge its parts by the same calls as this one: a name by [`is_title`],
-//! [`is_option_name`] and [`is_voter_name`], and its bytes by [`is_printable`] and [`is_voter_byte`].
+//! - [`Lines`], [`is_voter_name`] and the other calls of `vote_text`: what the texts of both files are by themselves, whatever the
+//!   poll.
 //!
 //! Options are numbered from 1, as in the file, and the default option has the greatest number. Voters are
 //! numbered from 0, by their place on the roll. Places of lines are numbered from 0; the line at place `i` is
@@ -26,8 +22,6 @@
 //!   several faults hold it is the first in the order of [`PollFault`].
 //! - All faults of a poll file, each judged by itself, are those of `specs/PollFaults.antt`, and the one that is answered is
 //!   the first of them ([`first_fault_is_told`]).
-//! - A text has one list of lines (`specs/Lines.antt`, [`lines_are_unique`]), and `split` answers that list, or
-//!   that it is too long.
 //! - A poll reads one thing in a line (`specs/Readings.antt`, [`readings_are_unique`]), by a grammar that says
 //!   how a ballot is spelled (`specs/BallotLine.antt`). `read_line` answers it for each line of bytes, whatever
 //!   they are; it takes no memory and refuses nothing.
@@ -38,26 +32,26 @@
 //! so are that envelopes can be late and that a majority can be worded as more than its ratio.
 #![tactic(auto)]
 
-mod lines;
 mod names;
 mod poll;
 mod poll_file;
 mod rank_key;
 mod ranks;
 mod reading;
-mod shown;
 mod wording;
 
-pub use lines::{Lines, LinesFault, MAX_LINES, lines_are_unique};
-pub use names::{is_option_name, is_printable, is_title, is_voter_byte, is_voter_name};
 pub use poll::Poll;
 pub use poll_file::first_fault_is_told;
 pub use ranks::Ranks;
 pub use reading::{
     LineFault, Reading, each_line_is_read, is_reading, read_line, readings_are_unique,
 };
-pub use shown::{hex_digit, push_shown};
 pub use vote_keys::{PollFault, PollKey};
+pub use vote_text::{
+    Lines, LinesFault, MAX_LINES, MAX_OPTION_NAME, MAX_TITLE, MAX_VOTER_NAME, hex_digit,
+    is_option_name, is_printable, is_title, is_voter_byte, is_voter_name, lines_are_unique,
+    push_shown,
+};
 pub use wording::Wording;
 
 /// The most options that a poll can have, the default among them. It has two at least.
@@ -80,12 +74,3 @@ pub const UNRANKED: u8 = 255;
 
 /// The most bytes that a ballot line can have, its line feed not counted.
 pub const MAX_LINE: usize = 200;
-
-/// The most bytes that the name of a voter can have.
-pub const MAX_VOTER_NAME: usize = 32;
-
-/// The most bytes that the title of a poll can have.
-pub const MAX_TITLE: usize = 80;
-
-/// The most bytes that the name of an option can have.
-pub const MAX_OPTION_NAME: usize = 40;

@@ -1,9 +1,10 @@
 //! The poll: its options, its quorum and its roll of voters.
 ghost use Rattle.std.specs.Prelude.{◌≡◌, ◌≤◌, ◌<◌, ◌+◌, ◌-◌, Some, IfSome, IsTrue, slice_get, option_map};
-ghost use Rattle.vote_poll.specs.Names.{is_voter_name, place_of};
+ghost use Rattle.vote_poll.specs.Names.{place_of};
+ghost use Rattle.vote_text.specs.Names.{is_voter_name};
 ghost use Rattle.vote_poll.specs.Options.{IsOption};
 ghost use Rattle.vote_poll.specs.PollContent.{option_count, elector_count, last_in_time, ratio_of};
-ghost use Rattle.vote_poll.specs.declared.lines.TheConstants.{MAX_LINES};
+ghost use Rattle.vote_text.specs.declared.lines.TheConstants.{MAX_LINES};
 
 use crate::names::place_of;
 use crate::wording::Wording;

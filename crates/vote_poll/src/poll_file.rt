@@ -7,14 +7,14 @@ ghost use Rattle.vote_poll.specs.PollFaults.{FirstIsTold};
 ghost use Rattle.vote_poll.specs.Parsing.{optional_rules_in, roll_and_rules_in, thresholds_in};
 ghost use Rattle.vote_poll.specs.PollFile.{last_envelope_in, poll_in, poll_of, quorum_in, ratios_in, title_in};
 
-use crate::lines::MAX_LINES;
-use crate::names::{is_title, parse_option_names, parse_voter_names};
+use crate::names::{parse_option_names, parse_voter_names};
 use crate::poll::Poll;
 use crate::wording::{Wording, parse_wording};
 use crate::{MAX_QUORUM_MULTIPLE, MAX_RATIO};
 use indexmap::IndexSet;
 use std::alloc::Global;
 use vote_keys::{Fields, PollFault, document, fields_of};
+use vote_text::{MAX_LINES, is_title};
 
 /// The title.
 fn parse_title(alloc: Global, text: &str) -> Result<String, PollFault>

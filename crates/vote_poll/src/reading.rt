@@ -3,7 +3,7 @@ ghost use Rattle.std.specs.Prelude.{◌≡◌, ◌==◌, ◌<◌, ◌≤◌, ◌
 ghost use Rattle.std.specs.List.{before_first, after_first};
 ghost use Rattle.std.specs.Str.{byte};
 ghost use Rattle.vote_poll.specs.Comparisons.{is_same_reading};
-ghost use Rattle.vote_poll.specs.Names.{is_voter_name};
+ghost use Rattle.vote_text.specs.Names.{is_voter_name};
 ghost use Rattle.vote_poll.specs.Parsing.{kept_and_count, voter_kept_and_count, parts_in, reading_from};
 ghost use Rattle.vote_poll.specs.SortKeys.{rank_of_key, row_of};
 ghost use Rattle.vote_poll.specs.PollContent.{PollContent, elector_count, option_count};
@@ -12,11 +12,11 @@ ghost use Rattle.vote_poll.specs.declared.reading.Reading.TheVariants.{Ballot};
 ghost use Rattle.std.proofs.Common.{rules};
 ghost use Rattle.std.specs.Cmp.Rules.{comparing};
 
-use crate::names::is_voter_name;
 use crate::poll::Poll;
 use crate::rank_key::{spelled_key, spelled_length};
 use crate::ranks::Ranks;
 use crate::{MAX_LINE, MAX_OPTIONS, UNRANKED};
+use vote_text::is_voter_name;
 
 /// What a poll reads in a line. Two readings are the same for `==` just where they are equal for contracts.
 #[derive(Clone, Copy)]

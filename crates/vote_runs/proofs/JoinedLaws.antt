@@ -8,7 +8,7 @@ use Rattle.std.proofs.lemmas.List.{drop-append-le, drop_at, get_or_append_left, 
 use Rattle.std.proofs.lemmas.List.Elements.{All-cons, All-contains, All-from_get_or, All-nil, All-push, All-take, Contains-append_right}
 use Rattle.std.proofs.lemmas.List.Splits.{join_with_byte-slice_split, length-slice_split, slice_split-cons_no, slice_split-cons_yes}
 use Rattle.std.proofs.lemmas.Slice.Eq.{bytes_eq-Decides, ends_is}
-use Rattle.vote_poll.specs.Lines.{line_feed, lines_of}
+use Rattle.vote_text.specs.Lines.{line_feed, lines_of}
 use Rattle.vote_runs.specs.Joined.{AreParts, EndsALine, InputsArePartedAtSeparator, IsJoined, LacksSeparator, PartsAreUnique, begins_line, is_separator_at, joined_parts, parts_at, separator}
 use Rattle.vote_runs.proofs.FirstPlace.{first_or_none, first_place, no_place}
 use Rattle.vote_sheet.specs.Texts.{Text}

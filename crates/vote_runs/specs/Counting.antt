@@ -2,7 +2,7 @@
 use Rattle.std.specs.Prelude.{◌≡◌, ◌+◌, ℕ, List, Option, Some, None, option_map, Result, Ok, IfOk}
 use Rattle.vote_count.specs.declared.Decision.{Decision}
 use Rattle.vote_count.specs.declared.Decision.TheVariants as decision
-use Rattle.vote_poll.specs.Lines.{lines_of}
+use Rattle.vote_text.specs.Lines.{lines_of}
 use Rattle.vote_poll.specs.Names.{place_of}
 use Rattle.vote_poll.specs.PollContent.{PollContent}
 use Rattle.vote_poll.specs.PollFile.{poll_in}

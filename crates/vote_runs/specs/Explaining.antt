@@ -2,12 +2,12 @@
 use Rattle.std.specs.Prelude.{◌≡◌, ◌≢◌, ◌≤◌, ℕ, ◌==◌, ◌&&◌, if◌then◌else◌, List, [], ◌++◌, length, Option, Some, None, Result, Ok, Err, IfOk}
 use Rattle.std.specs.Result.{result_err}
 use Rattle.vote_findings.specs.Findings.{AreFindingsOf}
-use Rattle.vote_poll.specs.Lines.{lines_of}
+use Rattle.vote_text.specs.Lines.{lines_of}
 use Rattle.vote_poll.specs.PollContent.{PollContent}
 use Rattle.vote_keys.specs.Keys.{document}
 use Rattle.vote_poll.specs.PollFile.{poll_in}
 use Rattle.vote_poll.specs.declared.PollFault.{PollFault}
-use Rattle.vote_poll.specs.declared.lines.TheConstants.{MAX_LINES}
+use Rattle.vote_text.specs.declared.lines.TheConstants.{MAX_LINES}
 use Rattle.vote_desks.specs.declared.VoteFault.{VoteFault}
 use Rattle.vote_explain.specs.Explained.{IsExplained}
 use Rattle.vote_sheet.specs.LastBallots.{refused_count}

@@ -2,7 +2,7 @@
 use Rattle.std.specs.Prelude.{◌≡◌, ◌≢◌, ◌⊎◌, ℕ, ◌-◌, ◌==◌, ◌||◌, ◌&&◌, ◌++◌, Bool, [], Option, Some, None, codes, drop, length, position, slice_index, take}
 use Rattle.std.specs.List.{All, range_with_len}
 use Rattle.std.specs.Str.{bytes_eq}
-use Rattle.vote_poll.specs.Lines.{line_feed, lines_of}
+use Rattle.vote_text.specs.Lines.{line_feed, lines_of}
 use Rattle.vote_sheet.specs.Texts.{Text}
 
 -- the line between the poll and the ballots

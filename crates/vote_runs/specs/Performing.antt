@@ -1,8 +1,8 @@
 -- What the program does with the bytes of its inputs, job by job.
 use Rattle.std.specs.Prelude.{◌≡◌, ◌≢◌, ◌≤◌, ℕ, Option, Some, None, option_map, Result, IfOk}
 use Rattle.std.specs.Result.{result_err}
-use Rattle.vote_poll.specs.Lines.{lines_of}
-use Rattle.vote_poll.specs.declared.lines.LinesFault.{LinesFault}
+use Rattle.vote_text.specs.Lines.{lines_of}
+use Rattle.vote_text.specs.declared.lines.LinesFault.{LinesFault}
 use Rattle.vote_steps.specs.declared.TheConstants.{MAX_DESKS}
 use Rattle.vote_desks.specs.Faults.{CanStopVotes, IsOfDesk}
 use Rattle.vote_desks.specs.declared.VoteFault.{VoteFault}

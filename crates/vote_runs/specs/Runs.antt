@@ -4,10 +4,10 @@ use Rattle.std.specs.Io.KnownBytes.{Appends, Keeps}
 use Rattle.vote_poll.specs.PollContent.{PollContent}
 use Rattle.vote_keys.specs.Keys.{Fails}
 use Rattle.vote_poll.specs.PollFile.{poll_in}
-use Rattle.vote_poll.specs.Lines.{lines_of}
-use Rattle.vote_poll.specs.declared.lines.TheConstants.{MAX_LINES}
-use Rattle.vote_poll.specs.declared.lines.LinesFault.{LinesFault}
-use Rattle.vote_poll.specs.declared.lines.LinesFault.TheVariants as lines
+use Rattle.vote_text.specs.Lines.{lines_of}
+use Rattle.vote_text.specs.declared.lines.TheConstants.{MAX_LINES}
+use Rattle.vote_text.specs.declared.lines.LinesFault.{LinesFault}
+use Rattle.vote_text.specs.declared.lines.LinesFault.TheVariants as lines
 use Rattle.vote_files.specs.Device.{AppendsPrefix}
 use Rattle.vote_sheet.specs.Steps.{IsStepsText, check_text}
 use Rattle.vote_sheet.specs.Standing.{standing_text}

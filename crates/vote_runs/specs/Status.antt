@@ -2,8 +2,8 @@
 use Rattle.std.specs.Prelude.{ℕ, Result, Ok, Err}
 use Rattle.vote_keys.specs.declared.fault.PollFault.{PollFault}
 use Rattle.vote_keys.specs.declared.fault.PollFault.TheVariants as poll
-use Rattle.vote_poll.specs.declared.lines.LinesFault.{LinesFault}
-use Rattle.vote_poll.specs.declared.lines.LinesFault.TheVariants as lines
+use Rattle.vote_text.specs.declared.lines.LinesFault.{LinesFault}
+use Rattle.vote_text.specs.declared.lines.LinesFault.TheVariants as lines
 use Rattle.vote_shared.specs.declared.DeskFault.{DeskFault}
 use Rattle.vote_shared.specs.declared.DeskFault.TheVariants as desk
 use Rattle.vote_desks.specs.declared.VoteFault.{VoteFault}

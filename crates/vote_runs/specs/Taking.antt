@@ -1,10 +1,10 @@
 -- The votes of two files, taken: what each run that counts begins with.
 use Rattle.std.specs.Prelude.{◌≡◌, ◌≢◌, ◌≤◌, ℕ, List, Option, Some, IfSome, Ok, length}
-use Rattle.vote_poll.specs.Lines.{lines_of}
+use Rattle.vote_text.specs.Lines.{lines_of}
 use Rattle.vote_poll.specs.Options.{IsOption}
 use Rattle.vote_poll.specs.PollContent.{PollContent, option_count}
 use Rattle.vote_poll.specs.PollFile.{poll_in}
-use Rattle.vote_poll.specs.declared.lines.TheConstants.{MAX_LINES}
+use Rattle.vote_text.specs.declared.lines.TheConstants.{MAX_LINES}
 use Rattle.vote_steps.specs.Boxes.{BoxState}
 use Rattle.vote_desks.specs.Audit.{IsAudited}
 use Rattle.vote_desks.specs.Faults.{CanStopVotes, IsOfDesk}

@@ -2,7 +2,7 @@
 
 ghost use Rattle.std.specs.Prelude.{◌≡◌, ◌≢◌, ◌<◌, ◌↔◌, true, Err, IsErrOf, OnOk};
 ghost use Rattle.std.specs.Result.{result_err};
-ghost use Rattle.vote_poll.specs.declared.lines.LinesFault.{LinesFault};
+ghost use Rattle.vote_text.specs.declared.lines.LinesFault.{LinesFault};
 ghost use Rattle.vote_runs.specs.Runs.{AnswersPoll, IsCheck, Writes};
 ghost use Rattle.vote_runs.specs.declared.fault.InputFault.{InputFault};
 

@@ -2,10 +2,10 @@
 
 ghost use Rattle.std.specs.Prelude.{◌≡◌, ◌≢◌, ◌<◌, ◌≤◌, ◌↔◌, true, Err, IfErr, IfOk, IfSome, IsErrOf, OnOk, length, option_map, string_bytes};
 ghost use Rattle.std.specs.Result.{result_err};
-ghost use Rattle.vote_poll.specs.Lines.{lines_of};
+ghost use Rattle.vote_text.specs.Lines.{lines_of};
 ghost use Rattle.vote_poll.specs.Options.{IsOption};
 ghost use Rattle.vote_poll.specs.PollContent.{option_count};
-ghost use Rattle.vote_poll.specs.declared.lines.TheConstants.{MAX_LINES};
+ghost use Rattle.vote_text.specs.declared.lines.TheConstants.{MAX_LINES};
 ghost use Rattle.vote_desks.specs.Audit.{IsAudited};
 ghost use Rattle.vote_desks.specs.Faults.{CanStopVotes, IsOfDesk};
 ghost use Rattle.vote_runs.specs.Counting.{AnswersCasting, IsCount, IsCountFor, IsMade, ended_by, ended_of};

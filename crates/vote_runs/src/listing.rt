@@ -2,7 +2,7 @@
 
 ghost use Rattle.std.specs.Prelude.{◌≡◌, ◌≢◌, ◌<◌, ◌↔◌, true, Err, IfErr, IfOk, IsErrOf, OnOk, string_bytes};
 ghost use Rattle.std.specs.Result.{result_err};
-ghost use Rattle.vote_poll.specs.Lines.{lines_of};
+ghost use Rattle.vote_text.specs.Lines.{lines_of};
 ghost use Rattle.vote_runs.specs.Explaining.{IsGivenFault};
 ghost use Rattle.vote_runs.specs.Joined.{joined_parts};
 ghost use Rattle.vote_runs.specs.Runs.{AnswersLines, AnswersPoll, IsFileFault, IsListed, IsListing, Writes};

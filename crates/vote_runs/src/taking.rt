@@ -1,11 +1,11 @@
 //! The votes of a poll file and a ballot file, taken and audited: what each run that counts begins with.
 
 ghost use Rattle.std.specs.Prelude.{◌≡◌, ◌≤◌, ℕ, Option, IfErr, IfNone, IfOk, IfSome, OnOk, length, option_map};
-ghost use Rattle.vote_poll.specs.Lines.{lines_of};
+ghost use Rattle.vote_text.specs.Lines.{lines_of};
 ghost use Rattle.vote_poll.specs.Options.{IsOption};
 ghost use Rattle.vote_poll.specs.PollContent.{option_count};
 ghost use Rattle.vote_poll.specs.PollFile.{poll_in};
-ghost use Rattle.vote_poll.specs.declared.lines.TheConstants.{MAX_LINES};
+ghost use Rattle.vote_text.specs.declared.lines.TheConstants.{MAX_LINES};
 ghost use Rattle.vote_desks.specs.Audit.{IsAudited};
 ghost use Rattle.vote_sheet.specs.Texts.{Text};
 ghost use Rattle.vote_runs.specs.Counting.{NamesNoOption, casting_option};

@@ -11,10 +11,10 @@ use Rattle.std.proofs.lemmas.List.Sums.{AllPass-from_list_all}
 use Rattle.std.proofs.lemmas.Str.{IsUtf8-from_ascii}
 use Rattle.std.proofs.lemmas.Str.Ascii.{IsAscii-from_all}
 use Rattle.vote_poll.specs.BallotLine.{rank_text}
-use Rattle.vote_poll.specs.Lines.{line_feed, text_of_lines}
-use Rattle.vote_poll.specs.Names.{is_voter_byte, is_voter_name, is_within}
+use Rattle.vote_text.specs.Lines.{line_feed, text_of_lines}
+use Rattle.vote_text.specs.Names.{is_voter_byte, is_voter_name, is_within}
 use Rattle.vote_poll.specs.Ranks.{rank_of}
-use Rattle.vote_poll.specs.declared.TheConstants.{MAX_VOTER_NAME}
+use Rattle.vote_text.specs.declared.TheConstants.{MAX_VOTER_NAME}
 use Rattle.vote_poll.proofs.OptionLaws.{at_option-next}
 use Rattle.vote_sheet.specs.Standing.{ballot_line, ballot_lines}
 

@@ -5,7 +5,7 @@ use Rattle.std.specs.List.{All}
 use Rattle.std.proofs.lemmas.Bool.{cases_eq, eq-eqb, ne_eqb}
 use Rattle.std.proofs.lemmas.List.Elements.{All-cons, All-head, All-nil, All-tail}
 use Rattle.std.proofs.lemmas.List.Sums.{sum_by-cons}
-use Rattle.vote_poll.specs.Lines.{IsUnbroken, text_of_lines}
+use Rattle.vote_text.specs.Lines.{IsUnbroken, text_of_lines}
 use Rattle.vote_sheet.specs.Sheet.{Text}
 use Rattle.vote_sheet.specs.Verify.{DifferFirstBehind, NamesTheFirstLine, agreement, common_lines, first_line}
 

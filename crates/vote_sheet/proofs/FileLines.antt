@@ -8,7 +8,7 @@ use Rattle.std.proofs.lemmas.List.{drop_all}
 use Rattle.std.proofs.lemmas.List.Quantifiers.{position-Some}
 use Rattle.std.proofs.lemmas.List.Splits.{slice_split-cons_no, slice_split_first}
 use Rattle.std.proofs.lemmas.List.Sums.{position_or_len_is}
-use Rattle.vote_poll.specs.Lines.{lines_of, without_last_feed}
+use Rattle.vote_text.specs.Lines.{lines_of, without_last_feed}
 use Rattle.vote_sheet.specs.Verify.{agreement}
 
 abbrev is_feed : ℕ → Bool

@@ -1,7 +1,7 @@
 -- What `standing` writes: of each elector with a ballot that stands the line that spells this ballot.
 use Rattle.std.specs.Prelude.{◌≡◌, ℕ, List, [], ◌∷◌, ◌++◌, length, Option, Some, None, codes}
 use Rattle.vote_poll.specs.BallotLine.{line_text}
-use Rattle.vote_poll.specs.Lines.{AreLines, text_of_lines}
+use Rattle.vote_text.specs.Lines.{AreLines, text_of_lines}
 use Rattle.vote_poll.specs.PollContent.{PollContent}
 use Rattle.vote_sheet.specs.LastBallots.{last_valid_ballots, refused_count, valid_count, voter_count}
 use Rattle.vote_sheet.specs.SheetOf.{IsSheet}

@@ -1,10 +1,10 @@
 -- What comparing a text with the sheets of a poll and its lines says.
 use Rattle.std.specs.Prelude.{◌≡◌, ◌≢◌, ℕ, zero, suc, ◌+◌, ◌<◌, ◌≤◌, ◌==◌, if◌then◌else◌, List, [], ◌∷◌, ◌++◌, length, count_by, take, Option, Some, None, slice_get, codes, decimal}
 use Rattle.std.specs.List.{All, concat}
-use Rattle.vote_poll.specs.Lines.{IsUnbroken, lines_of, text_of_lines}
+use Rattle.vote_text.specs.Lines.{IsUnbroken, lines_of, text_of_lines}
 use Rattle.vote_poll.specs.Options.{IsOption}
 use Rattle.vote_poll.specs.PollContent.{PollContent, option_count}
-use Rattle.vote_poll.specs.Shown.{shown}
+use Rattle.vote_text.specs.Shown.{shown}
 use Rattle.vote_count.specs.Rounds.{IsDecision, VerdictState, final_set}
 use Rattle.vote_count.specs.declared.Decision.{Decision}
 use Rattle.vote_sheet.specs.Sheet.{decision_text, name_of}

@@ -3,7 +3,7 @@
 ghost use Rattle.std.specs.Prelude.{◌≡◌, ℕ, [], ◌++◌, ◌<◌, ◌≤◌, IfOk, OnOk, length, map, slice_index_or, string_bytes};
 ghost use Rattle.std.specs.List.{join_with_byte};
 ghost use Rattle.vote_poll.specs.BallotLine.{rank_text};
-ghost use Rattle.vote_poll.specs.Lines.{text_of_lines};
+ghost use Rattle.vote_text.specs.Lines.{text_of_lines};
 ghost use Rattle.vote_poll.specs.PollContent.{elector_count, option_count};
 ghost use Rattle.vote_count.specs.Ballots.{IsBallotOf};
 ghost use Rattle.vote_sheet.specs.Standing.{ballot_line, standing_text};

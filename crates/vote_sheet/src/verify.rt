@@ -2,7 +2,7 @@
 
 ghost use Rattle.std.specs.Prelude.{◌≡◌, ℕ, ◌∷◌, [], ◌++◌, ◌<◌, ◌≤◌, ◌==◌, IfNone, IfOk, IfSome, List, OnOk, count_by, length, option_map, position, slice_get, string_bytes};
 ghost use Rattle.std.specs.List.{slice_split};
-ghost use Rattle.vote_poll.specs.Lines.{lines_of, without_last_feed};
+ghost use Rattle.vote_text.specs.Lines.{lines_of, without_last_feed};
 ghost use Rattle.vote_poll.specs.Options.{IsOption};
 ghost use Rattle.vote_poll.specs.PollContent.{option_count};
 ghost use Rattle.vote_count.specs.Rounds.{IsDecision, final_set};

@@ -1,5 +1,5 @@
 use Rattle.std.proofs.Common.{◌≡◌, ap, subst, ◌∙◌, ◌++◌, codes, string_bytes}
-use Rattle.vote_poll.specs.Shown.{shown}
+use Rattle.vote_text.specs.Shown.{shown}
 use Rattle.vote_explain.specs.Explained.{IsSuggestion, name_of, not_on_roll_words}
 use Rattle.vote_explain.proofs.Texts.{on_ok, three_parts}
 use Rattle.vote_explain.proofs.hints.push_not_on_roll.Goals as goal

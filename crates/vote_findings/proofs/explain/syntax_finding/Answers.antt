@@ -1,5 +1,5 @@
 use Rattle.std.proofs.Common.{ℕ, List, length}
-use Rattle.vote_poll.specs.Shown.{shown}
+use Rattle.vote_text.specs.Shown.{shown}
 use Rattle.vote_findings.proofs.FindingLaws.{shown_unbroken}
 use Rattle.vote_findings.proofs.explain.syntax_finding.Goals as goal
 

@@ -3,7 +3,7 @@ use Rattle.std.proofs.lemmas.Int.{to_z-of_z}
 use mir.Val.{SFits}
 use mir.Syntax.{w64}
 use Rattle.vote_poll.specs.PollFile.{is_integer_within}
-use Rattle.vote_poll.specs.declared.lines.TheConstants.{MAX_LINES}
+use Rattle.vote_text.specs.declared.lines.TheConstants.{MAX_LINES}
 use Rattle.vote_poll.specs.PollFaults.{of_last_envelope}
 use Rattle.vote_findings.proofs.findings.last_envelope_hint.Goals as goal
 

@@ -1,6 +1,6 @@
 use Rattle.std.proofs.Common.{◌≡◌, ◌+◌, false, length, map, Some}
 use Rattle.std.proofs.lemmas.List.{length-map}
-use Rattle.vote_poll.specs.Names.{is_within}
+use Rattle.vote_text.specs.Names.{is_within}
 use Rattle.vote_poll.specs.declared.TheConstants.{MAX_OPTIONS}
 use Rattle.vote_poll.specs.PollFaults.{of_option_count}
 use Rattle.vote_findings.proofs.FindingLaws.{now}

@@ -1,5 +1,5 @@
 use Rattle.std.proofs.Common.{◌≡◌, false, Some}
-use Rattle.vote_poll.specs.Names.{is_title}
+use Rattle.vote_text.specs.Names.{is_title}
 use Rattle.vote_poll.specs.PollFaults.{of_title}
 use Rattle.vote_findings.proofs.findings.title_hint.Goals as goal
 

@@ -5,7 +5,8 @@ use Rattle.std.specs.Str.{bytes_eq}
 use Rattle.std.proofs.lemmas.Bool.{not-false, not-true}
 use Rattle.std.proofs.lemmas.List.{map-append, length-map}
 use Rattle.vote_keys.specs.declared.fault.PollFault.TheVariants as fault
-use Rattle.vote_poll.specs.Names.{is_voter_name, is_bad_after}
+use Rattle.vote_poll.specs.Names.{is_bad_after}
+use Rattle.vote_text.specs.Names.{is_voter_name}
 use Rattle.vote_poll.specs.Parsing.{names_with}
 use Rattle.vote_poll.proofs.FirstBad.{list_any-strings}
 use Rattle.vote_poll.proofs.names.push_voter_name.Goals as goal

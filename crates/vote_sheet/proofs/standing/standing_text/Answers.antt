@@ -1,7 +1,7 @@
 use Rattle.std.proofs.Common.{◌≡◌, ℕ, ◌+◌, ◌++◌, [], None, append_assoc, ap, drop, get_or, subst, sym, ◌∙◌, arith, string_bytes, take}
 use Rattle.std.proofs.lemmas.Grind.{common_steps, elements, moves, pieces}
 use Rattle.std.proofs.lemmas.List.FromFn.{get_or-map-range_with_len, length-map-range_with_len}
-use Rattle.vote_poll.specs.Lines.{text_of_lines}
+use Rattle.vote_text.specs.Lines.{text_of_lines}
 use Rattle.vote_poll.specs.PollContent.{elector_count}
 use Rattle.vote_poll.specs.Readings.{readings}
 use Rattle.vote_count.specs.Ballots.{IsBallotOf}

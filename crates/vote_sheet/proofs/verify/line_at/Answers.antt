@@ -1,6 +1,6 @@
 use Rattle.std.proofs.Common.{◌≡◌, ◌==◌, ◌∙◌, arith, ap, drop, sym}
 use Rattle.std.specs.List.{slice_split}
-use Rattle.vote_poll.specs.Lines.{without_last_feed}
+use Rattle.vote_text.specs.Lines.{without_last_feed}
 use Rattle.vote_sheet.proofs.FileLines.{behind_part, lines_there, no_part, part_at}
 use Rattle.vote_sheet.proofs.verify.line_at.Goals as goal
 

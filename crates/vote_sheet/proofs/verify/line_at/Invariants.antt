@@ -1,6 +1,6 @@
 use Rattle.std.proofs.Common.{◌≡◌, ◌==◌, drop}
 use Rattle.std.specs.List.{slice_split}
-use Rattle.vote_poll.specs.Lines.{without_last_feed}
+use Rattle.vote_text.specs.Lines.{without_last_feed}
 use Rattle.vote_sheet.proofs.verify.line_at.Given as goal
 
 -- the rest has the lines behind those that are passed
