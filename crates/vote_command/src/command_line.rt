@@ -457,6 +457,8 @@ pub fn order<'a>(alloc: Global, words: &'a [&'a str]) -> Result<Task<'a>, OrderF
     ensures refused { IfErr result (RefusesIfAtFault (fault_of debvote_command (map (λ word. word.now) words.entry.now)) (subcommand_of debvote_command (map (λ word. word.now) words.entry.now))) }
     ensures accepted { OnOk result (fault_of debvote_command (map (λ word. word.now) words.entry.now) ≡ []) }
 {
-    let mut command = debvote_command(alloc)?;
-    order_of(alloc, &mut command, words)
+    match debvote_command(alloc) {
+        Ok(mut command) => order_of(alloc, &mut command, words),
+        Err(_) => Err(OrderFault::Memory),
+    }
 }
