@@ -289,7 +289,8 @@ fn debvote_command<'a>(alloc: Global) -> Result<Command<'a>, AllocError>
 {
     let mut program = bare_command(alloc)?;
     for subcommand in SUBCOMMANDS {
-        program = program.subcommand(command_of(alloc, subcommand)?)?;
+        let command = command_of(alloc, subcommand)?;
+        program = program.subcommand(command)?;
     }
     Ok(program)
 }
