@@ -1,6 +1,6 @@
 //! The command line.
 
-ghost use Rattle.std.specs.Prelude.{◌≡◌, ℕ, IfErr, IfNone, IfOk, IfSome, OnOk, [], codes, map, option_map, false};
+ghost use Rattle.std.specs.Prelude.{◌≡◌, ◌≢◌, ℕ, IfErr, IfNone, IfOk, IfSome, OnOk, [], codes, map, option_map, false};
 ghost use Rattle.clap.specs.Faults.{fault_of};
 ghost use Rattle.clap.specs.Values.{kind_of};
 ghost use Rattle.clap.specs.declared.builder.command.Command.TheViews.{out-Command as fields_of};
@@ -8,6 +8,7 @@ ghost use Rattle.clap.specs.Words.{app_of, first_of, found_of, rows_of, rule_of,
 ghost use Rattle.vote_command.specs.CommandLine.{bare_command, debvote_command, desks_flag, flag, required_flag};
 ghost use Rattle.vote_command.specs.Order.{AsksFor, DesksFit, HasDesks, HasValues, HelpsIfAsked, IsFaultOfKind, RefusesIfAtFault, subcommand_name};
 ghost use Rattle.vote_command.specs.Subcommands.{flag_rule, flags_of, name_of, subcommand_app};
+ghost use Rattle.vote_command.specs.declared.command_line.OrderFault.TheVariants.{Help, Memory, NotUtf8};
 ghost use Rattle.vote_command.specs.declared.command_line.Task.{Task};
 
 use crate::{MAX_DESKS, VERSION};
@@ -288,7 +289,8 @@ fn debvote_command<'a>(alloc: Global) -> Result<Command<'a>, AllocError>
 {
     let mut program = bare_command(alloc)?;
     for subcommand in SUBCOMMANDS {
-        program = program.subcommand(command_of(alloc, subcommand)?)?;
+        let command = command_of(alloc, subcommand)?;
+        program = program.subcommand(command)?;
     }
     Ok(program)
 }
@@ -415,15 +417,28 @@ fn task_of<'a>(matches: &ArgMatches<'a>) -> Option<Task<'a>>
 }
 
 /// What an error of `clap` is to the caller: help that was asked for, or a refusal, with `clap`'s text.
-fn fault(alloc: Global, error: &Error) -> Result<OrderFault, AllocError>
-    ensures { IfOk result (IsFaultOfKind (kind_of error.now)) }
+fn fault(alloc: Global, error: &Error) -> OrderFault
+    ensures { result ≢ Memory → IsFaultOfKind (kind_of error.now) result }
 {
-    let text = error.to_string(alloc)?;
-    Ok(match error.kind() {
+    let Ok(text) = error.to_string(alloc) else {
+        return OrderFault::Memory;
+    };
+    match error.kind() {
         ErrorKind::DisplayHelp | ErrorKind::DisplayVersion => OrderFault::Help(text),
         ErrorKind::OutOfMemory => OrderFault::Memory,
         _ => OrderFault::Refused(text),
-    })
+    }
+}
+
+/// The refusal of words that `clap` takes and that are no task, with the program's usage.
+fn no_task(command: &mut Command<'_>) -> OrderFault
+    ensures refuses { (text : _) → result ≢ Help text }
+    ensures read { result ≢ NotUtf8 }
+{
+    match command.render_usage() {
+        Ok(usage) => OrderFault::Refused(usage),
+        Err(fault) => OrderFault::from(fault),
+    }
 }
 
 /// What the words ask for of this program's command line, which is lent, so that it is dropped in one place.
@@ -441,11 +456,11 @@ fn order_of<'a>(
 {
     let matches = match command.try_get_matches_from_mut(words) {
         Ok(matches) => matches,
-        Err(error) => return Err(fault(alloc, &error)?),
+        Err(error) => return Err(fault(alloc, &error)),
     };
     match task_of(&matches) {
         Some(task) => Ok(task),
-        None => Err(OrderFault::Refused(command.render_usage()?)),
+        None => Err(no_task(command)),
     }
 }
 
@@ -457,6 +472,8 @@ pub fn order<'a>(alloc: Global, words: &'a [&'a str]) -> Result<Task<'a>, OrderF
     ensures refused { IfErr result (RefusesIfAtFault (fault_of debvote_command (map (λ word. word.now) words.entry.now)) (subcommand_of debvote_command (map (λ word. word.now) words.entry.now))) }
     ensures accepted { OnOk result (fault_of debvote_command (map (λ word. word.now) words.entry.now) ≡ []) }
 {
-    let mut command = debvote_command(alloc)?;
-    order_of(alloc, &mut command, words)
+    match debvote_command(alloc) {
+        Ok(mut command) => order_of(alloc, &mut command, words),
+        Err(fault) => Err(OrderFault::from(fault)),
+    }
 }

@@ -9,8 +9,8 @@ use Rattle.vote_command.proofs.command_line.debvote_command.Goals as goal
 
 pub loop-subcommand-preserved : goal.loop-subcommand-preserved
 loop-subcommand-preserved c = record {
-  app = c.in_ok-program-2.ensures.shape c.in_ok-command_of.ensures.local
-      ∙ ap₂ with_subcommand c.loop-subcommand.invariant.app (ap (λ (app : App). app.top) c.in_ok-command_of.ensures.app)
+  app = c.in_ok-program-2.ensures.shape c.in_ok-command.ensures.local
+      ∙ ap₂ with_subcommand c.loop-subcommand.invariant.app (ap (λ (app : App). app.top) c.in_ok-command.ensures.app)
       ∙ sym (fold_more with_command bare_command _ _ _ c.loop-subcommand-test.true);
   local = search rules;
 }
