@@ -1,7 +1,8 @@
 use Rattle.std.proofs.Common.{◌≡◌, ◌+◌, ◌++◌, ◌∷◌, [], ℕ, List, Bool, true, false, Ok, Err, map, length, arith, sym, ◌∙◌, string_bytes, String, Global}
 use Rattle.std.proofs.lemmas.List.{map-append, length-map}
 use Rattle.vote_keys.specs.declared.fault.PollFault.TheVariants as fault
-use Rattle.vote_poll.specs.Names.{is_option_name, is_bad_after}
+use Rattle.vote_poll.specs.Names.{is_bad_after}
+use Rattle.vote_text.specs.Names.{is_option_name}
 use Rattle.vote_poll.specs.Parsing.{names_with}
 use Rattle.vote_poll.proofs.names.push_option_name.Goals as goal
 
