@@ -416,7 +416,8 @@ fn task_of<'a>(matches: &ArgMatches<'a>) -> Option<Task<'a>>
     }
 }
 
-/// What an error of `clap` is to the caller: help that was asked for, or a refusal, with `clap`'s text.
+/// What an error of `clap` is to the caller: help that was asked for, or a refusal, with `clap`'s text. Memory ran out where
+/// it can't hold that text.
 fn fault(alloc: Global, error: &Error) -> OrderFault
     ensures { result ≢ Memory → IsFaultOfKind (kind_of error.now) result }
 {
@@ -430,7 +431,8 @@ fn fault(alloc: Global, error: &Error) -> OrderFault
     }
 }
 
-/// The refusal of words that `clap` takes and that are no task, with the program's usage.
+/// The refusal of words that `clap` takes and that are no task, with the program's usage. Memory ran out where
+/// it can't hold the usage.
 fn no_task(command: &mut Command<'_>) -> OrderFault
     ensures refuses { (text : _) → result ≢ Help text }
     ensures read { result ≢ NotUtf8 }
