@@ -1,4 +1,5 @@
 -- what the contracts of public calls say
 pub mod CommandLine
 pub mod Order
+-- what private functions say of their parts
 pub mod Subcommands
