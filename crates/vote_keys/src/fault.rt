@@ -4,8 +4,8 @@ ghost use Rattle.vote_keys.specs.Keys.{key_name};
 ghost use Rattle.vote_keys.specs.declared.fault.PollFault.TheVariants.{Memory};
 
 use std::alloc::{AllocError, AllocFailed};
+use std::error::Error;
 use std::fmt;
-use thiserror::Error;
 
 /// A key of a poll file, in the order in which they are looked for. It is displayed as it stands in the file.
 #[derive(Clone, Copy, Debug, PartialEq, Eq)]
@@ -66,49 +66,71 @@ impl fmt::Display for PollKey {
 
 /// Why a poll file is refused. Where several of these hold, the first in this order is answered; memory alone can
 /// take the place of another. The limits that are named are those of vote_poll.
-#[derive(Clone, Copy, Debug, PartialEq, Eq, Error)]
+#[derive(Clone, Copy, Debug, PartialEq, Eq)]
 pub enum PollFault {
     /// The text is no UTF-8, or no TOML document.
-    #[error("poll refused: syntax")]
     Syntax,
     /// The key is missing, where it has to be there, or of the wrong kind, or an entry of its list is; each key before
     /// it is right.
-    #[error("poll refused: key {0}")]
     Key(PollKey),
     /// The title has no byte or more than `MAX_TITLE`, or one outside 0x20 to 0x7E.
-    #[error("poll refused: title")]
     Title,
     /// With the default there are fewer than 2 options, or more than `MAX_OPTIONS`.
-    #[error("poll refused: number of options")]
     OptionCount,
     /// The option with this number (from 1) is the first whose name is misshapen, or is that of an option before it.
     /// A name has 1 to `MAX_OPTION_NAME` bytes from 0x20 to 0x7E, no space first or last.
-    #[error("poll refused: name of option {0}")]
     OptionName(u8),
     /// There is not one ratio for each option but the default, or a ratio is not from 1 to
     /// `MAX_RATIO`.
-    #[error("poll refused: ratios")]
     Ratio,
     /// The multiple of Q is not from 0 to `MAX_QUORUM_MULTIPLE`.
-    #[error("poll refused: quorum")]
     Quorum,
     /// The roll has no name, or more than `MAX_ELECTORS`.
-    #[error("poll refused: size of roll")]
     RollSize,
     /// The voter at this place of the roll (from 0) is the first whose name is misshapen, or is that of a voter before.
     /// A name has 1 to `MAX_VOTER_NAME` bytes of `a` to `z`, `0` to `9`, `.` and `-`.
-    #[error("poll refused: voter at position {0}")]
     VoterName(usize),
     /// The last envelope is not from 0 to `MAX_LINES`.
-    #[error("poll refused: last envelope")]
     LastEnvelope,
     /// The wording is neither `at_least` nor `more_than`.
-    #[error("poll refused: wording")]
     Wording,
     /// Memory was asked for and refused. It can come in place of any other answer.
-    #[error("out of memory")]
     Memory,
 }
+
+impl PollFault {
+    /// The words for the fault, up to the key, the number or the place that it names.
+    fn words(self) -> &'static str {
+        match self {
+            PollFault::Syntax => "poll refused: syntax",
+            PollFault::Key(_) => "poll refused: key ",
+            PollFault::Title => "poll refused: title",
+            PollFault::OptionCount => "poll refused: number of options",
+            PollFault::OptionName(_) => "poll refused: name of option ",
+            PollFault::Ratio => "poll refused: ratios",
+            PollFault::Quorum => "poll refused: quorum",
+            PollFault::RollSize => "poll refused: size of roll",
+            PollFault::VoterName(_) => "poll refused: voter at position ",
+            PollFault::LastEnvelope => "poll refused: last envelope",
+            PollFault::Wording => "poll refused: wording",
+            PollFault::Memory => "out of memory",
+        }
+    }
+}
+
+impl fmt::Display for PollFault {
+    fn fmt<W: fmt::Write>(&self, f: &mut fmt::Formatter<W>) -> fmt::Result {
+        f.write_str(self.words())?;
+        match self {
+            PollFault::Key(key) => f.write_str(key.name()),
+            PollFault::OptionName(number) => write!(f, "{number}"),
+            PollFault::VoterName(place) => write!(f, "{place}"),
+            _ => Ok(()),
+        }
+    }
+}
+
+impl Error for PollFault {}
 
 impl From<AllocError> for PollFault {
     ghost from_gives = { λ _ e. e ≡ Memory };
