@@ -1,1 +1,3 @@
+pub mod Gives
 mod KeysLaws
+mod PartsLaws

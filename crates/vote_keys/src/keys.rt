@@ -5,6 +5,7 @@ ghost use Rattle.toml.specs.Data.{as_array, as_str, as_integer};
 ghost use Rattle.toml.specs.View.{items_view, view, table_view};
 ghost use Rattle.vote_keys.specs.FieldsView.{fields_view};
 ghost use Rattle.vote_keys.specs.Keys.{Gives, document, each_of, field, fields_of, list_of, optional_field, value_at};
+ghost use Rattle.vote_keys.specs.Parts.{default_and_quorum, optional_keys};
 ghost use Rattle.vote_keys.specs.declared.fault.PollFault.TheVariants as fault;
 
 use crate::fault::{PollFault, PollKey};
@@ -157,6 +158,24 @@ pub struct Fields<'t> {
     pub wording: Option<&'t str>,
 }
 
+/// The default option and the quorum.
+fn default_and_quorum(table: &Table) -> Result<(&str, i64), PollFault>
+    ensures { Gives (λ keys. (keys.0.now, keys.1)) result (default_and_quorum (table_view table.now)) }
+{
+    let default_option = text_at(table, PollKey::DefaultOption)?;
+    let quorum = integer_at(table, PollKey::Quorum)?;
+    Ok((default_option, quorum))
+}
+
+/// The keys that may be missing: the last envelope and the wording.
+fn optional_keys(table: &Table) -> Result<(Option<i64>, Option<&str>), PollFault>
+    ensures { Gives (λ keys. (keys.0, option_copied keys.1)) result (optional_keys (table_view table.now)) }
+{
+    let last_envelope = optional_integer_at(table, PollKey::LastEnvelope)?;
+    let wording = optional_text_at(table, PollKey::Wording)?;
+    Ok((last_envelope, wording))
+}
+
 /// The keys of a poll file's table, each of its kind. The table has the keys of [`PollKey`], of which the last two may be missing;
 /// other keys are passed over.
 ///
@@ -164,18 +183,15 @@ pub struct Fields<'t> {
 ///
 /// [`PollFault::Key`] with the first key, in the order of [`PollKey`], that is missing, where it has to be there, or of the wrong
 /// kind, or of which an entry of its list is; or [`PollFault::Memory`].
-#[tactic(auto, unfolding(crate::specs::Keys::fields_of))]
 pub fn fields_of(alloc: Global, table: &Table) -> Result<Fields<'_>, PollFault>
     ensures { Gives fields_view result (fields_of (table_view table.now)) }
 {
     let title = text_at(table, PollKey::Title)?;
     let options = texts_at(alloc, table, PollKey::Options)?;
     let ratios = integers_at(alloc, table, PollKey::Ratios)?;
-    let default_option = text_at(table, PollKey::DefaultOption)?;
-    let quorum = integer_at(table, PollKey::Quorum)?;
+    let (default_option, quorum) = default_and_quorum(table)?;
     let roll = texts_at(alloc, table, PollKey::Roll)?;
-    let last_envelope = optional_integer_at(table, PollKey::LastEnvelope)?;
-    let wording = optional_text_at(table, PollKey::Wording)?;
+    let (last_envelope, wording) = optional_keys(table)?;
     Ok(Fields {
         title,
         options,

@@ -16,7 +16,7 @@ use Rattle.vote_keys.specs.Keys.{Fields, Fails, Gives, ◌>>=◌}
 use Rattle.vote_poll.specs.declared.wording.Wording.{Wording}
 use Rattle.vote_poll.specs.Parsing.{thresholds_in, optional_rules_in, roll_and_rules_in}
 use Rattle.vote_poll.specs.PollFile.{err_or, is_integer_within, title_in, option_names_in, ratios_in, quorum_in, roll_in, last_envelope_in, wording_in, poll_of}
-use Rattle.vote_poll.proofs.Gives.{refused-then}
+use Rattle.vote_keys.proofs.Gives.{pair_ok, paired-then, refused-then, same-then, same_ok}
 use Rattle.vote_poll.proofs.NamesLaws.{within_bounds}
 use Rattle.vote_poll.specs.declared.TheConstants.{MAX_OPTIONS, MAX_ELECTORS, MAX_RATIO, MAX_QUORUM_MULTIPLE}
 use Rattle.vote_text.specs.declared.lines.TheConstants.{MAX_LINES}
@@ -24,24 +24,6 @@ use Rattle.vote_keys.specs.declared.fault.PollFault.{PollFault}
 use Rattle.vote_keys.specs.declared.fault.PollFault.TheVariants as fault
 
 -- ---- the keys that are read together
--- what is behind a key, where it is the same for each value
-same-then : {A B : Type 0} (m : Result A PollFault) (f g : A → Result B PollFault) → ((a : A) → f a ≡ g a) → (m >>= f) ≡ (m >>= g)
-same-then (Ok a) f g same = same a
-same-then (Err e) f g same = refl
-
--- two keys one after the other, and as a pair
-abbrev pair : {A B : Type 0} → Result A PollFault → Result B PollFault → Result (A × B) PollFault
-pair m n = do
-  a ← m
-  b ← n
-  Ok (a, b)
-
-paired-then : {A B C : Type 0} (m : Result A PollFault) (n : Result B PollFault) (next : A → B → Result C PollFault)
-    → (m >>= (λ a. n >>= (λ b. next a b))) ≡ (pair m n >>= (λ p. next p.0 p.1))
-paired-then (Ok a) (Ok b) next = refl
-paired-then (Ok a) (Err e) next = refl
-paired-then (Err e) n next = refl
-
 abbrev poll_with : List ℕ → List (List ℕ) → List ℕ × ℕ → List (List ℕ) × (Option ℕ × Wording) → Result PollContent PollFault
 poll_with title options thresholds rest =
     Ok (record { title = title; options = options; ratios = thresholds.0; quorum_multiple = thresholds.1; roll = rest.0; last_envelope = rest.1.0; wording = rest.1.1 })
@@ -76,14 +58,6 @@ pub parsed_meaning : (f : Fields) (p : PollContent) → Parsed f p → poll_of f
 parsed_meaning f p h = rw (poll_of-parts f, h.title, h.options, h.thresholds, h.rest)
 
 -- ---- the poll keeps the limits
-same_ok : {X : Type 0} (x y : X) → ◌≡◌ {A = Result X PollFault} (Ok x) (Ok y) → x ≡ y
-same_ok x y h = cc
-
-pair_ok : {A B : Type 0} (m : Result A PollFault) (n : Result B PollFault) (a : A) (b : B) → pair m n ≡ Ok (a, b) → (m ≡ Ok a) × (n ≡ Ok b)
-pair_ok (Ok x) (Ok y) a b h = let same = same_ok _ _ h in (ap (λ p. Ok p.0) same, ap (λ p. Ok p.1) same)
-pair_ok (Ok x) (Err e) a b h = cc
-pair_ok (Err e) n a b h = cc
-
 chosen_ok : {X : Type 0} (b : Bool) (x : Result X PollFault) (y : X) (e : PollFault) → cond b x (Err e) ≡ Ok y → (b ≡ true) × (x ≡ Ok y)
 chosen_ok true x y e h = (refl, h)
 chosen_ok false x y e h = cc

@@ -2,7 +2,6 @@ mod Assembly
 pub mod Equality
 mod BallotLaws
 mod FirstBad
-mod Gives
 mod GrammarLaws
 mod NamesLaws
 mod OneReading
