@@ -127,9 +127,7 @@ LINE = re.compile(rb"([a-z0-9.-]{1,32}) ((?:-|[1-9][0-9]?)(?:,(?:-|[1-9][0-9]?))
 
 def lines_of(text):
     """Ballot file: its lines, of which the last may lack its line feed."""
-    lines = text.split(b"\n")
-    if lines[-1] == b"":
-        lines.pop()
+    lines = text.removesuffix(b"\n").split(b"\n") if text else []
     if len(lines) > MOST_LINES:
         raise Fault("ballots refused: too many lines", 4)
     return lines
@@ -181,11 +179,6 @@ def votes_of(poll, last_ballots):
 def meets_quorum(poll, number):
     """4.2, A.5.2: so many votes are at least `quorum` times Q, which is half of the square root of the number of electors."""
     return (2 * number) ** 2 >= poll.quorum**2 * len(poll.roll)
-
-
-def quorum_votes(poll):
-    """Result sheet: the least number of votes that meets the quorum."""
-    return next(number for number in itertools.count() if meets_quorum(poll, number))
 
 
 def meets_majority(poll, votes, option):
@@ -267,11 +260,12 @@ def decision_of(poll, final, casting):
 
 
 def heading(poll, replies, last_ballots):
-    """Result sheet, 1 to 7: what stands above the options."""
+    """Result sheet, 1 to 7: what stands above the options, with the least number of votes that meets the quorum."""
+    least = next(number for number in itertools.count() if meets_quorum(poll, number))
     valid = sum(reply in ("counted", "replaced") for reply in replies)
     yield f"Poll: {poll.title}"
     yield f"Electors: {len(poll.roll)}"
-    yield f"Quorum: {poll.quorum}Q, {quorum_votes(poll)} votes"
+    yield f"Quorum: {poll.quorum}Q, {least} votes"
     if poll.is_more_than:
         yield "Majority: more than"
     yield f"Lines: {len(replies)}"
@@ -310,21 +304,26 @@ def text_of(lines):
     return "".join(f"{line}\n" for line in lines)
 
 
+def sheet_but_decision(poll, ballots):
+    """Result sheet, 1 to 12: its lines, and the final set. A casting vote changes neither."""
+    replies, last_ballots = replies_and_last_ballots(poll, lines_of(ballots))
+    votes = votes_of(poll, last_ballots)
+    dropped = dropped_options(poll, votes)
+    kept = [option for option in poll.options if option not in dropped]
+    rounds = rounds_of(kept, votes)
+    found = outcome(votes, dropped, defeats_among(kept, votes), rounds)
+    return [*heading(poll, replies, last_ballots), *tables(poll, votes), *found], rounds[-1][0]
+
+
 def count(poll_data, ballots, casting_name=None):
     """Result sheet: the whole of it, and the exit status."""
     poll = poll_in(poll_data)
     if casting_name is not None and casting_name not in poll.names.values():
         raise Fault("casting option is not in the poll", 8)
     casting = next((option for option in poll.options if poll.names[option] == casting_name), None)
-    replies, last_ballots = replies_and_last_ballots(poll, lines_of(ballots))
-    votes = votes_of(poll, last_ballots)
-    dropped = dropped_options(poll, votes)
-    kept = [option for option in poll.options if option not in dropped]
-    rounds = rounds_of(kept, votes)
-    final, _ = rounds[-1]
+    lines, final = sheet_but_decision(poll, ballots)
     decision, status = decision_of(poll, final, casting)
-    found = outcome(votes, dropped, defeats_among(kept, votes), rounds)
-    return text_of([*heading(poll, replies, last_ballots), *tables(poll, votes), *found, decision]), status
+    return text_of([*lines, decision]), status
 
 
 def steps(poll_data, ballots):
