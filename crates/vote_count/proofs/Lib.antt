@@ -15,3 +15,4 @@ pub mod Clones
 pub mod Pareto
 mod PassLanes
 pub mod Determined
+mod Filled

@@ -56,9 +56,9 @@ impl Defeats {
         ensures { (a b : ℕ) → Pairs result a b ↔ PairwiseDefeats (In set.now) matrix.now a b }
     {
         let mut defeats = Self::empty();
-        for a in 1..=matrix.options() {
-            for b in 1..=matrix.options() {
-                if set.has(a) && set.has(b) && matrix.votes(a, b) > matrix.votes(b, a) {
+        for a in 1..matrix.options() + 1 {
+            for b in 1..matrix.options() + 1 {
+                if is_defeat(set, matrix, a, b) {
                     defeats.insert(a, b);
                 }
             }
@@ -135,6 +135,15 @@ impl Defeats {
         }
         rest
     }
+}
+
+// Whether `a` defeats `b` and both are in the set.
+fn is_defeat(set: &OptionSet, matrix: &Matrix, a: u8, b: u8) -> bool
+    requires a { IsOption matrix.now.options a }
+    requires b { IsOption matrix.now.options b }
+    ensures { IsTrue result ↔ PairwiseDefeats (In set.now) matrix.now a b }
+{
+    set.has(a) && set.has(b) && matrix.votes(a, b) > matrix.votes(b, a)
 }
 
 /// The transitive defeats of a list of defeats (Appendix A, Vote Counting): for each option a row

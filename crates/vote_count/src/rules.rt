@@ -94,13 +94,20 @@ pub(crate) fn kept_with(poll: &Poll, matrix: &Matrix, quorum: u64) -> OptionSet
     standing
 }
 
+// Whether `b` transitively defeats `a`, which does not transitively defeat it.
+fn is_beaten_by(chains: &Chains, a: u8, b: u8) -> bool
+    ensures { IsTrue result ↔ (Pairs chains.now b a × ¬ Pairs chains.now a b) }
+{
+    chains.has(b, a) && !chains.has(a, b)
+}
+
 // Whether `a` transitively defeats each option of the set that transitively defeats it.
 fn is_unbeaten(set: &OptionSet, chains: &Chains, a: u8) -> bool
     requires { (o : ℕ) → In set.now o → IsOption MAX_OPTIONS o }
     ensures { IsTrue result ↔ ((b : ℕ) → In set.now b → Pairs chains.now a b ⊎ ¬ Pairs chains.now b a) }
 {
-    for b in 1..=set.last() {
-        if set.has(b) && chains.has(b, a) && !chains.has(a, b) {
+    for b in 1..set.last() + 1 {
+        if set.has(b) && is_beaten_by(chains, a, b) {
             return false;
         }
     }
@@ -114,7 +121,7 @@ pub fn schwartz(set: &OptionSet, chains: &Chains) -> OptionSet
     ensures { (a : ℕ) → In result a ↔ InSchwartzSet (In set.now) (Pairs chains.now) a }
 {
     let mut schwartz = OptionSet::empty();
-    for a in 1..=set.last() {
+    for a in 1..set.last() + 1 {
         if set.has(a) && is_unbeaten(set, chains, a) {
             schwartz.insert(a);
         }
@@ -153,14 +160,23 @@ fn one_weakest(defeats: &Defeats, matrix: &Matrix) -> Option<(u8, u8)>
     ensures { IsOneWeakest matrix.now (Pairs defeats.now) result }
 {
     let mut weakest = None;
-    for a in 1..=matrix.options() {
-        for b in 1..=matrix.options() {
+    for a in 1..matrix.options() + 1 {
+        for b in 1..matrix.options() + 1 {
             if defeats.has(a, b) {
                 weakest = Some(weaker_of(matrix, (a, b), weakest));
             }
         }
     }
     weakest
+}
+
+// Whether a pair is one of the defeats and no stronger than this one.
+fn is_no_stronger(matrix: &Matrix, defeats: &Defeats, pair: (u8, u8), weakest: (u8, u8)) -> bool
+    requires pair { IsOption matrix.now.options pair.0 × IsOption matrix.now.options pair.1 }
+    requires weakest { IsOption matrix.now.options weakest.0 × IsOption matrix.now.options weakest.1 }
+    ensures { IsTrue result ↔ (Pairs defeats.now pair.0 pair.1 × ¬ IsWeaker matrix.now weakest.0 weakest.1 pair.0 pair.1) }
+{
+    defeats.has(pair.0, pair.1) && !is_weaker(matrix, weakest, pair)
 }
 
 // The defeats that are no stronger than this one.
@@ -170,9 +186,9 @@ fn no_stronger_than(weakest: (u8, u8), defeats: &Defeats, matrix: &Matrix) -> De
     ensures { (a b : ℕ) → Pairs result a b ↔ (Pairs defeats.now a b × ¬ IsWeaker matrix.now weakest.0 weakest.1 a b) }
 {
     let mut found = Defeats::empty();
-    for a in 1..=matrix.options() {
-        for b in 1..=matrix.options() {
-            if defeats.has(a, b) && !is_weaker(matrix, weakest, (a, b)) {
+    for a in 1..matrix.options() + 1 {
+        for b in 1..matrix.options() + 1 {
+            if is_no_stronger(matrix, defeats, (a, b), weakest) {
                 found.insert(a, b);
             }
         }

@@ -1,6 +1,7 @@
-use Rattle.std.proofs.Common.{◌≡◌, ℕ, ◌-◌, ◌<◌, ◌^◌, ap, arith}
+use Rattle.std.proofs.Common.{◌≡◌, ℕ, ◌+◌, ◌-◌, ◌<◌, if◌then◌else◌, nat_lt, List, [], length, get_or, ◌^◌, ap, ◌∙◌, arith}
+use Rattle.vote_poll.specs.declared.TheConstants.{MAX_OPTIONS}
 use Rattle.vote_count.specs.Votes.{Votes}
-use Rattle.vote_count.proofs.Cells.{AreSortKeys, cell_of_preferred, votes_by_keys}
+use Rattle.vote_count.proofs.Cells.{AreSortKeys, cell_of_preferred, rows_done, rows_waiting, rows_wide, votes_by_keys}
 use Rattle.vote_count.proofs.tally.Matrix.exchange.Goals as goal
 
 pub change-requires-clause-some : goal.change-requires-clause-some
@@ -32,3 +33,21 @@ returns-clause-votes c a b of_a of_b =
     (of_a.0, omega (arith, of_a.1, c.requires.options_before)) (of_b.0, omega (arith, of_b.1, c.requires.options_before))
     (of_a.0, omega (arith, of_a.1, c.requires.options_after)) (of_b.0, omega (arith, of_b.1, c.requires.options_after))
     (rw (← c.self.view_is) cells)
+
+pub loop-option-preserved : goal.loop-option-preserved
+loop-option-preserved c =
+    let old = c.sort_keys-old.result.now in
+    let new = c.sort_keys-new.result.now in
+    let option = c.loop-option.option in
+    let rows = c.loop-option.self-inside.counts in
+    let within : option < length rows = omega arith in
+    let wide = c.loop-option.invariant.wide in
+    let here : get_or rows option [] ≡ get_or c.self.inside.counts option [] = c.loop-option.invariant.waiting option (omega arith) in
+    let Counted : ℕ → List ℕ → Type 0 = λ i row. (j : ℕ) → j < c.self.inside.options
+    → get_or row j 0 + (if nat_lt (get_or old i 0) (get_or old j 0) then 1 else 0) ≡ get_or (get_or c.self.inside.counts i []) j 0 + (if nat_lt (get_or new i 0) (get_or new j 0) then 1 else 0) in
+    record {
+      options = c.loop-option.invariant.options;
+      wide = rows_wide rows option _ within MAX_OPTIONS MAX_OPTIONS wide (c.change.auto.row ∙ wide option (omega arith));
+      counted = λ i j lt. rows_done rows option _ within Counted (λ k before l. c.loop-option.invariant.counted k l before) (rw here at c.change.ensures) i lt j;
+      waiting = rows_waiting rows option _ within c.self.inside.counts c.loop-option.invariant.waiting;
+    }

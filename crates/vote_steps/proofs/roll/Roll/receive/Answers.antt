@@ -1,13 +1,13 @@
 use Rattle.std.proofs.Common.{◌≡◌, ℕ, ◌+◌, ◌<◌, ◌≤◌, Bool, false, cond, List, [], Option, Some, None, length, get_or, set, refl, sym, ap, ◌∙◌, subst, ⊎_elim, arith, Vec, vec_len, Global}
-use Rattle.std.specs.Prelude.{is_some}
+use Rattle.std.specs.Prelude.{is_some, IsTrue}
 use Rattle.std.specs.List.{count_by}
 use Rattle.std.proofs.lemmas.Bool.{lt-ltb, le-ltb, cases_eq}
 use Rattle.std.proofs.lemmas.List.{get_or_read_under, set-get_or, get_or-set_same, get_or-set_other}
-use Rattle.std.proofs.lemmas.List.Sums.{sum_by-set}
+use Rattle.std.proofs.lemmas.List.Sums.{count_by-le-length, sum_by-set}
 use Rattle.vote_poll.specs.Options.{IsOption}
+use Rattle.vote_poll.specs.declared.TheConstants.{MAX_ELECTORS}
 use Rattle.vote_poll.specs.Ranks.{prefers}
 use Rattle.vote_steps.specs.declared.step.Received.{Received}
-use Rattle.vote_steps.specs.declared.step.Reply.{Reply}
 use Rattle.vote_steps.specs.declared.step.Reply.TheVariants.{Replaced, Superseded}
 use Rattle.vote_steps.specs.History.{reply_beside, is_for}
 use Rattle.vote_steps.specs.Receiving.{after_ballot}
@@ -96,4 +96,61 @@ invariant_of-self-in-None c =
           let of_b' = subst (Of b) c.add.ensures.options of_b in
           c.add.ensures.votes a b of_a' of_b' ∙ ap (λ n. n + cond (prefers c.args.ballot.ranks a b) 1 0) (c.args.self.now.recounted a b of_a' of_b')
           ∙ sym (with_one_more ballots c.args.voter c.args.ballot (is_for a b) refl is c.requires.voter);
+    }
+
+-- no more voters have a ballot than are on the roll
+pub overflow_add-self : goal.overflow_add-self
+overflow_add-self c =
+    let ballots = c.args.self.now.ballots in
+    let few : vec_len ballots ≤ MAX_ELECTORS = c.args.self.now.few in
+    record { fits = omega (arith, few, c.args.self.now.counted, ballots.ok.0, count_by-le-length is_some ballots.items) }
+
+-- a count of the roll's entries once the ballot of a voter has given way to another
+with_another : (ballots : Vec (Option Received) Global) (voter : ℕ) (ballot stands : Received) (p : Option Received → Bool) → Some stands ≡ get_or ballots.items voter None → voter < vec_len ballots
+    → count_by p (set ballots.items voter (Some ballot)) + cond (p (Some stands)) 1 0 ≡ count_by p ballots.items + cond (p (Some ballot)) 1 0
+with_another ballots voter ballot stands p is within =
+    let f : Option Received → ℕ = λ o. cond (p o) 1 0 in
+    ap (λ n. count_by p (set ballots.items voter (Some ballot)) + n) (ap f is) ∙ sum_by-set f ballots.items voter (Some ballot) None (omega (arith, within, ballots.ok.0))
+
+-- a ballot that stands is counted
+part_of : (ballots : Vec (Option Received) Global) (voter : ℕ) (stands : Received) (p : Option Received → Bool) → p None ≡ false → Some stands ≡ get_or ballots.items voter None → voter < vec_len ballots → IsTrue (p (Some stands)) → 1 ≤ count_by p ballots.items
+part_of ballots voter stands p none is within holds =
+    let f : Option Received → ℕ = λ o. cond (p o) 1 0 in
+    let one : f (get_or ballots.items voter None) ≡ 1 = ap f (sym is) ∙ ap (λ (b : Bool). cond b 1 0) holds in
+    let nothing : f None ≡ 0 = ap (λ (b : Bool). cond b 1 0) none in
+    omega (arith, one, nothing, sum_by-set f ballots.items voter None None (omega (arith, within, ballots.ok.0)))
+
+pub exchange-requires-clause-counted : goal.exchange-requires-clause-counted
+exchange-requires-clause-counted c a b of_a of_b preferred =
+    let is : Some c.in-Some-2.standing ≡ get_or c.args.self.now.ballots.items c.args.voter None = sym c.in-Some-2.is ∙ stood c.args.self.now.ballots c.args.voter c.index.result.now c.index.ensures c.requires.voter in
+    let some = part_of c.args.self.now.ballots c.args.voter c.in-Some-2.standing (is_for a b) refl is c.requires.voter preferred in
+    omega (arith, some, c.args.self.now.recounted a b of_a of_b)
+
+-- there are fewer voters than a vote of the matrix can count
+pub add-requires-clause-room : goal.add-requires-clause-room
+add-requires-clause-room c a b of_a of_b _ =
+    let ballots = c.args.self.now.ballots in
+    let few : vec_len ballots ≤ MAX_ELECTORS = c.args.self.now.few in
+    omega (arith, few, c.args.self.now.recounted a b of_a of_b, ballots.ok.0, count_by-le-length (is_for a b) ballots.items)
+
+pub exchange-requires-clause-room : goal.exchange-requires-clause-room
+exchange-requires-clause-room c a b of_a of_b _ =
+    let ballots = c.args.self.now.ballots in
+    let few : vec_len ballots ≤ MAX_ELECTORS = c.args.self.now.few in
+    omega (arith, few, c.args.self.now.recounted a b of_a of_b, ballots.ok.0, count_by-le-length (is_for a b) ballots.items)
+
+pub invariant_of-self-in-Some-2 : goal.invariant_of-self-in-Some-2
+invariant_of-self-in-Some-2 c =
+    let ballots = c.args.self.now.ballots in
+    let stands = c.in-Some-2.standing in
+    let is : Some stands ≡ get_or c.args.self.now.ballots.items c.args.voter None = sym c.in-Some-2.is ∙ stood ballots c.args.voter c.index.result.now c.index.ensures c.requires.voter in
+    record {
+      few = c.args.self.now.few;
+      fit = fit_with ballots c.args.voter _ c.args.ballot c.requires.voter (c.requires.ranks ∙ sym c.exchange.ensures.options) (λ k x at. c.args.self.now.fit k x at ∙ sym c.exchange.ensures.options);
+      counted = omega (arith, c.args.self.now.counted, with_another ballots c.args.voter c.args.ballot stands is_some is c.requires.voter);
+      recounted = λ a b of_a of_b.
+          let Of : ℕ → ℕ → Type 0 = λ k n. IsOption n k in
+          let of_a' = subst (Of a) c.exchange.ensures.options of_a in
+          let of_b' = subst (Of b) c.exchange.ensures.options of_b in
+          omega (arith, c.exchange.ensures.votes a b of_a' of_b', c.args.self.now.recounted a b of_a' of_b', with_another ballots c.args.voter c.args.ballot stands (is_for a b) is c.requires.voter);
     }
