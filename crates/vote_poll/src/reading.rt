@@ -100,7 +100,12 @@ fn ranks_of(text: &[u8]) -> Option<(Ranks, usize)>
 fn first_space(line: &[u8]) -> Option<usize>
     ensures { result ≡ position is_space line.now }
 {
-    line.iter().position(|byte| *byte == b' ')
+    for place in 0..line.len() {
+        if line[place] == b' ' {
+            return Some(place);
+        }
+    }
+    None
 }
 
 /// The texts before and after the first space, where there is one.
