@@ -19,3 +19,6 @@ returns-in_err-place c =
     c.from_residual.ensures ∙ rw (← c.self.view_is) (ap (option_map (λ place. place + 1)) (
     c.in_err-place.ensures ∙ sym (position-map (bytes_eq c.args.name.now) string_bytes c.deref.result.now)
     ∙ ap (λ options. place_of c.args.name.now (map string_bytes options)) c.deref.ensures.value))
+
+pub overflow_add-result : goal.overflow_add-result
+overflow_add-result c = grind (arith, common_steps, elements, moves, pieces)

@@ -9,3 +9,9 @@ returns-clause-number c = omega (arith, length-map c.self.inside.options.items (
 
 pub returns-clause-at_least : goal.returns-clause-at_least
 returns-clause-at_least c = grind (arith, common_steps, elements, moves, pieces)
+
+pub overflow_cast-result : goal.overflow_cast-result
+overflow_cast-result c = grind (arith, common_steps, elements, moves, pieces)
+
+pub returns-clause-at_most : goal.returns-clause-at_most
+returns-clause-at_most c = grind (arith, common_steps, elements, moves, pieces)
