@@ -1,5 +1,5 @@
 -- The keys of a poll file, where some are read together.
-use Rattle.std.proofs.Common.{◌≡◌, ◌∙◌, Result, Ok}
+use Rattle.std.proofs.Common.{◌≡◌, ◌∙◌, ℕ, ℤ, List, Option, Result, Ok}
 use Rattle.toml.specs.Data.{Members, as_str, as_integer}
 use Rattle.vote_keys.specs.Keys.{Fields, ◌>>=◌, field, fields_of, list_of, optional_field}
 use Rattle.vote_keys.specs.Parts.{default_and_quorum, optional_keys}
@@ -27,3 +27,10 @@ fields_of-parts table =
     ∙ same-then (default_and_quorum table) _ _ (λ middle.
     same-then (field key.Roll (list_of as_str) table) _ _ (λ roll.
     paired-then (optional_field key.LastEnvelope as_integer table) (optional_field key.Wording as_str table) _)))))
+
+-- where each part is read, the keys are those that were read
+pub fields_read : (table : Members) (title : List ℕ) (options : List (List ℕ)) (ratios : List ℤ) (default_option : List ℕ) (quorum : ℤ) (roll : List (List ℕ)) (last_envelope : Option ℤ) (wording : Option (List ℕ))
+    → field key.Title as_str table ≡ Ok title → field key.Options (list_of as_str) table ≡ Ok options → field key.Ratios (list_of as_integer) table ≡ Ok ratios
+    → default_and_quorum table ≡ Ok (default_option, quorum) → field key.Roll (list_of as_str) table ≡ Ok roll → optional_keys table ≡ Ok (last_envelope, wording)
+    → fields_of table ≡ Ok (record { title = title; options = options; ratios = ratios; default_option = default_option; quorum = quorum; roll = roll; last_envelope = last_envelope; wording = wording })
+fields_read table title options ratios default_option quorum roll last_envelope wording a b c d e f = rw (fields_of-parts table, a, b, c, d, e, f)

@@ -2,6 +2,7 @@ mod Assembly
 pub mod Equality
 mod BallotLaws
 mod FirstBad
+mod FirstFound
 mod GrammarLaws
 mod NamesLaws
 mod OneReading

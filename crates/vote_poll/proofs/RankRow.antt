@@ -1,13 +1,14 @@
 -- A row of the first keys, as many as a poll can have options, with zeros behind them, and the ranks that a text lists.
-use Rattle.std.proofs.Common.{◌≡◌, ◌==◌, ◌+◌, ◌-◌, ◌<◌, ◌≤◌, ◌++◌, ℕ, suc, min, List, [], ◌∷◌, map, refl, ap, ap₂, sym, ◌∙◌, length, take, set, replicate, Option, Some, None, arith, append_assoc}
+use Rattle.std.proofs.Common.{◌≡◌, ◌==◌, ◌+◌, ◌-◌, ◌<◌, ◌≤◌, ◌++◌, ℕ, suc, min, List, [], ◌∷◌, map, refl, ap, ap₂, sym, ◌∙◌, length, take, drop, get_or, set, replicate, Bool, true, false, cond, Option, Some, None, arith, append_assoc}
 use Rattle.std.specs.Option.{option_map}
-use Rattle.std.proofs.lemmas.List.{length_push, length-append, length-take, length-replicate, map-append, set_at, take_all, take_at, take-append-le, take-map, length-map}
-use Rattle.std.proofs.lemmas.List.Splits.{slice_split_none}
+use Rattle.std.proofs.lemmas.List.{length_push, length-append, length-take, length-replicate, map-append, set_at, take_all, take_at, take-append-le, take-map, take_rest, length-map}
+use Rattle.std.proofs.lemmas.List.Splits.{slice_split_at, slice_split_none}
 use Rattle.vote_keys.specs.Lists.{all_some}
 use Rattle.vote_poll.specs.Parsing.{kept_and_count}
 use Rattle.vote_poll.specs.SortKeys.{rank_of_key, row_of}
 use Rattle.vote_poll.specs.Readings.{rank_in, ranks_in}
 use Rattle.vote_poll.specs.declared.TheConstants.{MAX_OPTIONS}
+use Rattle.vote_poll.proofs.RankKeys.{rank_bytes}
 use Rattle.vote_poll.proofs.GrammarLaws.{rank_text-rank_in, rank_text_has_no_comma}
 
 -- ---- a row
@@ -68,3 +69,29 @@ last-rank text left keys count key so_far long is =
     so_far ∙ ap (option_map (λ ranks. map rank_of_key keys ++ ranks)) (one-rank left (rank_of_key key) is) ∙ ap Some (sym (map-append rank_of_key keys (key ∷ []))) in
     let counted : length (map rank_of_key (keys ++ key ∷ [])) ≡ count + 1 = omega (arith, ap length (map-append rank_of_key keys (key ∷ [])), length_push (map rank_of_key keys) (rank_of_key key), length-map keys rank_of_key) in
     ap (option_map kept_and_count) all ∙ ap (λ n. Some (take MAX_OPTIONS (map rank_of_key (keys ++ key ∷ [])), n)) counted
+
+-- ---- a rank and the comma behind it
+-- behind a text that spells a rank, and a comma, other ranks are listed
+next-rank : (bytes rest : List ℕ) (rank : Option ℕ) → rank_in bytes ≡ Some rank → ranks_in (bytes ++ 44 ∷ rest) ≡ option_map (λ ranks. rank ∷ ranks) (ranks_in rest)
+next-rank bytes rest rank is =
+    let spelled = rank_text-rank_in bytes rank is in
+    let no_comma = rw (← spelled.1) at (rank_text_has_no_comma rank spelled.0) in
+    ap (λ parts. all_some (map rank_in parts)) (slice_split_at (λ b. b == 44) bytes 44 rest no_comma refl) ∙ rw is
+
+-- a text round the comma behind its first rank, of which the second byte tells where it is
+by_second : (a b c : ℕ) (rest : List ℕ) (end : ℕ) (comma : Bool) → (b == 44) ≡ comma → end ≡ cond comma 1 2 → get_or (a ∷ b ∷ c ∷ rest) end 0 ≡ 44
+    → a ∷ b ∷ c ∷ rest ≡ cond comma (a ∷ []) (a ∷ b ∷ []) ++ 44 ∷ drop (end + 1) (a ∷ b ∷ c ∷ rest)
+by_second a b c rest end true test is here = let same : b ≡ 44 = rw is at here in rw is (ap (λ x. a ∷ x ∷ c ∷ rest) same)
+by_second a b c rest end false test is here = let same : c ≡ 44 = rw is at here in rw is (ap (λ x. a ∷ b ∷ x ∷ rest) same)
+
+round_comma : (text : List ℕ) (end : ℕ) → 3 ≤ length text → end ≡ cond (get_or text 1 0 == 44) 1 2 → get_or text end 0 ≡ 44 → text ≡ rank_bytes (get_or text 0 0) (get_or text 1 0) ++ 44 ∷ drop (end + 1) text
+round_comma [] end long is here = absurd (omega arith)
+round_comma (a ∷ []) end long is here = absurd (omega arith)
+round_comma (a ∷ b ∷ []) end long is here = absurd (omega arith)
+round_comma (a ∷ b ∷ c ∷ rest) end long is here = by_second a b c rest end (b == 44) refl is here
+
+pub first-rank : (text : List ℕ) (end : ℕ) (rank : Option ℕ) → 3 ≤ length text → end ≡ cond (get_or text 1 0 == 44) 1 2 → get_or text end 0 ≡ 44 → rank_in (rank_bytes (get_or text 0 0) (get_or text 1 0)) ≡ Some rank
+    → ranks_in text ≡ option_map (λ ranks. rank ∷ ranks) (ranks_in (take (length text - (end + 1)) (drop (end + 1) text)))
+first-rank text end rank long is here spelled =
+    ap ranks_in (round_comma text end long is here) ∙ next-rank (rank_bytes (get_or text 0 0) (get_or text 1 0)) (drop (end + 1) text) rank spelled
+    ∙ ap (λ rest. option_map (λ ranks. rank ∷ ranks) (ranks_in rest)) (sym (take_rest text (end + 1)))

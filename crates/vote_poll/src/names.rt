@@ -1,6 +1,5 @@
 //! The names on the lists of a poll: its options and the voters on its roll.
 ghost use Rattle.std.specs.Prelude.{◌≡◌, ◌+◌, ◌<◌, [], ◌∷◌, ◌++◌, length, map, position, string_bytes};
-ghost use Rattle.std.specs.List.{list_any};
 ghost use Rattle.std.specs.Str.{bytes_eq};
 ghost use Rattle.vote_poll.specs.Names.{is_bad_after};
 ghost use Rattle.vote_text.specs.Names.{is_option_name, is_voter_name};
@@ -15,18 +14,23 @@ use std::alloc::Global;
 use vote_keys::PollFault;
 use vote_text::{is_option_name, is_voter_name};
 
-/// Whether one of the names is this one.
-fn is_among(names: &[String], name: &[u8]) -> bool
-    ensures { result ≡ list_any (λ other. bytes_eq name.now (string_bytes other)) names.now }
+/// The place of a name among the names of options.
+pub(crate) fn place_of(options: &[String], name: &[u8]) -> Option<usize>
+    ensures { result ≡ position (λ option. bytes_eq name.now (string_bytes option)) options.now }
 {
-    names.iter().any(|other| name == other.as_bytes())
+    for place in 0..options.len() {
+        if name == options[place].as_bytes() {
+            return Some(place);
+        }
+    }
+    None
 }
 
 /// Whether a name is misshapen, or equals one of the names before it.
 fn is_bad_after(names: &[String], name: &[u8]) -> bool
     ensures { result ≡ is_bad_after is_option_name (map string_bytes names.now) name.now }
 {
-    !is_option_name(name) || is_among(names, name)
+    !is_option_name(name) || place_of(names, name).is_some()
 }
 
 /// Adds the name of the next option, where it is well formed and no option before has it.
@@ -90,11 +94,4 @@ pub(crate) fn parse_voter_names(
         push_voter_name(alloc, &mut roll, name)?;
     }
     Ok(roll)
-}
-
-/// The place of a name among the names of options.
-pub(crate) fn place_of(options: &[String], name: &[u8]) -> Option<usize>
-    ensures { result ≡ position (λ option. bytes_eq name.now (string_bytes option)) options.now }
-{
-    options.iter().position(|option| name == option.as_bytes())
 }

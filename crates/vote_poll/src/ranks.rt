@@ -111,7 +111,7 @@ impl PartialEq for Ranks {
         ensures test { result ≡ are_same_ranks self.now other.now }
         ensures same { IsTrue result ↔ (self.now ≡ other.now) }
     {
-        self.sort_keys[..self.options as usize] == other.sort_keys[..other.options as usize]
+        self.keys() == other.keys()
     }
 }
 

@@ -1,5 +1,5 @@
 //! Reading a line of the ballot file.
-ghost use Rattle.std.specs.Prelude.{◌≡◌, ◌==◌, ◌<◌, ◌≤◌, ◌↔◌, ℕ, List, length, position, option_map, IfSome, IsTrue, IfNone, Some, None, [], ◌∷◌, ◌++◌};
+ghost use Rattle.std.specs.Prelude.{◌≡◌, ◌==◌, ◌<◌, ◌≤◌, ◌↔◌, ℕ, List, length, option_map, IfSome, IsTrue, IfNone, Some, None, [], ◌∷◌, ◌++◌};
 ghost use Rattle.std.specs.List.{before_first, after_first};
 ghost use Rattle.std.specs.Str.{byte};
 ghost use Rattle.vote_poll.specs.Comparisons.{is_same_reading};
@@ -15,7 +15,7 @@ ghost use Rattle.std.specs.Cmp.Rules.{comparing};
 use crate::poll::Poll;
 use crate::rank_key::{spelled_key, spelled_length};
 use crate::ranks::Ranks;
-use crate::{MAX_LINE, MAX_OPTIONS, UNRANKED};
+use crate::{MAX_LINE, MAX_OPTIONS};
 use vote_text::is_voter_name;
 
 /// What a poll reads in a line. Two readings are the same for `==` just where they are equal for contracts.
@@ -39,16 +39,18 @@ pub enum LineFault {
     Roll,
 }
 
-/// Where an option stands whose rank a text spells.
+/// Where an option stands whose rank a text spells: one byte, as if a comma stood behind it, or two of which the second is no
+/// comma.
 fn parse_rank(text: &[u8]) -> Option<u8>
     ensures { option_map rank_of_key result ≡ rank_in text.now }
 {
-    match text {
-        [b'-'] => Some(UNRANKED),
-        [ones @ b'1'..=b'9'] => Some(*ones - b'0'),
-        [tens @ b'1'..=b'9', ones @ b'0'..=b'9'] => Some(10 * (*tens - b'0') + (*ones - b'0')),
-        _ => None,
+    if text.len() == 1 {
+        return spelled_key(text[0], b',');
     }
+    if text.len() != 2 || text[1] == b',' {
+        return None;
+    }
+    spelled_key(text[0], text[1])
 }
 
 /// Where the option of the first rank in a text stands, and the text behind the comma after this rank.
@@ -96,21 +98,17 @@ fn ranks_of(text: &[u8]) -> Option<(Ranks, usize)>
     Some((Ranks::of_row(count, &row), count))
 }
 
-/// The place of the first space.
-fn first_space(line: &[u8]) -> Option<usize>
-    ensures { result ≡ position is_space line.now }
-{
-    line.iter().position(|byte| *byte == b' ')
-}
-
 /// The texts before and after the first space, where there is one.
-#[tactic(auto, using(crate::proofs::ReadingLaws::space_laws))]
 fn split_at_space(line: &[u8]) -> Option<(&[u8], &[u8])>
     ensures found { IfSome result (λ parts. (parts.0.now ≡ before_first is_space line.now) × (parts.1.now ≡ after_first is_space line.now)) }
     ensures none { IfNone result (after_first is_space line.now ≡ []) }
 {
-    let end = first_space(line)?;
-    Some((&line[..end], &line[end + 1..]))
+    for end in 0..line.len() {
+        if line[end] == b' ' {
+            return Some((&line[..end], &line[end + 1..]));
+        }
+    }
+    None
 }
 
 /// The parts of a ballot line, where the voter may be any text.
@@ -154,7 +152,9 @@ fn ballot(poll: &Poll, line: &[u8]) -> Result<(usize, Ranks), LineFault>
     if parts.count != poll.options() as usize {
         return Err(LineFault::RankCount);
     }
-    let voter = found.ok_or(LineFault::Roll)?;
+    let Some(voter) = found else {
+        return Err(LineFault::Roll);
+    };
     Ok((voter, parts.ranks))
 }
 
@@ -210,11 +210,7 @@ fn lists_ranks(text: &[u8], ranks: &Ranks) -> bool
 fn behind_name<'t>(line: &'t [u8], name: &[u8]) -> Option<&'t [u8]>
     ensures { IfSome result (λ text. line.now ≡ name.now ++ byte " " ∷ text.now) }
 {
-    let rest = line.strip_prefix(name)?;
-    match rest {
-        [b' ', text @ ..] => Some(text),
-        _ => None,
-    }
+    line.strip_prefix(name)?.strip_prefix(b" ")
 }
 
 /// Whether a line spells a ballot of the voter at this place of the roll, with these ranks.

@@ -115,7 +115,8 @@ impl<'t> Lines<'t> {
         }
         let body = without_last_feed(text);
         let feeds = count_feeds(body);
-        if feeds >= MAX_LINES {
+        let too_many = feeds >= MAX_LINES;
+        if too_many {
             return Err(LinesFault::TooMany);
         }
         let lines = parts(alloc, body, feeds + 1)?;

@@ -16,7 +16,12 @@ pub fn is_voter_byte(byte: u8) -> bool
 fn are_voter_bytes(text: &[u8]) -> bool
     ensures { result ≡ list_all is_voter_byte text.now }
 {
-    text.iter().all(|byte| is_voter_byte(*byte))
+    for byte in text {
+        if !is_voter_byte(*byte) {
+            return false;
+        }
+    }
+    true
 }
 
 /// Whether a text is a voter's name: 1 to [`MAX_VOTER_NAME`] of the bytes that [`is_voter_byte`] admits.
@@ -37,7 +42,12 @@ pub fn is_printable(byte: u8) -> bool
 fn are_printable(text: &[u8]) -> bool
     ensures { result ≡ list_all is_printable text.now }
 {
-    text.iter().all(|byte| is_printable(*byte))
+    for byte in text {
+        if !is_printable(*byte) {
+            return false;
+        }
+    }
+    true
 }
 
 /// Whether a text is a title: 1 to [`MAX_TITLE`] of the bytes that [`is_printable`] admits.

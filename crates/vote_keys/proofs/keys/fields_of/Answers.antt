@@ -1,11 +1,11 @@
-use Rattle.std.proofs.Common.{refl, rules}
+use Rattle.std.proofs.Common.{rules}
 use Rattle.std.proofs.lemmas.Int.{to_z-of_z}
 use mir.Val.{SFits}
 use mir.Syntax.{w64}
 use Rattle.toml.specs.View.{table_view}
 use Rattle.vote_keys.specs.FieldsView.{fields_view}
 use Rattle.vote_keys.proofs.Gives.{refused-then}
-use Rattle.vote_keys.proofs.PartsLaws.{fields_of-parts}
+use Rattle.vote_keys.proofs.PartsLaws.{fields_of-parts, fields_read}
 use Rattle.vote_keys.proofs.keys.fields_of.Goals as goal
 
 pub returns-in_err-title : goal.returns-in_err-title
@@ -39,4 +39,5 @@ returns-in_err-last_envelope c =
 pub returns : goal.returns
 returns c =
     let fits : SFits w64 c.in_ok-default_option.quorum = search rules in
-    rw (to_z-of_z w64 c.in_ok-default_option.quorum fits, fields_of-parts (table_view c.args.table.now), c.in_ok-title.ensures, c.in_ok-options.ensures, c.in_ok-ratios.ensures, c.in_ok-default_option.ensures, c.in_ok-roll.ensures, c.in_ok-last_envelope.ensures) refl
+    rw (to_z-of_z w64 c.in_ok-default_option.quorum fits)
+    (fields_read (table_view c.args.table.now) _ _ _ _ _ _ _ _ c.in_ok-title.ensures c.in_ok-options.ensures c.in_ok-ratios.ensures c.in_ok-default_option.ensures c.in_ok-roll.ensures c.in_ok-last_envelope.ensures)

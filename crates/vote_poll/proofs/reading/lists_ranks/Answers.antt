@@ -1,9 +1,9 @@
-use Rattle.std.proofs.Common.{◌≡◌, ◌≤◌, ◌++◌, ◌∷◌, [], ℕ, List, Some, map, take, length, rules, ap, sym, ◌∙◌}
-use Rattle.std.proofs.lemmas.List.{map-append, take_all}
+use Rattle.std.proofs.Common.{◌≡◌, ◌≤◌, ◌++◌, ◌∷◌, [], ℕ, List, Some, map, take, length, rules, ap, sym, ◌∙◌, get_or}
+use Rattle.std.proofs.lemmas.List.{map-append, take_all, take_more}
 use Rattle.std.specs.Option.{option_map}
 use Rattle.vote_poll.specs.SortKeys.{rank_of_key}
 use Rattle.vote_poll.specs.Readings.{rank_in, ranks_in}
-use Rattle.vote_poll.proofs.RankRow.{one-rank}
+use Rattle.vote_poll.proofs.RankRow.{one-rank, more-ranks}
 use Rattle.vote_poll.proofs.reading.lists_ranks.Goals as goal
 
 -- behind the ranks of the other options there is that of the last
@@ -20,3 +20,11 @@ returns c = λ is.
     let ranks : map rank_of_key c.keys.result.now ≡ c.args.ranks.now = search rules in
     with_last c.args.text.now c.loop-key.left.now c.in-Some.others.now c.loop-key.key-index c.in-Some.last.now c.loop-key.invariant c.loop-key-test.false read
     ∙ ap (λ keys. Some (map rank_of_key keys)) (sym whole) ∙ ap Some ranks
+
+pub loop-key-preserved : goal.loop-key-preserved
+loop-key-preserved c =
+    let others = c.in-Some.others.now in
+    let i = c.loop-key.key-index in
+    let rest = ranks_in c.in-Some-behind_rank.rest.now in
+    c.loop-key.invariant ∙ ap (option_map (λ ranks. map rank_of_key (take i others) ++ ranks)) c.in-Some-behind_rank.ensures ∙ more-ranks (take i others) (get_or others i 0) rest
+    ∙ ap (λ keys. option_map (λ ranks. map rank_of_key keys ++ ranks) rest) (sym (take_more others i 0 c.loop-key-test.true))

@@ -1,6 +1,7 @@
 use Rattle.std.proofs.Common.{◌≡◌, ◌<◌, List, String, Global, sym, ap, ◌∙◌, arith, length, map, get_or, [], string_bytes}
 use Rattle.std.proofs.lemmas.List.{length-map, get_or-map}
 use Rattle.std.proofs.lemmas.Option.{slice_get_within, get_or_from_slice_get}
+use Rattle.std.proofs.lemmas.Grind.{common_steps, elements, moves, pieces}
 use Rattle.vote_poll.proofs.NamesLaws.{name-at}
 use Rattle.vote_poll.proofs.poll.Poll.voter_name.Goals as goal
 
@@ -15,3 +16,9 @@ returns-clause-name c =
     let inside : c.args.voter < length (map string_bytes c.self.inside.roll.keys) = omega (arith, length-map c.self.inside.roll.keys (string_bytes {Z = Global})) in
     let found = name-at c.as_bytes.result.now (map string_bytes c.self.inside.roll.keys) c.args.voter c.self.invariant.voter_names inside same in
     (rw (← c.self.view_is) found.0, found.1)
+
+pub returns-clause-found : goal.returns-clause-found
+returns-clause-found c = grind (arith, common_steps, elements, moves, pieces)
+
+pub returns-in_err-name-clause-found : goal.returns-in_err-name-clause-found
+returns-in_err-name-clause-found c = grind (arith, common_steps, elements, moves, pieces)
