@@ -165,7 +165,9 @@ fn acted<R: Wait + Abort>(
     let poll = poll_of(rt, alloc, poll)?;
     let valid = Blank::new(u64::from(desks));
     let refused = Blank::new(u64::from(desks));
-    act::<Brand, Brand, R>(rt, alloc, &poll, desks, deeds, kept, valid, refused)
+    let sealed = act::<Brand, Brand, R>(rt, alloc, &poll, desks, deeds, kept, valid, refused);
+    drop(poll);
+    sealed
 }
 
 /// How many steps a box has, how many of its lines are valid and refused, and how many desks it had.
@@ -190,7 +192,9 @@ fn counts_after<R: Wait + Abort>(
     requires { (1 ≤ desks) × (desks ≤ MAX_DESKS) }
 {
     let sealed = acted(rt, alloc, TWO_ELECTORS, desks, deeds, usize::from(desks))?;
-    Ok(counts_of(&sealed))
+    let counts = counts_of(&sealed);
+    drop(sealed);
+    Ok(counts)
 }
 
 #[test]
@@ -312,7 +316,9 @@ fn found_by<R: Threads + Wait + Abort + Sync>(
     poll: &Poll,
 ) -> Result<(Option<AuditFault>, Option<AuditFault>), DeskFault> {
     let lines = lines_of(rt, alloc, TWO_LINES)?;
-    found_for(rt, alloc, opened, deeds, poll, &lines)
+    let found = found_for(rt, alloc, opened, deeds, poll, &lines);
+    drop(lines);
+    found
 }
 
 /// Does the deeds at one desk of a box for a poll, and answers what is found for another poll and two lines, with the sheet of
@@ -325,7 +331,9 @@ fn found_after<R: Threads + Wait + Abort + Sync>(
     poll: &str,
 ) -> Result<(Option<AuditFault>, Option<AuditFault>), DeskFault> {
     let poll = poll_of(rt, alloc, poll)?;
-    found_by(rt, alloc, opened, deeds, &poll)
+    let found = found_by(rt, alloc, opened, deeds, &poll);
+    drop(poll);
+    found
 }
 
 const SIZE: Option<AuditFault> = Some(AuditFault::SizeDiffers);
@@ -414,7 +422,9 @@ fn acted_at_once<R: Threads + Wait + Abort + Sync>(
     alloc: Global,
 ) -> Result<Sealed, DeskFault> {
     let poll = poll_of(rt, alloc, TWO_ELECTORS)?;
-    act_at_once::<Brand, Brand, R>(rt, alloc, &poll, Blank::new(2), Blank::new(2))
+    let sealed = act_at_once::<Brand, Brand, R>(rt, alloc, &poll, Blank::new(2), Blank::new(2));
+    drop(poll);
+    sealed
 }
 
 /// What such a box counts.
@@ -423,7 +433,9 @@ fn counts_at_once<R: Threads + Wait + Abort + Sync>(
     alloc: Global,
 ) -> Result<(usize, u64, u64, u8), DeskFault> {
     let sealed = acted_at_once(rt, alloc)?;
-    Ok(counts_of(&sealed))
+    let counts = counts_of(&sealed);
+    drop(sealed);
+    Ok(counts)
 }
 
 #[test]
@@ -450,7 +462,9 @@ fn open_two<VL: Tally, RL: Tally>(
 /// The numbers of the two desks of a box for the poll of two electors.
 fn numbers_of_two(rt: &impl Abort, alloc: Global) -> Result<(u8, u8), DeskFault> {
     let poll = poll_of(rt, alloc, TWO_ELECTORS)?;
-    open_two::<Brand, Brand>(alloc, &poll, Blank::new(2), Blank::new(2))
+    let numbers = open_two::<Brand, Brand>(alloc, &poll, Blank::new(2), Blank::new(2));
+    drop(poll);
+    numbers
 }
 
 #[test]

@@ -25,13 +25,17 @@ fn explained_for(
     text: &str,
 ) -> Result<Explained, AllocError> {
     let lines = lines_of(rt, alloc, text)?;
-    explain_ballots(alloc, poll, &lines)
+    let found = explain_ballots(alloc, poll, &lines);
+    drop(lines);
+    found
 }
 
 /// What is said of a ballot file for the poll.
 fn explained(rt: &impl Abort, alloc: Global, text: &str) -> Result<Explained, AllocError> {
     let poll = poll_of(rt, alloc, POLL)?;
-    explained_for(rt, alloc, &poll, text)
+    let found = explained_for(rt, alloc, &poll, text);
+    drop(poll);
+    found
 }
 
 #[test]

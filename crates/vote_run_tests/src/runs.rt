@@ -87,7 +87,9 @@ fn written_of_cycle<R: Threads + Wait + Sync>(
     let (paper, ended) = perform_on(rt, alloc, &job, &NoGate, paper);
     let is_front = SHEET.as_bytes().starts_with(paper.written.as_slice());
     let flushed = (paper.flushes, paper.is_flushed);
-    Ok((is_front, paper.written.len(), flushed, ended))
+    let len = paper.written.len();
+    drop(paper);
+    Ok((is_front, len, flushed, ended))
 }
 
 const WON: Result<Ended, RunFault> = Ok(Ended::Decided(1));
@@ -160,7 +162,9 @@ fn performed<G: Gate + Sync, R: Threads + Wait + Sync>(
     let paper = endless(alloc)?;
     let (paper, ended) = perform_on(rt, alloc, job, gate, paper);
     let is_text = paper.written.as_slice() == text.as_bytes();
-    Ok((is_text, paper.written.len(), ended))
+    let len = paper.written.len();
+    drop(paper);
+    Ok((is_text, len, ended))
 }
 
 /// How a count of the cycle at so many desks ends through a gate, and how much is written.
@@ -340,7 +344,9 @@ fn sheet_at_two<R: Threads + Wait + Sync>(
     lines: &Lines<'_>,
 ) -> Result<String, VoteFault> {
     let audited = take_votes(rt, alloc, poll, lines, 2, &NoGate)?;
-    match sheet(alloc, poll, lines, &audited, None) {
+    let text = sheet(alloc, poll, lines, &audited, None);
+    drop(audited);
+    match text {
         Ok(text) => Ok(text),
         Err(AllocError) => Err(VoteFault::Memory),
     }
@@ -353,7 +359,9 @@ fn sheet_for<R: Threads + Wait + Abort + Sync>(
     poll: &Poll,
 ) -> Result<String, VoteFault> {
     let lines = lines_of(rt, alloc, BALLOTS)?;
-    sheet_at_two(rt, alloc, poll, &lines)
+    let text = sheet_at_two(rt, alloc, poll, &lines);
+    drop(lines);
+    text
 }
 
 /// The sheet of the cycle.
@@ -362,7 +370,9 @@ fn sheet_of_cycle<R: Threads + Wait + Abort + Sync>(
     alloc: Global,
 ) -> Result<String, VoteFault> {
     let poll = poll_of(rt, alloc, CYCLE)?;
-    sheet_for(rt, alloc, &poll)
+    let text = sheet_for(rt, alloc, &poll);
+    drop(poll);
+    text
 }
 
 #[test]

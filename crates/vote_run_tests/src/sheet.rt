@@ -79,7 +79,9 @@ fn cast_and_counted<R: Abort>(
     made: Made,
 ) -> Result<String, AllocError> {
     let ballot_box = cast_all(alloc, poll, lines)?;
-    counted(rt, alloc, poll, lines, &ballot_box, made)
+    let text = counted(rt, alloc, poll, lines, &ballot_box, made);
+    drop(ballot_box);
+    text
 }
 
 /// The text; one that takes a count is made by [`cast_and_counted`].
@@ -107,7 +109,9 @@ fn made_for<R: Abort>(
     made: Made,
 ) -> Result<String, AllocError> {
     let lines = lines_of(rt, alloc, ballots)?;
-    text_of(rt, alloc, poll, &lines, made)
+    let text = text_of(rt, alloc, poll, &lines, made);
+    drop(lines);
+    text
 }
 
 /// The text for a poll and its lines.
@@ -119,7 +123,9 @@ fn made_of<R: Abort>(
     made: Made,
 ) -> Result<String, AllocError> {
     let poll = poll_of(rt, alloc, poll)?;
-    made_for(rt, alloc, &poll, ballots, made)
+    let text = made_for(rt, alloc, &poll, ballots, made);
+    drop(poll);
+    text
 }
 
 /// Makes a text, and asserts that it is this one; `refused` where its memory was.

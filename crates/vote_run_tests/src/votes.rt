@@ -40,7 +40,9 @@ fn taken_by<G: Gate + Sync, R: Threads + Wait + Abort + Sync>(
     requires { (1 ≤ desks) × (desks ≤ MAX_DESKS) }
 {
     let lines = lines_of(rt, alloc, lines)?;
-    take_votes(rt, alloc, poll, &lines, desks, gate)
+    let audited = take_votes(rt, alloc, poll, &lines, desks, gate);
+    drop(lines);
+    audited
 }
 
 /// Takes the votes of the lines of a text by the nine electors' poll.
@@ -54,7 +56,9 @@ fn taken<G: Gate + Sync, R: Threads + Wait + Abort + Sync>(
     requires { (1 ≤ desks) × (desks ≤ MAX_DESKS) }
 {
     let poll = poll_of(rt, alloc, CYCLE)?;
-    taken_by(rt, alloc, &poll, lines, desks, gate)
+    let audited = taken_by(rt, alloc, &poll, lines, desks, gate);
+    drop(poll);
+    audited
 }
 
 /// What a gate was told of one envelope.
@@ -185,7 +189,9 @@ fn last_through<R: Threads + Wait + Abort + Sync>(
 ) -> Result<Option<u32>, VoteFault> {
     let audited = taken(rt, alloc, BALLOTS, 2, gate)?;
     assert_nine_told(rt, gate, &audited);
-    Ok(last_cast(audited.ballot_box()))
+    let last = last_cast(audited.ballot_box());
+    drop(audited);
+    Ok(last)
 }
 
 /// The same by a gate that lets envelopes pass so.
@@ -195,7 +201,9 @@ fn last_taken<R: Threads + Wait + Abort + Sync>(
     passes: Passes,
 ) -> Result<Option<u32>, VoteFault> {
     let gate = Turnstile::new(alloc, passes)?;
-    last_through(rt, alloc, &gate)
+    let last = last_through(rt, alloc, &gate);
+    drop(gate);
+    last
 }
 
 #[test]
@@ -223,7 +231,9 @@ fn stopped<R: Threads + Wait + Abort + Sync>(
 {
     let gate = Turnstile::new(alloc, passes)?;
     let fault = taken(rt, alloc, lines, desks, &gate).err();
-    Ok((fault, gate.counts()))
+    let counts = gate.counts();
+    drop(gate);
+    Ok((fault, counts))
 }
 
 #[test]
@@ -244,6 +254,7 @@ fn memory_of_take_votes(rt: HostRuntime) -> Result<(), Fail> {
     match taken(&rt, rt.alloc(), BALLOTS, 2, &NoGate) {
         Ok(audited) => {
             assert_nine(&rt, audited.ballot_box());
+            drop(audited);
             Ok(())
         }
         Err(fault) => {
@@ -258,6 +269,7 @@ fn threads_of_take_votes(rt: HostRuntime) -> Result<(), Fail> {
     match taken(&rt, rt.alloc(), BALLOTS, 3, &NoGate) {
         Ok(audited) => {
             assert_same(&rt, audited.desks(), 3);
+            drop(audited);
             Ok(())
         }
         Err(fault) => {
