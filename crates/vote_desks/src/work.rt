@@ -1,5 +1,5 @@
 //! Workers, each of which serves a desk in a thread of its own.
-ghost use Rattle.std.specs.Prelude.{◌≡◌, ◌+◌, ◌<◌, ◌≤◌, ◌^◌, ◌++◌, [], None, Some, All, IsNone, IfOk, IfErr, map, length, vec_len};
+ghost use Rattle.std.specs.Prelude.{◌≡◌, ◌+◌, ◌<◌, ◌≤◌, ◌^◌, ◌++◌, [], None, Ok, Some, All, IsNone, IfOk, IfErr, map, length, vec_len};
 ghost use Rattle.std.specs.List.{AllByRecursion};
 ghost use Rattle.vote_steps.specs.Boxes.{box_of};
 ghost use Rattle.vote_shared.specs.Slips.{stamps_of};
@@ -14,7 +14,7 @@ use std::alloc::Global;
 use std::snapshot::Snapshot;
 use std::sync::{Mutex, Wait};
 use std::thread;
-use std::thread::{Promise, PromisedHandle, Scope, Threads};
+use std::thread::{Promise, PromisedHandle, Scope, SpawnError, Threads};
 use vote_poll::{LineFault, Lines, Poll, Reading};
 use vote_shared::{Desk, EnterFault, SharedBox, Slip, Tally};
 use vote_tray::{Pass, Tray};
@@ -171,6 +171,19 @@ fn work<VL: Tally, RL: Tally, G: Gate, R: Wait>(
     }
 }
 
+/// The handle of a worker, or the fault that it could not be started.
+fn handle_of<T: Send + Drop, P: Promise<T> + Drop, F: Drop>(
+    spawned: Result<PromisedHandle<T, P>, SpawnError<F>>,
+) -> Result<PromisedHandle<T, P>, VoteFault>
+    ensures ok { IfOk result (λ handle. spawned ≡ Ok handle) }
+    ensures err { IfErr result (λ fault. fault ≡ VoteFault.Thread) }
+{
+    match spawned {
+        Ok(handle) => Ok(handle),
+        Err(_) => Err(VoteFault::Thread),
+    }
+}
+
 /// Starts a worker in a thread of its own.
 fn start<'s, E, VL: Tally + Send + Sync, RL: Tally + Send + Sync, G: Gate + Sync, R: Wait + Sync>(
     scope: &Scope<'s, E>,
@@ -194,10 +207,7 @@ fn start<'s, E, VL: Tally + Send + Sync, RL: Tally + Send + Sync, G: Gate + Sync
         ensures desk { result.desk.number ≡ desk.number }
         ensures pass { (result.pass.tray ≡ pass.tray) × (result.pass.parts ≡ pass.parts) }
     { work(rt, workplace, desk, pass) };
-    match scope.spawn_with(promise, job) {
-        Ok(handle) => Ok(handle),
-        Err(_) => Err(VoteFault::Thread),
-    }
+    handle_of(scope.spawn_with(promise, job))
 }
 
 /// Starts a worker for each desk, in the order of the desks, each with the pass at the same place.
