@@ -9,7 +9,7 @@ ghost use Rattle.vote_shared.specs.Slips.{valid_slips, refused_slips};
 
 use crate::desk::{Desk, Held, Tally};
 use crate::fault::DeskFault;
-use crate::shared::SharedBox;
+use crate::shared::{SharedBox, close};
 use crate::slip::Slip;
 use std::alloc::{AllocError, Global};
 use std::marker::Model;
@@ -130,7 +130,6 @@ fn meet<VL: Tally, RL: Tally>(
 }
 
 /// Closes the box, if it is open, and meets the shares of all desks with the books.
-#[tactic(auto, using(crate::proofs::ClosingLemmas::valid_kept, crate::proofs::ClosingLemmas::refused_kept))]
 fn seal<VL: Tally, RL: Tally>(
     alloc: Global,
     held: Held<VL, RL>,
@@ -146,7 +145,7 @@ fn seal<VL: Tally, RL: Tally>(
     ensures books { IfOk result (MeetsBooks desks.items) }
 {
     let mut held = held;
-    let _ = held.ballot_box.close();
+    let _ = close(&mut held);
     let sheets = meet(alloc, &mut held, desks)?;
     let Held {
         ballot_box,

@@ -2,7 +2,7 @@
 ghost use Rattle.std.specs.Prelude.{◌≡◌, ◌+◌, ◌≤◌, ◌<◌, ◌↔◌, ◌⊎◌, [], Err, map, IsTrue, IfOk, OnOk, IfErr, OnErr, vec_len};
 ghost use Rattle.std.specs.List.{range_with_len};
 ghost use Rattle.vote_steps.specs.History.{is_closed, standing_ranks};
-ghost use Rattle.vote_steps.specs.Boxes.{box_of};
+ghost use Rattle.vote_steps.specs.Boxes.{IsLegal, box_of};
 ghost use Rattle.vote_shared.specs.Slips.{CanReply};
 ghost use Rattle.vote_shared.specs.Desks.{FitsBox, HasRoom, IsLater, fresh_desk, with_close, with_slip};
 
@@ -158,7 +158,10 @@ impl<VL: Tally, RL: Tally> SharedBox<VL, RL> {
 
 /// Closes a box.
 #[tactic(auto, using(crate::proofs::ClosingLemmas::valid_kept, crate::proofs::ClosingLemmas::refused_kept))]
-fn close<VL: Tally, RL: Tally>(held: &mut Held<VL, RL>) -> Result<(), AlreadyClosed>
+pub(crate) fn close<VL: Tally, RL: Tally>(held: &mut Held<VL, RL>) -> Result<(), AlreadyClosed>
+    ensures opened { IsLater VL.opened held.new.ballot_box }
+    ensures closed { IsTrue (is_closed held.new.ballot_box.steps) }
+    ensures legal { IsLegal held.new.ballot_box }
     ensures ok { OnOk result (held.new ≡ with_close held.old) }
     ensures already { (result ≡ Err record {}) ↔ IsTrue (is_closed held.old.ballot_box.steps) }
     ensures err { OnErr result (held.new ≡ held.old) }
