@@ -1,7 +1,8 @@
-use Rattle.std.proofs.Common.{◌≡◌, map, vec_items, sym, ap, ◌∙◌, subst}
+use Rattle.std.proofs.Common.{IsTrue, map, vec_items, sym, ap, ◌∙◌, subst}
 use Rattle.vote_steps.specs.Boxes.{BoxState, IsLegal}
+use Rattle.vote_steps.specs.History.{is_closed}
 use Rattle.vote_shared.specs.Books.{MeetsBooks}
-use Rattle.vote_shared.specs.Desks.{HeldState, IsLater}
+use Rattle.vote_shared.specs.Desks.{HeldState}
 use Rattle.vote_shared.proofs.sealed.seal.Goals as goal
 
 pub returns-clause-books : goal.returns-clause-books
@@ -11,3 +12,10 @@ returns-clause-books g c =
 pub returns-clause-legal : goal.returns-clause-legal
 returns-clause-legal g c =
     subst IsLegal (sym (ap (λ (h : HeldState). h.ballot_box) (c.held.view_is ∙ c.in_ok-sheets.ensures.held))) c.close.ensures.legal
+
+pub returns-clause-opened : goal.returns-clause-opened
+returns-clause-opened g c = c.held.invariant.0
+
+pub returns-clause-closed : goal.returns-clause-closed
+returns-clause-closed g c =
+    subst (λ (b : BoxState). IsTrue (is_closed b.steps)) (sym (ap (λ (h : HeldState). h.ballot_box) (c.held.view_is ∙ c.in_ok-sheets.ensures.held))) c.close.ensures.closed

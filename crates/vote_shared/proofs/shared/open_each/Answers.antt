@@ -20,3 +20,6 @@ loop-index-preserved g c =
           ∙ ap (λ (d : DeskState). c.loop-index.opened.items ++ d ∷ []) c.in_ok-desk.ensures.fresh
           ∙ ap (λ xs. xs ++ fresh_desk c.args.limit (n + 1) ∷ []) kept.fresh ∙ sym more;
     }
+
+pub open_desk-requires-clause-number : goal.open_desk-requires-clause-number
+open_desk-requires-clause-number g c = let few = c.requires.desks in (omega arith, omega arith)
