@@ -14,7 +14,7 @@ use crate::auditing::{Audited, audit};
 use crate::fault::VoteFault;
 use crate::work::{Gate, Workplace, work_all};
 use crate::worked::{Stop, WorkerResult};
-use std::alloc::{AllocError, Global};
+use std::alloc::Global;
 use std::marker::Brand;
 use std::sync::ledger::Blank;
 use std::sync::{Mutex, Wait};
@@ -55,10 +55,11 @@ fn hand_in<VL: Tally, RL: Tally>(
     alloc: Global,
     tray: &Tray,
     all: Vec<WorkerResult<VL, RL>>,
-) -> Result<(Vec<Desk<VL, RL>>, Pass), AllocError>
+) -> Result<(Vec<Desk<VL, RL>>, Pass), VoteFault>
     requires all { (0 < vec_len all) × (vec_len all ≡ tray.now.passes) }
     requires back { AreBackFrom tray.now 0 (map (λ worked. (worked.desk, worked.pass)) all.items) }
-    ensures { IfOk result (λ handed. AreHandedIn tray.now tray.now.passes handed.0.items handed.1) }
+    ensures handed { IfOk result (λ handed. AreHandedIn tray.now tray.now.passes handed.0.items handed.1) }
+    ensures err { IfErr result (λ fault. fault ≡ VoteFault.Memory) }
 {
     let mut all = all.into_iter();
     let Some(WorkerResult { desk, pass, .. }) = all.next() else {
@@ -98,8 +99,53 @@ fn cast_all<
     if let Some(fault) = first_stop(&all) {
         return Err(fault);
     }
-    let handed = hand_in(alloc, workplace.tray, all)?;
-    Ok(handed)
+    hand_in(alloc, workplace.tray, all)
+}
+
+/// Has this many desks, which have cast nothing, cast all lines, and takes them back.
+fn cast_lines<
+    VL: Tally + Send + Sync,
+    RL: Tally + Send + Sync,
+    G: Gate + Sync,
+    R: Threads + Wait + Sync,
+>(
+    rt: &R,
+    alloc: Global,
+    poll: &Poll,
+    lines: &Lines<'_>,
+    gate: &G,
+    shared: &SharedBox<VL, RL>,
+    opened: Vec<Desk<VL, RL>>,
+    desks: u8,
+) -> Result<Vec<Desk<VL, RL>>, VoteFault>
+    requires desks { (1 ≤ desks) × (desks ≤ MAX_DESKS) × (vec_len opened ≡ desks) }
+    requires box_is { shared.now.opened ≡ box_of poll.now (length lines.now) [] }
+    requires fresh { opened.items ≡ map (fresh_desk (length lines.now)) (range_with_len 1 desks) }
+    ensures numbers { IfOk result (λ back. map (λ desk. desk.number) back.items ≡ range_with_len 1 desks) }
+    ensures rising { IfOk result (λ back. All (λ desk. Rises desk.slips) back.items) }
+    ensures cast { IfOk result (λ back. sum_by (λ desk. length desk.slips) back.items ≡ length lines.now) }
+    ensures fault { IfErr result CanStopVotes }
+    ensures desk { IfErr result (IsOfDesk desks) }
+{
+    let (tray, passes) = match Tray::new(alloc, lines.len() as u64, desks) {
+        Ok(made) => made,
+        Err(TrayFault::TooMany) => unreachable!(),
+        Err(TrayFault::Memory) => return Err(VoteFault::Memory),
+    };
+    let (back, joined) = {
+        let turn = Mutex::new(());
+        let workplace = Workplace {
+            poll,
+            lines,
+            shared,
+            gate,
+            tray: &tray,
+            turn: &turn,
+        };
+        cast_all(rt, alloc, &workplace, opened, passes)?
+    };
+    tray.finish(joined);
+    Ok(back)
 }
 
 /// Gathers the desks, which have cast all envelopes, and compares what they did with the lines.
@@ -160,29 +206,12 @@ fn serve<
     ensures fault { IfErr result CanStopVotes }
     ensures desk { IfErr result (IsOfDesk desks) }
 {
-    let (tray, passes) = match Tray::new(alloc, lines.len() as u64, desks) {
-        Ok(made) => made,
-        Err(TrayFault::TooMany) => unreachable!(),
-        Err(TrayFault::Memory) => return Err(VoteFault::Memory),
-    };
     let limit = lines.len() as u32;
     let (shared, opened) = match open_desks::<VL, RL>(alloc, poll, limit, desks, valid, refused) {
         Ok(made) => made,
         Err(_) => return Err(VoteFault::Memory),
     };
-    let (back, joined) = {
-        let turn = Mutex::new(());
-        let workplace = Workplace {
-            poll,
-            lines,
-            shared: &shared,
-            gate,
-            tray: &tray,
-            turn: &turn,
-        };
-        cast_all(rt, alloc, &workplace, opened, passes)?
-    };
-    tray.finish(joined);
+    let back = cast_lines(rt, alloc, poll, lines, gate, &shared, opened, desks)?;
     gather_and_audit(rt, alloc, poll, lines, shared, back)
 }
 

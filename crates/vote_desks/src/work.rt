@@ -1,10 +1,10 @@
 //! Workers, each of which serves a desk in a thread of its own.
-ghost use Rattle.std.specs.Prelude.{◌≡◌, ◌+◌, ◌<◌, ◌≤◌, ◌^◌, ◌++◌, [], Some, All, IsNone, IfOk, IfErr, map, length, vec_len};
+ghost use Rattle.std.specs.Prelude.{◌≡◌, ◌+◌, ◌<◌, ◌≤◌, ◌^◌, ◌++◌, [], None, Ok, Some, All, IsNone, IfOk, IfErr, map, length, vec_len};
 ghost use Rattle.std.specs.List.{AllByRecursion};
 ghost use Rattle.vote_steps.specs.Boxes.{box_of};
 ghost use Rattle.vote_shared.specs.Slips.{stamps_of};
 ghost use Rattle.vote_shared.specs.Desks.{FitsBox};
-ghost use Rattle.vote_desks.specs.Work.{IsFresh, IsStampOf, IsUnused, tray_and_parts};
+ghost use Rattle.vote_desks.specs.Work.{HasCastAll, IsFresh, IsStampOf, IsUnused, tray_and_parts};
 ghost use Rattle.vote_desks.specs.Faults.{IsStartFault};
 
 use crate::fault::VoteFault;
@@ -14,7 +14,7 @@ use std::alloc::Global;
 use std::snapshot::Snapshot;
 use std::sync::{Mutex, Wait};
 use std::thread;
-use std::thread::{Promise, PromisedHandle, Scope, Threads};
+use std::thread::{Promise, PromisedHandle, Scope, SpawnError, Threads};
 use vote_poll::{LineFault, Lines, Poll, Reading};
 use vote_shared::{Desk, EnterFault, SharedBox, Slip, Tally};
 use vote_tray::{Pass, Tray};
@@ -60,6 +60,34 @@ impl<VL: Tally, RL: Tally> Promise<WorkerResult<VL, RL>> for WorkerPromise {
     ghost kept_by = { λ promise worked. (worked.desk.number ≡ promise.number) × (worked.pass.tray ≡ promise.pass.value.tray) × (worked.pass.parts ≡ promise.pass.value.parts) };
 }
 
+/// Casts the envelopes with these stamps, each as one step, until the gate or the box stops the desk.
+fn cast_each<VL: Tally, RL: Tally, G: Gate, R: Wait>(
+    rt: &R,
+    workplace: &Workplace<'_, '_, VL, RL, G>,
+    desk: &mut Desk<VL, RL>,
+    stamps: &[u32],
+    readings: &[Reading],
+) -> Option<Stop>
+    requires stamps { All (IsStampOf (length workplace.now.lines.now)) stamps.now }
+    requires readings { (length stamps.now ≤ length readings.now) × All (FitsBox workplace.now.shared.now.opened) readings.now }
+    requires room { length desk.old.slips + length stamps.now ≤ desk.old.limit }
+    ensures same { (desk.new.number ≡ desk.old.number) × (desk.new.limit ≡ desk.old.limit) }
+    ensures cast { IsNone result → stamps_of desk.new.slips ≡ stamps_of desk.old.slips ++ stamps.now }
+    ensures refused { (fault : EnterFault) → result ≡ Some (Stop.Refused fault) → fault ≡ EnterFault.StampUsed }
+{
+    for place in 0..stamps.len() {
+        let stamp = stamps[place];
+        if !workplace.gate.before(desk.number(), stamp) {
+            return Some(Stop::Barred);
+        }
+        match workplace.shared.cast(rt, desk, stamp, readings[place]) {
+            Ok(slip) => workplace.gate.after(desk.number(), &slip),
+            Err(fault) => return Some(Stop::Refused(fault)),
+        }
+    }
+    None
+}
+
 /// Casts the envelopes of a run, each as one step, until the gate or the box stops the desk.
 ///
 /// Each cast takes the lock of the box anew. Around a longer run the desk takes its turn, so that the others wait once for
@@ -78,27 +106,52 @@ fn cast_run<VL: Tally, RL: Tally, G: Gate, R: Wait>(
     ensures cast { IsNone result → stamps_of desk.new.slips ≡ stamps_of desk.old.slips ++ stamps.now }
     ensures refused { (fault : EnterFault) → result ≡ Some (Stop.Refused fault) → fault ≡ EnterFault.StampUsed }
 {
-    let _turn = if stamps.len() > 1 {
-        Some(workplace.turn.lock(rt))
+    if stamps.len() > 1 {
+        let _turn = workplace.turn.lock(rt);
+        cast_each(rt, workplace, desk, stamps, readings)
     } else {
-        None
-    };
-    for place in 0..stamps.len() {
-        let stamp = stamps[place];
-        if !workplace.gate.before(desk.number(), stamp) {
-            return Some(Stop::Barred);
-        }
-        match workplace.shared.cast(rt, desk, stamp, readings[place]) {
-            Ok(slip) => workplace.gate.after(desk.number(), &slip),
-            Err(fault) => return Some(Stop::Refused(fault)),
-        }
+        cast_each(rt, workplace, desk, stamps, readings)
     }
-    None
 }
 
-/// Serves one desk until the tray is empty, or the gate or the box stops it. It takes no memory.
+/// Casts envelopes at one desk until the tray is empty, or the gate or the box stops the desk. It takes no memory.
 ///
 /// It takes a run of envelopes at once, and reads all their lines before it casts the first.
+fn cast_runs<VL: Tally, RL: Tally, G: Gate, R: Wait>(
+    rt: &R,
+    workplace: &Workplace<'_, '_, VL, RL, G>,
+    desk: &mut Desk<VL, RL>,
+    pass: &mut Pass,
+) -> Option<Stop>
+    requires desk { IsFresh (length workplace.now.lines.now) desk.old }
+    requires pass { IsUnused workplace.now.tray.now pass.old }
+    requires within { pass.old.seen ≤ pass.old.tray.size }
+    ensures desk { desk.new.number ≡ desk.old.number }
+    ensures pass { (pass.new.tray ≡ pass.old.tray) × (pass.new.parts ≡ pass.old.parts) }
+    ensures emptied { result ≡ None → HasCastAll desk.new pass.new }
+    ensures refused { (fault : EnterFault) → result ≡ Some (Stop.Refused fault) → fault ≡ EnterFault.StampUsed }
+{
+    let lines = workplace.lines.len();
+    let mut stamps = [0; RUN];
+    let mut readings = [Reading::Bad(LineFault::Shape); RUN];
+    let may_wait = workplace.gate.may_wait();
+    let mut most = run_length(may_wait, lines);
+    loop {
+        let count = take_run(workplace.tray, pass, most, &mut stamps);
+        if count == 0 {
+            return None;
+        }
+        let run = &stamps[..count];
+        read_run(workplace.poll, workplace.lines, run, &mut readings);
+        let stopped = cast_run(rt, workplace, desk, run, &readings);
+        if stopped.is_some() {
+            return stopped;
+        }
+        most = run_length(may_wait, lines.saturating_sub(stamps[count - 1] as usize));
+    }
+}
+
+/// Serves one desk until the tray is empty, or the gate or the box stops it.
 fn work<VL: Tally, RL: Tally, G: Gate, R: Wait>(
     rt: &R,
     workplace: &Workplace<'_, '_, VL, RL, G>,
@@ -110,31 +163,24 @@ fn work<VL: Tally, RL: Tally, G: Gate, R: Wait>(
     ensures desk { result.desk.number ≡ desk.number }
     ensures pass { (result.pass.tray ≡ pass.tray) × (result.pass.parts ≡ pass.parts) }
 {
-    let lines = workplace.lines.len();
-    let mut stamps = [0; RUN];
-    let mut readings = [Reading::Bad(LineFault::Shape); RUN];
-    let may_wait = workplace.gate.may_wait();
-    let mut most = run_length(may_wait, lines);
-    loop {
-        let count = take_run(workplace.tray, &mut pass, most, &mut stamps);
-        if count == 0 {
-            return WorkerResult {
-                desk,
-                pass,
-                stopped: None,
-            };
-        }
-        let run = &stamps[..count];
-        read_run(workplace.poll, workplace.lines, run, &mut readings);
-        let stopped = cast_run(rt, workplace, &mut desk, run, &readings);
-        if stopped.is_some() {
-            return WorkerResult {
-                desk,
-                pass,
-                stopped,
-            };
-        }
-        most = run_length(may_wait, lines.saturating_sub(stamps[count - 1] as usize));
+    let stopped = cast_runs(rt, workplace, &mut desk, &mut pass);
+    WorkerResult {
+        desk,
+        pass,
+        stopped,
+    }
+}
+
+/// The handle of a worker, or the fault that it could not be started.
+fn handle_of<T: Send + Drop, P: Promise<T> + Drop, F: Drop>(
+    spawned: Result<PromisedHandle<T, P>, SpawnError<F>>,
+) -> Result<PromisedHandle<T, P>, VoteFault>
+    ensures ok { IfOk result (λ handle. spawned ≡ Ok handle) }
+    ensures err { IfErr result (λ fault. fault ≡ VoteFault.Thread) }
+{
+    match spawned {
+        Ok(handle) => Ok(handle),
+        Err(_) => Err(VoteFault::Thread),
     }
 }
 
@@ -161,10 +207,7 @@ fn start<'s, E, VL: Tally + Send + Sync, RL: Tally + Send + Sync, G: Gate + Sync
         ensures desk { result.desk.number ≡ desk.number }
         ensures pass { (result.pass.tray ≡ pass.tray) × (result.pass.parts ≡ pass.parts) }
     { work(rt, workplace, desk, pass) };
-    match scope.spawn_with(promise, job) {
-        Ok(handle) => Ok(handle),
-        Err(_) => Err(VoteFault::Thread),
-    }
+    handle_of(scope.spawn_with(promise, job))
 }
 
 /// Starts a worker for each desk, in the order of the desks, each with the pass at the same place.

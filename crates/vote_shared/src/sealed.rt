@@ -1,17 +1,19 @@
 //! Gathering the desks and their sheets round the closed box.
-ghost use Rattle.std.specs.Prelude.{◌≡◌, ◌≤◌, ◌<◌, ◌↔◌, Err, length, map, sum_by, count_by, IsTrue, IfOk, vec_len, vec_items, IsPermutation};
+ghost use Rattle.std.specs.Prelude.{◌≡◌, ◌+◌, ◌++◌, ◌≤◌, ◌<◌, ◌↔◌, Err, length, map, sum_by, count_by, IsTrue, IfOk, vec_len, vec_items, IsPermutation};
 ghost use Rattle.std.specs.List.{range_with_len, enumerate_from};
 ghost use Rattle.vote_steps.specs.Boxes.{IsLegal};
 ghost use Rattle.vote_steps.specs.History.{is_cast, is_closed};
 ghost use Rattle.vote_shared.specs.Desks.{sheet_at, IsLater};
 ghost use Rattle.vote_shared.specs.Books.{MeetsBooks};
+ghost use Rattle.vote_shared.specs.Slips.{valid_slips, refused_slips};
 
 use crate::desk::{Desk, Held, Tally};
 use crate::fault::DeskFault;
-use crate::shared::SharedBox;
+use crate::shared::{SharedBox, close};
 use crate::slip::Slip;
 use std::alloc::{AllocError, Global};
 use std::marker::Model;
+use std::sync::ledger::Share;
 use vote_steps::laws::each_cast_is_counted;
 use vote_steps::{BallotBox, MAX_DESKS};
 
@@ -68,6 +70,31 @@ impl Sealed {
     }
 }
 
+/// Merges the shares of desks with those of the desks before them, and takes the sheets behind theirs.
+fn merge_each<VL: Tally, RL: Tally>(
+    desks: &mut Vec<Desk<VL, RL>>,
+    valid_share: &mut Share<VL>,
+    refused_share: &mut Share<RL>,
+    sheets: &mut Vec<Vec<Slip>>,
+) -> Result<(), AllocError>
+    requires valid { valid_share.old.amount ≡ sum_by valid_slips (map vec_items sheets.old.items) }
+    requires refused { refused_share.old.amount ≡ sum_by refused_slips (map vec_items sheets.old.items) }
+    ensures parts { IfOk result (λ _. (valid_share.new.parts ≡ valid_share.old.parts + vec_len desks.old) × (refused_share.new.parts ≡ refused_share.old.parts + vec_len desks.old)) }
+    ensures valid { IfOk result (λ _. valid_share.new.amount ≡ valid_share.old.amount + sum_by (λ desk. desk.valid_share) desks.old.items) }
+    ensures refused { IfOk result (λ _. refused_share.new.amount ≡ refused_share.old.amount + sum_by (λ desk. desk.refused_share) desks.old.items) }
+    ensures valid_on_sheets { IfOk result (λ _. valid_share.new.amount ≡ sum_by valid_slips (map vec_items sheets.new.items)) }
+    ensures refused_on_sheets { IfOk result (λ _. refused_share.new.amount ≡ sum_by refused_slips (map vec_items sheets.new.items)) }
+    ensures sheets { IfOk result (λ _. map vec_items sheets.new.items ≡ map vec_items sheets.old.items ++ map (λ desk. desk.slips) desks.old.items) }
+{
+    while !desks.is_empty() {
+        let next = desks.remove(0);
+        valid_share.merge(next.valid_share);
+        refused_share.merge(next.refused_share);
+        sheets.push(next.sheet)?;
+    }
+    Ok(())
+}
+
 /// Merges the shares of all desks, which are then what the books say, and takes the sheets.
 fn meet<VL: Tally, RL: Tally>(
     alloc: Global,
@@ -91,19 +118,18 @@ fn meet<VL: Tally, RL: Tally>(
         mut refused_share,
     } = desks.remove(0);
     sheets.push(sheet)?;
-    while !desks.is_empty() {
-        let next = desks.remove(0);
-        valid_share.merge(next.valid_share);
-        refused_share.merge(next.refused_share);
-        sheets.push(next.sheet)?;
-    }
+    merge_each(
+        &mut desks,
+        &mut valid_share,
+        &mut refused_share,
+        &mut sheets,
+    )?;
     held.valid_book.audit(&mut valid_share);
     held.refused_book.audit(&mut refused_share);
     Ok(sheets)
 }
 
 /// Closes the box, if it is open, and meets the shares of all desks with the books.
-#[tactic(auto, using(crate::proofs::ClosingLemmas::valid_kept, crate::proofs::ClosingLemmas::refused_kept))]
 fn seal<VL: Tally, RL: Tally>(
     alloc: Global,
     held: Held<VL, RL>,
@@ -119,7 +145,7 @@ fn seal<VL: Tally, RL: Tally>(
     ensures books { IfOk result (MeetsBooks desks.items) }
 {
     let mut held = held;
-    let _ = held.ballot_box.close();
+    let _ = close(&mut held);
     let sheets = meet(alloc, &mut held, desks)?;
     let Held {
         ballot_box,

@@ -1,8 +1,8 @@
 //! The box behind its lock, and the opening of its desks.
-ghost use Rattle.std.specs.Prelude.{◌≡◌, ◌≤◌, ◌<◌, ◌↔◌, ◌⊎◌, [], Err, map, IsTrue, IfOk, OnOk, IfErr, OnErr, vec_len};
+ghost use Rattle.std.specs.Prelude.{◌≡◌, ◌+◌, ◌≤◌, ◌<◌, ◌↔◌, ◌⊎◌, [], Err, map, IsTrue, IfOk, OnOk, IfErr, OnErr, vec_len};
 ghost use Rattle.std.specs.List.{range_with_len};
 ghost use Rattle.vote_steps.specs.History.{is_closed, standing_ranks};
-ghost use Rattle.vote_steps.specs.Boxes.{box_of};
+ghost use Rattle.vote_steps.specs.Boxes.{IsLegal, box_of};
 ghost use Rattle.vote_shared.specs.Slips.{CanReply};
 ghost use Rattle.vote_shared.specs.Desks.{FitsBox, HasRoom, IsLater, fresh_desk, with_close, with_slip};
 
@@ -10,9 +10,9 @@ use crate::desk::{Desk, Held, Tally};
 use crate::entry::enter;
 use crate::fault::{DeskFault, EnterFault, NoVoter};
 use crate::slip::Slip;
-use std::alloc::Global;
+use std::alloc::{AllocError, Global};
 use std::marker::Model;
-use std::sync::ledger::Blank;
+use std::sync::ledger::{Blank, Share};
 use std::sync::{Mutex, Wait};
 use vote_poll::{MAX_LINES, Poll, Ranks, Reading};
 use vote_steps::{AlreadyClosed, BallotBox, MAX_DESKS};
@@ -34,6 +34,53 @@ impl<VL: Tally, RL: Tally> Model for SharedBox<VL, RL> {
     ghost view = { λ s. record { desks = s.desks; opened = VL.opened } };
 
     ghost invariant = { λ s. (1 ≤ s.desks) × (s.desks ≤ MAX_DESKS) × (s.desks ≡ VL.desks) × (s.desks ≡ RL.desks) };
+}
+
+/// Opens a desk, with one part of each ledger and room for `limit` slips.
+fn open_desk<VL: Tally, RL: Tally>(
+    alloc: Global,
+    limit: u32,
+    number: u8,
+    valid_rest: &mut Share<VL>,
+    refused_rest: &mut Share<RL>,
+) -> Result<Desk<VL, RL>, AllocError>
+    requires number { (1 ≤ number) × (number ≤ MAX_DESKS) }
+    requires valid { (1 ≤ valid_rest.old.parts) × (valid_rest.old.amount ≡ 0) }
+    requires refused { (1 ≤ refused_rest.old.parts) × (refused_rest.old.amount ≡ 0) }
+    ensures fresh { IfOk result (λ desk. desk ≡ fresh_desk limit number) }
+    ensures valid { IfOk result (λ _. (valid_rest.new.parts + 1 ≡ valid_rest.old.parts) × (valid_rest.new.amount ≡ 0)) }
+    ensures refused { IfOk result (λ _. (refused_rest.new.parts + 1 ≡ refused_rest.old.parts) × (refused_rest.new.amount ≡ 0)) }
+{
+    let sheet = Vec::with_capacity(alloc, limit as usize)?;
+    Ok(Desk {
+        number,
+        limit,
+        sheet,
+        valid_share: valid_rest.split_off(1, 0),
+        refused_share: refused_rest.split_off(1, 0),
+    })
+}
+
+/// Opens desks 1 to `desks`, which take all parts of the ledgers.
+fn open_each<VL: Tally, RL: Tally>(
+    alloc: Global,
+    limit: u32,
+    desks: u8,
+    valid_rest: &mut Share<VL>,
+    refused_rest: &mut Share<RL>,
+) -> Result<Vec<Desk<VL, RL>>, AllocError>
+    requires desks { desks ≤ MAX_DESKS }
+    requires valid { (valid_rest.old.parts ≡ desks) × (valid_rest.old.amount ≡ 0) }
+    requires refused { (refused_rest.old.parts ≡ desks) × (refused_rest.old.amount ≡ 0) }
+    ensures len { IfOk result (λ opened. vec_len opened ≡ desks) }
+    ensures desks { IfOk result (λ opened. opened.items ≡ map (fresh_desk limit) (range_with_len 1 desks)) }
+{
+    let mut opened = Vec::new(alloc);
+    for index in 0..desks {
+        let desk = open_desk(alloc, limit, index + 1, valid_rest, refused_rest)?;
+        opened.push(desk)?;
+    }
+    Ok(opened)
 }
 
 /// Opens an empty box for a poll, with desks 1 to `desks` that share it.
@@ -61,17 +108,7 @@ pub fn open_desks<VL: Tally, RL: Tally>(
     let ballot_box = BallotBox::for_poll(alloc, poll, limit)?;
     let (valid_book, mut valid_rest) = valid.open::<VL>();
     let (refused_book, mut refused_rest) = refused.open::<RL>();
-    let mut opened = Vec::new(alloc);
-    for index in 0..desks {
-        let sheet = Vec::with_capacity(alloc, limit as usize)?;
-        opened.push(Desk {
-            number: index + 1,
-            limit,
-            sheet,
-            valid_share: valid_rest.split_off(1, 0),
-            refused_share: refused_rest.split_off(1, 0),
-        })?;
-    }
+    let opened = open_each(alloc, limit, desks, &mut valid_rest, &mut refused_rest)?;
     let held = Held {
         ballot_box,
         valid_book,
@@ -121,7 +158,10 @@ impl<VL: Tally, RL: Tally> SharedBox<VL, RL> {
 
 /// Closes a box.
 #[tactic(auto, using(crate::proofs::ClosingLemmas::valid_kept, crate::proofs::ClosingLemmas::refused_kept))]
-fn close<VL: Tally, RL: Tally>(held: &mut Held<VL, RL>) -> Result<(), AlreadyClosed>
+pub(crate) fn close<VL: Tally, RL: Tally>(held: &mut Held<VL, RL>) -> Result<(), AlreadyClosed>
+    ensures opened { IsLater VL.opened held.new.ballot_box }
+    ensures closed { IsTrue (is_closed held.new.ballot_box.steps) }
+    ensures legal { IsLegal held.new.ballot_box }
     ensures ok { OnOk result (held.new ≡ with_close held.old) }
     ensures already { (result ≡ Err record {}) ↔ IsTrue (is_closed held.old.ballot_box.steps) }
     ensures err { OnErr result (held.new ≡ held.old) }

@@ -1,27 +1,39 @@
-use Rattle.std.proofs.Common.{◌≡◌, [], length, sum_by, sym, ap, ◌∙◌, arith, rules}
-use Rattle.std.proofs.lemmas.Grind.{common_steps, elements, moves, pieces}
-use Rattle.std.proofs.lemmas.List.{nil_from_length}
+use Rattle.std.proofs.Common.{◌≡◌, ℕ, ◌+◌, ◌<◌, List, [], ◌∷◌, length, sum_by, sym, ap, ◌∙◌, arith}
+use Rattle.std.specs.Prelude.{slice_index_or}
+use Rattle.std.specs.List.{remove}
+use Rattle.std.proofs.lemmas.List.Sums.{sum_by-cons}
 use Rattle.vote_steps.specs.History.{valid, refused}
-use Rattle.vote_shared.specs.Desks.{DeskState}
+use Rattle.vote_shared.specs.Desks.{DeskState, HeldState}
 use Rattle.vote_shared.proofs.sealed.meet.Goals as goal
+
+-- what was taken off the front, and what is left
+first_of : {X : Type 0} (xs ys : List X) (x : X) → 0 < length xs → x ≡ slice_index_or xs 0 x → ys ≡ remove xs 0 → xs ≡ x ∷ ys
+first_of [] ys x some is rest = absurd (omega arith)
+first_of (z ∷ xs) ys x some is rest = let first : x ≡ z = is in let others : ys ≡ xs = rest in cc
+
+-- what the desks have is what the first of them has, with what the others have
+in_all : (f : DeskState → ℕ) (all others : List DeskState) (first : DeskState) (mine whole counted : ℕ)
+    → all ≡ first ∷ others → mine ≡ f first → whole ≡ mine + sum_by f others → whole ≡ counted → sum_by f all ≡ counted
+in_all f all others first mine whole counted is same sum counts =
+    ap (sum_by f) is ∙ sum_by-cons f first others ∙ ap (λ n. n + sum_by f others) (sym same) ∙ sym sum ∙ counts
 
 pub returns-clause-books : goal.returns-clause-books
 returns-clause-books g c =
-    let none : c.loop-desks.desks.items ≡ [] = nil_from_length c.loop-desks.desks.items (let len : length c.loop-desks.desks.items ≡ 0 = search rules in len) in
-    let kept = c.loop-desks.invariant in
-    let valid_whole : c.loop-desks.valid_share.amount ≡ c.held.inside.valid_book.total = search rules in
-    let refused_whole : c.loop-desks.refused_share.amount ≡ c.held.inside.refused_book.total = search rules in
-    let valid_is : c.held.inside.valid_book.total ≡ valid c.args.held.now.ballot_box.last_in_time c.args.held.now.ballot_box.steps = search rules in
-    let refused_is : c.held.inside.refused_book.total ≡ refused c.args.held.now.ballot_box.last_in_time c.args.held.now.ballot_box.steps = search rules in
+    let all = c.args.desks.items in
+    let others = c.remove.new.self.items in
+    let len = c.remove.ensures.len in
+    let some = c.requires.some in
+    let ok = c.args.desks.ok.0 in
+    let first = first_of all others c.remove.result (omega arith) c.remove.ensures.value c.remove.ensures.items in
+    let parts = c.in_ok-merge_each.ensures.parts in
+    let one = c.sheet.invariant in
+    let valid_parts = c.requires.valid in
+    let refused_parts = c.requires.refused in
+    let valid_is = c.audit.ensures.whole (omega arith) ∙ c.held.invariant.1 ∙ ap (λ (h : HeldState). valid h.ballot_box.last_in_time h.ballot_box.steps) c.held.view_is in
+    let refused_is = c.audit-2.ensures.whole (omega arith) ∙ c.held.invariant.2 ∙ ap (λ (h : HeldState). refused h.ballot_box.last_in_time h.ballot_box.steps) c.held.view_is in
     record {
-      valid_shares = omega (arith, kept.valid, ap (sum_by (λ (d : DeskState). d.valid_share)) none, valid_whole, valid_is);
-      refused_shares = omega (arith, kept.refused, ap (sum_by (λ (d : DeskState). d.refused_share)) none, refused_whole, refused_is);
-      valid_on_sheets = sym kept.valid_slips ∙ valid_whole ∙ valid_is;
-      refused_on_sheets = sym kept.refused_slips ∙ refused_whole ∙ refused_is;
+      valid_shares = in_all (λ d. d.valid_share) all others c.remove.result _ _ _ first (ap (λ (d : DeskState). d.valid_share) c.sheet.view_is) c.in_ok-merge_each.ensures.valid valid_is;
+      refused_shares = in_all (λ d. d.refused_share) all others c.remove.result _ _ _ first (ap (λ (d : DeskState). d.refused_share) c.sheet.view_is) c.in_ok-merge_each.ensures.refused refused_is;
+      valid_on_sheets = sym c.in_ok-merge_each.ensures.valid_on_sheets ∙ valid_is;
+      refused_on_sheets = sym c.in_ok-merge_each.ensures.refused_on_sheets ∙ refused_is;
     }
-
-pub loop-desks-init : goal.loop-desks-init
-loop-desks-init g c = grind (arith, common_steps, elements, moves, pieces)
-
-pub returns-clause-sheets : goal.returns-clause-sheets
-returns-clause-sheets g c = grind (arith, common_steps, elements, moves, pieces)

@@ -9,3 +9,12 @@ returns-clause-already g c = search rules
 
 pub returns-clause-err : goal.returns-clause-err
 returns-clause-err g c = search rules
+
+pub returns-clause-opened : goal.returns-clause-opened
+returns-clause-opened g c = search rules
+
+pub returns-clause-closed : goal.returns-clause-closed
+returns-clause-closed g c = search rules
+
+pub returns-clause-legal : goal.returns-clause-legal
+returns-clause-legal g c = search rules

@@ -4,15 +4,15 @@ use Rattle.vote_desks.specs.declared.run.TheConstants.{RUN}
 use Rattle.vote_shared.specs.Slips.{stamps_of}
 use Rattle.vote_shared.specs.Desks.{FitsBox}
 use Rattle.vote_desks.specs.Work.{IsRising, stamps_taken}
-use Rattle.vote_desks.proofs.work.work.Given as goal
+use Rattle.vote_desks.proofs.work.cast_runs.Given as goal
 
 abbrev pub invariant-loop-stamps : goal.invariant-loop-stamps
 invariant-loop-stamps g l = record {
-  number : l.desk.number ≡ l.fn.desk.number;
+  number : l.desk.number ≡ l.initial.desk.number;
   limit : l.desk.limit ≡ l.workplace.tray.now.size;
   its_tray : l.pass.tray ≡ l.workplace.tray.now;
-  same_tray : l.pass.tray ≡ l.fn.pass.tray;
-  parts : l.pass.parts ≡ l.fn.pass.parts;
+  same_tray : l.pass.tray ≡ l.initial.pass.tray;
+  parts : l.pass.parts ≡ l.initial.pass.parts;
   cast : stamps_of l.desk.slips ≡ stamps_taken l.pass;
   rising : IsRising l.pass;
   most : (1 ≤ l.most) × (l.most ≤ RUN);

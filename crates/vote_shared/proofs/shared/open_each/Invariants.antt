@@ -1,7 +1,7 @@
 use Rattle.std.proofs.Common.{◌≡◌, ◌+◌, map, vec_len}
 use Rattle.std.specs.List.{range_with_len}
 use Rattle.vote_shared.specs.Desks.{fresh_desk}
-use Rattle.vote_shared.proofs.shared.open_desks.Given as goal
+use Rattle.vote_shared.proofs.shared.open_each.Given as goal
 
 abbrev pub invariant-loop-index : goal.invariant-loop-index
 invariant-loop-index g l = record {

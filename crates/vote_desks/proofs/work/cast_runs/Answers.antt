@@ -6,7 +6,7 @@ use Rattle.vote_poll.specs.declared.reading.Reading.TheVariants.{Bad}
 use Rattle.vote_poll.specs.declared.reading.LineFault.TheVariants.{Shape}
 use Rattle.vote_desks.specs.declared.run.TheConstants.{RUN}
 use Rattle.vote_shared.specs.Desks.{FitsBox}
-use Rattle.vote_desks.proofs.work.work.Goals as goal
+use Rattle.vote_desks.proofs.work.cast_runs.Goals as goal
 
 pub loop-stamps-init : goal.loop-stamps-init
 loop-stamps-init g c =

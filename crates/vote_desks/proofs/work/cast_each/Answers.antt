@@ -2,7 +2,7 @@ use Rattle.std.proofs.Common.{◌++◌, ◌∷◌, [], length, take, sym, ap, �
 use Rattle.std.proofs.lemmas.List.{map-append, take_more}
 use Rattle.vote_shared.specs.Slips.{stamps_of}
 use Rattle.vote_shared.specs.Desks.{DeskState}
-use Rattle.vote_desks.proofs.work.cast_run.Goals as goal
+use Rattle.vote_desks.proofs.work.cast_each.Goals as goal
 
 pub loop-place-preserved : goal.loop-place-preserved
 loop-place-preserved g c =

@@ -1,6 +1,6 @@
 use Rattle.std.proofs.Common.{◌≡◌, ◌+◌, ◌++◌, take, length}
 use Rattle.vote_shared.specs.Slips.{stamps_of}
-use Rattle.vote_desks.proofs.work.cast_run.Given as goal
+use Rattle.vote_desks.proofs.work.cast_each.Given as goal
 
 abbrev pub invariant-loop-place : goal.invariant-loop-place
 invariant-loop-place g l = record {

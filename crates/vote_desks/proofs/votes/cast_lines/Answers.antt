@@ -1,0 +1,34 @@
+use Rattle.std.proofs.Common.{◌≡◌, length, map, sym, ap, ◌∙◌, arith}
+use Rattle.std.specs.List.{range_with_len}
+use Rattle.vote_tray.specs.Passes.{HasAllParts, new_pass}
+use Rattle.vote_shared.specs.Desks.{fresh_desk}
+use Rattle.vote_desks.proofs.BackLemmas.{Contains-range}
+use Rattle.vote_desks.proofs.votes.cast_lines.Goals as goal
+
+pub cast_all-requires-clause-desks : goal.cast_all-requires-clause-desks
+cast_all-requires-clause-desks g c =
+    let all : c.args.opened.items ≡ map (fresh_desk (length c.args.lines.now)) (range_with_len 1 c.in-Ok.made.0.passes) =
+    c.requires.fresh ∙ ap (λ n. map (fresh_desk (length c.args.lines.now)) (range_with_len 1 n)) (sym c.in-Ok.ensures.tray.1) in λ _ _. all
+
+pub cast_all-requires-clause-passes : goal.cast_all-requires-clause-passes
+cast_all-requires-clause-passes g c =
+    let all : c.in-Ok.made.1.items ≡ map (new_pass c.in-Ok.made.0) (range_with_len 0 c.in-Ok.made.0.passes) =
+    c.in-Ok.ensures.passes.1 ∙ ap (λ n. map (new_pass c.in-Ok.made.0) (range_with_len 0 n)) (sym c.in-Ok.ensures.tray.1) in λ _ _. all
+
+pub returns-clause-cast : goal.returns-clause-cast
+returns-clause-cast g c =
+    let handed = c.in_ok-back.ensures.handed in
+    let same_passes : c.in_ok-back.joined.tray.passes ≡ c.in-Ok.made.0.passes = ap (λ t. t.passes) handed.its_tray in
+    let parts : HasAllParts c.in_ok-back.joined = λ part low. rw handed.parts (Contains-range _ part (omega arith)) in
+    let word = c.finish.ensures.word in
+    let count = c.finish.ensures.count parts in
+    let emptied = handed.emptied in
+    let size = c.in-Ok.ensures.tray.0 in
+    let cast = handed.cast in
+    let len = c.len.ensures.number in omega arith
+
+pub returns-clause-numbers : goal.returns-clause-numbers
+returns-clause-numbers g c = c.in_ok-back.ensures.handed.numbers ∙ ap (range_with_len 1) c.in-Ok.ensures.tray.1
+
+pub returns-clause-rising : goal.returns-clause-rising
+returns-clause-rising g c = c.in_ok-back.ensures.handed.rising
