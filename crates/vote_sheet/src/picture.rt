@@ -164,25 +164,6 @@ fn push_edge_line(
     push_removal(text, removing_round(rounds, a, b))
 }
 
-/// The line of the defeat of `b` by `a`, if there is one.
-#[tactic(auto, unfolding(crate::specs::Picture::edge_line))]
-fn push_edge(
-    text: &mut String,
-    matrix: &Matrix,
-    verdict: &Verdict,
-    a: u8,
-    b: u8,
-) -> Result<(), AllocError>
-    requires a { IsOption matrix.now.options a }
-    requires b { IsOption matrix.now.options b }
-    ensures { OnOk result (string_bytes text.new ≡ string_bytes text.old ++ when (has_pair verdict.now.defeats a b) (edge_line matrix.now verdict.now.rounds a b)) }
-{
-    if verdict.defeats().has(a, b) {
-        return push_edge_line(text, matrix, verdict.rounds(), a, b);
-    }
-    Ok(())
-}
-
 /// The lines of the defeats by `a`.
 #[tactic(auto, using(crate::proofs::Texts::each_one_more), unfolding(crate::specs::Picture::edges_by))]
 fn push_edges_by(
@@ -194,8 +175,11 @@ fn push_edges_by(
     requires { IsOption matrix.now.options a }
     ensures { OnOk result (string_bytes text.new ≡ string_bytes text.old ++ edges_by matrix.now verdict.now a) }
 {
+    let defeats = verdict.defeats();
     for before in 0..matrix.options() {
-        push_edge(text, matrix, verdict, a, before + 1)?;
+        if defeats.has(a, before + 1) {
+            push_edge_line(text, matrix, verdict.rounds(), a, before + 1)?;
+        }
     }
     Ok(())
 }

@@ -1,12 +1,12 @@
 //! The text of a result sheet, part by part. Each function adds its part at the end of the text.
 
-ghost use Rattle.std.specs.Prelude.{◌≡◌, ℕ, [], ◌∷◌, ◌++◌, ◌+◌, ◌-◌, ◌≤◌, ◌<◌, OnOk, codes, decimal, length, string_bytes};
+ghost use Rattle.std.specs.Prelude.{◌≡◌, ℕ, ◌++◌, ◌+◌, ◌-◌, ◌≤◌, ◌<◌, OnOk, codes, decimal, length, string_bytes};
 ghost use Rattle.vote_poll.specs.Options.{IsOption};
 ghost use Rattle.vote_poll.specs.declared.TheConstants.{MAX_OPTIONS};
 ghost use Rattle.vote_poll.specs.PollContent.{elector_count, option_count};
 ghost use Rattle.vote_count.specs.Sets.{has, has_pair};
 ghost use Rattle.vote_count.specs.Rounds.{cause_of};
-ghost use Rattle.vote_sheet.specs.Sheet.{casting_note, cause_name, causes_text, column_text, counted_text, decision_text, default_text, defeat_line, defeat_lines, defeats_text, defeats_by, drop_line, drops_of, each, ending, tie_text, winner_text, dropped_line, dropped_text, head_text, last_text, line, name_of, numbers, option_text, options_text, right, round_text, rounds_from, row_text, table_head_text, table_text, totals_text, votes_text, when, wording_text};
+ghost use Rattle.vote_sheet.specs.Sheet.{casting_note, cause_name, causes_text, counted_text, decision_text, default_text, defeat_line, defeat_lines, defeats_text, defeats_by, drop_line, drops_of, each, ending, tie_text, winner_text, dropped_line, dropped_text, head_text, last_text, name_of, numbers, option_text, options_text, round_text, rounds_from, row_text, table_head_text, table_text, totals_text, votes_text, when, wording_text};
 
 use std::alloc::AllocError;
 use vote_count::{Cause, Decision, Defeats, Matrix, OptionSet, Round, Verdict};
@@ -129,43 +129,27 @@ fn push_votes(text: &mut String, matrix: &Matrix, a: u8, b: u8) -> Result<(), Al
     }
 }
 
-/// The option of a row, at the head of the row.
-#[tactic(auto, using(crate::proofs::Padding::number_in_3))]
-fn push_row_number(text: &mut String, option: u8) -> Result<(), AllocError>
-    ensures { OnOk result (string_bytes text.new ≡ string_bytes text.old ++ right 3 (decimal option)) }
-{
-    write!(text, "{option:>3}")
-}
-
 /// The row of an option: the votes for it over each.
-#[tactic(auto, using(crate::proofs::Texts::each_one_more), unfolding(crate::specs::Sheet::row_text))]
+#[tactic(auto, using(crate::proofs::Texts::each_one_more, crate::proofs::Padding::number_in_3), unfolding(crate::specs::Sheet::row_text))]
 fn push_row(text: &mut String, matrix: &Matrix, a: u8) -> Result<(), AllocError>
     requires { IsOption matrix.now.options a }
     ensures { OnOk result (string_bytes text.new ≡ string_bytes text.old ++ row_text matrix.now a) }
 {
-    push_row_number(text, a)?;
+    write!(text, "{a:>3}")?;
     for before in 0..matrix.options() {
         push_votes(text, matrix, a, before + 1)?;
     }
     text.push_str("\n")
 }
 
-/// The option of a column, at the head of the column.
-#[tactic(auto, using(crate::proofs::Padding::number_in_6), unfolding(crate::specs::Sheet::column_text))]
-fn push_column(text: &mut String, option: u8) -> Result<(), AllocError>
-    ensures { OnOk result (string_bytes text.new ≡ string_bytes text.old ++ column_text option) }
-{
-    write!(text, "{option:>6}")
-}
-
 /// The head of the table of votes.
-#[tactic(auto, using(crate::proofs::Texts::each_one_more), unfolding(crate::specs::Sheet::table_head_text))]
+#[tactic(auto, using(crate::proofs::Texts::each_one_more, crate::proofs::Padding::number_in_6), unfolding(crate::specs::Sheet::table_head_text, crate::specs::Sheet::column_text))]
 fn push_table_head(text: &mut String, options: u8) -> Result<(), AllocError>
     ensures { OnOk result (string_bytes text.new ≡ string_bytes text.old ++ table_head_text options) }
 {
     text.push_str("Votes:\n   ")?;
     for before in 0..options {
-        push_column(text, before + 1)?;
+        write!(text, "{:>6}", before + 1)?;
     }
     text.push_str("\n")
 }
