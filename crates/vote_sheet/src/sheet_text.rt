@@ -1,6 +1,6 @@
 //! The text of a result sheet, part by part. Each function adds its part at the end of the text.
 
-ghost use Rattle.std.specs.Prelude.{◌≡◌, ℕ, ◌++◌, ◌+◌, ◌-◌, ◌≤◌, ◌<◌, OnOk, codes, decimal, length, string_bytes};
+ghost use Rattle.std.specs.Prelude.{◌≡◌, ℕ, ◌++◌, ◌+◌, ◌-◌, ◌≤◌, ◌<◌, OnOk, length, string_bytes};
 ghost use Rattle.vote_poll.specs.Options.{IsOption};
 ghost use Rattle.vote_poll.specs.declared.TheConstants.{MAX_OPTIONS};
 ghost use Rattle.vote_poll.specs.PollContent.{elector_count, option_count};
@@ -281,23 +281,15 @@ fn push_defeats(text: &mut String, matrix: &Matrix, defeats: &Defeats) -> Result
     Ok(())
 }
 
-/// The number of an option, if it is in the set.
-fn push_number(text: &mut String, set: &OptionSet, option: u8) -> Result<(), AllocError>
-    ensures { OnOk result (string_bytes text.new ≡ string_bytes text.old ++ when (has set.now option) (codes " " ++ decimal option)) }
-{
-    if set.has(option) {
-        return write!(text, " {option}");
-    }
-    Ok(())
-}
-
-/// The options of a set.
+/// The numbers of the options of a set.
 #[tactic(auto, using(crate::proofs::Texts::each_one_more))]
 fn push_numbers(text: &mut String, options: u8, set: &OptionSet) -> Result<(), AllocError>
     ensures { OnOk result (string_bytes text.new ≡ string_bytes text.old ++ numbers options set.now) }
 {
     for before in 0..options {
-        push_number(text, set, before + 1)?;
+        if set.has(before + 1) {
+            write!(text, " {}", before + 1)?;
+        }
     }
     Ok(())
 }
