@@ -1,8 +1,7 @@
 -- The fronts of a line, and where the longest one ends that is the front of a ballot line.
 use Rattle.std.proofs.Common.{◌≡◌, ◌+◌, ◌-◌, ◌<◌, ◌≤◌, ◌++◌, ◌⊎◌, inl, inr, ℕ, List, [], ◌∷◌, map, length, take, drop, get_or, min, refl, ap, ap₂, sym, subst, ◌∙◌, Option, Some, None, true, false, nat_le, nat_lt, ◌&&◌, ◌==◌, arith, append_assoc, append-nil, take-append-drop, length-take}
 use Rattle.std.specs.List.{All, list_all, join_with_byte}
-use Rattle.std.proofs.lemmas.Bool.{cases_Bool, and_parts}
-use Rattle.std.proofs.lemmas.Bool.Decides.{nat_tests}
+use Rattle.std.proofs.lemmas.Bool.{cases_Bool, and_parts, eqb-false, eqb-true, leb-false, leb-true, ltb-false, ltb-true}
 use Rattle.std.proofs.lemmas.List.Elements.{All-cons, All-head, All-tail}
 use Rattle.std.proofs.lemmas.List.{take_more, take-take, length-append}
 use Rattle.vote_poll.specs.BallotLine.{IsRank, rank_text}
@@ -65,9 +64,9 @@ line_from_whole text (short, h) =
 named_can_end : (place : ℕ) → place ≤ 32 → (rest : List ℕ) × Completes Name place rest
 named_can_end place most =
     elim (cases_Bool (nat_lt 0 place)) [
-      | inl some ↦ let least : 1 ≤ place = grind (arith, nat_tests) in
+      | inl some ↦ let least : 1 ≤ place = omega (arith, ltb-true 0 place some) in
           (32 ∷ 45 ∷ [], (omega arith, named_from_space place (45 ∷ []) least most (ranks_from_hyphen [] more_ends)))
-      | inr none ↦ let zero : place ≡ 0 = grind (arith, nat_tests) in
+      | inr none ↦ let zero : place ≡ 0 = omega (arith, ltb-false 0 place none) in
           (97 ∷ 32 ∷ 45 ∷ [], (omega arith, named_from_byte place 97 (32 ∷ 45 ∷ []) refl (named_from_space (place + 1) (45 ∷ []) (omega arith) (omega arith) (ranks_from_hyphen [] more_ends))))
     ]
 
@@ -115,9 +114,9 @@ front_before part place line room is = let same : place + 1 - 1 ≡ place = omeg
 
 no_longer : (part : Part) (place : ℕ) (line : List ℕ) → place < length line → IsIn part place line → IsNext part place (get_or line place 0) None
     → (n : ℕ) → IsFront (take n line) → (nat_le n place ≡ true) ⊎ (nat_le n place ≡ false) → n < place + 1
-no_longer part place line within is step n front (inl few) = grind (arith, nat_tests)
+no_longer part place line within is step n front (inl few) = omega (arith, leb-true n place few)
 no_longer part place line within is step n front (inr more) =
-    let longer : place + 1 ≤ n = grind (arith, nat_tests) in
+    let longer : place + 1 ≤ n = omega (arith, leb-false n place more) in
     let (rest, text) = shorter_front (place + 1) n line longer front in
     absurd (step rest ((is (get_or line place 0 ∷ rest)).1 (subst IsBallotText (one_byte_more line rest place within) text)))
 
@@ -177,8 +176,8 @@ pub reaches_in_block : (state next place : ℕ) (line : List ℕ) → place < le
 reaches_in_block state next place line within short stays step (inl nowhere) = inl (stays nowhere)
 reaches_in_block state next place line within short stays step (inr is) =
     elim (cases_Bool (next == 24)) [
-      | inl nowhere ↦ inl (grind (arith, nat_tests))
-      | inr some ↦ inr (reaches state next place line within short (λ nowhere. grind (arith, nat_tests)) is (step is.part place is.is_state))
+      | inl nowhere ↦ inl (eqb-true next 24 nowhere)
+      | inr some ↦ inr (reaches state next place line within short (eqb-false next 24 some) is (step is.part place is.is_state))
     ]
 
 pub state_in_block : (state place : ℕ) (line : List ℕ) → (state ≡ 24) ⊎ IsReached state place line → state ≤ 24
@@ -212,8 +211,8 @@ rank_at_comma Digit place line state is = absurd (omega (arith, state))
 rank_at_comma Comma place line state is = absurd (omega (arith, state))
 
 before_comma : (line : List ℕ) → IsIn Rank 200 line → (n : ℕ) → IsFront (take n line) → (nat_le 200 n ≡ true) ⊎ (nat_le 200 n ≡ false) → n < 200
-before_comma line is n front (inl all) = absurd (no_rank_behind line is (shorter_front 200 n line (grind (arith, nat_tests)) front))
-before_comma line is n front (inr few) = grind (arith, nat_tests)
+before_comma line is n front (inl all) = absurd (no_rank_behind line is (shorter_front 200 n line (leb-true 200 n all) front))
+before_comma line is n front (inr few) = leb-false 200 n few
 
 pub stops_at_comma : (line : List ℕ) → 200 ≤ length line → IsReached 0 200 line → IsColumn line 200
 stops_at_comma line whole is = record {
@@ -227,8 +226,8 @@ room_at_end : (part : Part) (state place : ℕ) → IsState state (Some part) �
 room_at_end Name state place is most no_comma = absurd is
 room_at_end Rank state place is most no_comma =
     elim (cases_Bool (nat_lt place 200)) [
-      | inl room ↦ grind (arith, nat_tests)
-      | inr none ↦ absurd (no_comma is (grind (arith, nat_tests)))
+      | inl room ↦ omega (arith, ltb-true place 200 room)
+      | inr none ↦ absurd (no_comma is (omega (arith, ltb-false place 200 none)))
     ]
 room_at_end Digit state place is most no_comma = most
 room_at_end Comma state place is most no_comma = most

@@ -28,6 +28,11 @@ pub on_ok : {X E P Q : Type 0} (r : Result X E) → (P → Q) → OnOk r P → O
 on_ok (Ok x) step h = step h
 on_ok (Err e) step h = h
 
+-- what a text is where memory allowed to add to it
+pub where_ok : {X E : Type 0} (r : Result X E) (now longer old : List ℕ) → now ≡ (if is_ok r then longer else old) → OnOk r (now ≡ longer)
+where_ok (Ok x) now longer old e = e
+where_ok (Err e) now longer old h = tt
+
 -- a text to which three parts are added, one after another
 pub three_parts : (a b c t0 t1 t2 t3 : List ℕ) → t1 ≡ t0 ++ a → t2 ≡ t1 ++ b → t3 ≡ t2 ++ c → t3 ≡ t0 ++ concat (a ∷ b ∷ c ∷ [])
 three_parts a b c t0 t1 t2 t3 e1 e2 e3 = rw (e3, e2, e1) (simp (append_assoc, append-nil))

@@ -1,7 +1,8 @@
 //! What is wrong with the lines of a ballot file, as a text.
 
-ghost use Rattle.std.specs.Prelude.{◌≡◌, ◌++◌, ◌&&◌, ◌+◌, List, ℕ, not, IfOk, OnOk, nat_lt, string_bytes};
+ghost use Rattle.std.specs.Prelude.{◌≡◌, ◌++◌, ◌&&◌, ◌+◌, List, ℕ, not, IfOk, OnOk, length, nat_lt, string_bytes};
 ghost use Rattle.std.specs.List.{list_all};
+ghost use Rattle.vote_poll.specs.PollContent.{elector_count};
 ghost use Rattle.vote_steps.specs.History.{is_valid};
 ghost use Rattle.vote_steps.specs.Casting.{HoldsLines};
 ghost use Rattle.vote_sheet.specs.LastBallots.{refused_count, valid_count, voter_count};
@@ -184,6 +185,21 @@ fn push_totals(
     )
 }
 
+/// Adds what points to Windows, where it was found, and then what is counted.
+fn push_end(
+    text: &mut String,
+    poll: &Poll,
+    lines: &Lines<'_>,
+    totals: &Totals,
+    from_windows: bool,
+) -> Result<(), AllocError>
+    ensures { OnOk result (string_bytes text.new ≡ (string_bytes text.old ++ windows_line from_windows) ++ totals_text (length lines.now) totals.now.valid totals.now.refused (late_count poll.now lines.now) totals.now.voters (elector_count poll.now)) }
+{
+    push_windows(text, from_windows)?;
+    let late = late_count(poll, lines);
+    push_totals(text, lines.len(), late, totals, poll.electors())
+}
+
 /// What is wrong with the lines of a ballot file: a line for each line that is refused, in their order, with the words that
 /// `steps` has for it and a hint; whether the file comes from Windows; and how many lines are valid and refused.
 pub fn explain_ballots(
@@ -199,9 +215,7 @@ pub fn explain_ballots(
     let totals = totals_of(poll, lines, &ballot_box);
     let from_windows = is_from_windows(totals.refused, findings.all_end_with_return);
     let mut text = findings.text;
-    push_windows(&mut text, from_windows)?;
-    let late = late_count(poll, lines);
-    push_totals(&mut text, lines.len(), late, &totals, poll.electors())?;
+    push_end(&mut text, poll, lines, &totals, from_windows)?;
     Ok(Explained {
         text,
         refused: totals.refused,

@@ -1,9 +1,8 @@
 -- The text of a ballot, rank after rank, and that of the ballots, voter after voter.
-use Rattle.std.proofs.Common.{◌≡◌, ℕ, ◌+◌, ◌<◌, ◌≤◌, true, List, [], ◌∷◌, ◌++◌, Option, None, length, length-take-le, get_or, take, drop, map, refl, sym, ap, ◌∙◌, arith, append_assoc, codes}
+use Rattle.std.proofs.Common.{◌≡◌, ℕ, ◌+◌, ◌<◌, ◌≤◌, true, false, inl, inr, List, [], ◌∷◌, ◌++◌, Option, None, length, length-take-le, get_or, take, drop, map, refl, sym, ap, ◌∙◌, arith, append_assoc, codes}
 use Rattle.std.specs.List.{join_with_byte, list_all}
 use Rattle.std.specs.Str.{IsUtf8}
-use Rattle.std.proofs.lemmas.Bool.{and_parts}
-use Rattle.std.proofs.lemmas.Bool.Decides.{nat_tests}
+use Rattle.std.proofs.lemmas.Bool.{and_parts, cases_lt, le-leb, lt-leb, ne_eqb, true≢false}
 use Rattle.std.proofs.lemmas.List.{drop_more, length-map, map-append, take_more}
 use Rattle.std.proofs.lemmas.List.Concat.{flat_map-append}
 use Rattle.std.proofs.lemmas.List.Elements.{All-weaker}
@@ -55,8 +54,23 @@ one_ballot_more voters ballots k of_voters of_ballots =
     (flat_map-append (λ line. line ++ line_feed) (ballot_line (get_or voters k []) (get_or ballots k None)) (ballot_lines (drop (k + 1) voters) (drop (k + 1) ballots)))
 
 -- a voter's name is text
+no_high_byte : (b : ℕ) → 128 ≤ b → is_voter_byte b ≡ false
+no_high_byte b high =
+    rw (
+      le-leb 97 b (omega arith),
+      lt-leb b 122 (omega arith),
+      le-leb 48 b (omega arith),
+      lt-leb b 57 (omega arith),
+      ne_eqb b 46 (λ e. absurd (omega arith)),
+      ne_eqb b 45 (λ e. absurd (omega arith)),
+    ) refl
+
 voter_byte_is_ascii : (b : ℕ) → is_voter_byte b ≡ true → b < 128
-voter_byte_is_ascii b h = grind (arith, nat_tests)
+voter_byte_is_ascii b h =
+    elim (cases_lt b 128) [
+      | inl ascii ↦ ascii
+      | inr high ↦ absurd (true≢false (sym h ∙ no_high_byte b high))
+    ]
 
 pub name_is_text : (name : List ℕ) → is_voter_name name ≡ true → IsUtf8 name
 name_is_text name h =

@@ -1,9 +1,9 @@
 -- What a hole with a width writes, in the words of the sheet.
-use Rattle.std.proofs.Common.{◌≡◌, ◌-◌, ◌^◌, ℕ, zero, suc, [], ◌∷◌, replicate, refl, ap, decimal, codes}
+use Rattle.std.proofs.Common.{◌≡◌, ◌-◌, ◌^◌, ℕ, zero, suc, [], ◌∷◌, replicate, refl, ap, decimal}
 use Rattle.std.proofs.Math.Nat.{sub-zero, sub_self}
 use Rattle.std.specs.List.{repeat}
 use Rattle.std.specs.Char.{encode_utf8}
-use Rattle.std.specs.Fmt.{char_count, format_spec, padded_integral, styled_decimal, styled_text, padded, take_chars}
+use Rattle.std.specs.Fmt.{char_count, format_spec, padded_integral, styled_decimal}
 use Rattle.vote_sheet.specs.Sheet.{right}
 use mathlib.Core.List.{append-nil}
 
@@ -25,11 +25,3 @@ number_in_3 spec n e = rw e (right_in_3 n)
 
 pub number_in_6 : (spec : _) (n : ℕ) → spec ≡ format_spec 32 3 0 6 (2 ^ 64 - 1) → styled_decimal spec n ≡ right 6 (decimal n)
 number_in_6 spec n e = rw e (right_in_6 n)
-
-dash_right_in_6 : styled_text (format_spec 32 3 0 6 (2 ^ 64 - 1)) (codes "-") ≡ right 6 (codes "-")
-unfolding right padded take_chars char_count encode_utf8
-dash_right_in_6 = refl
-
--- `{:>6}` of a dash
-pub dash_in_6 : (spec : _) → spec ≡ format_spec 32 3 0 6 (2 ^ 64 - 1) → styled_text spec (codes "-") ≡ right 6 (codes "-")
-dash_in_6 spec e = rw e dash_right_in_6

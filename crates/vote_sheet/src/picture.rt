@@ -10,10 +10,10 @@ ghost use Rattle.vote_count.specs.Sets.{has_pair};
 ghost use Rattle.vote_count.specs.Rounds.{cause_of, final_set};
 ghost use Rattle.vote_steps.specs.Casting.{HoldsLines};
 ghost use Rattle.vote_sheet.specs.Sheet.{line, when};
-ghost use Rattle.vote_sheet.specs.Picture.{IsPictureAndDecision, cause_label, decided_style, dropped_style, edge_line, edge_lines, edges_by, graph_head, graph_style, label_text, option_line, option_lines, quoted, removal_text, removing_round, style_text};
+ghost use Rattle.vote_sheet.specs.Picture.{IsPictureAndDecision, cause_label, decided_style, dropped_style, edge_line, edge_lines, edges_by, graph_head, option_line, option_lines, quoted, removal_text, removing_round};
 
 use crate::sheet::{Count, count_of_box};
-use crate::sheet_text::{cause_name, option_name};
+use crate::sheet_text::{option_name, when};
 use std::alloc::{AllocError, Global};
 use vote_count::{Cause, Decision, Matrix, OptionSet, Round, Verdict, decide};
 use vote_poll::{Lines, Poll};
@@ -44,99 +44,49 @@ fn push_quoted(text: &mut String, name: &str) -> Result<(), AllocError>
     Ok(())
 }
 
-/// How the graph is drawn.
-#[tactic(auto, unfolding(crate::specs::Picture::graph_style))]
-fn push_graph_style(text: &mut String) -> Result<(), AllocError>
-    ensures { OnOk result (string_bytes text.new ≡ string_bytes text.old ++ graph_style) }
-{
-    text.push_str("  rankdir=LR;\n  node [shape=box];\n")
-}
-
-/// The first lines, with the title of the poll as the name of the graph.
-#[tactic(auto, unfolding(crate::specs::Picture::graph_head))]
+/// The first lines: the title of the poll is the name of the graph, and then comes how it is drawn.
+#[tactic(auto, unfolding(crate::specs::Picture::graph_head, crate::specs::Picture::graph_style))]
 fn push_graph_head(text: &mut String, poll: &Poll) -> Result<(), AllocError>
     ensures { OnOk result (string_bytes text.new ≡ string_bytes text.old ++ graph_head poll.now.title) }
 {
-    write!(text, "digraph \"")?;
+    text.push_str("digraph \"")?;
     push_quoted(text, poll.title())?;
-    writeln!(text, "\" {{")?;
-    push_graph_style(text)
+    write!(text, "\" {{\n  rankdir=LR;\n  node [shape=box];\n")
 }
 
 /// Why an option is dropped, in its label.
-fn push_cause_label(text: &mut String, cause: Option<Cause>) -> Result<(), AllocError>
-    ensures { OnOk result (string_bytes text.new ≡ string_bytes text.old ++ cause_label cause) }
+fn cause_label(cause: Option<Cause>) -> &'static str
+    ensures { result.now ≡ cause_label cause }
 {
     match cause {
-        Some(cause) => write!(text, "\\n{}", cause_name(cause)),
-        None => Ok(()),
+        Some(Cause::Quorum) => "\\nquorum",
+        Some(Cause::Majority) => "\\nmajority",
+        None => "",
     }
 }
 
 /// The border of an option that is dropped.
-fn push_dropped_style(text: &mut String, cause: Option<Cause>) -> Result<(), AllocError>
-    ensures { OnOk result (string_bytes text.new ≡ string_bytes text.old ++ dropped_style cause) }
+fn dropped_style(cause: Option<Cause>) -> &'static str
+    ensures { result.now ≡ dropped_style cause }
 {
-    if cause.is_some() {
-        write!(text, ", style=dotted")?;
+    match cause {
+        Some(_) => ", style=dotted",
+        None => "",
     }
-    Ok(())
 }
 
 /// The border of an option that wins, or that is in the final set of a tie.
-fn push_decided_style(
-    text: &mut String,
-    set: &OptionSet,
-    decision: Decision,
-    option: u8,
-) -> Result<(), AllocError>
-    ensures { OnOk result (string_bytes text.new ≡ string_bytes text.old ++ decided_style set.now decision option) }
+fn decided_style(set: &OptionSet, decision: Decision, option: u8) -> &'static str
+    ensures { result.now ≡ decided_style set.now decision option }
 {
     match decision {
-        Decision::Winner(winner) if option == winner => write!(text, ", peripheries=2"),
-        Decision::Winner(_) => Ok(()),
-        Decision::Tie | Decision::CastingOutside(_) if set.has(option) => {
-            write!(text, ", style=bold")
-        }
-        Decision::Tie | Decision::CastingOutside(_) => Ok(()),
+        Decision::Winner(winner) => when(option == winner, ", peripheries=2"),
+        Decision::Tie | Decision::CastingOutside(_) => when(set.has(option), ", style=bold"),
     }
 }
 
-/// The label of an option.
-#[tactic(auto, unfolding(crate::specs::Picture::label_text))]
-fn push_label(
-    text: &mut String,
-    poll: &Poll,
-    verdict: &Verdict,
-    option: u8,
-) -> Result<(), AllocError>
-    requires option { IsOption (option_count poll.now) option }
-    requires most { option ≤ MAX_OPTIONS }
-    ensures { OnOk result (string_bytes text.new ≡ string_bytes text.old ++ label_text poll.now.options verdict.now option) }
-{
-    write!(text, "\"{option} ")?;
-    push_quoted(text, option_name(poll, option))?;
-    push_cause_label(text, verdict.dropped(option))?;
-    write!(text, "\"")
-}
-
-/// The border of an option.
-#[tactic(auto, unfolding(crate::specs::Picture::style_text))]
-fn push_style(
-    text: &mut String,
-    verdict: &Verdict,
-    decision: Decision,
-    option: u8,
-) -> Result<(), AllocError>
-    requires { IsOption MAX_OPTIONS option }
-    ensures { OnOk result (string_bytes text.new ≡ string_bytes text.old ++ style_text verdict.now decision option) }
-{
-    push_dropped_style(text, verdict.dropped(option))?;
-    push_decided_style(text, &verdict.final_set(), decision, option)
-}
-
-/// The line of an option.
-#[tactic(auto, unfolding(crate::specs::Picture::option_line))]
+/// The line of an option: its label, and its border.
+#[tactic(auto, unfolding(crate::specs::Picture::option_line, crate::specs::Picture::label_text, crate::specs::Picture::style_text))]
 fn push_option_line(
     text: &mut String,
     poll: &Poll,
@@ -148,10 +98,13 @@ fn push_option_line(
     requires most { option ≤ MAX_OPTIONS }
     ensures { OnOk result (string_bytes text.new ≡ string_bytes text.old ++ option_line poll.now.options verdict.now decision option) }
 {
-    write!(text, "  {option} [label=")?;
-    push_label(text, poll, verdict, option)?;
-    push_style(text, verdict, decision, option)?;
-    writeln!(text, "];")
+    let cause = verdict.dropped(option);
+    let label = cause_label(cause);
+    let dropped = dropped_style(cause);
+    let decided = decided_style(&verdict.final_set(), decision, option);
+    write!(text, "  {option} [label=\"{option} ")?;
+    push_quoted(text, option_name(poll, option))?;
+    writeln!(text, "{label}\"{dropped}{decided}];")
 }
 
 /// The lines of all options.
@@ -184,35 +137,31 @@ fn removing_round(rounds: &[Round], a: u8, b: u8) -> Option<usize>
 
 /// What the line of a defeat says behind the votes.
 fn push_removal(text: &mut String, round: Option<usize>) -> Result<(), AllocError>
-    ensures { OnOk result (string_bytes text.new ≡ string_bytes text.old ++ removal_text round) }
+    ensures { OnOk result (string_bytes text.new ≡ string_bytes text.old ++ line (removal_text round ∷ [])) }
 {
     match round {
-        Some(round) => write!(text, ", round {round}\", style=dashed];"),
-        None => write!(text, "\"];"),
+        Some(round) => writeln!(text, ", round {round}\", style=dashed];"),
+        None => text.push_str("\"];\n"),
     }
 }
 
-/// The line of the defeat of `b` by `a`, if there is one.
+/// The line of the defeat of `b` by `a`, which is removed in this round.
 #[tactic(auto, unfolding(crate::specs::Picture::edge_line))]
-fn push_edge(
+fn push_edge_line(
     text: &mut String,
     matrix: &Matrix,
-    verdict: &Verdict,
+    rounds: &[Round],
     a: u8,
     b: u8,
 ) -> Result<(), AllocError>
     requires a { IsOption matrix.now.options a }
     requires b { IsOption matrix.now.options b }
-    ensures { OnOk result (string_bytes text.new ≡ string_bytes text.old ++ when (has_pair verdict.now.defeats a b) (edge_line matrix.now verdict.now.rounds a b)) }
+    ensures { OnOk result (string_bytes text.new ≡ string_bytes text.old ++ edge_line matrix.now rounds.now a b) }
 {
-    if verdict.defeats().has(a, b) {
-        let won = matrix.votes(a, b);
-        let lost = matrix.votes(b, a);
-        write!(text, "  {a} -> {b} [label=\"{won} : {lost}")?;
-        push_removal(text, removing_round(verdict.rounds(), a, b))?;
-        writeln!(text)?;
-    }
-    Ok(())
+    let won = matrix.votes(a, b);
+    let lost = matrix.votes(b, a);
+    write!(text, "  {a} -> {b} [label=\"{won} : {lost}")?;
+    push_removal(text, removing_round(rounds, a, b))
 }
 
 /// The lines of the defeats by `a`.
@@ -226,8 +175,11 @@ fn push_edges_by(
     requires { IsOption matrix.now.options a }
     ensures { OnOk result (string_bytes text.new ≡ string_bytes text.old ++ edges_by matrix.now verdict.now a) }
 {
+    let defeats = verdict.defeats();
     for before in 0..matrix.options() {
-        push_edge(text, matrix, verdict, a, before + 1)?;
+        if defeats.has(a, before + 1) {
+            push_edge_line(text, matrix, verdict.rounds(), a, before + 1)?;
+        }
     }
     Ok(())
 }
@@ -255,7 +207,7 @@ fn push_picture(
     push_graph_head(text, poll)?;
     push_option_lines(text, poll, &count.verdict, decision)?;
     push_edges(text, &count.matrix, &count.verdict)?;
-    writeln!(text, "}}")
+    text.push_str("}\n")
 }
 
 /// The picture of the outcome of a closed box that holds the lines of the poll, with the option of the casting vote, and what

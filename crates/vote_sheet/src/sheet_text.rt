@@ -1,26 +1,33 @@
 //! The text of a result sheet, part by part. Each function adds its part at the end of the text.
 
-ghost use Rattle.std.specs.Prelude.{◌≡◌, ℕ, ◌++◌, ◌+◌, ◌-◌, ◌≤◌, ◌<◌, OnOk, codes, decimal, length, string_bytes};
+ghost use Rattle.std.specs.Prelude.{◌≡◌, ℕ, ◌++◌, ◌+◌, ◌-◌, ◌≤◌, ◌<◌, OnOk, length, string_bytes};
 ghost use Rattle.vote_poll.specs.Options.{IsOption};
 ghost use Rattle.vote_poll.specs.declared.TheConstants.{MAX_OPTIONS};
 ghost use Rattle.vote_poll.specs.PollContent.{elector_count, option_count};
 ghost use Rattle.vote_count.specs.Sets.{has, has_pair};
 ghost use Rattle.vote_count.specs.Rounds.{cause_of};
-ghost use Rattle.vote_sheet.specs.Sheet.{casting_note, cause_name, causes_text, column_text, counted_text, decision_text, default_text, defeat_line, defeat_lines, defeats_text, defeats_by, drop_line, drops_of, each, ending, tie_text, winner_text, dropped_line, dropped_text, head_text, last_text, name_of, numbers, option_text, options_text, right, round_text, rounds_from, row_text, table_head_text, table_text, totals_text, votes_text, when, wording_text};
+ghost use Rattle.vote_sheet.specs.Sheet.{casting_note, cause_name, causes_text, counted_text, decision_text, default_text, defeat_line, defeat_lines, defeats_text, defeats_by, drop_line, drops_of, each, ending, tie_text, winner_text, dropped_line, dropped_text, head_text, last_text, name_of, numbers, option_text, options_text, round_text, rounds_from, row_text, table_head_text, table_text, totals_text, votes_text, when, wording_text};
 
 use std::alloc::AllocError;
 use vote_count::{Cause, Decision, Defeats, Matrix, OptionSet, Round, Verdict};
 use vote_poll::{Poll, Wording};
 use vote_steps::Totals;
 
+/// The words, where something holds, and no words else.
+pub(crate) fn when(holds: bool, words: &'static str) -> &'static str
+    ensures { result.now ≡ when holds words.now }
+{
+    if holds { words } else { "" }
+}
+
 /// How the majority is worded, where it is not as the Constitution words it.
 #[tactic(auto, unfolding(crate::specs::Sheet::wording_text))]
-fn push_wording(text: &mut String, wording: Wording) -> Result<(), AllocError>
-    ensures { OnOk result (string_bytes text.new ≡ string_bytes text.old ++ wording_text wording) }
+fn wording_text(wording: Wording) -> &'static str
+    ensures { result.now ≡ wording_text wording }
 {
     match wording {
-        Wording::AtLeast => Ok(()),
-        Wording::MoreThan => writeln!(text, "Majority: more than"),
+        Wording::AtLeast => "",
+        Wording::MoreThan => "Majority: more than\n",
     }
 }
 
@@ -29,11 +36,14 @@ fn push_wording(text: &mut String, wording: Wording) -> Result<(), AllocError>
 pub(crate) fn push_head(text: &mut String, poll: &Poll, votes: u64) -> Result<(), AllocError>
     ensures { OnOk result (string_bytes text.new ≡ string_bytes text.old ++ head_text poll.now.title (elector_count poll.now) poll.now.quorum_multiple votes poll.now.wording) }
 {
-    writeln!(text, "Poll: {}", poll.title())?;
-    writeln!(text, "Electors: {}", poll.electors())?;
+    let title = poll.title();
+    let electors = poll.electors();
     let multiple = poll.quorum_multiple();
-    writeln!(text, "Quorum: {multiple}Q, {votes} votes")?;
-    push_wording(text, poll.wording())
+    let wording = wording_text(poll.wording());
+    write!(
+        text,
+        "Poll: {title}\nElectors: {electors}\nQuorum: {multiple}Q, {votes} votes\n{wording}"
+    )
 }
 
 /// The last envelope, where the poll has one.
@@ -59,9 +69,8 @@ pub(crate) fn push_totals(
 {
     writeln!(text, "Lines: {lines}")?;
     push_last(text, poll.last_envelope())?;
-    writeln!(text, "Valid: {}", totals.valid)?;
-    writeln!(text, "Refused: {}", totals.refused)?;
-    writeln!(text, "Voters: {}", totals.voters)
+    let (valid, refused, voters) = (totals.valid, totals.refused, totals.voters);
+    writeln!(text, "Valid: {valid}\nRefused: {refused}\nVoters: {voters}")
 }
 
 /// The name of an option, the default among them.
@@ -99,7 +108,7 @@ fn push_option(text: &mut String, poll: &Poll, option: u8) -> Result<(), AllocEr
 pub(crate) fn push_options(text: &mut String, poll: &Poll) -> Result<(), AllocError>
     ensures { OnOk result (string_bytes text.new ≡ string_bytes text.old ++ options_text poll.now.options poll.now.ratios) }
 {
-    writeln!(text, "Options:")?;
+    text.push_str("Options:\n")?;
     for before in 0..poll.options() - 1 {
         push_option(text, poll, before + 1)?;
     }
@@ -107,58 +116,42 @@ pub(crate) fn push_options(text: &mut String, poll: &Poll) -> Result<(), AllocEr
 }
 
 /// The votes for `a` over `b`, in a cell of the table.
-#[tactic(auto, using(crate::proofs::Padding::number_in_6, crate::proofs::Padding::dash_in_6), unfolding(crate::specs::Sheet::votes_text))]
+#[tactic(auto, using(crate::proofs::Padding::number_in_6), unfolding(crate::specs::Sheet::votes_text))]
 fn push_votes(text: &mut String, matrix: &Matrix, a: u8, b: u8) -> Result<(), AllocError>
     requires a { IsOption matrix.now.options a }
     requires b { IsOption matrix.now.options b }
     ensures { OnOk result (string_bytes text.new ≡ string_bytes text.old ++ votes_text matrix.now a b) }
 {
     if a == b {
-        write!(text, "{:>6}", "-")
+        text.push_str("     -")
     } else {
         write!(text, "{:>6}", matrix.votes(a, b))
     }
 }
 
-/// The option of a row, at the head of the row.
-#[tactic(auto, using(crate::proofs::Padding::number_in_3))]
-fn push_row_number(text: &mut String, option: u8) -> Result<(), AllocError>
-    ensures { OnOk result (string_bytes text.new ≡ string_bytes text.old ++ right 3 (decimal option)) }
-{
-    write!(text, "{option:>3}")
-}
-
 /// The row of an option: the votes for it over each.
-#[tactic(auto, using(crate::proofs::Texts::each_one_more), unfolding(crate::specs::Sheet::row_text))]
+#[tactic(auto, using(crate::proofs::Texts::each_one_more, crate::proofs::Padding::number_in_3), unfolding(crate::specs::Sheet::row_text))]
 fn push_row(text: &mut String, matrix: &Matrix, a: u8) -> Result<(), AllocError>
     requires { IsOption matrix.now.options a }
     ensures { OnOk result (string_bytes text.new ≡ string_bytes text.old ++ row_text matrix.now a) }
 {
-    push_row_number(text, a)?;
+    write!(text, "{a:>3}")?;
     for before in 0..matrix.options() {
         push_votes(text, matrix, a, before + 1)?;
     }
-    writeln!(text)
-}
-
-/// The option of a column, at the head of the column.
-#[tactic(auto, using(crate::proofs::Padding::number_in_6), unfolding(crate::specs::Sheet::column_text))]
-fn push_column(text: &mut String, option: u8) -> Result<(), AllocError>
-    ensures { OnOk result (string_bytes text.new ≡ string_bytes text.old ++ column_text option) }
-{
-    write!(text, "{option:>6}")
+    text.push_str("\n")
 }
 
 /// The head of the table of votes.
-#[tactic(auto, using(crate::proofs::Texts::each_one_more), unfolding(crate::specs::Sheet::table_head_text))]
+#[tactic(auto, using(crate::proofs::Texts::each_one_more, crate::proofs::Padding::number_in_6), unfolding(crate::specs::Sheet::table_head_text, crate::specs::Sheet::column_text))]
 fn push_table_head(text: &mut String, options: u8) -> Result<(), AllocError>
     ensures { OnOk result (string_bytes text.new ≡ string_bytes text.old ++ table_head_text options) }
 {
-    write!(text, "Votes:\n   ")?;
+    text.push_str("Votes:\n   ")?;
     for before in 0..options {
-        push_column(text, before + 1)?;
+        write!(text, "{:>6}", before + 1)?;
     }
-    writeln!(text)
+    text.push_str("\n")
 }
 
 /// The table of votes.
@@ -174,7 +167,7 @@ fn push_table(text: &mut String, matrix: &Matrix) -> Result<(), AllocError>
 }
 
 /// The word for a cause.
-pub(crate) fn cause_name(cause: Cause) -> &'static str
+fn cause_name(cause: Cause) -> &'static str
     ensures { result.now ≡ cause_name cause }
 {
     match cause {
@@ -212,11 +205,11 @@ fn push_dropped(text: &mut String, options: u8, verdict: &Verdict) -> Result<(),
     requires { options ≤ MAX_OPTIONS }
     ensures { OnOk result (string_bytes text.new ≡ string_bytes text.old ++ dropped_text options verdict.now) }
 {
-    writeln!(text, "Dropped:")?;
+    text.push_str("Dropped:\n")?;
     let start = text.len();
     push_causes(text, options, verdict)?;
     if text.len() == start {
-        writeln!(text, "  none")?;
+        return text.push_str("  none\n");
     }
     Ok(())
 }
@@ -237,7 +230,7 @@ fn push_defeat(
     if defeats.has(a, b) {
         let won = matrix.votes(a, b);
         let lost = matrix.votes(b, a);
-        writeln!(text, "{a:>3} over {b} by {won} to {lost}")?;
+        return writeln!(text, "{a:>3} over {b} by {won} to {lost}");
     }
     Ok(())
 }
@@ -279,32 +272,24 @@ fn push_defeat_lines(
 fn push_defeats(text: &mut String, matrix: &Matrix, defeats: &Defeats) -> Result<(), AllocError>
     ensures { OnOk result (string_bytes text.new ≡ string_bytes text.old ++ defeats_text matrix.now defeats.now) }
 {
-    writeln!(text, "Defeats:")?;
+    text.push_str("Defeats:\n")?;
     let start = text.len();
     push_defeat_lines(text, matrix, defeats)?;
     if text.len() == start {
-        writeln!(text, "  none")?;
+        return text.push_str("  none\n");
     }
     Ok(())
 }
 
-/// The number of an option, if it is in the set.
-fn push_number(text: &mut String, set: &OptionSet, option: u8) -> Result<(), AllocError>
-    ensures { OnOk result (string_bytes text.new ≡ string_bytes text.old ++ when (has set.now option) (codes " " ++ decimal option)) }
-{
-    if set.has(option) {
-        write!(text, " {option}")?;
-    }
-    Ok(())
-}
-
-/// The options of a set.
+/// The numbers of the options of a set.
 #[tactic(auto, using(crate::proofs::Texts::each_one_more))]
 fn push_numbers(text: &mut String, options: u8, set: &OptionSet) -> Result<(), AllocError>
     ensures { OnOk result (string_bytes text.new ≡ string_bytes text.old ++ numbers options set.now) }
 {
     for before in 0..options {
-        push_number(text, set, before + 1)?;
+        if set.has(before + 1) {
+            write!(text, " {}", before + 1)?;
+        }
     }
     Ok(())
 }
@@ -315,7 +300,7 @@ fn push_drop(text: &mut String, removed: &Defeats, a: u8, b: u8) -> Result<(), A
     ensures { OnOk result (string_bytes text.new ≡ string_bytes text.old ++ when (has_pair removed.now a b) (drop_line a b)) }
 {
     if removed.has(a, b) {
-        writeln!(text, "  drop {a} over {b}")?;
+        return writeln!(text, "  drop {a} over {b}");
     }
     Ok(())
 }
@@ -354,7 +339,7 @@ fn push_round(
 {
     write!(text, "Round {number}:")?;
     push_numbers(text, options, &round.set)?;
-    writeln!(text)?;
+    text.push_str("\n")?;
     push_drops(text, options, &round.removed)
 }
 
@@ -370,13 +355,10 @@ fn push_rounds(text: &mut String, options: u8, rounds: &[Round]) -> Result<(), A
 
 /// That the casting vote decided, which it does only among several options.
 #[tactic(auto, unfolding(crate::specs::Sheet::casting_note))]
-fn push_casting_note(text: &mut String, set: &OptionSet) -> Result<(), AllocError>
-    ensures { OnOk result (string_bytes text.new ≡ string_bytes text.old ++ casting_note set.now) }
+fn casting_note(set: &OptionSet) -> &'static str
+    ensures { result.now ≡ casting_note set.now }
 {
-    if set.len() > 1 {
-        write!(text, " by casting vote")?;
-    }
-    Ok(())
+    when(set.len() > 1, " by casting vote")
 }
 
 /// The winner, and whether the casting vote chose it.
@@ -390,8 +372,9 @@ fn push_winner(
     requires { IsOption (option_count poll.now) option }
     ensures { OnOk result (string_bytes text.new ≡ string_bytes text.old ++ winner_text poll.now.options set.now option) }
 {
-    write!(text, "Winner: {option} {}", option_name(poll, option))?;
-    push_casting_note(text, set)
+    let name = option_name(poll, option);
+    let note = casting_note(set);
+    write!(text, "Winner: {option} {name}{note}")
 }
 
 /// The options of a tie.
@@ -399,7 +382,7 @@ fn push_winner(
 fn push_tie(text: &mut String, options: u8, set: &OptionSet) -> Result<(), AllocError>
     ensures { OnOk result (string_bytes text.new ≡ string_bytes text.old ++ tie_text options set.now) }
 {
-    write!(text, "Tie:")?;
+    text.push_str("Tie:")?;
     push_numbers(text, options, set)
 }
 
@@ -435,7 +418,7 @@ pub(crate) fn push_decision(
     ensures { OnOk result (string_bytes text.new ≡ string_bytes text.old ++ decision_text poll.now.options set.now decision) }
 {
     push_ending(text, poll, set, decision)?;
-    writeln!(text)
+    text.push_str("\n")
 }
 
 /// What the votes come to, before the decision: the votes themselves, who is dropped, the defeats and the rounds.

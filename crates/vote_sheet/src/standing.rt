@@ -66,7 +66,7 @@ fn push_ballot(
         Some(ranks) => {
             write!(text, "{} ", voter_name(poll, voter))?;
             push_ranks(text, poll.options(), &ranks)?;
-            writeln!(text)
+            text.push_str("\n")
         }
         None => Ok(()),
     }

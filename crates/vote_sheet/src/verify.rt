@@ -118,17 +118,15 @@ fn push_shown_line(words: &mut String, text: &[u8], place: usize) -> Result<(), 
 
 /// The first line, from 1, in which a text leaves a sheet, and this line of both.
 #[tactic(auto, unfolding(crate::specs::Verify::difference_text))]
-fn difference_text(alloc: Global, text: &[u8], sheet: &[u8]) -> Result<String, AllocError>
-    ensures { IfOk result (λ words. string_bytes words ≡ difference_text text.now sheet.now) }
+fn push_difference(words: &mut String, text: &[u8], sheet: &[u8]) -> Result<(), AllocError>
+    ensures { OnOk result (string_bytes words.new ≡ string_bytes words.old ++ difference_text text.now sheet.now) }
 {
     let before = common_lines(text, sheet);
-    let mut words = String::new(alloc);
     write!(words, "differs at line {}\nsheet: ", before + 1)?;
-    push_shown_line(&mut words, text, before)?;
-    write!(words, "\ncount: ")?;
-    push_shown_line(&mut words, sheet, before)?;
-    writeln!(words)?;
-    Ok(words)
+    push_shown_line(words, text, before)?;
+    words.push_str("\ncount: ")?;
+    push_shown_line(words, sheet, before)?;
+    words.push_str("\n")
 }
 
 /// The words for a text that is the sheet with the casting vote of this number.
@@ -232,7 +230,9 @@ fn differing_words(
     ensures { IfOk result (λ words. (decision : Decision) × IsDecision (final_set count.now.verdict.rounds) (casting_vote number) decision × (string_bytes words ≡ difference_text text.now (shared.now ++ decision_text poll.now.options (final_set count.now.verdict.rounds) decision))) }
 {
     let sheet = sheet_with_vote(alloc, poll, count, shared, number)?;
-    difference_text(alloc, text, sheet.as_bytes())
+    let mut words = String::new(alloc);
+    push_difference(&mut words, text, sheet.as_bytes())?;
+    Ok(words)
 }
 
 /// Compares a text with all sheets that have these shared lines: with the one without a casting vote, and with those with each

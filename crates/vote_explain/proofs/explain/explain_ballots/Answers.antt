@@ -1,4 +1,6 @@
-use Rattle.std.proofs.Common.{string_bytes, sym, subst}
+use Rattle.std.proofs.Common.{◌++◌, length, refl, string_bytes, sym, subst}
+use Rattle.vote_poll.specs.PollContent.{elector_count}
+use Rattle.vote_explain.specs.Explained.{late_count, windows_line}
 use Rattle.vote_explain.specs.Answers.{AreAnswers}
 use Rattle.vote_explain.proofs.Answering.{answers_of_box}
 use Rattle.vote_explain.proofs.Whole.{closes, tells_windows, whole}
@@ -14,9 +16,11 @@ returns-clause-text c =
     let poll = c.args.poll.now in
     let lines = c.args.lines.now in
     let totals = c.totals_of-totals in
-    whole poll lines c.is_from_windows-from_windows.result (string_bytes c.in_ok-findings.findings.text) _ (string_bytes c.push_windows.new.text) (string_bytes c.push_totals.new.text)
+    let findings = string_bytes c.in_ok-findings.findings.text in
+    let from_windows = c.is_from_windows-from_windows in
+    whole poll lines from_windows.result findings _ (findings ++ windows_line from_windows.result) (string_bytes c.push_end.new.text)
     c.in_ok-findings.ensures.text
-    (tells_windows poll lines totals.result.refused c.in_ok-findings.findings.all_end_with_return c.is_from_windows-from_windows.result totals.ensures.refused c.in_ok-findings.ensures.returns c.is_from_windows-from_windows.ensures)
-    (closes poll lines c.len.result totals.result.valid totals.result.refused c.late_count-late.result totals.result.voters c.electors.result
-    c.len.ensures.number totals.ensures.valid totals.ensures.refused c.late_count-late.ensures totals.ensures.voters c.electors.ensures.number)
-    c.in_ok-push_windows.ensures c.in_ok-push_totals.ensures
+    (tells_windows poll lines totals.result.refused c.in_ok-findings.findings.all_end_with_return from_windows.result totals.ensures.refused c.in_ok-findings.ensures.returns from_windows.ensures)
+    (closes poll lines (length lines) totals.result.valid totals.result.refused (late_count poll lines) totals.result.voters (elector_count poll)
+    refl totals.ensures.valid totals.ensures.refused refl totals.ensures.voters refl)
+    refl c.in_ok-push_end.ensures

@@ -1,5 +1,6 @@
 use Rattle.std.proofs.Common.{◌≡◌, ℕ, ◌+◌, ◌++◌, [], None, append_assoc, ap, drop, get_or, subst, sym, ◌∙◌, arith, string_bytes, take}
-use Rattle.std.proofs.lemmas.Grind.{common_steps, elements, moves, pieces}
+use mathlib.Core.List.{append-nil}
+use Rattle.std.proofs.lemmas.List.{drop_all}
 use Rattle.std.proofs.lemmas.List.FromFn.{get_or-map-range_with_len, length-map-range_with_len}
 use Rattle.vote_text.specs.Lines.{text_of_lines}
 use Rattle.vote_poll.specs.PollContent.{elector_count}
@@ -36,4 +37,6 @@ loop-voter-preserved c =
     ∙ c.loop-voter.invariant
 
 pub returns : goal.returns
-returns c = grind (arith, common_steps, elements, moves, pieces)
+returns c =
+    let all : drop c.loop-voter.voter c.args.poll.now.roll ≡ [] = drop_all c.loop-voter.voter c.args.poll.now.roll (omega arith) in
+    sym (append-nil (string_bytes c.loop-voter.text)) ∙ (rw all at c.loop-voter.invariant)

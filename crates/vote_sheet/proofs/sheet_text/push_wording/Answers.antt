@@ -1,7 +1,0 @@
-use Rattle.std.proofs.Common.{rules}
-use Rattle.vote_sheet.specs.Sheet.{wording_text}
-use Rattle.vote_sheet.proofs.sheet_text.push_wording.Goals as goal
-
-pub returns-in-MoreThan : goal.returns-in-MoreThan
-unfolding wording_text
-returns-in-MoreThan c = rw c.in-MoreThan.is (search rules)
