@@ -38,6 +38,14 @@ fn line_and_column(before: &[u8]) -> (usize, usize) {
     (line, column)
 }
 
+/// The part of a text in front of an error.
+fn text_before<'t>(text: &'t [u8], error: &toml::de::Error) -> &'t [u8] {
+    match error.span() {
+        Some(span) => text.get(..span.start).unwrap_or(text),
+        None => b"",
+    }
+}
+
 /// Adds that a finding is at this line and column of the poll.
 fn push_place(text: &mut String, line: usize, column: usize) -> Result<(), AllocError>
     ensures { OnOk result (string_bytes text.new ≡ string_bytes text.old ++ codes "poll:" ++ decimal line ++ codes ":" ++ decimal column) }
@@ -49,8 +57,7 @@ fn push_place(text: &mut String, line: usize, column: usize) -> Result<(), Alloc
 fn syntax_finding(alloc: Global, text: &[u8], error: &toml::de::Error) -> Result<String, AllocError>
     ensures { IfOk result (λ finding. IsSyntaxFinding (string_bytes finding)) }
 {
-    let start = error.span().map_or(0, |span| span.start);
-    let (line, column) = line_and_column(text.get(..start).unwrap_or(text));
+    let (line, column) = line_and_column(text_before(text, error));
     let mut finding = String::new(alloc);
     push_place(&mut finding, line, column)?;
     push_hint(&mut finding, error.message())?;
@@ -77,7 +84,7 @@ fn push_findings(alloc: Global, text: &mut String, table: &Table) -> Result<(), 
 {
     let unread = UnreadKeys::of_table(alloc, table)?;
     push_faults(alloc, text, table, &unread)?;
-    push_unread_keys(text, &unread)
+    push_unread_keys(alloc, text, &unread)
 }
 
 /// The findings of a table.

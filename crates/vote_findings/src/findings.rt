@@ -14,7 +14,10 @@ ghost use Rattle.vote_keys.specs.declared.fault.PollFault.TheVariants as fault;
 ghost use Rattle.vote_poll.specs.declared.TheConstants.{MAX_ELECTORS, MAX_OPTIONS, MAX_RATIO};
 
 use crate::found::Found;
-use crate::hints::{Hint, Named, words_of};
+use crate::hints::{
+    Hint, Named, no_wording_hint, options_hint, range_hint, ratio_count_hint, roll_hint,
+    shape_hint, words_of,
+};
 use crate::name_findings::{NameList, push_bad_names};
 use std::alloc::{AllocError, Global};
 use vote_poll::{
@@ -88,7 +91,7 @@ fn title_hint<'f>(found: &'f Found<'_>) -> Option<Hint<'f>>
     if is_title(title.as_bytes()) {
         return None;
     }
-    Some(Hint::Shape(Named::Poll, title))
+    Some(shape_hint(Named::Poll, title))
 }
 
 /// Whether a poll can have so many options but the default.
@@ -109,7 +112,7 @@ fn option_count_hint<'f>(found: &'f Found<'_>) -> Option<Hint<'f>>
     if is_option_count(options.len()) {
         return None;
     }
-    Some(Hint::OptionCount(options.len()))
+    Some(options_hint(options.len()))
 }
 
 /// The options but the default, and then the default, where it is there.
@@ -144,18 +147,16 @@ fn is_ratio(number: i64) -> bool
     1 <= number && number <= i64::from(MAX_RATIO)
 }
 
-/// Whether each number is a majority ratio.
-fn are_all_ratios(numbers: &[i64]) -> bool
-    ensures { result ≡ list_all (is_integer_within 1 MAX_RATIO) numbers.now }
+/// What is wrong with the first number that is no majority ratio, if there is one.
+fn bad_ratio_hint<'f>(numbers: &[i64]) -> Option<Hint<'f>>
+    ensures { is_none result ≡ list_all (is_integer_within 1 MAX_RATIO) numbers.now }
 {
-    numbers.iter().all(|number| is_ratio(*number))
-}
-
-/// Whether there are so many numbers, each a majority ratio.
-fn are_ratios(numbers: &[i64], count: usize) -> bool
-    ensures { result ≡ ((length numbers.now == count) && list_all (is_integer_within 1 MAX_RATIO) numbers.now) }
-{
-    numbers.len() == count && are_all_ratios(numbers)
+    for number in numbers {
+        if !is_ratio(*number) {
+            return Some(range_hint(*number, 1, u32::from(MAX_RATIO)));
+        }
+    }
+    None
 }
 
 /// What is wrong with the ratios, if anything.
@@ -169,10 +170,10 @@ fn ratios_hint<'f>(found: &'f Found<'_>) -> Option<Hint<'f>>
     let Some(ratios) = &found.ratios else {
         return None;
     };
-    if are_ratios(ratios, options.len()) {
-        return None;
+    if ratios.len() != options.len() {
+        return Some(ratio_count_hint(ratios.len(), options.len()));
     }
-    Some(Hint::Ratios(ratios, options.len()))
+    bad_ratio_hint(ratios)
 }
 
 /// Whether a number is one from low to high.
@@ -194,7 +195,7 @@ fn quorum_hint<'f>(found: &'f Found<'_>) -> Option<Hint<'f>>
     if is_from(quorum, 0, most) {
         return None;
     }
-    Some(Hint::Range(quorum, 0, most))
+    Some(range_hint(quorum, 0, most))
 }
 
 /// Whether a roll can have so many names.
@@ -215,7 +216,7 @@ fn roll_size_hint<'f>(found: &'f Found<'_>) -> Option<Hint<'f>>
     if is_roll_size(roll.len()) {
         return None;
     }
-    Some(Hint::RollSize(roll.len()))
+    Some(roll_hint(roll.len()))
 }
 
 /// The names of the voters.
@@ -241,7 +242,7 @@ fn last_envelope_hint<'f>(found: &'f Found<'_>) -> Option<Hint<'f>>
     if is_from(last, 0, most) {
         return None;
     }
-    Some(Hint::Range(last, 0, most))
+    Some(range_hint(last, 0, most))
 }
 
 /// Whether a text names a wording.
@@ -262,7 +263,7 @@ fn wording_hint<'f>(found: &'f Found<'_>) -> Option<Hint<'f>>
     if is_wording(wording) {
         return None;
     }
-    Some(Hint::Wording(wording))
+    Some(no_wording_hint(wording))
 }
 
 /// What the keys say, in the order of the faults.

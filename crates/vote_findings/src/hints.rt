@@ -5,8 +5,8 @@ use crate::MAX_SHOWN;
 use std::alloc::{AllocError, Global};
 use toml::Value;
 use vote_poll::{
-    MAX_ELECTORS, MAX_OPTION_NAME, MAX_OPTIONS, MAX_RATIO, MAX_TITLE, MAX_VOTER_NAME, PollKey,
-    is_printable, is_voter_byte, push_shown,
+    MAX_ELECTORS, MAX_OPTION_NAME, MAX_OPTIONS, MAX_TITLE, MAX_VOTER_NAME, PollKey, is_printable,
+    is_voter_byte, push_shown,
 };
 
 /// What a name is the name of.
@@ -39,145 +39,201 @@ impl Named {
     }
 }
 
-/// What was found where a poll file has a fault.
+/// A part of a hint.
 #[derive(Clone, Copy)]
-pub(crate) enum Hint<'t> {
-    /// The key is missing. The path is that of a table below which one of its name stands, where there is one.
-    Missing(Option<&'t [u8]>),
-    /// The key has a value of the wrong kind.
-    Kind(PollKey, &'t Value),
-    /// The name is misshapen.
-    Shape(Named, &'t str),
-    /// The name is also that of an earlier option or voter, which has this place.
-    Double(Named, &'t str, usize),
-    /// The number is not from the first of its limits to the second.
-    Range(i64, u32, u32),
-    /// There are so many options but the default, which is too few or too many.
-    OptionCount(usize),
-    /// The ratios are not one for each of so many options, or one is out of its limits.
-    Ratios(&'t [i64], usize),
-    /// The roll has so many names, which is too few or too many.
-    RollSize(usize),
-    /// The text is neither wording.
-    Wording(&'t str),
+enum Part<'t> {
+    /// These words.
+    Words(&'t str),
+    /// A name or text of the file, in quotes, at most so many of its bytes as are shown.
+    Quoted(&'t str),
+    /// Bytes of the file, at most so many as are shown.
+    Shown(&'t [u8]),
+    /// How many there are, or a place.
+    Count(usize),
+    /// A whole number of the file, or a limit of one.
+    Number(i64),
+    /// The character that a byte is.
+    Character(u8),
+    /// A byte in two digits of base 16.
+    Digits(u8),
 }
 
-/// Adds a text in quotes, at most so many of its bytes as are shown.
-fn push_quoted(words: &mut String, text: &str) -> Result<(), AllocError> {
-    words.push('"')?;
-    push_shown(words, text.as_bytes(), MAX_SHOWN)?;
-    words.push('"')
+/// What was found where a poll file has a fault: its parts, one after another. It owns nothing.
+#[derive(Clone, Copy)]
+pub(crate) struct Hint<'t> {
+    parts: [Part<'t>; 6],
 }
 
-/// Adds what a byte is.
-fn push_byte_words(words: &mut String, byte: u8) -> Result<(), AllocError> {
-    let kind = match byte {
-        b' ' => "a space",
-        b'\t' => "a tab",
-        b'\n' => "a line feed",
-        b'\r' => "a carriage return",
-        b',' => "a comma",
-        b'A'..=b'Z' => "a capital letter",
-        0x21..=0x7E => return write!(words, "the character {}", byte as char),
-        _ => return write!(words, "the byte 0x{byte:02X}"),
-    };
-    words.push_str(kind)
+/// A hint of up to six parts. Where there are fewer, the last have no words.
+fn of_six<'t>(parts: [Part<'t>; 6]) -> Hint<'t> {
+    Hint { parts }
 }
 
-/// Adds which byte a name may not have, or which of its ends is a space.
-fn push_spelling(words: &mut String, named: Named, name: &str) -> Result<(), AllocError> {
+/// A hint of up to four parts.
+fn of_four<'t>(first: Part<'t>, second: Part<'t>, third: Part<'t>, fourth: Part<'t>) -> Hint<'t> {
+    let none = Part::Words("");
+    Hint {
+        parts: [first, second, third, fourth, none, none],
+    }
+}
+
+/// A hint of two parts.
+fn of_two<'t>(first: Part<'t>, second: Part<'t>) -> Hint<'t> {
+    let none = Part::Words("");
+    of_four(first, second, none, none)
+}
+
+/// A hint of these words.
+fn of_words<'t>(words: &'t str) -> Hint<'t> {
+    of_two(Part::Words(words), Part::Words(""))
+}
+
+/// That there are so many, and what they are, where there can be no more than a limit.
+fn too_many<'t>(count: usize, what: &'t str, most: usize) -> Hint<'t> {
+    of_four(
+        Part::Count(count),
+        Part::Words(what),
+        Part::Count(most),
+        Part::Words(" are the most"),
+    )
+}
+
+/// The first byte of a name that it may not have.
+fn bad_byte(named: Named, name: &str) -> Option<u8> {
     for byte in name.as_bytes() {
         if !named.may_have(*byte) {
-            words.push_str(" has ")?;
-            return push_byte_words(words, *byte);
+            return Some(*byte);
         }
     }
+    None
+}
+
+/// What a byte is: words, and the byte itself where they do not say which it is.
+fn byte_parts<'t>(byte: u8) -> (&'t str, Part<'t>) {
+    let words = match byte {
+        b' ' => " has a space",
+        b'\t' => " has a tab",
+        b'\n' => " has a line feed",
+        b'\r' => " has a carriage return",
+        b',' => " has a comma",
+        b'A'..=b'Z' => " has a capital letter",
+        0x21..=0x7E => return (" has the character ", Part::Character(byte)),
+        _ => return (" has the byte 0x", Part::Digits(byte)),
+    };
+    (words, Part::Words(""))
+}
+
+/// Which of the ends of a name is a space.
+fn space_words(name: &str) -> &'static str {
     if name.starts_with(' ') {
-        words.push_str(" begins with a space")
+        " begins with a space"
     } else {
-        words.push_str(" ends with a space")
+        " ends with a space"
     }
 }
 
-/// Adds what is wrong with the shape of a name.
-fn push_shape(words: &mut String, named: Named, name: &str) -> Result<(), AllocError> {
-    if name.is_empty() {
-        return words.push_str("it is empty");
+/// Which byte a name may not have, or which of its ends is a space.
+fn spelling_hint<'t>(named: Named, name: &'t str) -> Hint<'t> {
+    match bad_byte(named, name) {
+        Some(byte) => {
+            let (words, last) = byte_parts(byte);
+            of_four(
+                Part::Quoted(name),
+                Part::Words(words),
+                last,
+                Part::Words(""),
+            )
+        }
+        None => of_two(Part::Quoted(name), Part::Words(space_words(name))),
     }
-    push_quoted(words, name)?;
+}
+
+/// That a name has so many bytes, which are too many.
+fn length_hint<'t>(name: &'t str, most: usize) -> Hint<'t> {
+    of_six([
+        Part::Quoted(name),
+        Part::Words(" has "),
+        Part::Count(name.len()),
+        Part::Words(" bytes, "),
+        Part::Count(most),
+        Part::Words(" are the most"),
+    ])
+}
+
+/// What is wrong with the shape of a name.
+pub(crate) fn shape_hint<'t>(named: Named, name: &'t str) -> Hint<'t> {
+    if name.is_empty() {
+        return of_words("it is empty");
+    }
     let most = named.most();
     if name.len() > most {
-        write!(words, " has {} bytes, {most} are the most", name.len())
+        length_hint(name, most)
     } else {
-        push_spelling(words, named, name)
+        spelling_hint(named, name)
     }
 }
 
-/// Adds that an earlier option or voter has the name too, which has this place.
-fn push_earlier(words: &mut String, named: Named, place: usize) -> Result<(), AllocError> {
-    match named {
-        Named::Voter => write!(words, " stands at position {place} too"),
-        Named::Poll | Named::Option => write!(words, " is option {} too", place.saturating_add(1)),
-    }
+/// That a name is also that of an earlier option or voter, which has this place.
+pub(crate) fn double_hint<'t>(named: Named, name: &'t str, place: usize) -> Hint<'t> {
+    let (words, number) = match named {
+        Named::Voter => (" stands at position ", place),
+        Named::Poll | Named::Option => (" is option ", place.saturating_add(1)),
+    };
+    of_four(
+        Part::Quoted(name),
+        Part::Words(words),
+        Part::Count(number),
+        Part::Words(" too"),
+    )
 }
 
-/// Adds that a name is also that of an earlier option or voter, which has this place.
-fn push_double(
-    words: &mut String,
-    named: Named,
-    name: &str,
-    place: usize,
-) -> Result<(), AllocError> {
-    push_quoted(words, name)?;
-    push_earlier(words, named, place)
+/// That a number is not from the first of its limits to the second.
+pub(crate) fn range_hint<'t>(number: i64, low: u32, high: u32) -> Hint<'t> {
+    of_six([
+        Part::Number(number),
+        Part::Words(" is not from "),
+        Part::Number(i64::from(low)),
+        Part::Words(" to "),
+        Part::Number(i64::from(high)),
+        Part::Words(""),
+    ])
 }
 
-/// Adds that a number is not within its limits.
-fn push_range(words: &mut String, number: i64, low: u32, high: u32) -> Result<(), AllocError> {
-    write!(words, "{number} is not from {low} to {high}")
-}
-
-/// Adds that there are too few options but the default, or too many.
-fn push_number_of_options(words: &mut String, options: usize) -> Result<(), AllocError> {
+/// That there are so many options but the default, which is too few or too many.
+pub(crate) fn options_hint<'t>(options: usize) -> Hint<'t> {
     let count = options.saturating_add(1);
     if count < 2 {
-        words.push_str("the default alone, 2 are the least")
+        of_words("the default alone, 2 are the least")
     } else {
-        write!(
-            words,
-            "{count} with the default, {MAX_OPTIONS} are the most"
-        )
+        too_many(count, " with the default, ", MAX_OPTIONS)
     }
 }
 
-/// Adds that there are too few electors, or too many.
-fn push_number_of_names(words: &mut String, electors: usize) -> Result<(), AllocError> {
+/// That the roll has so many names, which is too few or too many.
+pub(crate) fn roll_hint<'t>(electors: usize) -> Hint<'t> {
     if electors == 0 {
-        words.push_str("no name, 1 is the least")
+        of_words("no name, 1 is the least")
     } else {
-        write!(words, "{electors} names, {MAX_ELECTORS} are the most")
+        too_many(electors, " names, ", MAX_ELECTORS)
     }
 }
 
-/// Adds that a text is neither wording.
-fn push_no_wording(words: &mut String, text: &str) -> Result<(), AllocError> {
-    push_quoted(words, text)?;
-    words.push_str(" is neither at_least nor more_than")
+/// That there are not so many ratios as options but the default.
+pub(crate) fn ratio_count_hint<'t>(ratios: usize, options: usize) -> Hint<'t> {
+    of_four(
+        Part::Count(ratios),
+        Part::Words(" ratios for "),
+        Part::Count(options),
+        Part::Words(" options"),
+    )
 }
 
-/// Adds what is wrong with the ratios of so many options: their number, or the first that is out of its limits.
-fn push_bad_ratios(words: &mut String, ratios: &[i64], options: usize) -> Result<(), AllocError> {
-    let count = ratios.len();
-    if count != options {
-        return write!(words, "{count} ratios for {options} options");
-    }
-    let most = u32::from(MAX_RATIO);
-    for ratio in ratios {
-        if *ratio < 1 || *ratio > i64::from(most) {
-            return push_range(words, *ratio, 1, most);
-        }
-    }
-    Ok(())
+/// That a text is neither wording.
+pub(crate) fn no_wording_hint<'t>(text: &'t str) -> Hint<'t> {
+    of_two(
+        Part::Quoted(text),
+        Part::Words(" is neither at_least nor more_than"),
+    )
 }
 
 /// What a value is.
@@ -202,78 +258,106 @@ fn is_wrong_entry(key: PollKey, entry: &Value) -> bool {
     }
 }
 
-/// Adds that the list at a key has this entry at a place, from 0.
-fn push_entry(
-    words: &mut String,
-    key: PollKey,
-    place: usize,
-    entry: &Value,
-) -> Result<(), AllocError> {
-    let kind = kind_words(entry);
-    if key == PollKey::Roll {
-        write!(words, "a list with {kind} at position {place}")
+/// That the list at a key has an entry of this kind at a place, from 0: the number of its option, or its position on the roll.
+fn entry_hint<'t>(key: PollKey, place: usize, kind: &'t str) -> Hint<'t> {
+    let (words, number) = if key == PollKey::Roll {
+        (" at position ", place)
     } else {
-        write!(
-            words,
-            "a list with {kind} at option {}",
-            place.saturating_add(1)
-        )
-    }
+        (" at option ", place.saturating_add(1))
+    };
+    of_four(
+        Part::Words("a list with "),
+        Part::Words(kind),
+        Part::Words(words),
+        Part::Count(number),
+    )
 }
 
-/// Adds what is wrong in the list at a key: its first entry of the wrong kind, by the number of its option or by its position
-/// on the roll.
-fn push_list(words: &mut String, key: PollKey, entries: &[Value]) -> Result<(), AllocError> {
+/// What is wrong in the list at a key: its first entry of the wrong kind.
+fn list_hint<'t>(key: PollKey, entries: &'t [Value]) -> Hint<'t> {
     for (place, entry) in entries.iter().enumerate() {
         if is_wrong_entry(key, entry) {
-            return push_entry(words, key, place, entry);
+            return entry_hint(key, place, kind_words(entry));
         }
     }
-    words.push_str("a list")
+    of_words("a list")
 }
 
-/// Adds what stands at a key in place of what is wanted.
-fn push_kind(words: &mut String, key: PollKey, value: &Value) -> Result<(), AllocError> {
+/// What stands at a key in place of what is wanted.
+pub(crate) fn kind_hint<'t>(key: PollKey, value: &'t Value) -> Hint<'t> {
     match value {
-        Value::Array(entries) => push_list(words, key, entries),
-        other => words.push_str(kind_words(other)),
+        Value::Array(entries) => list_hint(key, entries),
+        other => of_words(kind_words(other)),
     }
 }
 
-/// Adds that a key stands below a table.
-pub(crate) fn push_below(words: &mut String, table: &[u8]) -> Result<(), AllocError> {
-    words.push_str("; it stands below [")?;
-    push_shown(words, table, MAX_SHOWN)?;
-    words.push_str("], and is read above all tables only")
-}
-
-/// Adds that a key is missing, and below which table one of its name stands.
-fn push_missing(words: &mut String, table: Option<&[u8]>) -> Result<(), AllocError> {
-    words.push_str("it is missing")?;
+/// That a key is missing, and below which table one of its name stands, where there is one.
+pub(crate) fn missing_hint<'t>(table: Option<&'t [u8]>) -> Hint<'t> {
     match table {
-        Some(table) => push_below(words, table),
-        None => Ok(()),
+        Some(table) => of_four(
+            Part::Words("it is missing; it stands below ["),
+            Part::Shown(table),
+            Part::Words("], and is read above all tables only"),
+            Part::Words(""),
+        ),
+        None => of_words("it is missing"),
     }
 }
 
-/// Adds the words of a hint.
-fn push_words(words: &mut String, hint: Hint<'_>) -> Result<(), AllocError> {
-    match hint {
-        Hint::Missing(table) => push_missing(words, table),
-        Hint::Kind(key, value) => push_kind(words, key, value),
-        Hint::Shape(named, name) => push_shape(words, named, name),
-        Hint::Double(named, name, place) => push_double(words, named, name, place),
-        Hint::Range(number, low, high) => push_range(words, number, low, high),
-        Hint::OptionCount(options) => push_number_of_options(words, options),
-        Hint::Ratios(ratios, options) => push_bad_ratios(words, ratios, options),
-        Hint::RollSize(electors) => push_number_of_names(words, electors),
-        Hint::Wording(text) => push_no_wording(words, text),
+/// What is remarked of a key that stands below a table, and is read above all tables.
+pub(crate) fn below_remark<'t>(table: &'t [u8]) -> Hint<'t> {
+    of_four(
+        Part::Words("; it stands below ["),
+        Part::Shown(table),
+        Part::Words("], and is read above all tables only"),
+        Part::Words(""),
+    )
+}
+
+/// What is remarked of a key that is not read: which missing key may be meant, where one is near.
+pub(crate) fn meant_remark<'t>(near: Option<PollKey>) -> Hint<'t> {
+    match near {
+        Some(key) => of_four(
+            Part::Words("; did you mean "),
+            Part::Words(key.name()),
+            Part::Words("?"),
+            Part::Words(""),
+        ),
+        None => of_words(""),
     }
+}
+
+/// Adds a text in quotes, at most so many of its bytes as are shown.
+fn push_quoted(words: &mut String, text: &str) -> Result<(), AllocError> {
+    words.push('"')?;
+    push_shown(words, text.as_bytes(), MAX_SHOWN)?;
+    words.push('"')
+}
+
+/// Adds a part of a hint.
+fn push_part(words: &mut String, part: Part<'_>) -> Result<(), AllocError> {
+    match part {
+        Part::Words(text) => words.push_str(text),
+        Part::Quoted(text) => push_quoted(words, text),
+        Part::Shown(bytes) => push_shown(words, bytes, MAX_SHOWN),
+        Part::Count(number) => write!(words, "{number}"),
+        Part::Number(number) => write!(words, "{number}"),
+        Part::Character(byte) => words.push(byte as char),
+        Part::Digits(byte) => write!(words, "{byte:02X}"),
+    }
+}
+
+/// Adds the parts of a hint.
+fn push_parts(words: &mut String, hint: Hint<'_>) -> Result<(), AllocError> {
+    for part in hint.parts {
+        push_part(words, part)?;
+    }
+    Ok(())
 }
 
 /// The words of a hint.
 pub(crate) fn words_of(alloc: Global, hint: Hint<'_>) -> Result<String, AllocError> {
     let mut words = String::new(alloc);
-    push_words(&mut words, hint)?;
+    push_parts(&mut words, hint)?;
     Ok(words)
 }

@@ -14,7 +14,7 @@ ghost use Rattle.vote_keys.specs.declared.fault.PollFault.TheVariants as fault;
 use crate::MAX_SHOWN;
 use crate::findings::{end_finding, end_line};
 use crate::found::Found;
-use crate::hints::Hint;
+use crate::hints::{Hint, words_of};
 use crate::unread::{UnreadKey, UnreadKeys};
 use std::alloc::{AllocError, Global};
 use toml::Table;
@@ -104,21 +104,27 @@ fn push_key_line(text: &mut String, path: &[u8], remark: &str) -> Result<(), All
 
 /// Adds that a key is not read.
 fn push_unread_key(
+    alloc: Global,
     text: &mut String,
     unread: &UnreadKeys<'_>,
     key: &UnreadKey<'_>,
 ) -> Result<(), AllocError>
     ensures { OnOk result (AddsKeyLine (string_bytes text.old) (string_bytes text.new)) }
 {
-    push_key_line(text, &unread.path_of(key)?, &unread.remark(key)?)
+    let remark = words_of(alloc, unread.remark(alloc, key)?)?;
+    push_key_line(text, key.path().as_bytes(), &remark)
 }
 
 /// The keys that are not read.
-pub(crate) fn push_unread_keys(text: &mut String, unread: &UnreadKeys<'_>) -> Result<(), AllocError>
+pub(crate) fn push_unread_keys(
+    alloc: Global,
+    text: &mut String,
+    unread: &UnreadKeys<'_>,
+) -> Result<(), AllocError>
     ensures { OnOk result (AddsKeyLines (string_bytes text.old) (string_bytes text.new)) }
 {
     for key in unread.keys() {
-        push_unread_key(text, unread, key)?;
+        push_unread_key(alloc, text, unread, key)?;
     }
     Ok(())
 }

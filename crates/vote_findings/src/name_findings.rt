@@ -7,7 +7,7 @@ ghost use Rattle.vote_findings.specs.NameFindings.{bad_name, has_shape};
 ghost use Rattle.vote_poll.specs.PollFaults.{bad_places, fault_unless};
 
 use crate::findings::end_finding;
-use crate::hints::{Hint, Named};
+use crate::hints::{Hint, Named, double_hint, shape_hint};
 use indexmap::IndexSet;
 use std::alloc::{AllocError, Global};
 use vote_poll::{is_option_name, is_voter_name};
@@ -105,10 +105,10 @@ fn judge_name(
     let (is_double, first) = seen;
     let named = list.named();
     if !list.has_shape(name.as_bytes()) {
-        return push_bad_name(alloc, text, list, place, Hint::Shape(named, name));
+        return push_bad_name(alloc, text, list, place, shape_hint(named, name));
     }
     if is_double {
-        return push_bad_name(alloc, text, list, place, Hint::Double(named, name, first));
+        return push_bad_name(alloc, text, list, place, double_hint(named, name, first));
     }
     Ok(())
 }
