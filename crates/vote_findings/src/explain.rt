@@ -2,7 +2,8 @@
 ghost use Rattle.std.specs.Prelude.{◌≡◌, ◌≢◌, ℕ, ◌++◌, List, Ok, Err, IfOk, OnOk, codes, decimal, string_bytes};
 ghost use Rattle.toml.specs.View.{table_view};
 ghost use Rattle.vote_findings.specs.Findings.{AddsFindings, AddsKeyLines, AreFindingsOf, IsSyntaxFinding};
-ghost use Rattle.vote_poll.specs.PollFaults.{faults_in};
+ghost use Rattle.vote_findings.specs.FoundView.{found_view};
+ghost use Rattle.vote_poll.specs.PollFaults.{faults_in, of_contents, of_keys};
 ghost use Rattle.vote_keys.specs.Keys.{Gives, document};
 ghost use Rattle.vote_poll.specs.PollFile.{poll_in, poll_in_table};
 ghost use Rattle.vote_keys.specs.declared.fault.PollFault.TheVariants.{Memory, Syntax};
@@ -64,6 +65,20 @@ fn syntax_finding(alloc: Global, text: &[u8], error: &toml::de::Error) -> Result
     Ok(finding)
 }
 
+/// Adds the findings on the keys that were found in a table, and on what they say.
+fn push_found(
+    alloc: Global,
+    text: &mut String,
+    table: &Table,
+    found: &Found<'_>,
+    unread: &UnreadKeys<'_>,
+) -> Result<(), AllocError>
+    ensures { OnOk result (AddsFindings (of_keys (table_view table.now) (found_view found.now) ++ of_contents (found_view found.now)) (string_bytes text.old) (string_bytes text.new)) }
+{
+    push_keys(alloc, text, table, found, unread)?;
+    push_contents(alloc, text, found)
+}
+
 /// Adds the findings on the keys of a table, and on what they say.
 fn push_faults(
     alloc: Global,
@@ -74,8 +89,7 @@ fn push_faults(
     ensures { OnOk result (AddsFindings (faults_in (Ok (table_view table.now))) (string_bytes text.old) (string_bytes text.new)) }
 {
     let found = Found::of_table(alloc, table)?;
-    push_keys(alloc, text, table, &found, unread)?;
-    push_contents(alloc, text, &found)
+    push_found(alloc, text, table, &found, unread)
 }
 
 /// Adds the findings of a table: its faults, and the keys that are not read.
