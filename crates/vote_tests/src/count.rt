@@ -8,55 +8,42 @@ use std::alloc::{AllocError, Global};
 use std::process::Abort;
 use std::test::Fail;
 use vote_count::{
-    Cause, Chains, Defeats, Matrix, Verdict, Word, outcome, reach, recount, standing_options,
+    Chains, Defeats, Matrix, Verdict, Word, outcome, reach, recount, standing_options,
 };
-use vote_poll::{MAX_ELECTORS, MAX_OPTIONS, Poll, PollFault, Ranks, Reading, read_line};
+use vote_poll::{LineFault, MAX_ELECTORS, MAX_OPTIONS, Poll, Ranks, Reading, read_line};
 
-/// A word with each number below this one, in quotation marks and with a comma behind it.
-fn numbered(alloc: Global, word: &str, numbers: usize) -> Result<String, AllocError> {
-    let mut names = String::new(alloc);
-    for number in 0..numbers {
-        let name = format!(in alloc; "\"{word}{number}\", ")?;
-        names.push_str(name.as_str())?;
-    }
-    Ok(names)
-}
+/// A poll of three options and the default, with a quorum of three and nine electors.
+const THREE_OPTIONS: &str =
+    "title = \"Three\"\noptions = [\"A\", \"B\", \"C\"]\nratios = [1, 1, 1]\ndefault = \"None\"\nquorum = 3\nroll = [\"v0\", \"v1\", \"v2\", \"v3\", \"v4\", \"v5\", \"v6\", \"v7\", \"v8\"]\n";
 
-/// The text of a poll of these options and the default, each with ratio 1, and so many electors.
-fn text_of(alloc: Global, options: u8, quorum: u8, electors: usize) -> Result<String, AllocError> {
-    let names = numbered(alloc, "Option ", usize::from(options))?;
-    let ratios = "1, ".repeat(alloc, usize::from(options))?;
-    let roll = numbered(alloc, "v", electors)?;
-    format!(in alloc;
-        "title = \"Test\"\noptions = [{names}]\nratios = [{ratios}]\ndefault = \"None\"\nquorum = {quorum}\nroll = [{roll}]\n"
-    )
-}
+/// A poll of four options and the default.
+const FOUR_OPTIONS: &str =
+    "title = \"Four\"\noptions = [\"A\", \"B\", \"C\", \"D\"]\nratios = [1, 1, 1, 1]\ndefault = \"None\"\nquorum = 0\nroll = [\"v0\", \"v1\", \"v2\", \"v3\", \"v4\", \"v5\", \"v6\", \"v7\", \"v8\", \"v9\", \"v10\", \"v11\", \"v12\"]\n";
 
-/// The poll of such a text.
-fn poll(alloc: Global, options: u8, quorum: u8, electors: usize) -> Result<Poll, Fail> {
-    let text = text_of(alloc, options, quorum, electors)?;
-    match Poll::from_text(alloc, text.as_bytes()) {
-        Ok(poll) => Ok(poll),
-        Err(PollFault::Memory) => Err(Fail::from("refused")),
-        Err(fault) => Err(Fail::from(fault)),
-    }
-}
+/// A poll of 31 options and the default.
+const MOST_OPTIONS: &str =
+    "title = \"Most\"\noptions = [\"A\", \"B\", \"C\", \"D\", \"E\", \"F\", \"G\", \"H\", \"I\", \"J\", \"K\", \"L\", \"M\", \"N\", \"O\", \"P\", \"Q\", \"R\", \"S\", \"T\", \"U\", \"V\", \"W\", \"X\", \"Y\", \"Z\", \"1\", \"2\", \"3\", \"4\", \"5\"]\nratios = [1, 1, 1, 1, 1, 1, 1, 1, 1, 1, 1, 1, 1, 1, 1, 1, 1, 1, 1, 1, 1, 1, 1, 1, 1, 1, 1, 1, 1, 1, 1]\ndefault = \"None\"\nquorum = 0\nroll = [\"v0\"]\n";
 
 /// The ranks of a line.
-fn ranks(poll: &Poll, line: &str) -> Result<Ranks, Fail>
+fn ranks(poll: &Poll, line: &str) -> Result<Ranks, LineFault>
     ensures { IfOk result (λ ranks. length ranks ≡ option_count poll.now) }
 {
     match read_line(poll, line.as_bytes()) {
         Reading::Ballot { voter: _, ranks } => Ok(ranks),
-        Reading::Bad(_) => Err(Fail::from("not a ballot")),
+        Reading::Bad(fault) => Err(fault),
     }
 }
 
-/// The ballot of a line.
-fn ballot(poll: &Poll, line: &str) -> Result<Option<Ranks>, Fail>
-    ensures { IfOk result (IsBallotOf (option_count poll.now)) }
+/// Adds the ballots of these lines.
+fn push_ballots(poll: &Poll, lines: &[&str], ballots: &mut Vec<Option<Ranks>>) -> Result<(), Fail>
+    requires { All (IsBallotOf (option_count poll.now)) ballots.old.items }
+    ensures { All (IsBallotOf (option_count poll.now)) ballots.new.items }
 {
-    Ok(Some(ranks(poll, line)?))
+    for line in lines {
+        let ranks = ranks(poll, line)?;
+        ballots.push(Some(ranks))?;
+    }
+    Ok(())
 }
 
 /// The matrix of ballots, of which there can be as many as electors.
@@ -70,73 +57,27 @@ fn recounted(poll: &Poll, ballots: &[Option<Ranks>]) -> Result<Matrix, Fail>
     Ok(recount(poll.options(), ballots))
 }
 
-/// The matrix of the ballots of these lines, each as often as the number beside it says.
-fn count(alloc: Global, poll: &Poll, lines: &[(usize, &str)]) -> Result<Matrix, Fail>
+/// The matrix of the ballots of these lines.
+fn count(alloc: Global, poll: &Poll, lines: &[&str]) -> Result<Matrix, Fail>
     ensures { IfOk result (λ matrix. matrix.options ≡ option_count poll.now) }
 {
     let mut ballots = Vec::new(alloc);
-    for (number, line) in lines {
-        for _ in 0..*number {
-            ballots.push(ballot(poll, line)?)?;
-        }
-    }
+    push_ballots(poll, lines, &mut ballots)?;
     recounted(poll, &ballots)
 }
 
-/// The line of a ballot that ranks `a` and next `b`, all others before or behind them, and the
-/// default last.
-fn line(alloc: Global, options: u8, a: u8, b: u8, others_first: bool) -> Result<String, AllocError>
-    requires { options ≤ MAX_OPTIONS }
-{
-    let mut line = String::from_str(alloc, "v0 ")?;
-    for option in 1..options {
-        let rank = if option == a {
-            40
-        } else if option == b {
-            41
-        } else if others_first {
-            39 - option
-        } else {
-            50 + option
-        };
-        let text = format!(in alloc; "{rank},")?;
-        line.push_str(text.as_str())?;
-    }
-    line.push_str("99")?;
-    Ok(line)
-}
-
-/// The ballot of such a line.
-fn ballot_of(
-    alloc: Global,
-    poll: &Poll,
-    a: u8,
-    b: u8,
-    others_first: bool,
-) -> Result<Option<Ranks>, Fail>
-    ensures { IfOk result (IsBallotOf (option_count poll.now)) }
-{
-    let line = line(alloc, poll.options(), a, b, others_first)?;
-    ballot(poll, line.as_str())
-}
-
-/// Two ballots that prefer `a` to `b`, and one of them alone each other option to a further one.
-fn prefer(
-    alloc: Global,
-    poll: &Poll,
-    a: u8,
-    b: u8,
-    ballots: &mut Vec<Option<Ranks>>,
-) -> Result<(), Fail>
-    requires { All (IsBallotOf (option_count poll.now)) ballots.old.items }
-    ensures { All (IsBallotOf (option_count poll.now)) ballots.new.items }
-{
-    ballots.push(ballot_of(alloc, poll, a, b, false)?)?;
-    ballots.push(ballot_of(alloc, poll, a, b, true)?)?;
-    Ok(())
-}
-
-const CYCLE: &[(usize, &str)] = &[(4, "v0 1,2,3,4"), (3, "v0 3,1,2,4"), (2, "v0 2,3,1,4")];
+/// Nine ballots, of three kinds.
+const CYCLE: &[&str] = &[
+    "v0 1,2,3,4",
+    "v0 1,2,3,4",
+    "v0 1,2,3,4",
+    "v0 1,2,3,4",
+    "v0 3,1,2,4",
+    "v0 3,1,2,4",
+    "v0 3,1,2,4",
+    "v0 2,3,1,4",
+    "v0 2,3,1,4",
+];
 
 /// The defeats of a count that drops no option.
 fn kept_defeats(poll: &Poll, matrix: &Matrix) -> Result<Defeats, Fail>
@@ -149,21 +90,21 @@ fn kept_defeats(poll: &Poll, matrix: &Matrix) -> Result<Defeats, Fail>
     Ok(Defeats::of(&standing, matrix))
 }
 
-/// Whether the three options have this cause, and the default has none.
-fn have_cause(verdict: &Verdict, cause: Option<Cause>) -> bool {
-    verdict.dropped(1) == cause
-        && verdict.dropped(2) == cause
-        && verdict.dropped(3) == cause
-        && verdict.dropped(4).is_none()
+/// Whether none of three options and the default is dropped.
+fn are_kept(verdict: &Verdict) -> bool {
+    let causes = [
+        verdict.dropped(1),
+        verdict.dropped(2),
+        verdict.dropped(3),
+        verdict.dropped(4),
+    ];
+    causes == [None; 4]
 }
 
-/// Whether the first round removes these defeats and no other.
-fn removes(verdict: &Verdict, pairs: &[(u8, u8)]) -> bool {
+/// Whether the first round removes this defeat and no other.
+fn removes(verdict: &Verdict, a: u8, b: u8) -> bool {
     match verdict.rounds().first() {
-        Some(round) => {
-            round.removed.len() == pairs.len()
-                && pairs.iter().all(|(a, b)| round.removed.has(*a, *b))
-        }
+        Some(round) => round.removed.len() == 1 && round.removed.has(a, b),
         None => false,
     }
 }
@@ -172,8 +113,8 @@ fn removes(verdict: &Verdict, pairs: &[(u8, u8)]) -> bool {
 fn is_verdict_of_three(verdict: &Verdict) -> bool {
     let set = verdict.final_set();
     verdict.rounds().len() == 2
-        && have_cause(verdict, None)
-        && removes(verdict, &[(3, 1)])
+        && are_kept(verdict)
+        && removes(verdict, 3, 1)
         && set.has(1)
         && set.len() == 1
 }
@@ -201,7 +142,7 @@ fn outcome_by(alloc: Global, poll: &Poll) -> Result<Result<Verdict, AllocError>,
 
 /// The outcome of the cycle.
 fn outcome_of_cycle(alloc: Global) -> Result<Result<Verdict, AllocError>, Fail> {
-    let poll = poll(alloc, 3, 3, 9)?;
+    let poll = Poll::from_text(alloc, THREE_OPTIONS.as_bytes())?;
     outcome_by(alloc, &poll)
 }
 
@@ -219,23 +160,53 @@ fn memory_of_outcome(rt: HostRuntime) -> Result<(), Fail> {
 
 const PAIRS: [(u8, u8); 6] = [(1, 2), (1, 3), (1, 4), (2, 3), (2, 4), (3, 4)];
 
-/// Ballots by which each of the six pairs of four options is a defeat one way, the other way, or
-/// none: the digits of `relation` to the base 3 say which.
-fn ballots_of(alloc: Global, poll: &Poll, relation: u16) -> Result<Vec<Option<Ranks>>, Fail>
-    ensures { IfOk result (λ ballots. All (IsBallotOf (option_count poll.now)) ballots.items) }
+/// The lines by which the two options of each pair are alike, the first is preferred, or the second. Of two lines both prefer the
+/// one to the other, and one of them alone each other option to a further one.
+const LINES_OF_PAIRS: [[&[&str]; 3]; 6] = [
+    [
+        &[],
+        &["v0 1,2,3,4,5", "v0 3,4,2,1,5"],
+        &["v0 2,1,3,4,5", "v0 4,3,2,1,5"],
+    ],
+    [
+        &[],
+        &["v0 1,3,2,4,5", "v0 3,2,4,1,5"],
+        &["v0 2,3,1,4,5", "v0 4,2,3,1,5"],
+    ],
+    [
+        &[],
+        &["v0 1,3,4,2,5", "v0 3,2,1,4,5"],
+        &["v0 2,3,4,1,5", "v0 4,2,1,3,5"],
+    ],
+    [
+        &[],
+        &["v0 3,1,2,4,5", "v0 2,3,4,1,5"],
+        &["v0 3,2,1,4,5", "v0 2,4,3,1,5"],
+    ],
+    [
+        &[],
+        &["v0 3,1,4,2,5", "v0 2,3,1,4,5"],
+        &["v0 3,2,4,1,5", "v0 2,4,1,3,5"],
+    ],
+    [
+        &[],
+        &["v0 3,4,1,2,5", "v0 2,1,3,4,5"],
+        &["v0 3,4,2,1,5", "v0 2,1,4,3,5"],
+    ],
+];
+
+/// Adds ballots by which each of the six pairs of four options is a defeat one way, the other way, or none: the digits of
+/// `relation` to the base 3 say which.
+fn push_relation(poll: &Poll, relation: u16, ballots: &mut Vec<Option<Ranks>>) -> Result<(), Fail>
+    requires { All (IsBallotOf (option_count poll.now)) ballots.old.items }
+    ensures { All (IsBallotOf (option_count poll.now)) ballots.new.items }
 {
-    let mut ballots = vec![in alloc; ballot(poll, "v0 1,1,1,1,2")?]?;
     let mut rest = relation;
-    for (a, b) in PAIRS {
-        if rest % 3 == 1 {
-            prefer(alloc, poll, a, b, &mut ballots)?;
-        }
-        if rest % 3 == 2 {
-            prefer(alloc, poll, b, a, &mut ballots)?;
-        }
+    for lines in LINES_OF_PAIRS {
+        push_ballots(poll, lines[usize::from(rest % 3)], ballots)?;
         rest /= 3;
     }
-    Ok(ballots)
+    push_ballots(poll, &["v0 1,1,1,1,2"], ballots)
 }
 
 /// Whether the defeats among the four options are those of `relation`.
@@ -250,42 +221,47 @@ fn is_relation(defeats: &Defeats, relation: u16) -> bool {
     true
 }
 
-fn has_pair(pairs: &[(u8, u8)], a: u8, c: u8) -> bool {
-    pairs.iter().any(|pair| pair.0 == a && pair.1 == c)
+/// Adds a pair of the first option and each that the second defeats, up to the last one, that is not there yet.
+fn push_pairs(
+    defeats: &Defeats,
+    first: u8,
+    second: u8,
+    last: u8,
+    pairs: &mut Vec<(u8, u8)>,
+) -> Result<(), AllocError>
+    requires { last ≤ MAX_OPTIONS }
+{
+    for c in 0..last {
+        let pair = (first, c + 1);
+        if defeats.has(second, c + 1) && !pairs.contains(&pair) {
+            pairs.push(pair)?;
+        }
+    }
+    Ok(())
 }
 
 /// The transitive defeats among the options up to the last one by a plain form, a list of pairs: for each pair that was found and
 /// each defeat by its second option, the pair of both ends is found too.
-fn reach_by_pairs(alloc: Global, defeats: &Defeats, last: u8) -> Result<Vec<(u8, u8)>, AllocError>
+fn reach_by_pairs(defeats: &Defeats, last: u8, pairs: &mut Vec<(u8, u8)>) -> Result<(), AllocError>
     requires { last ≤ MAX_OPTIONS }
 {
-    let mut pairs = Vec::new(alloc);
     for a in 0..last {
-        for b in 0..last {
-            if defeats.has(a + 1, b + 1) {
-                pairs.push((a + 1, b + 1))?;
-            }
-        }
+        push_pairs(defeats, a + 1, a + 1, last, pairs)?;
     }
     for next in 0..usize::from(last) * usize::from(last) {
-        if next >= pairs.len() {
-            return Ok(pairs);
-        }
-        let (a, b) = pairs[next];
-        for c in 0..last {
-            if defeats.has(b, c + 1) && !has_pair(&pairs, a, c + 1) {
-                pairs.push((a, c + 1))?;
-            }
+        if next < pairs.len() {
+            let (a, b) = pairs[next];
+            push_pairs(defeats, a, b, last, pairs)?;
         }
     }
-    Ok(pairs)
+    Ok(())
 }
 
 /// Whether the chains are just these pairs, up to the last option.
 fn are_pairs(chains: &Chains, pairs: &[(u8, u8)], last: u8) -> bool {
     for a in 1..=last {
         for c in 1..=last {
-            if chains.has(a, c) != has_pair(pairs, a, c) {
+            if chains.has(a, c) != pairs.contains(&(a, c)) {
                 return false;
             }
         }
@@ -295,7 +271,8 @@ fn are_pairs(chains: &Chains, pairs: &[(u8, u8)], last: u8) -> bool {
 
 /// The defeats of the ballots for a relation.
 fn defeats_of(alloc: Global, poll: &Poll, relation: u16) -> Result<Defeats, Fail> {
-    let ballots = ballots_of(alloc, poll, relation)?;
+    let mut ballots = Vec::new(alloc);
+    push_relation(poll, relation, &mut ballots)?;
     let matrix = recounted(poll, &ballots)?;
     kept_defeats(poll, &matrix)
 }
@@ -304,7 +281,8 @@ fn defeats_of(alloc: Global, poll: &Poll, relation: u16) -> Result<Defeats, Fail
 fn is_like_plain(alloc: Global, defeats: &Defeats, last: u8) -> Result<bool, AllocError>
     requires { last ≤ MAX_OPTIONS }
 {
-    let plain = reach_by_pairs(alloc, defeats, last)?;
+    let mut plain = Vec::new(alloc);
+    reach_by_pairs(defeats, last, &mut plain)?;
     Ok(are_pairs(&reach(defeats), &plain, last))
 }
 
@@ -326,15 +304,14 @@ fn assert_agreement(rt: &impl Abort, alloc: Global, poll: &Poll) -> Result<(), F
 
 #[test]
 fn both_forms_of_reach_agree(rt: HostRuntime) -> Result<(), Fail> {
-    let poll = poll(rt.alloc(), 4, 0, 13)?;
+    let poll = Poll::from_text(rt.alloc(), FOUR_OPTIONS.as_bytes())?;
     assert_agreement(&rt, rt.alloc(), &poll)
 }
 
 /// A ballot that ranks the first of 31 options first, the others alike, and the default last.
-const FIRST_OF_31: &[(usize, &str)] = &[(
-    1,
+const FIRST_OF_31: &[&str] = &[
     "v0 1,2,2,2,2,2,2,2,2,2,2,2,2,2,2,2,2,2,2,2,2,2,2,2,2,2,2,2,2,2,2,3",
-)];
+];
 
 /// The rows of the first, the second and the last of 32 options by the defeats of this ballot.
 fn rows_of_32(alloc: Global, poll: &Poll) -> Result<(Word, Word, Word), Fail> {
@@ -345,7 +322,7 @@ fn rows_of_32(alloc: Global, poll: &Poll) -> Result<(Word, Word, Word), Fail> {
 
 /// The same by a poll of 31 options.
 fn rows_by_poll(alloc: Global) -> Result<(Word, Word, Word), Fail> {
-    let poll = poll(alloc, 31, 0, 1)?;
+    let poll = Poll::from_text(alloc, MOST_OPTIONS.as_bytes())?;
     rows_of_32(alloc, &poll)
 }
 
@@ -415,9 +392,9 @@ fn compared_lines(poll: &Poll) -> Result<(bool, bool, bool), Fail> {
     compared(poll, &first, &second, &third)
 }
 
-/// The same by a poll of three options.
+/// The same by the poll of three options.
 fn compared_by_poll(alloc: Global) -> Result<(bool, bool, bool), Fail> {
-    let poll = poll(alloc, 3, 0, 2)?;
+    let poll = Poll::from_text(alloc, THREE_OPTIONS.as_bytes())?;
     compared_lines(&poll)
 }
 
