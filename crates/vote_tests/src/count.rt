@@ -143,7 +143,9 @@ fn outcome_by(alloc: Global, poll: &Poll) -> Result<Result<Verdict, AllocError>,
 /// The outcome of the cycle.
 fn outcome_of_cycle(alloc: Global) -> Result<Result<Verdict, AllocError>, Fail> {
     let poll = Poll::from_text(alloc, THREE_OPTIONS.as_bytes())?;
-    outcome_by(alloc, &poll)
+    let outcome = outcome_by(alloc, &poll);
+    drop(poll);
+    outcome
 }
 
 /// Where a growth is refused, the call says so, or gives the right answer.
@@ -152,6 +154,7 @@ fn memory_of_outcome(rt: HostRuntime) -> Result<(), Fail> {
     match outcome_of_cycle(rt.alloc())? {
         Ok(verdict) => {
             assert!(rt; is_verdict_of_three(&verdict));
+            drop(verdict);
             Ok(())
         }
         Err(AllocError) => Err(Fail::from("refused")),
@@ -195,6 +198,13 @@ const LINES_OF_PAIRS: [[&[&str]; 3]; 6] = [
     ],
 ];
 
+/// The lines by which two options are a defeat one way, the other way, or none, as the last digit of `relation` to the base 3 says.
+fn lines_of(pair: usize, relation: u16) -> &'static [&'static str]
+    requires { pair < 6 }
+{
+    LINES_OF_PAIRS[pair][usize::from(relation % 3)]
+}
+
 /// Adds ballots by which each of the six pairs of four options is a defeat one way, the other way, or none: the digits of
 /// `relation` to the base 3 say which.
 fn push_relation(poll: &Poll, relation: u16, ballots: &mut Vec<Option<Ranks>>) -> Result<(), Fail>
@@ -202,8 +212,8 @@ fn push_relation(poll: &Poll, relation: u16, ballots: &mut Vec<Option<Ranks>>) -
     ensures { All (IsBallotOf (option_count poll.now)) ballots.new.items }
 {
     let mut rest = relation;
-    for lines in LINES_OF_PAIRS {
-        push_ballots(poll, lines[usize::from(rest % 3)], ballots)?;
+    for pair in 0..6 {
+        push_ballots(poll, lines_of(pair, rest), ballots)?;
         rest /= 3;
     }
     push_ballots(poll, &["v0 1,1,1,1,2"], ballots)
@@ -305,7 +315,9 @@ fn assert_agreement(rt: &impl Abort, alloc: Global, poll: &Poll) -> Result<(), F
 #[test]
 fn both_forms_of_reach_agree(rt: HostRuntime) -> Result<(), Fail> {
     let poll = Poll::from_text(rt.alloc(), FOUR_OPTIONS.as_bytes())?;
-    assert_agreement(&rt, rt.alloc(), &poll)
+    let asserted = assert_agreement(&rt, rt.alloc(), &poll);
+    drop(poll);
+    asserted
 }
 
 /// A ballot that ranks the first of 31 options first, the others alike, and the default last.
@@ -323,7 +335,9 @@ fn rows_of_32(alloc: Global, poll: &Poll) -> Result<(Word, Word, Word), Fail> {
 /// The same by a poll of 31 options.
 fn rows_by_poll(alloc: Global) -> Result<(Word, Word, Word), Fail> {
     let poll = Poll::from_text(alloc, MOST_OPTIONS.as_bytes())?;
-    rows_of_32(alloc, &poll)
+    let rows = rows_of_32(alloc, &poll);
+    drop(poll);
+    rows
 }
 
 #[test]
@@ -337,7 +351,9 @@ fn rows_as_words(rt: HostRuntime) -> Result<(), Fail> {
 fn words_of_cycle(alloc: Global) -> Result<((usize, [Word; 4]), (usize, [Word; 4])), Fail> {
     let verdict = outcome_of_cycle(alloc)??;
     let left = left_by_first_round(&verdict);
-    Ok((words_of_four(&verdict.defeats()), words_of_four(&left)))
+    let words = (words_of_four(&verdict.defeats()), words_of_four(&left));
+    drop(verdict);
+    Ok(words)
 }
 
 #[test]
@@ -395,7 +411,9 @@ fn compared_lines(poll: &Poll) -> Result<(bool, bool, bool), Fail> {
 /// The same by the poll of three options.
 fn compared_by_poll(alloc: Global) -> Result<(bool, bool, bool), Fail> {
     let poll = Poll::from_text(alloc, THREE_OPTIONS.as_bytes())?;
-    compared_lines(&poll)
+    let found = compared_lines(&poll);
+    drop(poll);
+    found
 }
 
 #[test]

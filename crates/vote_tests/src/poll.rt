@@ -21,11 +21,10 @@ fn read_small(
     line: &[u8],
 ) -> Result<(Option<u8>, Option<usize>, Reading), PollFault> {
     let poll = Poll::from_text(alloc, SMALL.as_bytes())?;
-    Ok((
-        poll.option_of(name),
-        poll.voter_of(name),
-        read_line(&poll, line),
-    ))
+    let (option, voter) = (poll.option_of(name), poll.voter_of(name));
+    let reading = read_line(&poll, line);
+    drop(poll);
+    Ok((option, voter, reading))
 }
 
 /// The option of this name in the small poll, and the voter.
@@ -93,6 +92,7 @@ fn memory_of_from_text(rt: HostRuntime) -> Result<(), Fail> {
     match Poll::from_text(rt.alloc(), SMALL.as_bytes()) {
         Ok(poll) => {
             assert_numbers(&rt, &poll);
+            drop(poll);
             Ok(())
         }
         Err(fault) => {
@@ -137,6 +137,7 @@ fn memory_of_split(rt: HostRuntime) -> Result<(), Fail> {
     match Lines::split(rt.alloc(), b"a\n\nb") {
         Ok(lines) => {
             assert_three_lines(&rt, &lines);
+            drop(lines);
             Ok(())
         }
         Err(fault) => {

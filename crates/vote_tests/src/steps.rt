@@ -207,7 +207,9 @@ fn played_by(
 {
     let mut ballot_box = BallotBox::new(alloc, 3, 2, limit, last)?;
     assert!(rt; is_new(&ballot_box, limit, last));
-    Ok(play_to(rt, &mut ballot_box, poll, acts, totals, votes))
+    let steps = play_to(rt, &mut ballot_box, poll, acts, totals, votes);
+    drop(ballot_box);
+    Ok(steps)
 }
 
 // Does what is listed at a new box of two electors with the stamps 1 to `limit`, of which those above `last` are late. Looks at
@@ -224,7 +226,9 @@ fn played(
     requires { (limit ≤ MAX_LINES) × (last ≤ MAX_LINES) }
 {
     let poll = poll_of(rt, alloc, TWO_ELECTORS)?;
-    played_by(rt, alloc, &poll, limit, last, acts, totals, votes)
+    let steps = played_by(rt, alloc, &poll, limit, last, acts, totals, votes);
+    drop(poll);
+    steps
 }
 
 // A recast in two orders.
@@ -306,6 +310,20 @@ fn reply_counts(ballot_box: &BallotBox) -> [usize; 4] {
 }
 
 // Casts a hundred envelopes in one of the orders, looks at the totals and the votes, and answers how often each reply came.
+fn replies_by(
+    rt: &impl Abort,
+    alloc: Global,
+    ballot_box: &mut BallotBox,
+    poll: &Poll,
+    order: usize,
+) -> Result<[usize; 4], AllocError> {
+    cast_hundred(rt, alloc, ballot_box, poll, order)?;
+    let votes = [[0, 5, 10], [5, 0, 10], [0, 0, 0]];
+    look(rt, ballot_box, [95, 5, 10], votes);
+    Ok(reply_counts(ballot_box))
+}
+
+// The same at a new box of the size of the poll of ten electors.
 fn replies_to_hundred(
     rt: &impl Abort,
     alloc: Global,
@@ -313,10 +331,9 @@ fn replies_to_hundred(
     order: usize,
 ) -> Result<[usize; 4], AllocError> {
     let mut ballot_box = BallotBox::new(alloc, 3, 10, 100, 100_000)?;
-    cast_hundred(rt, alloc, &mut ballot_box, poll, order)?;
-    let votes = [[0, 5, 10], [5, 0, 10], [0, 0, 0]];
-    look(rt, &ballot_box, [95, 5, 10], votes);
-    Ok(reply_counts(&ballot_box))
+    let replies = replies_by(rt, alloc, &mut ballot_box, poll, order);
+    drop(ballot_box);
+    replies
 }
 
 // The orders, and how often each reply comes.
@@ -338,6 +355,7 @@ fn assert_orders(rt: &impl Abort, alloc: Global, poll: &Poll) {
 fn a_hundred_envelopes_in_three_orders(rt: HostRuntime) -> Result<(), Fail> {
     let poll = poll_of(&rt, rt.alloc(), TEN_ELECTORS)?;
     assert_orders(&rt, rt.alloc(), &poll);
+    drop(poll);
     Ok(())
 }
 
@@ -398,7 +416,9 @@ fn all_cast_by(
 // The box in which one desk cast the lines of a text.
 fn all_cast(rt: &impl Abort, alloc: Global, text: &str) -> Result<BallotBox, AllocError> {
     let poll = poll_of(rt, alloc, TWO_ELECTORS)?;
-    all_cast_by(rt, alloc, &poll, text)
+    let ballot_box = all_cast_by(rt, alloc, &poll, text);
+    drop(poll);
+    ballot_box
 }
 
 // Asserts what a closed box holds after a vote of each elector and a recast.
@@ -415,6 +435,7 @@ fn memory_of_cast_all(rt: HostRuntime) -> Result<(), Fail> {
     match all_cast(&rt, rt.alloc(), "ann 1,2,3\nbob 2,1,3\nann 3,2,1\n") {
         Ok(ballot_box) => {
             assert_three_cast(&rt, &ballot_box);
+            drop(ballot_box);
             Ok(())
         }
         Err(AllocError) => Err(Fail::from("refused")),
