@@ -100,16 +100,15 @@ fn one_place_more_than_the_most_is_too_many(rt: HostRuntime) {
     assert_same(&rt, (more, most), (Some(TrayFault::TooMany), None));
 }
 
-// How many passes a tray with three places has for two, and whether the first gets the first place and the other loses it.
-fn tried_by_two(alloc: Global) -> Result<(usize, bool), TrayFault> {
-    let (tray, passes) = Tray::new(alloc, 3, 2)?;
+// How many passes a tray with three places has for two, and what it answers to a try of the first and of the second.
+fn tried_by_two(alloc: Global) -> Result<(usize, (Take, Take)), TrayFault> {
+    let (tray, mut passes) = Tray::new(alloc, 3, 2)?;
     let number = passes.len();
-    let mut is_right = true;
-    for mut pass in passes {
-        let tried = tray.try_take(&mut pass);
-        is_right = is_right && matches!(tried, Take::Got(0) | Take::Lost(1));
-    }
-    Ok((number, is_right))
+    let mut second = passes.pop().unwrap();
+    let mut first = passes.pop().unwrap();
+    let tried = (tray.try_take(&mut first), tray.try_take(&mut second));
+    drop(tray);
+    Ok((number, tried))
 }
 
 /// For the walk over refused growths, `tests/refused-memory`: an answer of the table, or no test that passes.
@@ -117,7 +116,7 @@ fn tried_by_two(alloc: Global) -> Result<(usize, bool), TrayFault> {
 fn memory_of_new(rt: HostRuntime) -> Result<(), Fail> {
     match tried_by_two(rt.alloc()) {
         Ok(found) => {
-            assert_same(&rt, found, (2, true));
+            assert_same(&rt, found, (2, (Take::Got(0), Take::Lost(1))));
             Ok(())
         }
         Err(fault) => {
