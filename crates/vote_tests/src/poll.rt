@@ -48,10 +48,10 @@ fn names_that_are_no_text(rt: HostRuntime) {
 fn assert_ballot(rt: &impl Abort, voter: usize, ranks: &Ranks) {
     assert!(rt; ranks.options() == 3);
     let read = [ranks.rank(1), ranks.rank(2), ranks.rank(3)];
-    assert_same(rt, (voter, read), (10, [Some(10), None, Some(9)]));
     let keys = ranks.sort_keys();
     let keys = [keys[0], keys[1], keys[2], keys[3]];
-    assert_same(rt, keys, [10, UNRANKED, 9, 0]);
+    let right = (10, [Some(10), None, Some(9)], [10, UNRANKED, 9, 0]);
+    assert_same(rt, (voter, read, keys), right);
 }
 
 #[test]
@@ -68,7 +68,7 @@ fn a_ballot_as_read(rt: HostRuntime) -> Result<(), Fail> {
 
 /// Whether a fault is told as a want of memory.
 fn is_told_as_memory<F: Display + Drop>(alloc: Global, fault: F) -> Result<bool, AllocError> {
-    let text = format!(in alloc; "{fault}")?;
+    let text = fault.to_string(alloc)?;
     Ok(text.as_str() == "out of memory")
 }
 
@@ -83,8 +83,9 @@ fn words_of_refused_memory(rt: HostRuntime) {
 fn assert_numbers(rt: &impl Abort, poll: &Poll) {
     let options = (poll.options(), poll.option_of(b"None"));
     let electors = (poll.electors(), poll.voter_of(b"v10"));
-    assert_same(rt, (options, electors), ((3, Some(3)), (11, Some(10))));
-    assert_same(rt, (poll.title(), poll.quorum_multiple()), ("Small", 2));
+    let named = (poll.title(), poll.quorum_multiple());
+    let right = ((3, Some(3)), (11, Some(10)), ("Small", 2));
+    assert_same(rt, (options, electors, named), right);
 }
 
 #[test]

@@ -70,8 +70,8 @@ fn play_one(rt: &impl Abort, ballot_box: &mut BallotBox, poll: &Poll, act: Act<'
             assert_same(rt, (stamp, found), (stamp, answer));
         }
         Act::Close(answer) => {
-            assert_same(rt, ballot_box.close(), answer);
-            assert!(rt; !ballot_box.is_open());
+            let closed = ballot_box.close();
+            assert_same(rt, (closed, ballot_box.is_open()), (answer, false));
         }
     }
 }
@@ -144,7 +144,7 @@ fn cast_hundred(
     for turn in 0..100 {
         let stamp = stamp_at(order, turn);
         let answer = cast_line(rt, ballot_box, poll, stamp, line_of(stamp));
-        assert!(rt; answer.is_ok());
+        assert_same(rt, answer.is_ok(), true);
         assert_recounted(rt, alloc, ballot_box, order, stamp)?;
     }
     Ok(())
@@ -206,7 +206,7 @@ fn played_by(
     requires { (limit ≤ MAX_LINES) × (last ≤ MAX_LINES) }
 {
     let mut ballot_box = BallotBox::new(alloc, 3, 2, limit, last)?;
-    assert!(rt; is_new(&ballot_box, limit, last));
+    assert_same(rt, is_new(&ballot_box, limit, last), true);
     let steps = play_to(rt, &mut ballot_box, poll, acts, totals, votes);
     drop(ballot_box);
     Ok(steps)
@@ -423,10 +423,10 @@ fn all_cast(rt: &impl Abort, alloc: Global, text: &str) -> Result<BallotBox, All
 
 // Asserts what a closed box holds after a vote of each elector and a recast.
 fn assert_three_cast(rt: &impl Abort, ballot_box: &BallotBox) {
-    assert!(rt; !ballot_box.is_open());
     let votes = [[0, 0, 1], [2, 0, 1], [1, 1, 0]];
     look(rt, ballot_box, [3, 0, 2], votes);
-    assert_same(rt, count_of(ballot_box, Reply::Replaced), 1);
+    let replaced = count_of(ballot_box, Reply::Replaced);
+    assert_same(rt, (replaced, ballot_box.is_open()), (1, false));
 }
 
 // One desk casts all lines in their order and closes the box, or is refused for want of memory.
