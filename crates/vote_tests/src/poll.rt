@@ -1,4 +1,4 @@
-use crate::same::assert_same;
+use crate::same::{assert_same, assert_that};
 use std::alloc::{AllocError, Global};
 use std::fmt::Display;
 use std::process::Abort;
@@ -46,7 +46,7 @@ fn names_that_are_no_text(rt: HostRuntime) {
 
 /// Asserts the voter and the ranks of the ballot.
 fn assert_ballot(rt: &impl Abort, voter: usize, ranks: &Ranks) {
-    assert!(rt; ranks.options() == 3);
+    assert_that(rt, ranks.options() == 3);
     let read = [ranks.rank(1), ranks.rank(2), ranks.rank(3)];
     let keys = ranks.sort_keys();
     let keys = [keys[0], keys[1], keys[2], keys[3]];
@@ -125,7 +125,7 @@ fn fault_of_too_many(alloc: Global) -> Result<Option<LinesFault>, AllocError> {
 
 /// Asserts that lines are `a`, an empty one and `b`.
 fn assert_three_lines(rt: &impl Abort, lines: &Lines<'_>) {
-    assert!(rt; lines.len() == 3);
+    assert_that(rt, lines.len() == 3);
     assert_same(rt, lines.line(0), b"a");
     assert_same(rt, lines.line(1), b"");
     assert_same(rt, lines.line(2), b"b");

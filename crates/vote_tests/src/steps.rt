@@ -1,7 +1,7 @@
 //! Worked examples, whose readings are the poll's own.
 ghost use Rattle.std.specs.Prelude.{◌≡◌, ◌<◌, ◌≤◌};
 
-use crate::same::assert_same;
+use crate::same::{assert_same, assert_that};
 use std::alloc::{AllocError, Global};
 use std::process::Abort;
 use std::test::Fail;
@@ -50,8 +50,8 @@ fn cast_line(
     stamp: u32,
     line: &str,
 ) -> Result<Reply, StepFault> {
-    assert!(rt; poll.options() == ballot_box.options());
-    assert!(rt; poll.electors() == ballot_box.electors());
+    assert_that(rt, poll.options() == ballot_box.options());
+    assert_that(rt, poll.electors() == ballot_box.electors());
     ballot_box.cast(1, stamp, read_line(poll, line.as_bytes()))
 }
 
@@ -93,7 +93,7 @@ fn row(matrix: &Matrix, a: u8) -> [u32; 3]
 
 // The votes of each of three options over each.
 fn table(rt: &impl Abort, matrix: &Matrix) -> [[u32; 3]; 3] {
-    assert!(rt; matrix.options() == 3);
+    assert_that(rt, matrix.options() == 3);
     [row(matrix, 1), row(matrix, 2), row(matrix, 3)]
 }
 
