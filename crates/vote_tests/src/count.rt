@@ -8,55 +8,42 @@ use std::alloc::{AllocError, Global};
 use std::process::Abort;
 use std::test::Fail;
 use vote_count::{
-    Cause, Chains, Defeats, Matrix, Verdict, Word, outcome, reach, recount, standing_options,
+    Chains, Defeats, Matrix, Verdict, Word, outcome, reach, recount, standing_options,
 };
-use vote_poll::{MAX_ELECTORS, MAX_OPTIONS, Poll, PollFault, Ranks, Reading, read_line};
+use vote_poll::{LineFault, MAX_ELECTORS, MAX_OPTIONS, Poll, PollFault, Ranks, Reading, read_line};
 
-/// A word with each number below this one, in quotation marks and with a comma behind it.
-fn numbered(alloc: Global, word: &str, numbers: usize) -> Result<String, AllocError> {
-    let mut names = String::new(alloc);
-    for number in 0..numbers {
-        let name = format!(in alloc; "\"{word}{number}\", ")?;
-        names.push_str(name.as_str())?;
-    }
-    Ok(names)
-}
+/// A poll of three options and the default, with a quorum of three and nine electors.
+const THREE_OPTIONS: &str =
+    "title = \"Three\"\noptions = [\"A\", \"B\", \"C\"]\nratios = [1, 1, 1]\ndefault = \"None\"\nquorum = 3\nroll = [\"v0\", \"v1\", \"v2\", \"v3\", \"v4\", \"v5\", \"v6\", \"v7\", \"v8\"]\n";
 
-/// The text of a poll of these options and the default, each with ratio 1, and so many electors.
-fn text_of(alloc: Global, options: u8, quorum: u8, electors: usize) -> Result<String, AllocError> {
-    let names = numbered(alloc, "Option ", usize::from(options))?;
-    let ratios = "1, ".repeat(alloc, usize::from(options))?;
-    let roll = numbered(alloc, "v", electors)?;
-    format!(in alloc;
-        "title = \"Test\"\noptions = [{names}]\nratios = [{ratios}]\ndefault = \"None\"\nquorum = {quorum}\nroll = [{roll}]\n"
-    )
-}
+/// A poll of four options and the default.
+const FOUR_OPTIONS: &str =
+    "title = \"Four\"\noptions = [\"A\", \"B\", \"C\", \"D\"]\nratios = [1, 1, 1, 1]\ndefault = \"None\"\nquorum = 0\nroll = [\"v0\", \"v1\", \"v2\", \"v3\", \"v4\", \"v5\", \"v6\", \"v7\", \"v8\", \"v9\", \"v10\", \"v11\", \"v12\"]\n";
 
-/// The poll of such a text.
-fn poll(alloc: Global, options: u8, quorum: u8, electors: usize) -> Result<Poll, Fail> {
-    let text = text_of(alloc, options, quorum, electors)?;
-    match Poll::from_text(alloc, text.as_bytes()) {
-        Ok(poll) => Ok(poll),
-        Err(PollFault::Memory) => Err(Fail::from("refused")),
-        Err(fault) => Err(Fail::from(fault)),
-    }
-}
+/// A poll of 31 options and the default.
+const MOST_OPTIONS: &str =
+    "title = \"Most\"\noptions = [\"A\", \"B\", \"C\", \"D\", \"E\", \"F\", \"G\", \"H\", \"I\", \"J\", \"K\", \"L\", \"M\", \"N\", \"O\", \"P\", \"Q\", \"R\", \"S\", \"T\", \"U\", \"V\", \"W\", \"X\", \"Y\", \"Z\", \"1\", \"2\", \"3\", \"4\", \"5\"]\nratios = [1, 1, 1, 1, 1, 1, 1, 1, 1, 1, 1, 1, 1, 1, 1, 1, 1, 1, 1, 1, 1, 1, 1, 1, 1, 1, 1, 1, 1, 1, 1]\ndefault = \"None\"\nquorum = 0\nroll = [\"v0\"]\n";
 
 /// The ranks of a line.
-fn ranks(poll: &Poll, line: &str) -> Result<Ranks, Fail>
+fn ranks(poll: &Poll, line: &str) -> Result<Ranks, LineFault>
     ensures { IfOk result (λ ranks. length ranks ≡ option_count poll.now) }
 {
     match read_line(poll, line.as_bytes()) {
         Reading::Ballot { voter: _, ranks } => Ok(ranks),
-        Reading::Bad(_) => Err(Fail::from("not a ballot")),
+        Reading::Bad(fault) => Err(fault),
     }
 }
 
-/// The ballot of a line.
-fn ballot(poll: &Poll, line: &str) -> Result<Option<Ranks>, Fail>
-    ensures { IfOk result (IsBallotOf (option_count poll.now)) }
+/// Adds the ballots of these lines.
+fn push_ballots(poll: &Poll, lines: &[&str], ballots: &mut Vec<Option<Ranks>>) -> Result<(), Fail>
+    requires { All (IsBallotOf (option_count poll.now)) ballots.old.items }
+    ensures { All (IsBallotOf (option_count poll.now)) ballots.new.items }
 {
-    Ok(Some(ranks(poll, line)?))
+    for line in lines {
+        let ranks = ranks(poll, line)?;
+        ballots.push(Some(ranks))?;
+    }
+    Ok(())
 }
 
 /// The matrix of ballots, of which there can be as many as electors.
@@ -70,73 +57,27 @@ fn recounted(poll: &Poll, ballots: &[Option<Ranks>]) -> Result<Matrix, Fail>
     Ok(recount(poll.options(), ballots))
 }
 
-/// The matrix of the ballots of these lines, each as often as the number beside it says.
-fn count(alloc: Global, poll: &Poll, lines: &[(usize, &str)]) -> Result<Matrix, Fail>
+/// The matrix of the ballots of these lines.
+fn count(alloc: Global, poll: &Poll, lines: &[&str]) -> Result<Matrix, Fail>
     ensures { IfOk result (λ matrix. matrix.options ≡ option_count poll.now) }
 {
     let mut ballots = Vec::new(alloc);
-    for (number, line) in lines {
-        for _ in 0..*number {
-            ballots.push(ballot(poll, line)?)?;
-        }
-    }
+    push_ballots(poll, lines, &mut ballots)?;
     recounted(poll, &ballots)
 }
 
-/// The line of a ballot that ranks `a` and next `b`, all others before or behind them, and the
-/// default last.
-fn line(alloc: Global, options: u8, a: u8, b: u8, others_first: bool) -> Result<String, AllocError>
-    requires { options ≤ MAX_OPTIONS }
-{
-    let mut line = String::from_str(alloc, "v0 ")?;
-    for option in 1..options {
-        let rank = if option == a {
-            40
-        } else if option == b {
-            41
-        } else if others_first {
-            39 - option
-        } else {
-            50 + option
-        };
-        let text = format!(in alloc; "{rank},")?;
-        line.push_str(text.as_str())?;
-    }
-    line.push_str("99")?;
-    Ok(line)
-}
-
-/// The ballot of such a line.
-fn ballot_of(
-    alloc: Global,
-    poll: &Poll,
-    a: u8,
-    b: u8,
-    others_first: bool,
-) -> Result<Option<Ranks>, Fail>
-    ensures { IfOk result (IsBallotOf (option_count poll.now)) }
-{
-    let line = line(alloc, poll.options(), a, b, others_first)?;
-    ballot(poll, line.as_str())
-}
-
-/// Two ballots that prefer `a` to `b`, and one of them alone each other option to a further one.
-fn prefer(
-    alloc: Global,
-    poll: &Poll,
-    a: u8,
-    b: u8,
-    ballots: &mut Vec<Option<Ranks>>,
-) -> Result<(), Fail>
-    requires { All (IsBallotOf (option_count poll.now)) ballots.old.items }
-    ensures { All (IsBallotOf (option_count poll.now)) ballots.new.items }
-{
-    ballots.push(ballot_of(alloc, poll, a, b, false)?)?;
-    ballots.push(ballot_of(alloc, poll, a, b, true)?)?;
-    Ok(())
-}
-
-const CYCLE: &[(usize, &str)] = &[(4, "v0 1,2,3,4"), (3, "v0 3,1,2,4"), (2, "v0 2,3,1,4")];
+/// Nine ballots, of three kinds.
+const CYCLE: &[&str] = &[
+    "v0 1,2,3,4",
+    "v0 1,2,3,4",
+    "v0 1,2,3,4",
+    "v0 1,2,3,4",
+    "v0 3,1,2,4",
+    "v0 3,1,2,4",
+    "v0 3,1,2,4",
+    "v0 2,3,1,4",
+    "v0 2,3,1,4",
+];
 
 /// The defeats of a count that drops no option.
 fn kept_defeats(poll: &Poll, matrix: &Matrix) -> Result<Defeats, Fail>
@@ -149,21 +90,21 @@ fn kept_defeats(poll: &Poll, matrix: &Matrix) -> Result<Defeats, Fail>
     Ok(Defeats::of(&standing, matrix))
 }
 
-/// Whether the three options have this cause, and the default has none.
-fn have_cause(verdict: &Verdict, cause: Option<Cause>) -> bool {
-    verdict.dropped(1) == cause
-        && verdict.dropped(2) == cause
-        && verdict.dropped(3) == cause
-        && verdict.dropped(4).is_none()
+/// Whether none of three options and the default is dropped.
+fn are_kept(verdict: &Verdict) -> bool {
+    let causes = [
+        verdict.dropped(1),
+        verdict.dropped(2),
+        verdict.dropped(3),
+        verdict.dropped(4),
+    ];
+    causes == [None; 4]
 }
 
-/// Whether the first round removes these defeats and no other.
-fn removes(verdict: &Verdict, pairs: &[(u8, u8)]) -> bool {
+/// Whether the first round removes this defeat and no other.
+fn removes(verdict: &Verdict, a: u8, b: u8) -> bool {
     match verdict.rounds().first() {
-        Some(round) => {
-            round.removed.len() == pairs.len()
-                && pairs.iter().all(|(a, b)| round.removed.has(*a, *b))
-        }
+        Some(round) => round.removed.len() == 1 && round.removed.has(a, b),
         None => false,
     }
 }
@@ -172,8 +113,8 @@ fn removes(verdict: &Verdict, pairs: &[(u8, u8)]) -> bool {
 fn is_verdict_of_three(verdict: &Verdict) -> bool {
     let set = verdict.final_set();
     verdict.rounds().len() == 2
-        && have_cause(verdict, None)
-        && removes(verdict, &[(3, 1)])
+        && are_kept(verdict)
+        && removes(verdict, 3, 1)
         && set.has(1)
         && set.len() == 1
 }
@@ -201,8 +142,10 @@ fn outcome_by(alloc: Global, poll: &Poll) -> Result<Result<Verdict, AllocError>,
 
 /// The outcome of the cycle.
 fn outcome_of_cycle(alloc: Global) -> Result<Result<Verdict, AllocError>, Fail> {
-    let poll = poll(alloc, 3, 3, 9)?;
-    outcome_by(alloc, &poll)
+    let poll = Poll::from_text(alloc, THREE_OPTIONS.as_bytes())?;
+    let outcome = outcome_by(alloc, &poll);
+    drop(poll);
+    outcome
 }
 
 /// Where a growth is refused, the call says so, or gives the right answer.
@@ -210,7 +153,8 @@ fn outcome_of_cycle(alloc: Global) -> Result<Result<Verdict, AllocError>, Fail> 
 fn memory_of_outcome(rt: HostRuntime) -> Result<(), Fail> {
     match outcome_of_cycle(rt.alloc())? {
         Ok(verdict) => {
-            assert!(rt; is_verdict_of_three(&verdict));
+            assert_same(&rt, is_verdict_of_three(&verdict), true);
+            drop(verdict);
             Ok(())
         }
         Err(AllocError) => Err(Fail::from("refused")),
@@ -219,23 +163,60 @@ fn memory_of_outcome(rt: HostRuntime) -> Result<(), Fail> {
 
 const PAIRS: [(u8, u8); 6] = [(1, 2), (1, 3), (1, 4), (2, 3), (2, 4), (3, 4)];
 
-/// Ballots by which each of the six pairs of four options is a defeat one way, the other way, or
-/// none: the digits of `relation` to the base 3 say which.
-fn ballots_of(alloc: Global, poll: &Poll, relation: u16) -> Result<Vec<Option<Ranks>>, Fail>
-    ensures { IfOk result (λ ballots. All (IsBallotOf (option_count poll.now)) ballots.items) }
+/// The lines by which the two options of each pair are alike, the first is preferred, or the second. Of two lines both prefer the
+/// one to the other, and one of them alone each other option to a further one.
+const LINES_OF_PAIRS: [[&[&str]; 3]; 6] = [
+    [
+        &[],
+        &["v0 1,2,3,4,5", "v0 3,4,2,1,5"],
+        &["v0 2,1,3,4,5", "v0 4,3,2,1,5"],
+    ],
+    [
+        &[],
+        &["v0 1,3,2,4,5", "v0 3,2,4,1,5"],
+        &["v0 2,3,1,4,5", "v0 4,2,3,1,5"],
+    ],
+    [
+        &[],
+        &["v0 1,3,4,2,5", "v0 3,2,1,4,5"],
+        &["v0 2,3,4,1,5", "v0 4,2,1,3,5"],
+    ],
+    [
+        &[],
+        &["v0 3,1,2,4,5", "v0 2,3,4,1,5"],
+        &["v0 3,2,1,4,5", "v0 2,4,3,1,5"],
+    ],
+    [
+        &[],
+        &["v0 3,1,4,2,5", "v0 2,3,1,4,5"],
+        &["v0 3,2,4,1,5", "v0 2,4,1,3,5"],
+    ],
+    [
+        &[],
+        &["v0 3,4,1,2,5", "v0 2,1,3,4,5"],
+        &["v0 3,4,2,1,5", "v0 2,1,4,3,5"],
+    ],
+];
+
+/// The lines by which two options are a defeat one way, the other way, or none, as the last digit of `relation` to the base 3 says.
+fn lines_of(pair: usize, relation: u16) -> &'static [&'static str]
+    requires { pair < 6 }
 {
-    let mut ballots = vec![in alloc; ballot(poll, "v0 1,1,1,1,2")?]?;
+    LINES_OF_PAIRS[pair][usize::from(relation % 3)]
+}
+
+/// Adds ballots by which each of the six pairs of four options is a defeat one way, the other way, or none: the digits of
+/// `relation` to the base 3 say which.
+fn push_relation(poll: &Poll, relation: u16, ballots: &mut Vec<Option<Ranks>>) -> Result<(), Fail>
+    requires { All (IsBallotOf (option_count poll.now)) ballots.old.items }
+    ensures { All (IsBallotOf (option_count poll.now)) ballots.new.items }
+{
     let mut rest = relation;
-    for (a, b) in PAIRS {
-        if rest % 3 == 1 {
-            prefer(alloc, poll, a, b, &mut ballots)?;
-        }
-        if rest % 3 == 2 {
-            prefer(alloc, poll, b, a, &mut ballots)?;
-        }
+    for pair in 0..6 {
+        push_ballots(poll, lines_of(pair, rest), ballots)?;
         rest /= 3;
     }
-    Ok(ballots)
+    push_ballots(poll, &["v0 1,1,1,1,2"], ballots)
 }
 
 /// Whether the defeats among the four options are those of `relation`.
@@ -250,42 +231,47 @@ fn is_relation(defeats: &Defeats, relation: u16) -> bool {
     true
 }
 
-fn has_pair(pairs: &[(u8, u8)], a: u8, c: u8) -> bool {
-    pairs.iter().any(|pair| pair.0 == a && pair.1 == c)
+/// Adds a pair of the first option and each that the second defeats, up to the last one, that is not there yet.
+fn push_pairs(
+    defeats: &Defeats,
+    first: u8,
+    second: u8,
+    last: u8,
+    pairs: &mut Vec<(u8, u8)>,
+) -> Result<(), AllocError>
+    requires { last ≤ MAX_OPTIONS }
+{
+    for c in 0..last {
+        let pair = (first, c + 1);
+        if defeats.has(second, c + 1) && !pairs.contains(&pair) {
+            pairs.push(pair)?;
+        }
+    }
+    Ok(())
 }
 
 /// The transitive defeats among the options up to the last one by a plain form, a list of pairs: for each pair that was found and
 /// each defeat by its second option, the pair of both ends is found too.
-fn reach_by_pairs(alloc: Global, defeats: &Defeats, last: u8) -> Result<Vec<(u8, u8)>, AllocError>
+fn reach_by_pairs(defeats: &Defeats, last: u8, pairs: &mut Vec<(u8, u8)>) -> Result<(), AllocError>
     requires { last ≤ MAX_OPTIONS }
 {
-    let mut pairs = Vec::new(alloc);
     for a in 0..last {
-        for b in 0..last {
-            if defeats.has(a + 1, b + 1) {
-                pairs.push((a + 1, b + 1))?;
-            }
-        }
+        push_pairs(defeats, a + 1, a + 1, last, pairs)?;
     }
     for next in 0..usize::from(last) * usize::from(last) {
-        if next >= pairs.len() {
-            return Ok(pairs);
-        }
-        let (a, b) = pairs[next];
-        for c in 0..last {
-            if defeats.has(b, c + 1) && !has_pair(&pairs, a, c + 1) {
-                pairs.push((a, c + 1))?;
-            }
+        if next < pairs.len() {
+            let (a, b) = pairs[next];
+            push_pairs(defeats, a, b, last, pairs)?;
         }
     }
-    Ok(pairs)
+    Ok(())
 }
 
 /// Whether the chains are just these pairs, up to the last option.
 fn are_pairs(chains: &Chains, pairs: &[(u8, u8)], last: u8) -> bool {
     for a in 1..=last {
         for c in 1..=last {
-            if chains.has(a, c) != has_pair(pairs, a, c) {
+            if chains.has(a, c) != pairs.contains(&(a, c)) {
                 return false;
             }
         }
@@ -295,7 +281,8 @@ fn are_pairs(chains: &Chains, pairs: &[(u8, u8)], last: u8) -> bool {
 
 /// The defeats of the ballots for a relation.
 fn defeats_of(alloc: Global, poll: &Poll, relation: u16) -> Result<Defeats, Fail> {
-    let ballots = ballots_of(alloc, poll, relation)?;
+    let mut ballots = Vec::new(alloc);
+    push_relation(poll, relation, &mut ballots)?;
     let matrix = recounted(poll, &ballots)?;
     kept_defeats(poll, &matrix)
 }
@@ -304,7 +291,8 @@ fn defeats_of(alloc: Global, poll: &Poll, relation: u16) -> Result<Defeats, Fail
 fn is_like_plain(alloc: Global, defeats: &Defeats, last: u8) -> Result<bool, AllocError>
     requires { last ≤ MAX_OPTIONS }
 {
-    let plain = reach_by_pairs(alloc, defeats, last)?;
+    let mut plain = Vec::new(alloc);
+    reach_by_pairs(defeats, last, &mut plain)?;
     Ok(are_pairs(&reach(defeats), &plain, last))
 }
 
@@ -326,15 +314,16 @@ fn assert_agreement(rt: &impl Abort, alloc: Global, poll: &Poll) -> Result<(), F
 
 #[test]
 fn both_forms_of_reach_agree(rt: HostRuntime) -> Result<(), Fail> {
-    let poll = poll(rt.alloc(), 4, 0, 13)?;
-    assert_agreement(&rt, rt.alloc(), &poll)
+    let poll = Poll::from_text(rt.alloc(), FOUR_OPTIONS.as_bytes())?;
+    let asserted = assert_agreement(&rt, rt.alloc(), &poll);
+    drop(poll);
+    asserted
 }
 
 /// A ballot that ranks the first of 31 options first, the others alike, and the default last.
-const FIRST_OF_31: &[(usize, &str)] = &[(
-    1,
+const FIRST_OF_31: &[&str] = &[
     "v0 1,2,2,2,2,2,2,2,2,2,2,2,2,2,2,2,2,2,2,2,2,2,2,2,2,2,2,2,2,2,2,3",
-)];
+];
 
 /// The rows of the first, the second and the last of 32 options by the defeats of this ballot.
 fn rows_of_32(alloc: Global, poll: &Poll) -> Result<(Word, Word, Word), Fail> {
@@ -345,8 +334,10 @@ fn rows_of_32(alloc: Global, poll: &Poll) -> Result<(Word, Word, Word), Fail> {
 
 /// The same by a poll of 31 options.
 fn rows_by_poll(alloc: Global) -> Result<(Word, Word, Word), Fail> {
-    let poll = poll(alloc, 31, 0, 1)?;
-    rows_of_32(alloc, &poll)
+    let poll = Poll::from_text(alloc, MOST_OPTIONS.as_bytes())?;
+    let rows = rows_of_32(alloc, &poll);
+    drop(poll);
+    rows
 }
 
 #[test]
@@ -360,7 +351,9 @@ fn rows_as_words(rt: HostRuntime) -> Result<(), Fail> {
 fn words_of_cycle(alloc: Global) -> Result<((usize, [Word; 4]), (usize, [Word; 4])), Fail> {
     let verdict = outcome_of_cycle(alloc)??;
     let left = left_by_first_round(&verdict);
-    Ok((words_of_four(&verdict.defeats()), words_of_four(&left)))
+    let words = (words_of_four(&verdict.defeats()), words_of_four(&left));
+    drop(verdict);
+    Ok(words)
 }
 
 #[test]
@@ -392,38 +385,34 @@ fn exchanged(poll: &Poll, first: &Ranks, second: &Ranks, third: &Ranks) -> (Matr
 
 /// Whether an exchange gives what taking out and adding do, whether that is the matrix of the first and the third ballot, and
 /// whether it is the one of before.
-fn compared(
-    poll: &Poll,
-    first: &Ranks,
-    second: &Ranks,
-    third: &Ranks,
-) -> Result<(bool, bool, bool), Fail>
+fn compared(poll: &Poll, first: &Ranks, second: &Ranks, third: &Ranks) -> (bool, bool, bool)
     requires first { length first.now ≡ option_count poll.now }
     requires second { length second.now ≡ option_count poll.now }
     requires third { length third.now ≡ option_count poll.now }
 {
-    let both = recounted(poll, &[Some(*first), Some(*third)])?;
+    let both = recount(poll.options(), &[Some(*first), Some(*third)]);
     let (counted, at_once, by_two) = exchanged(poll, first, second, third);
-    Ok((at_once == by_two, at_once == both, at_once == counted))
+    (at_once == by_two, at_once == both, at_once == counted)
 }
 
 /// The same of the ballots of three lines.
-fn compared_lines(poll: &Poll) -> Result<(bool, bool, bool), Fail> {
+fn compared_lines(poll: &Poll) -> Result<(bool, bool, bool), LineFault> {
     let first = ranks(poll, "v0 1,2,3,4")?;
     let second = ranks(poll, "v1 3,1,2,4")?;
     let third = ranks(poll, "v1 2,2,-,1")?;
-    compared(poll, &first, &second, &third)
+    Ok(compared(poll, &first, &second, &third))
 }
 
-/// The same by a poll of three options.
-fn compared_by_poll(alloc: Global) -> Result<(bool, bool, bool), Fail> {
-    let poll = poll(alloc, 3, 0, 2)?;
-    compared_lines(&poll)
+/// The same by the poll of three options.
+fn compared_by_poll(alloc: Global) -> Result<Result<(bool, bool, bool), LineFault>, PollFault> {
+    let poll = Poll::from_text(alloc, THREE_OPTIONS.as_bytes())?;
+    let found = compared_lines(&poll);
+    drop(poll);
+    Ok(found)
 }
 
 #[test]
-fn exchange_is_take_out_and_add(rt: HostRuntime) -> Result<(), Fail> {
-    let found = compared_by_poll(rt.alloc())?;
-    assert_same(&rt, found, (true, true, false));
-    Ok(())
+fn exchange_is_take_out_and_add(rt: HostRuntime) {
+    let found = compared_by_poll(rt.alloc());
+    assert_same(&rt, found, Ok(Ok((true, true, false))));
 }

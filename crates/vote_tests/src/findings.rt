@@ -33,7 +33,7 @@ fn memory_of_explain_poll(rt: HostRuntime) -> Result<(), Fail> {
     match explained(rt.alloc(), FAULTY.as_bytes()) {
         Ok((findings, fault)) => {
             assert_same(&rt, fault, Some(PollFault::Key(PollKey::Title)));
-            assert!(rt; findings.as_str() == FINDINGS, "{}", findings);
+            assert_same(&rt, findings.as_str(), FINDINGS);
             Ok(())
         }
         Err(AllocError) => Err(Fail::from("refused")),

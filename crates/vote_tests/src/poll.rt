@@ -1,4 +1,4 @@
-use crate::same::assert_same;
+use crate::same::{assert_same, assert_that};
 use std::alloc::{AllocError, Global};
 use std::fmt::Display;
 use std::process::Abort;
@@ -14,41 +14,50 @@ const SMALL: &str =
 /// A ballot of the last voter.
 const BALLOT: &[u8] = b"v10 10,-,9";
 
+/// The option of this name in the small poll, the voter of this name, and what is read in a line.
+fn read_small(
+    alloc: Global,
+    name: &[u8],
+    line: &[u8],
+) -> Result<(Option<u8>, Option<usize>, Reading), PollFault> {
+    let poll = Poll::from_text(alloc, SMALL.as_bytes())?;
+    let (option, voter) = (poll.option_of(name), poll.voter_of(name));
+    let reading = read_line(&poll, line);
+    drop(poll);
+    Ok((option, voter, reading))
+}
+
 /// The option of this name in the small poll, and the voter.
 fn named(alloc: Global, name: &[u8]) -> Result<(Option<u8>, Option<usize>), PollFault> {
-    let poll = Poll::from_text(alloc, SMALL.as_bytes())?;
-    Ok((poll.option_of(name), poll.voter_of(name)))
+    match read_small(alloc, name, BALLOT) {
+        Ok((option, voter, _)) => Ok((option, voter)),
+        Err(fault) => Err(fault),
+    }
 }
 
 const NO_TEXT: &[&[u8]] = &[b"\xFF", b"A\xFF", b"v0\xFF"];
 
 #[test]
-fn names_that_are_no_text(rt: HostRuntime) -> Result<(), Fail> {
+fn names_that_are_no_text(rt: HostRuntime) {
     for name in NO_TEXT {
-        assert_same(&rt, named(rt.alloc(), name)?, (None, None));
+        assert_same(&rt, named(rt.alloc(), name), Ok((None, None)));
     }
-    Ok(())
-}
-
-/// What the small poll reads in a line.
-fn read_small(alloc: Global, line: &[u8]) -> Result<Reading, PollFault> {
-    let poll = Poll::from_text(alloc, SMALL.as_bytes())?;
-    Ok(read_line(&poll, line))
 }
 
 /// Asserts the voter and the ranks of the ballot.
 fn assert_ballot(rt: &impl Abort, voter: usize, ranks: &Ranks) {
-    assert!(rt; ranks.options() == 3);
+    assert_that(rt, ranks.options() == 3);
     let read = [ranks.rank(1), ranks.rank(2), ranks.rank(3)];
-    assert_same(rt, (voter, read), (10, [Some(10), None, Some(9)]));
     let keys = ranks.sort_keys();
     let keys = [keys[0], keys[1], keys[2], keys[3]];
-    assert_same(rt, keys, [10, UNRANKED, 9, 0]);
+    let right = (10, [Some(10), None, Some(9)], [10, UNRANKED, 9, 0]);
+    assert_same(rt, (voter, read, keys), right);
 }
 
 #[test]
 fn a_ballot_as_read(rt: HostRuntime) -> Result<(), Fail> {
-    match read_small(rt.alloc(), BALLOT)? {
+    let (_, _, reading) = read_small(rt.alloc(), b"v10", BALLOT)?;
+    match reading {
         Reading::Ballot { voter, ranks } => {
             assert_ballot(&rt, voter, &ranks);
             Ok(())
@@ -59,24 +68,24 @@ fn a_ballot_as_read(rt: HostRuntime) -> Result<(), Fail> {
 
 /// Whether a fault is told as a want of memory.
 fn is_told_as_memory<F: Display + Drop>(alloc: Global, fault: F) -> Result<bool, AllocError> {
-    let text = format!(in alloc; "{fault}")?;
+    let text = fault.to_string(alloc)?;
     Ok(text.as_str() == "out of memory")
 }
 
 #[test]
-fn words_of_refused_memory(rt: HostRuntime) -> Result<(), Fail> {
-    let of_poll = is_told_as_memory(rt.alloc(), PollFault::Memory)?;
-    let of_lines = is_told_as_memory(rt.alloc(), LinesFault::Memory)?;
-    assert_same(&rt, (of_poll, of_lines), (true, true));
-    Ok(())
+fn words_of_refused_memory(rt: HostRuntime) {
+    let of_poll = is_told_as_memory(rt.alloc(), PollFault::Memory);
+    let of_lines = is_told_as_memory(rt.alloc(), LinesFault::Memory);
+    assert_same(&rt, (of_poll, of_lines), (Ok(true), Ok(true)));
 }
 
 /// Asserts the title and the quorum of the small poll, and how it numbers its options and electors.
 fn assert_numbers(rt: &impl Abort, poll: &Poll) {
     let options = (poll.options(), poll.option_of(b"None"));
     let electors = (poll.electors(), poll.voter_of(b"v10"));
-    assert_same(rt, (options, electors), ((3, Some(3)), (11, Some(10))));
-    assert_same(rt, (poll.title(), poll.quorum_multiple()), ("Small", 2));
+    let named = (poll.title(), poll.quorum_multiple());
+    let right = ((3, Some(3)), (11, Some(10)), ("Small", 2));
+    assert_same(rt, (options, electors, named), right);
 }
 
 #[test]
@@ -84,6 +93,7 @@ fn memory_of_from_text(rt: HostRuntime) -> Result<(), Fail> {
     match Poll::from_text(rt.alloc(), SMALL.as_bytes()) {
         Ok(poll) => {
             assert_numbers(&rt, &poll);
+            drop(poll);
             Ok(())
         }
         Err(fault) => {
@@ -115,7 +125,7 @@ fn fault_of_too_many(alloc: Global) -> Result<Option<LinesFault>, AllocError> {
 
 /// Asserts that lines are `a`, an empty one and `b`.
 fn assert_three_lines(rt: &impl Abort, lines: &Lines<'_>) {
-    assert!(rt; lines.len() == 3);
+    assert_that(rt, lines.len() == 3);
     assert_same(rt, lines.line(0), b"a");
     assert_same(rt, lines.line(1), b"");
     assert_same(rt, lines.line(2), b"b");
@@ -128,6 +138,7 @@ fn memory_of_split(rt: HostRuntime) -> Result<(), Fail> {
     match Lines::split(rt.alloc(), b"a\n\nb") {
         Ok(lines) => {
             assert_three_lines(&rt, &lines);
+            drop(lines);
             Ok(())
         }
         Err(fault) => {

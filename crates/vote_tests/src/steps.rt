@@ -1,7 +1,7 @@
 //! Worked examples, whose readings are the poll's own.
-ghost use Rattle.std.specs.Prelude.{◌<◌, ◌≤◌};
+ghost use Rattle.std.specs.Prelude.{◌≡◌, ◌<◌, ◌≤◌};
 
-use crate::same::assert_same;
+use crate::same::{assert_same, assert_that};
 use std::alloc::{AllocError, Global};
 use std::process::Abort;
 use std::test::Fail;
@@ -50,8 +50,8 @@ fn cast_line(
     stamp: u32,
     line: &str,
 ) -> Result<Reply, StepFault> {
-    assert!(rt; poll.options() == ballot_box.options());
-    assert!(rt; poll.electors() == ballot_box.electors());
+    assert_that(rt, poll.options() == ballot_box.options());
+    assert_that(rt, poll.electors() == ballot_box.electors());
     ballot_box.cast(1, stamp, read_line(poll, line.as_bytes()))
 }
 
@@ -70,8 +70,8 @@ fn play_one(rt: &impl Abort, ballot_box: &mut BallotBox, poll: &Poll, act: Act<'
             assert_same(rt, (stamp, found), (stamp, answer));
         }
         Act::Close(answer) => {
-            assert_same(rt, ballot_box.close(), answer);
-            assert!(rt; !ballot_box.is_open());
+            let closed = ballot_box.close();
+            assert_same(rt, (closed, ballot_box.is_open()), (answer, false));
         }
     }
 }
@@ -83,11 +83,18 @@ fn play(rt: &impl Abort, ballot_box: &mut BallotBox, poll: &Poll, acts: &[Act<'_
     }
 }
 
+// The votes of one of three options over each.
+fn row(matrix: &Matrix, a: u8) -> [u32; 3]
+    requires three { matrix.now.options ≡ 3 }
+    requires option { (1 ≤ a) × (a ≤ 3) }
+{
+    [matrix.votes(a, 1), matrix.votes(a, 2), matrix.votes(a, 3)]
+}
+
 // The votes of each of three options over each.
 fn table(rt: &impl Abort, matrix: &Matrix) -> [[u32; 3]; 3] {
-    assert!(rt; matrix.options() == 3);
-    let row = |a| [matrix.votes(a, 1), matrix.votes(a, 2), matrix.votes(a, 3)];
-    [row(1), row(2), row(3)]
+    assert_that(rt, matrix.options() == 3);
+    [row(matrix, 1), row(matrix, 2), row(matrix, 3)]
 }
 
 // Looks at the totals, which are valid, refused and voters, and at the votes of each option over each.
@@ -137,7 +144,7 @@ fn cast_hundred(
     for turn in 0..100 {
         let stamp = stamp_at(order, turn);
         let answer = cast_line(rt, ballot_box, poll, stamp, line_of(stamp));
-        assert!(rt; answer.is_ok());
+        assert_same(rt, answer.is_ok(), true);
         assert_recounted(rt, alloc, ballot_box, order, stamp)?;
     }
     Ok(())
@@ -157,16 +164,35 @@ fn play_to(
     ballot_box.steps().len()
 }
 
-// How many casts were answered so.
-fn count_of(ballot_box: &BallotBox, wanted: Reply) -> usize {
-    let is_wanted = |step: &&Step| match step {
+// Whether a step is a cast that was answered so.
+fn is_answered(step: &Step, wanted: Reply) -> bool {
+    match step {
         Step::Cast { reply, .. } => *reply == wanted,
         Step::Close => false,
-    };
-    ballot_box.steps().iter().filter(is_wanted).count()
+    }
 }
 
-// Does what is listed at a box of the size of the poll of two electors.
+// How many casts were answered so.
+fn count_of(ballot_box: &BallotBox, wanted: Reply) -> usize {
+    let mut number = 0;
+    for step in ballot_box.steps() {
+        if is_answered(step, wanted) {
+            number += 1;
+        }
+    }
+    number
+}
+
+// Whether a box of these numbers says that nothing was done yet.
+fn is_new(ballot_box: &BallotBox, limit: u32, last: u32) -> bool {
+    ballot_box.limit() == limit
+        && ballot_box.last_envelope() == last
+        && ballot_box.is_open()
+        && ballot_box.steps().is_empty()
+        && ballot_box.standing(0).is_none()
+}
+
+// Does what is listed at a new box of the size of the poll of two electors.
 fn played_by(
     rt: &impl Abort,
     alloc: Global,
@@ -180,10 +206,13 @@ fn played_by(
     requires { (limit ≤ MAX_LINES) × (last ≤ MAX_LINES) }
 {
     let mut ballot_box = BallotBox::new(alloc, 3, 2, limit, last)?;
-    Ok(play_to(rt, &mut ballot_box, poll, acts, totals, votes))
+    assert_same(rt, is_new(&ballot_box, limit, last), true);
+    let steps = play_to(rt, &mut ballot_box, poll, acts, totals, votes);
+    drop(ballot_box);
+    Ok(steps)
 }
 
-// Does what is listed at a box of two electors with the stamps 1 to `limit`, of which those above `last` are late. Looks at
+// Does what is listed at a new box of two electors with the stamps 1 to `limit`, of which those above `last` are late. Looks at
 // the totals and the votes, and answers how many steps there are.
 fn played(
     rt: &impl Abort,
@@ -196,8 +225,10 @@ fn played(
 ) -> Result<usize, AllocError>
     requires { (limit ≤ MAX_LINES) × (last ≤ MAX_LINES) }
 {
-    let poll = poll_of_two(rt, alloc)?;
-    played_by(rt, alloc, &poll, limit, last, acts, totals, votes)
+    let poll = poll_of(rt, alloc, TWO_ELECTORS)?;
+    let steps = played_by(rt, alloc, &poll, limit, last, acts, totals, votes);
+    drop(poll);
+    steps
 }
 
 // A recast in two orders.
@@ -215,12 +246,12 @@ const RECASTS: &[&[Act<'static>]] = &[
 ];
 
 #[test]
-fn a_recast_in_both_orders(rt: HostRuntime) -> Result<(), Fail> {
+fn a_recast_in_both_orders(rt: HostRuntime) {
     let votes = [[0, 0, 1], [2, 0, 1], [1, 1, 0]];
     for acts in RECASTS {
-        played(&rt, rt.alloc(), 3, 100_000, acts, [3, 0, 2], votes)?;
+        let steps = played(&rt, rt.alloc(), 3, 100_000, acts, [3, 0, 2], votes);
+        assert_same(&rt, steps, Ok(3));
     }
-    Ok(())
 }
 
 const REFUSALS: &[Act<'static>] = &[
@@ -235,11 +266,10 @@ const REFUSALS: &[Act<'static>] = &[
 ];
 
 #[test]
-fn refusals_and_replies(rt: HostRuntime) -> Result<(), Fail> {
+fn refusals_and_replies(rt: HostRuntime) {
     let votes = [[0, 1, 1], [0, 0, 1], [0, 0, 0]];
-    let steps = played(&rt, rt.alloc(), 2, 100_000, REFUSALS, [1, 1, 1], votes)?;
-    assert_same(&rt, steps, 3);
-    Ok(())
+    let steps = played(&rt, rt.alloc(), 2, 100_000, REFUSALS, [1, 1, 1], votes);
+    assert_same(&rt, steps, Ok(3));
 }
 
 const LATE: &[Act<'static>] = &[
@@ -251,21 +281,22 @@ const LATE: &[Act<'static>] = &[
 ];
 
 #[test]
-fn late_envelopes(rt: HostRuntime) -> Result<(), Fail> {
+fn late_envelopes(rt: HostRuntime) {
     let votes = [[0, 1, 1], [0, 0, 1], [0, 0, 0]];
-    played(&rt, rt.alloc(), 3, 1, LATE, [1, 2, 1], votes)?;
-    Ok(())
+    let steps = played(&rt, rt.alloc(), 3, 1, LATE, [1, 2, 1], votes);
+    assert_same(&rt, steps, Ok(4));
 }
+
+const ALL_LATE: &[Act<'static>] = &[
+    Act::Cast(3, "bad", Ok(Reply::Late)),
+    Act::Cast(1, "bob 1,2,3", Ok(Reply::Late)),
+];
 
 // Whatever a late line says.
 #[test]
-fn no_envelope_in_time(rt: HostRuntime) -> Result<(), Fail> {
-    let acts = [
-        Act::Cast(3, "bad", Ok(Reply::Late)),
-        Act::Cast(1, "bob 1,2,3", Ok(Reply::Late)),
-    ];
-    played(&rt, rt.alloc(), 3, 0, &acts, [0, 2, 0], [[0; 3]; 3])?;
-    Ok(())
+fn no_envelope_in_time(rt: HostRuntime) {
+    let steps = played(&rt, rt.alloc(), 3, 0, ALL_LATE, [0, 2, 0], [[0; 3]; 3]);
+    assert_same(&rt, steps, Ok(2));
 }
 
 // How often each reply to a hundred envelopes came.
@@ -279,6 +310,20 @@ fn reply_counts(ballot_box: &BallotBox) -> [usize; 4] {
 }
 
 // Casts a hundred envelopes in one of the orders, looks at the totals and the votes, and answers how often each reply came.
+fn replies_by(
+    rt: &impl Abort,
+    alloc: Global,
+    ballot_box: &mut BallotBox,
+    poll: &Poll,
+    order: usize,
+) -> Result<[usize; 4], AllocError> {
+    cast_hundred(rt, alloc, ballot_box, poll, order)?;
+    let votes = [[0, 5, 10], [5, 0, 10], [0, 0, 0]];
+    look(rt, ballot_box, [95, 5, 10], votes);
+    Ok(reply_counts(ballot_box))
+}
+
+// The same at a new box of the size of the poll of ten electors.
 fn replies_to_hundred(
     rt: &impl Abort,
     alloc: Global,
@@ -286,10 +331,9 @@ fn replies_to_hundred(
     order: usize,
 ) -> Result<[usize; 4], AllocError> {
     let mut ballot_box = BallotBox::new(alloc, 3, 10, 100, 100_000)?;
-    cast_hundred(rt, alloc, &mut ballot_box, poll, order)?;
-    let votes = [[0, 5, 10], [5, 0, 10], [0, 0, 0]];
-    look(rt, &ballot_box, [95, 5, 10], votes);
-    Ok(reply_counts(&ballot_box))
+    let replies = replies_by(rt, alloc, &mut ballot_box, poll, order);
+    drop(ballot_box);
+    replies
 }
 
 // The orders, and how often each reply comes.
@@ -300,38 +344,30 @@ const ORDERS: &[(usize, [usize; 4])] = &[
 ];
 
 // Asserts how often each reply comes in each order.
-fn assert_orders(rt: &impl Abort, alloc: Global, poll: &Poll) -> Result<(), Fail> {
+fn assert_orders(rt: &impl Abort, alloc: Global, poll: &Poll) {
     for line in ORDERS {
         let (order, counts) = *line;
-        assert_same(rt, replies_to_hundred(rt, alloc, poll, order)?, counts);
+        assert_same(rt, replies_to_hundred(rt, alloc, poll, order), Ok(counts));
     }
-    Ok(())
 }
 
 #[test]
 fn a_hundred_envelopes_in_three_orders(rt: HostRuntime) -> Result<(), Fail> {
-    let poll = Poll::from_text(rt.alloc(), TEN_ELECTORS.as_bytes())?;
-    assert_orders(&rt, rt.alloc(), &poll)
+    let poll = poll_of(&rt, rt.alloc(), TEN_ELECTORS)?;
+    assert_orders(&rt, rt.alloc(), &poll);
+    drop(poll);
+    Ok(())
 }
 
-// The poll of two electors. Its only fault is a want of memory.
-fn poll_of_two(rt: &impl Abort, alloc: Global) -> Result<Poll, AllocError> {
-    match Poll::from_text(alloc, TWO_ELECTORS.as_bytes()) {
+// The poll of a text. Its only fault is a want of memory.
+fn poll_of(rt: &impl Abort, alloc: Global, text: &str) -> Result<Poll, AllocError> {
+    match Poll::from_text(alloc, text.as_bytes()) {
         Ok(poll) => Ok(poll),
         Err(fault) => {
             assert_same(rt, fault, PollFault::Memory);
             Err(AllocError)
         }
     }
-}
-
-// Whether a box of these numbers says that nothing was done yet.
-fn is_new(ballot_box: &BallotBox, limit: u32, last: u32) -> bool {
-    ballot_box.limit() == limit
-        && ballot_box.last_envelope() == last
-        && ballot_box.is_open()
-        && ballot_box.steps().is_empty()
-        && ballot_box.standing(0).is_none()
 }
 
 // An envelope with each of three stamps, and the close.
@@ -342,32 +378,15 @@ const THREE: &[Act<'static>] = &[
     Act::Close(Ok(())),
 ];
 
-// Asserts that a box with the stamps 1 to 3 takes an envelope with each, and the close.
-fn assert_takes_three(rt: &impl Abort, ballot_box: &mut BallotBox, poll: &Poll) {
-    let votes = [[0, 0, 1], [2, 0, 1], [1, 1, 0]];
-    let steps = play_to(rt, ballot_box, poll, THREE, [3, 0, 2], votes);
-    assert_same(rt, steps, 4);
-}
-
-// Makes a box, and asserts that it is new and takes three envelopes.
-fn assert_made(rt: &impl Abort, alloc: Global, poll: &Poll) -> Result<(), AllocError> {
-    let mut ballot_box = BallotBox::new(alloc, 3, 2, 3, 99_999)?;
-    assert!(rt; is_new(&ballot_box, 3, 99_999));
-    assert_takes_three(rt, &mut ballot_box, poll);
-    Ok(())
-}
-
-// The same by the poll of two electors.
-fn assert_made_for_two(rt: &impl Abort, alloc: Global) -> Result<(), AllocError> {
-    let poll = poll_of_two(rt, alloc)?;
-    assert_made(rt, alloc, &poll)
-}
-
 // A box is made whole, with room for a step with each stamp and for the close, or is refused for want of memory.
 #[test]
 fn memory_of_new(rt: HostRuntime) -> Result<(), Fail> {
-    match assert_made_for_two(&rt, rt.alloc()) {
-        Ok(()) => Ok(()),
+    let votes = [[0, 0, 1], [2, 0, 1], [1, 1, 0]];
+    match played(&rt, rt.alloc(), 3, 99_999, THREE, [3, 0, 2], votes) {
+        Ok(steps) => {
+            assert_same(&rt, steps, 4);
+            Ok(())
+        }
         Err(AllocError) => Err(Fail::from("refused")),
     }
 }
@@ -396,16 +415,18 @@ fn all_cast_by(
 
 // The box in which one desk cast the lines of a text.
 fn all_cast(rt: &impl Abort, alloc: Global, text: &str) -> Result<BallotBox, AllocError> {
-    let poll = poll_of_two(rt, alloc)?;
-    all_cast_by(rt, alloc, &poll, text)
+    let poll = poll_of(rt, alloc, TWO_ELECTORS)?;
+    let ballot_box = all_cast_by(rt, alloc, &poll, text);
+    drop(poll);
+    ballot_box
 }
 
 // Asserts what a closed box holds after a vote of each elector and a recast.
 fn assert_three_cast(rt: &impl Abort, ballot_box: &BallotBox) {
-    assert!(rt; !ballot_box.is_open());
     let votes = [[0, 0, 1], [2, 0, 1], [1, 1, 0]];
     look(rt, ballot_box, [3, 0, 2], votes);
-    assert_same(rt, count_of(ballot_box, Reply::Replaced), 1);
+    let replaced = count_of(ballot_box, Reply::Replaced);
+    assert_same(rt, (replaced, ballot_box.is_open()), (1, false));
 }
 
 // One desk casts all lines in their order and closes the box, or is refused for want of memory.
@@ -414,6 +435,7 @@ fn memory_of_cast_all(rt: HostRuntime) -> Result<(), Fail> {
     match all_cast(&rt, rt.alloc(), "ann 1,2,3\nbob 2,1,3\nann 3,2,1\n") {
         Ok(ballot_box) => {
             assert_three_cast(&rt, &ballot_box);
+            drop(ballot_box);
             Ok(())
         }
         Err(AllocError) => Err(Fail::from("refused")),

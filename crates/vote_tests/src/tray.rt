@@ -8,21 +8,21 @@ use std::thread::{Threads, join};
 use vote_tray::{MAX_PASSES, MAX_PLACES, Pass, Take, Tray, TrayFault};
 
 // A tray with one pass.
-fn for_one(alloc: Global, size: u64) -> Result<(Tray, Pass), Fail>
+fn for_one(alloc: Global, size: u64) -> Result<(Tray, Pass), TrayFault>
     ensures { IfOk result (λ t. t.1.tray ≡ t.0) }
 {
     let (tray, mut passes) = Tray::new(alloc, size, 1)?;
-    let pass = passes.pop().ok_or("no pass")?;
+    let pass = passes.pop().unwrap();
     Ok((tray, pass))
 }
 
 // A tray with two passes.
-fn for_two(alloc: Global, size: u64) -> Result<(Tray, Pass, Pass), Fail>
+fn for_two(alloc: Global, size: u64) -> Result<(Tray, Pass, Pass), TrayFault>
     ensures { IfOk result (λ t. (t.1 ≡ new_pass t.0 0) × (t.2 ≡ new_pass t.0 1)) }
 {
     let (tray, mut passes) = Tray::new(alloc, size, 2)?;
-    let second = passes.pop().ok_or("no second pass")?;
-    let first = passes.pop().ok_or("no first pass")?;
+    let second = passes.pop().unwrap();
+    let first = passes.pop().unwrap();
     Ok((tray, first, second))
 }
 
@@ -52,7 +52,7 @@ fn take_all_in_a_thread<R: Threads>(
 }
 
 // What an empty tray answers to a try and to a take, and how many places were taken.
-fn taken_of_none(alloc: Global) -> Result<(Take, Option<u64>, u64), Fail> {
+fn taken_of_none(alloc: Global) -> Result<(Take, Option<u64>, u64), TrayFault> {
     let (tray, mut pass) = for_one(alloc, 0)?;
     let tried = tray.try_take(&mut pass);
     let taken = tray.take(&mut pass);
@@ -60,15 +60,16 @@ fn taken_of_none(alloc: Global) -> Result<(Take, Option<u64>, u64), Fail> {
 }
 
 #[test]
-fn an_empty_tray_has_no_place(rt: HostRuntime) -> Result<(), Fail> {
-    let found = taken_of_none(rt.alloc())?;
-    assert_same(&rt, found, (Take::Empty, None, 0));
-    Ok(())
+fn an_empty_tray_has_no_place(rt: HostRuntime) {
+    let found = taken_of_none(rt.alloc());
+    assert_same(&rt, found, Ok((Take::Empty, None, 0)));
 }
 
 // What a tray with one place answers to two tries of one pass, to two of another and to a take of that, and how many places were
 // taken.
-fn taken_of_one(alloc: Global) -> Result<((Take, Take), (Take, Take), Option<u64>, u64), Fail> {
+fn taken_of_one(
+    alloc: Global,
+) -> Result<((Take, Take), (Take, Take), Option<u64>, u64), TrayFault> {
     let (tray, mut p, mut q) = for_two(alloc, 1)?;
     let first = (tray.try_take(&mut p), tray.try_take(&mut p));
     let second = (tray.try_take(&mut q), tray.try_take(&mut q));
@@ -78,12 +79,11 @@ fn taken_of_one(alloc: Global) -> Result<((Take, Take), (Take, Take), Option<u64
 }
 
 #[test]
-fn the_slower_pass_loses_the_only_place(rt: HostRuntime) -> Result<(), Fail> {
-    let found = taken_of_one(rt.alloc())?;
+fn the_slower_pass_loses_the_only_place(rt: HostRuntime) {
+    let found = taken_of_one(rt.alloc());
     let first = (Take::Got(0), Take::Empty);
     let second = (Take::Lost(1), Take::Empty);
-    assert_same(&rt, found, (first, second, None, 1));
-    Ok(())
+    assert_same(&rt, found, Ok((first, second, None, 1)));
 }
 
 // The fault of a tray of this size, if it can't be made.
@@ -100,16 +100,15 @@ fn one_place_more_than_the_most_is_too_many(rt: HostRuntime) {
     assert_same(&rt, (more, most), (Some(TrayFault::TooMany), None));
 }
 
-// How many passes a tray with three places has for two, and whether the first gets the first place and the other loses it.
-fn tried_by_two(alloc: Global) -> Result<(usize, bool), TrayFault> {
-    let (tray, passes) = Tray::new(alloc, 3, 2)?;
+// How many passes a tray with three places has for two, and what it answers to a try of the first and of the second.
+fn tried_by_two(alloc: Global) -> Result<(usize, (Take, Take)), TrayFault> {
+    let (tray, mut passes) = Tray::new(alloc, 3, 2)?;
     let number = passes.len();
-    let mut is_right = true;
-    for mut pass in passes {
-        let tried = tray.try_take(&mut pass);
-        is_right = is_right && matches!(tried, Take::Got(0) | Take::Lost(1));
-    }
-    Ok((number, is_right))
+    let mut second = passes.pop().unwrap();
+    let mut first = passes.pop().unwrap();
+    let tried = (tray.try_take(&mut first), tray.try_take(&mut second));
+    drop(tray);
+    Ok((number, tried))
 }
 
 /// For the walk over refused growths, `tests/refused-memory`: an answer of the table, or no test that passes.
@@ -117,7 +116,7 @@ fn tried_by_two(alloc: Global) -> Result<(usize, bool), TrayFault> {
 fn memory_of_new(rt: HostRuntime) -> Result<(), Fail> {
     match tried_by_two(rt.alloc()) {
         Ok(found) => {
-            assert_same(&rt, found, (2, true));
+            assert_same(&rt, found, (2, (Take::Got(0), Take::Lost(1))));
             Ok(())
         }
         Err(fault) => {
@@ -132,12 +131,19 @@ fn are_thousand(places: &[u64]) -> bool {
     places.iter().copied().eq(0..1000)
 }
 
+// Whether the places of two lists are the first thousand, each once.
+fn share_thousand(places: &mut Vec<u64>, others: &[u64]) -> Result<bool, AllocError> {
+    places.extend_from_slice(others)?;
+    places.sort()?;
+    Ok(are_thousand(places.as_slice()))
+}
+
 // How many places were taken in all, and whether those that two passes took are the first thousand, each once.
 fn finished(
     tray: Tray,
     first: Result<(Pass, Vec<u64>), AllocError>,
     second: Result<(Pass, Vec<u64>), AllocError>,
-) -> Result<(u64, bool), AllocError>
+) -> Result<(u64, Result<bool, AllocError>), AllocError>
     requires first { IfOk first (λ t. t.0.tray ≡ tray) }
     requires second { IfOk second (λ t. t.0.tray ≡ tray) }
 {
@@ -145,9 +151,7 @@ fn finished(
     let (q, others) = second?;
     let both = tray.join(p, q);
     let number = tray.finish(both);
-    places.extend_from_slice(others.as_slice())?;
-    places.sort()?;
-    Ok((number, are_thousand(places.as_slice())))
+    Ok((number, share_thousand(&mut places, others.as_slice())))
 }
 
 #[test]
@@ -160,6 +164,6 @@ fn two_threads_take_each_place_once(rt: HostRuntime) -> Result<(), Fail> {
         move || take_all(shared, p, alloc),
         || take_all_in_a_thread(&rt, shared, q, alloc),
     );
-    assert_same(&rt, finished(tray, a, b)?, (1000, true));
+    assert_same(&rt, finished(tray, a, b), Ok((1000, Ok(true))));
     Ok(())
 }
