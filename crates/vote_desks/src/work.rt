@@ -106,12 +106,12 @@ fn cast_run<VL: Tally, RL: Tally, G: Gate, R: Wait>(
     ensures cast { IsNone result → stamps_of desk.new.slips ≡ stamps_of desk.old.slips ++ stamps.now }
     ensures refused { (fault : EnterFault) → result ≡ Some (Stop.Refused fault) → fault ≡ EnterFault.StampUsed }
 {
-    if stamps.len() > 1 {
-        let _turn = workplace.turn.lock(rt);
-        cast_each(rt, workplace, desk, stamps, readings)
+    let _turn = if stamps.len() > 1 {
+        Some(workplace.turn.lock(rt))
     } else {
-        cast_each(rt, workplace, desk, stamps, readings)
-    }
+        None
+    };
+    cast_each(rt, workplace, desk, stamps, readings)
 }
 
 /// Casts envelopes at one desk until the tray is empty, or the gate or the box stops the desk. It takes no memory.
