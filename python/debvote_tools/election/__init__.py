@@ -1,0 +1,1 @@
+"""An election in one folder, from the list of members to the published result."""

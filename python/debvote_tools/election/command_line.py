@@ -1,0 +1,74 @@
+"""The command line of debvote-election."""
+
+import argparse
+import importlib
+import os
+import pathlib
+import signal
+import sys
+from collections.abc import Sequence
+
+from debvote_tools.election.folder import Election
+from debvote_tools.faults import Fault, Status
+
+PROGRAM = "debvote-election"
+
+# the modules of the commands, in the order in which an election needs them; each has `NAME`, `HELP`, `options` and `run`
+COMMANDS = ("new", "roll", "check", "call", "add", "desk", "status", "close", "count", "publish")
+
+
+def parser() -> argparse.ArgumentParser:
+    """The command line: each command with its options."""
+    # --folder may stand before the command and behind it
+    folder = argparse.ArgumentParser(add_help=False)
+    folder.add_argument(
+        "--folder", metavar="F", default=argparse.SUPPRESS, help="The folder of the election; the current one if it is not given"
+    )
+    top = argparse.ArgumentParser(
+        prog=PROGRAM,
+        allow_abbrev=False,
+        parents=[folder],
+        description="Holds an election in one folder, from the list of members to the published result, by debvote.",
+    )
+    commands = top.add_subparsers(dest="command", metavar="COMMAND", required=True)
+    for name in COMMANDS:
+        module = importlib.import_module(f"debvote_tools.election.commands.{name}")
+        command = commands.add_parser(
+            name, help=module.HELP, description=f"{module.HELP}.", allow_abbrev=False, parents=[folder]
+        )
+        module.options(command)
+        command.set_defaults(run=module.run)
+    return top
+
+
+def main(beside: pathlib.Path, words: Sequence[str] | None = None) -> int:
+    """Runs a command, and returns the exit status. `beside` is the folder of the program."""
+    for number in (signal.SIGHUP, signal.SIGTERM):
+        signal.signal(number, lambda number, _: sys.exit(128 + number))
+    asked = parser().parse_args(words)
+    try:
+        election = Election(pathlib.Path(getattr(asked, "folder", ".")), beside)
+        status = asked.run(election, asked)
+        sys.stdout.flush()
+        return status
+    except Fault as fault:
+        return failed(fault.words, fault.status)
+    except KeyboardInterrupt:
+        return failed("interrupted; what was told is done, and nothing else", 128 + signal.SIGINT)
+    except BrokenPipeError:
+        return failed("the output failed; what was told is done: ask debvote-election status", Status.BAD_OUTPUT)
+    except OSError as error:
+        where = f"{error.filename}: " if error.filename else ""
+        return failed(f"{where}{error.strerror or error}; nothing was changed by this step", Status.BAD_OUTPUT)
+
+
+def failed(words: str | None, status: int) -> int:
+    """Says why the run did not come to its end, unless that is told, and gives the exit status."""
+    # what can't be written now can't be written at the end either
+    try:
+        sys.stdout.flush()
+    except OSError:
+        os.dup2(os.open(os.devnull, os.O_WRONLY), sys.stdout.fileno())
+    if words is not None:
+        print(f"{PROGRAM}: {words}", file=sys.stderr)
+    return status

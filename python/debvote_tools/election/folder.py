@@ -1,0 +1,176 @@
+"""The folder of an election: its files, its lock, its journal, and what every command begins and ends with."""
+
+import contextlib
+import dataclasses
+import difflib
+import functools
+import pathlib
+from collections.abc import Iterator
+
+from debvote_tools import journal
+from debvote_tools.election import poll_file
+from debvote_tools.faults import Fault, Status
+from debvote_tools.files import BALLOTS_LIMIT, POLL_LIMIT, locked, read_at_most, write_new, write_whole
+from debvote_tools.journal import Entry, Sums
+from debvote_tools.program import Debvote
+
+
+@dataclasses.dataclass(frozen=True)
+class Files:
+    """The two files that are counted, as they are while the lock is held. There are no ballots before the first is added."""
+
+    poll: bytes
+    ballots: bytes | None
+
+    @functools.cached_property
+    def sums(self) -> Sums:
+        return Sums.of(self.poll, self.ballots)
+
+
+class Election:
+    """An election in a folder. Its files are read and changed while its lock is held (`reading`, `changing`)."""
+
+    def __init__(self, folder: pathlib.Path, beside: pathlib.Path | None = None) -> None:
+        """`beside` is the folder of the program: debvote may lie beside it."""
+        self.folder = folder
+        self.poll = folder / "poll.toml"
+        self.ballots = folder / "ballots"
+        self.members = folder / "members.csv"
+        self.received = folder / "received"
+        self.backup = folder / "backup"
+        self.call = folder / "call"
+        self.called_poll = self.backup / "poll.toml.called"
+        self.result = folder / "result"
+        self.journal = folder / journal.NAME
+        self.lock = folder / ".lock"
+        self.debvote = Debvote(folder, beside)
+
+    # ------------------------------------------------------------ the lock
+    @contextlib.contextmanager
+    def reading(self) -> Iterator[Files]:
+        """Holds the lock with other readers, so that no file changes meanwhile. Stops where the called poll was changed."""
+        self.check_folder()
+        with locked(self.lock, is_shared=True):
+            files = self.files()
+            self.check_called(files)
+            yield files
+
+    @contextlib.contextmanager
+    def changing(self) -> Iterator[Files]:
+        """Holds the lock alone. First it notes an act that was cut off, and stops where the called poll was changed."""
+        self.check_folder()
+        with locked(self.lock):
+            files = self.files()
+            self.settle(files)
+            self.check_called(files)
+            yield files
+
+    def check_folder(self) -> None:
+        """Stops where this is no folder of an election."""
+        if not self.folder.is_dir():
+            words = f"{self.folder}: there is no such folder; make one with: debvote-election new {self.folder}"
+            raise Fault(words, Status.BAD_WORDS)
+        if not self.poll.exists() and not self.journal.exists():
+            words = f"{self.poll}: there is no poll; go into the folder of the election, or name it with --folder"
+            raise Fault(words, Status.BAD_WORDS)
+
+    def settle(self, files: Files) -> None:
+        """Notes an act that was cut off, and takes away what a run that was killed has left half written."""
+        for name in (self.poll.name, self.ballots.name, self.members.name):
+            for file in self.folder.glob(f".{name}.*"):
+                file.unlink()
+        if journal.is_cut_off(journal.last_entries(self.journal), files.sums):
+            journal.note(self.journal, journal.UNDONE, journal.NONE, files.sums)
+
+    # ------------------------------------------------------------ the files
+    def files(self) -> Files:
+        """The files as they are. Of one that is too long one byte more than its limit is read, so that debvote says so."""
+        cure = f"write it, or take the last one from {self.backup}"
+        poll = bytes_of(self.poll, POLL_LIMIT, Status.BAD_POLL, cure)
+        if not self.ballots.exists() and not self.had_ballots():
+            return Files(poll, None)
+        cure = f"what came is kept in {self.received}"
+        return Files(poll, bytes_of(self.ballots, BALLOTS_LIMIT, Status.BAD_BALLOTS, cure))
+
+    def had_ballots(self) -> bool:
+        """Whether ballots were there at the last act."""
+        acts = journal.done(journal.last_entries(self.journal))
+        return bool(acts) and acts[-1].sums.ballots != journal.NONE
+
+    def entries(self) -> list[Entry]:
+        """All entries of the journal."""
+        return journal.entries_in(self.journal)
+
+    def closed(self) -> Entry | None:
+        """The entry of the close, if there was one."""
+        return journal.last(self.entries(), "close")
+
+    def edited(self, files: Files) -> list[pathlib.Path]:
+        """The files whose sum is not the one that the journal has last: somebody has edited them by hand."""
+        acts = journal.done(journal.last_entries(self.journal))
+        if not acts or journal.is_cut_off(acts, files.sums):
+            return []
+        noted = acts[-1].sums
+        pairs = [(self.poll, files.sums.poll, noted.poll), (self.ballots, files.sums.ballots, noted.ballots)]
+        return [file for file, now, then in pairs if now != then]
+
+    # ------------------------------------------------------------ changes
+    def act(
+        self, name: str, files: Files, envelopes: str = journal.NONE, *, poll: bytes | None = None, ballots: bytes | None = None
+    ) -> Files:
+        """Notes an act, then writes the new poll or the new ballots, whole, and returns the files as they are after it.
+
+        The caller holds the lock alone. At most one of both is given, so that an act that is cut off is done or not done; with
+        none of them the act is noted alone. Raises OSError, and then no file is changed.
+        """
+        after = Files(files.poll if poll is None else poll, files.ballots if ballots is None else ballots)
+        journal.note(self.journal, name, envelopes, after.sums)
+        try:
+            if poll is not None:
+                write_whole(self.poll, poll)
+            if ballots is not None:
+                write_whole(self.ballots, ballots)
+        except OSError:
+            # where there is no room for this note either, the next run makes it
+            with contextlib.suppress(OSError):
+                journal.note(self.journal, journal.UNDONE, journal.NONE, files.sums)
+            raise
+        return after
+
+    def keep_copy(self, file: pathlib.Path) -> pathlib.Path:
+        """Keeps a copy of a file that is about to be changed, in backup/, by number."""
+        return write_new(self.backup, file.name, file.read_bytes())
+
+    # ------------------------------------------------------------ the call
+    def check_called(self, files: Files) -> None:
+        """Stops where the poll is no more the one that was called, its last envelope left out."""
+        if not self.call.exists() or not self.called_poll.exists():
+            return
+        called = poll_file.without_last_envelope(self.called_poll.read_bytes())
+        now = poll_file.without_last_envelope(files.poll)
+        if called != now:
+            raise Fault(
+                f"{self.poll}: it was changed after the call for votes: {difference(called, now)}; put this right (the poll that "
+                f"was called is {self.called_poll}), or remove the folder {self.call} and call again",
+                Status.DOUBT,
+            )
+
+
+def bytes_of(file: pathlib.Path, limit: int, status: int, cure: str) -> bytes:
+    """The bytes of a file, one more than the limit of a longer one; or the fault with its cure."""
+    try:
+        return read_at_most(file, limit)
+    except OSError as error:
+        raise Fault(f"{file}: {error.strerror}; {cure}", status) from None
+
+
+def difference(before: bytes, after: bytes) -> str:
+    """The lines in which two polls differ, each with its number, at most six of them."""
+    old, new = (data.decode("utf-8", "backslashreplace").splitlines() for data in (before, after))
+    said = []
+    for kind, a, b, c, d in difflib.SequenceMatcher(None, old, new, autojunk=False).get_opcodes():
+        if kind != "equal":
+            said += [f"line {place + 1} was `{old[place]}`" for place in range(a, b)]
+            said += [f"line {place + 1} is `{new[place]}`" for place in range(c, d)]
+    shown = said[:6] + ([f"and {len(said) - 6} more"] if len(said) > 6 else [])
+    return ", ".join(shown) if shown else "its line ends differ"

@@ -1,0 +1,27 @@
+"""How a run ends: the exit statuses, and the fault that ends one."""
+
+
+class Status:
+    """The exit statuses: those of debvote, and that of a shell where there is no debvote."""
+
+    DECIDED = 0
+    TIE = 1
+    BAD_WORDS = 2
+    BAD_POLL = 3
+    BAD_BALLOTS = 4
+    BAD_OUTPUT = 7
+    CASTING_OUTSIDE = 8
+    DIFFERS = 9
+    # what debvote-election and debvote-publish stop at until a person has looked
+    DOUBT = 9
+    BAD_SHEET = 10
+    NOT_FOUND = 127
+
+
+class Fault(Exception):
+    """What ends the run: the words of its line, or None where they are told already, and the exit status."""
+
+    def __init__(self, words: str | None, status: int) -> None:
+        super().__init__(words, status)
+        self.words = words
+        self.status = status

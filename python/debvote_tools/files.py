@@ -1,0 +1,82 @@
+"""Files that are written whole or not at all, and the lock of a folder."""
+
+import contextlib
+import fcntl
+import hashlib
+import os
+import pathlib
+import re
+import tempfile
+from collections.abc import Iterator
+
+# in bytes; one more is read of a longer file, so that debvote says that it is too long
+POLL_LIMIT, BALLOTS_LIMIT = 1_048_576, 33_554_432
+
+
+def sum_of(data: bytes) -> str:
+    """The SHA-256 of some bytes, as `sha256sum` writes it."""
+    return hashlib.sha256(data).hexdigest()
+
+
+def read_at_most(file: pathlib.Path | str, limit: int) -> bytes:
+    """The bytes of a file, but no more than one above the limit. Raises OSError."""
+    with open(file, "rb") as source:
+        return source.read(limit + 1)
+
+
+def sync_folder(folder: pathlib.Path) -> None:
+    """Brings the names of a folder to the disk."""
+    handle = os.open(folder, os.O_RDONLY | os.O_DIRECTORY)
+    try:
+        os.fsync(handle)
+    finally:
+        os.close(handle)
+
+
+def write_whole(file: pathlib.Path, data: bytes, mode: int = 0o644) -> None:
+    """Writes a file whole or not at all: a temporary beside it is brought to the disk, and takes its place.
+
+    A file that was there keeps its mode; a new one gets this mode, less what the umask takes. Raises OSError, and then the file
+    is as it was.
+    """
+    mode = file.stat().st_mode & 0o777 if file.exists() else mode & ~umask()
+    handle, name = tempfile.mkstemp(prefix=f".{file.name}.", dir=file.parent)
+    try:
+        with os.fdopen(handle, "wb") as target:
+            target.write(data)
+            target.flush()
+            os.fchmod(target.fileno(), mode)
+            os.fsync(target.fileno())
+        os.rename(name, file)
+    except BaseException:
+        with contextlib.suppress(OSError):
+            os.unlink(name)
+        raise
+    sync_folder(file.parent)
+
+
+def umask() -> int:
+    """The bits that new files do not get. The system tells them only where they are set."""
+    mask = os.umask(0o077)
+    os.umask(mask)
+    return mask
+
+
+def write_new(folder: pathlib.Path, name: str, data: bytes) -> pathlib.Path:
+    """Writes a file into a folder of numbered files, as `0007-poll.toml`, whole; the folder is made where it is not there."""
+    folder.mkdir(exist_ok=True)
+    numbers = [int(found[1]) for file in folder.iterdir() if (found := re.match(r"(\d+)-", file.name))]
+    file = folder / f"{max(numbers, default=0) + 1:04}-{name}"
+    write_whole(file, data)
+    return file
+
+
+@contextlib.contextmanager
+def locked(file: pathlib.Path, is_shared: bool = False) -> Iterator[None]:
+    """Holds the lock of a file, alone or with other readers, and waits for it. The lock of a process that is killed is free."""
+    handle = os.open(file, os.O_RDWR | os.O_CREAT | os.O_CLOEXEC, 0o644)
+    try:
+        fcntl.flock(handle, fcntl.LOCK_SH if is_shared else fcntl.LOCK_EX)
+        yield
+    finally:
+        os.close(handle)

@@ -1,0 +1,101 @@
+"""The program debvote: where it is, and what it writes."""
+
+import dataclasses
+import os
+import pathlib
+import re
+import shutil
+import subprocess
+
+from debvote_tools.faults import Fault, Status
+
+@dataclasses.dataclass(frozen=True)
+class Answer:
+    """What a run of debvote wrote on standard output and on standard error, and its exit status."""
+
+    text: str
+    faults: str
+    status: int
+
+
+@dataclasses.dataclass(frozen=True)
+class Finding:
+    """What `explain` says of a line: the number of its envelope, the word of `steps`, and the hint."""
+
+    envelope: int
+    word: str
+    hint: str
+
+
+@dataclasses.dataclass(frozen=True)
+class Totals:
+    """The last line of `explain`. Late lines are among the refused ones."""
+
+    lines: int
+    valid: int
+    refused: int
+    late: int
+    voters: int
+    electors: int
+
+
+@dataclasses.dataclass(frozen=True)
+class Findings:
+    """What `explain` says of a poll in order and its ballots."""
+
+    # the lines that begin with `poll: `, without it: keys that are not read
+    unread: list[str]
+    refused: list[Finding]
+    is_windows: bool
+    totals: Totals
+
+
+class Debvote:
+    """The program debvote, which runs in a folder: the files that it is given are named from there."""
+
+    def __init__(self, folder: pathlib.Path, beside: pathlib.Path | None = None) -> None:
+        """`beside` is the folder of the program that asks: debvote may lie beside it."""
+        found = (shutil.which("debvote", path=str(beside)) if beside else None) or shutil.which("debvote")
+        if found is None:
+            raise Fault("the program debvote is neither beside this one nor in the PATH", Status.NOT_FOUND)
+        self.path = os.path.abspath(found)
+        self.folder = folder
+
+    def ask(self, *words: str | os.PathLike[str], given: bytes | None = None) -> Answer:
+        """Runs debvote with these words, and with these bytes as its standard input."""
+        how = {"stdin": subprocess.DEVNULL} if given is None else {"input": given}
+        ended = subprocess.run([self.path, *map(os.fspath, words)], cwd=self.folder, capture_output=True, **how)
+        status = ended.returncode if ended.returncode >= 0 else 128 - ended.returncode
+        return Answer(ended.stdout.decode("ascii", "replace"), ended.stderr.decode("utf-8", "replace"), status)
+
+    def version(self) -> str:
+        """The line of `--version`, as `debvote 1.0.0`."""
+        return self.ask("--version").text.strip()
+
+
+# ---------------------------------------------------------------- answers, read by FORMATS
+FINDING = re.compile(r"ballots:(\d+): (late|bad shape|bad rank count|bad not on roll): (.*)")
+TOTALS = re.compile(r"(\d+) lines: (\d+) valid, (\d+) refused, (\d+) of them late; (\d+) of (\d+) electors have a ballot")
+WINDOWS = "all refused lines end with a carriage return"
+
+
+def findings_in(text: str) -> Findings:
+    """What `explain` wrote of a poll in order with its ballots."""
+    lines = text.splitlines()
+    totals = TOTALS.fullmatch(lines[-1]) if lines else None
+    if totals is None:
+        raise Fault("what this debvote explains has another format", Status.BAD_SHEET)
+    refused = [Finding(int(found[1]), found[2], found[3]) for found in map(FINDING.fullmatch, lines) if found]
+    unread = [line.removeprefix("poll: ") for line in lines if line.startswith("poll: ")]
+    is_windows = any(line.startswith(WINDOWS) for line in lines)
+    return Findings(unread, refused, is_windows, Totals(*map(int, totals.groups())))
+
+
+def replies_in(text: str) -> list[str]:
+    """The replies that `steps` wrote, that of envelope i at i - 1."""
+    return [line.partition(" ")[2] for line in text.splitlines()]
+
+
+def standing_in(text: str) -> dict[str, str]:
+    """The ranks of the ballot that stands, by the name of its elector, in the order of the roll."""
+    return dict(line.split(" ", 1) for line in text.splitlines())

@@ -1,0 +1,1 @@
+"""The folder of an election for a web site."""

@@ -1,0 +1,99 @@
+"""What the tests of elections share: a folder for each test, and the programs, which run as a user runs them."""
+
+import os
+import pathlib
+import shutil
+import subprocess
+import sys
+import tempfile
+import unittest
+from dataclasses import dataclass
+
+ROOT = pathlib.Path(__file__).resolve().parent.parent.parent
+PROGRAM = pathlib.Path(os.environ.get("DEBVOTE", ROOT / "crates" / "debvote" / "out" / "debvote"))
+ELECTION = ROOT / "election" / "debvote-election"
+PUBLISH = ROOT / "publish" / "debvote-publish"
+
+SECONDS = 120
+
+# four options and nine electors, of whom nobody has voted
+POLL = """title = "Where we meet in spring"
+options = ["At the lake", "In the town hall", "Sell the house and meet there"]
+ratios = [1, 1, 3]
+default = "Further discussion"
+quorum = 1
+roll = ["ada", "ben", "cleo", "dan", "eve", "fay", "gus", "hal", "ida"]
+"""
+
+
+@dataclass(frozen=True)
+class Ended:
+    """What a run wrote on standard output and on standard error, and its exit status."""
+
+    output: str
+    faults: str
+    status: int
+
+
+def demand_program() -> None:
+    """Ends the tests where there is no program to be asked."""
+    if not PROGRAM.exists():
+        sys.exit(f"{PROGRAM} is not there: run `rt ci` first")
+
+
+def environment() -> dict[str, str]:
+    """The environment of a user who has the programs in the PATH."""
+    path = os.pathsep.join([str(PROGRAM.parent), os.environ["PATH"]])
+    return {**os.environ, "PATH": path, "PYTHONDONTWRITEBYTECODE": "1"}
+
+
+class ElectionTest(unittest.TestCase):
+    """A test with a folder of its own, in which an election lies with the poll above and no ballots."""
+
+    poll = POLL
+    maxDiff = None
+
+    def setUp(self) -> None:
+        self.scratch = pathlib.Path(tempfile.mkdtemp(prefix="debvote-election-"))
+        self.addCleanup(shutil.rmtree, self.scratch, ignore_errors=True)
+        self.folder = self.scratch / "election"
+        self.folder.mkdir()
+        (self.folder / "poll.toml").write_text(self.poll)
+
+    def run_program(self, *words: object, given: bytes | str | None = None, **how: object) -> Ended:
+        """Runs a program with these words in the folder of the election, with these bytes as its standard input."""
+        data = given.encode() if isinstance(given, str) else given
+        where = {"stdin": subprocess.DEVNULL} if data is None else {"input": data}
+        settings = {"cwd": self.folder, "env": environment(), "timeout": SECONDS, **where, **how}
+        ended = subprocess.run([str(word) for word in words], capture_output=True, **settings)
+        return Ended(ended.stdout.decode("utf-8", "replace"), ended.stderr.decode("utf-8", "replace"), ended.returncode)
+
+    def election(self, *words: object, **how: object) -> Ended:
+        """Runs debvote-election in the folder of the election."""
+        return self.run_program(sys.executable, ELECTION, *words, **how)
+
+    def debvote(self, *words: object, **how: object) -> Ended:
+        """Runs debvote in the folder of the election."""
+        return self.run_program(PROGRAM, *words, **how)
+
+    def write(self, name: str, content: bytes | str) -> pathlib.Path:
+        """Writes a file into the folder of the election."""
+        file = self.folder / name
+        file.write_bytes(content.encode() if isinstance(content, str) else content)
+        return file
+
+    def read(self, name: str) -> bytes:
+        """The bytes of a file of the election."""
+        return (self.folder / name).read_bytes()
+
+    def contents(self) -> dict[str, bytes]:
+        """All files of the folder, by their names, but for the lock: to see that a refused run has changed nothing."""
+        files = (file for file in self.folder.rglob("*") if file.is_file() and file.name != ".lock")
+        return {str(file.relative_to(self.folder)): file.read_bytes() for file in files}
+
+    def assert_fault(self, ended: Ended, status: int, *parts: str) -> None:
+        """The run ended with this status and one line on standard error, which has these parts."""
+        self.assertEqual(ended.status, status, ended)
+        self.assertEqual(len(ended.faults.splitlines()), 1, ended.faults)
+        for part in parts:
+            self.assertIn(part, ended.faults)
