@@ -1,0 +1,38 @@
+# What a developer calls, by short names. Each target calls what is there; tests/all needs no make.
+.PHONY: help try build check test case edit polls all deb
+
+# the words that `make try` runs, with whole paths of files
+ARGS = count --poll $(CURDIR)/examples/plain_win/poll.toml --ballots $(CURDIR)/examples/plain_win/ballots
+N = 500
+SEED = 1
+TO = /tmp/debvote-package
+
+help: ## list these targets
+	@sed -n 's/^\([a-z]*\):.*## /make \1\t/p' Makefile | expand -t 12
+
+try: ## build without any proof, and count an example; ARGS="check --poll /.." runs other words
+	@cd crates/debvote && rt try -- $(ARGS) && echo "Nothing is proved yet: make build proves the program, tests/all everything."
+
+build: ## prove and build the program, crates/debvote/out/debvote
+	@rt all check --jobs $$(nproc) && cd crates/debvote && rt run -- --version
+
+check: ## prove the crate CRATE=..
+	@tests/near.py crate "$(CRATE)" && cd "crates/$(CRATE)" && rt check
+
+test: ## run the test NAME=.. of the crates of tests, before any proof
+	@tests/one-test "$(NAME)"
+
+case: ## run the case NAME=.. of tests/cases with the built program
+	@tests/cases/run "$(NAME)"
+
+edit: ## try the edit NAME=.. of the crate CRATE=.., which the prover must refuse
+	@tests/one-edit "$(CRATE)" "$(NAME)"
+
+polls: ## compare the built program with the reference on N=500 random polls from SEED=1 on
+	@tests/random-polls --n "$(N)" --seed "$(SEED)"
+
+all: ## prove everything, try all edits, and run all tests: tests/all
+	@tests/all
+
+deb: ## build the Debian package of the built program in TO=/tmp/debvote-package
+	@packaging/deb "$(TO)"
