@@ -1,0 +1,25 @@
+# Completion of debvote-election for fish.
+set -l commands new roll check call add desk status close count publish
+complete -c debvote-election -f
+complete -c debvote-election -n "not __fish_seen_subcommand_from $commands" -a new -d "Make the folder of an election"
+complete -c debvote-election -n "not __fish_seen_subcommand_from $commands" -a roll -d "Write the roll from the list of members"
+complete -c debvote-election -n "not __fish_seen_subcommand_from $commands" -a check -d "Say what is wrong with the poll"
+complete -c debvote-election -n "not __fish_seen_subcommand_from $commands" -a call -d "Make the call for votes"
+complete -c debvote-election -n "not __fish_seen_subcommand_from $commands" -a add -d "Add ballots from files"
+complete -c debvote-election -n "not __fish_seen_subcommand_from $commands" -a desk -d "Enter ballots by hand"
+complete -c debvote-election -n "not __fish_seen_subcommand_from $commands" -a status -d "Say how far the election is"
+complete -c debvote-election -n "not __fish_seen_subcommand_from $commands" -a close -d "End the election"
+complete -c debvote-election -n "not __fish_seen_subcommand_from $commands" -a count -d "Print the result sheet"
+complete -c debvote-election -n "not __fish_seen_subcommand_from $commands" -a publish -d "Make the folder for a web site"
+complete -c debvote-election -l folder -x -a "(__fish_complete_directories)" -d "The folder of the election"
+complete -c debvote-election -s h -l help -d "Print help"
+complete -c debvote-election -n "__fish_seen_subcommand_from roll add" -F
+complete -c debvote-election -n "__fish_seen_subcommand_from new publish" -a "(__fish_complete_directories)"
+complete -c debvote-election -n "__fish_seen_subcommand_from call" -l until -x -d "Until when ballots are taken"
+complete -c debvote-election -n "__fish_seen_subcommand_from call" -l to -x -d "The address to which ballots are sent"
+complete -c debvote-election -n "__fish_seen_subcommand_from call" -l no-roll -d "Publish the sum of the poll alone"
+complete -c debvote-election -n "__fish_seen_subcommand_from add" -l csv -d "The files are tables of a web form"
+complete -c debvote-election -n "__fish_seen_subcommand_from add" -l name -x -d "The column with the name"
+complete -c debvote-election -n "__fish_seen_subcommand_from add" -l ranks -x -d "The columns with the ranks"
+complete -c debvote-election -n "__fish_seen_subcommand_from count publish" -l casting -x -d "The option of the casting vote"
+complete -c debvote-election -n "__fish_seen_subcommand_from publish" -l even-so -d "Publish although something looks wrong"
