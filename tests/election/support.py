@@ -38,7 +38,7 @@ class Ended:
 def demand_program() -> None:
     """Ends the tests where there is no program to be asked."""
     if not PROGRAM.exists():
-        sys.exit(f"{PROGRAM} is not there: run `rt ci` first")
+        sys.exit(f"{PROGRAM} is not there: make build proves and builds it")
 
 
 def environment() -> dict[str, str]:
