@@ -64,7 +64,7 @@ def found_in(calls: Calls, poll: str, ballots: str) -> list[Doubt]:
         *about_ballots(findings, poll, ballots),
         *unended(calls.debvote.folder / "ballots", ballots),
         *unread_keys(findings, poll),
-        *open_election(pathlib.Path(os.path.realpath(poll)).parent),
+        *open_election(poll),
     ]
 
 
@@ -171,14 +171,15 @@ def unread_keys(findings: Findings, poll: str) -> list[Doubt]:
     return found
 
 
-def open_election(folder: pathlib.Path) -> list[Doubt]:
-    """That the poll lies in the folder of an election that is not closed."""
-    file = folder / journal.NAME
-    if not file.is_file() or journal.last(journal.entries_in(file), "close") is not None:
+def open_election(poll: str) -> list[Doubt]:
+    """That the poll lies in the folder of an election that is not closed; a link to it is one of its names."""
+    places = [pathlib.Path(poll).parent, pathlib.Path(os.path.realpath(poll)).parent]
+    folder = next((place for place in places if (place / journal.NAME).is_file()), None)
+    if folder is None or journal.last(journal.entries_in(folder / journal.NAME), "close") is not None:
         return []
     return [
         Doubt(
-            str(file),
+            str(folder / journal.NAME),
             "the election in this folder is not closed",
             f"close it: {shlex.join(['debvote-election', '--folder', str(folder), 'close'])}",
             "The election was not closed when this page was made: more ballots may come in.",
