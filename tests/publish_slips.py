@@ -1,6 +1,7 @@
 """Elections with a slip of the hand, for tests/publish: what debvote-publish tells of each, and what its page says of it."""
 
 import dataclasses
+import hashlib
 
 # an election without a doubt, of which each slip changes something
 PLAIN_POLL = """title = "Where we meet in spring"
@@ -23,13 +24,17 @@ FROM_WINDOWS = (
     "take it out, and give the file that this makes: tr -d '\\r' < ballots > ballots.unix"
 )
 FROM_WINDOWS_SHOWN = (
-    "All refused lines end with a carriage return, as those of a file from Windows do: they may be ballots that were meant to count."
+    "All refused lines end with a carriage return, as those of a file from Windows do: "
+    "they may be ballots that were meant to count."
 )
 UNENDED = (
     "ballots: its last line has no line feed, as in a file that was cut off; "
     "look whether its end is missing; where it is whole, end the last line with the Enter key in an editor"
 )
-UNENDED_SHOWN = "The last line of the ballot file has no line feed, as in a file that was cut off: ballots may be missing behind it."
+UNENDED_SHOWN = (
+    "The last line of the ballot file has no line feed, as in a file that was cut off: ballots may be missing behind it."
+)
+OPEN = "journal: the election in this folder is not closed; close it: debvote-election close"
 OPEN_SHOWN = "The election was not closed when this page was made: more ballots may come in."
 
 
@@ -44,6 +49,8 @@ class Slip:
     ballots: str = PLAIN_BALLOTS
     # the acts that the journal of an election has; without them there is no journal
     acts: list[str] = dataclasses.field(default_factory=list)
+    # the last of these was noted, and its run killed before it had written its file
+    is_cut_off: bool = False
 
     def write(self, room):
         """Writes the files into a new folder."""
@@ -51,8 +58,14 @@ class Slip:
         (room / "poll.toml").write_bytes(self.poll.encode())
         (room / "ballots").write_bytes(self.ballots.encode())
         if self.acts:
-            lines = (f"2026-11-25T18:04:11Z\t{act}\t-\t{'0' * 64}\t{'0' * 64}\n" for act in self.acts)
-            (room / "journal").write_text("".join(lines))
+            (room / "journal").write_text("".join(self.journal()))
+
+    def journal(self):
+        """The lines of the journal: the sums after all acts are those of the files, but for an act that was cut off."""
+        poll, ballots = (hashlib.sha256(text.encode()).hexdigest() for text in (self.poll, self.ballots))
+        for number, act in enumerate(self.acts, start=1):
+            is_lost = self.is_cut_off and number == len(self.acts)
+            yield f"2026-11-25T18:04:11Z\t{act}\t-\t{'0' * 64 if is_lost else poll}\t{ballots}\n"
 
 
 SLIPS = [
@@ -129,25 +142,16 @@ SLIPS = [
         ballots='title = "Draft"\n',
     ),
     Slip("an unended last line", [UNENDED], [UNENDED_SHOWN], ballots=PLAIN_BALLOTS + "dan 1,2,3"),
-    Slip(
-        "an election that is not closed",
-        ["journal: the election in this folder is not closed; close it: debvote-election --folder . close"],
-        [OPEN_SHOWN],
-        acts=["add"],
-    ),
-    Slip(
-        "a close that was cut off",
-        ["journal: the election in this folder is not closed; close it: debvote-election --folder . close"],
-        [OPEN_SHOWN],
-        acts=["add", "close", "undone"],
-    ),
+    Slip("an election that is not closed", [OPEN], [OPEN_SHOWN], acts=["add"]),
+    Slip("a close that was cut off", [OPEN], [OPEN_SHOWN], acts=["add", "close"], is_cut_off=True),
+    Slip("a close that was cut off, and is noted so", [OPEN], [OPEN_SHOWN], acts=["add", "close", "undone"]),
     Slip(
         "several at once",
         [
             FROM_WINDOWS,
             UNENDED,
             "poll.toml: key last-envelope is not read; did you mean last_envelope? put it right or take it out",
-            "journal: the election in this folder is not closed; close it: debvote-election --folder . close",
+            OPEN,
         ],
         [
             FROM_WINDOWS_SHOWN,
@@ -177,9 +181,9 @@ NEAR_SLIPS = [
 
 # what is told where the poll is refused since it is the ballot file
 SWAPPED = """debvote: poll refused: syntax
-debvote-publish: ballots: it is given as the poll, and reads as ballots; the two are swapped: give --poll poll.toml --ballots ballots
-debvote-publish: poll.toml: it is given as the ballots, and reads as a poll; the two are swapped: give --poll poll.toml --ballots ballots
-"""
+debvote-publish: ballots: it is given as the poll, and reads as ballots; {swap}
+debvote-publish: poll.toml: it is given as the ballots, and reads as a poll; {swap}
+""".format(swap="the two are swapped: give --poll poll.toml --ballots ballots")
 BALLOTS_TWICE = """debvote: poll refused: syntax
 debvote-publish: ballots: it is given as the poll, and reads as ballots; give the poll file with --poll
 """

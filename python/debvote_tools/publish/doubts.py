@@ -13,6 +13,7 @@ import sys
 
 from debvote_tools import journal
 from debvote_tools.faults import Fault, Status
+from debvote_tools.journal import Sums
 from debvote_tools.program import Debvote, Findings, Totals, findings_in
 from debvote_tools.publish.calls import Calls
 
@@ -57,14 +58,14 @@ def stop(found: list[Doubt]) -> Fault:
 
 
 def found_in(calls: Calls, poll: str, ballots: str) -> list[Doubt]:
-    """All doubts about a poll that is in order and its ballots. The files lie in the folder, and are called as they were given."""
+    """All doubts about a poll in order and its ballots. The files lie in the folder, and are called as they were given."""
     findings = findings_in(calls.explain())
     return [
         *misplaced(calls.debvote, poll, ballots),
         *about_ballots(findings, poll, ballots),
         *unended(calls.debvote.folder / "ballots", ballots),
         *unread_keys(findings, poll),
-        *open_election(poll),
+        *open_election(calls.debvote.folder, poll),
     ]
 
 
@@ -171,17 +172,26 @@ def unread_keys(findings: Findings, poll: str) -> list[Doubt]:
     return found
 
 
-def open_election(poll: str) -> list[Doubt]:
-    """That the poll lies in the folder of an election that is not closed; a link to it is one of its names."""
+def open_election(made: pathlib.Path, poll: str) -> list[Doubt]:
+    """That the poll lies in the folder of an election that is not closed. `made` is the folder with the copies of the files."""
+    # where the poll is named by a link, either place may be the folder of the election
     places = [pathlib.Path(poll).parent, pathlib.Path(os.path.realpath(poll)).parent]
     folder = next((place for place in places if (place / journal.NAME).is_file()), None)
-    if folder is None or journal.last(journal.entries_in(folder / journal.NAME), "close") is not None:
+    now = Sums.of((made / "poll.toml").read_bytes(), (made / "ballots").read_bytes())
+    if folder is None or is_closed(journal.entries_in(folder / journal.NAME), now):
         return []
+    where = [] if folder == pathlib.Path() else ["--folder", str(folder)]
     return [
         Doubt(
             str(folder / journal.NAME),
             "the election in this folder is not closed",
-            f"close it: {shlex.join(['debvote-election', '--folder', str(folder), 'close'])}",
+            f"close it: {shlex.join(['debvote-election', *where, 'close'])}",
             "The election was not closed when this page was made: more ballots may come in.",
         )
     ]
+
+
+def is_closed(entries: list[journal.Entry], now: Sums) -> bool:
+    """Whether the close is among the acts that were done. The last one is not, where its run was killed before it wrote."""
+    acts = journal.done(entries)
+    return any(entry.act == "close" for entry in (acts[:-1] if journal.is_cut_off(entries, now) else acts))

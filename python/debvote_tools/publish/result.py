@@ -6,7 +6,7 @@ from debvote_tools.pages import joined, listed, part
 from debvote_tools.publish.doubts import Doubt
 from debvote_tools.sheet import Sheet
 
-# the style of a page that has doubts, behind that of all pages; a doubt is marked by a frame and by a word, and not by colour alone
+# the style of a page that has doubts, behind that of all pages: a frame and a word mark a doubt, and not colour alone
 DOUBTS_STYLE = """.doubts { --warning: #8f1d00; --warned: #fff0e6; margin: 1rem 0; padding: 0.5rem 1rem;
   border: 2px solid var(--warning); background: var(--warned); }
 .doubts ul { margin: 0; padding-left: 1.25rem; }
