@@ -141,6 +141,24 @@ SLIPS = [
         [AS_POLL, NOBODY, "More than half of the lines of the ballot file are refused: 1 of 1."],
         ballots='title = "Draft"\n',
     ),
+    Slip(
+        "a poll as ballots that has ballots in a text",
+        ["ballots: it is given as the ballots, and reads as a poll; give the ballot file with --ballots"],
+        [AS_POLL],
+        ballots=f'title = """\n{PLAIN_BALLOTS}"""\n',
+    ),
+    Slip(
+        "a poll that has ballots in a text",
+        [
+            "poll.toml: it is given as the poll, and reads as ballots; give the poll file with --poll",
+            "poll.toml: key note is not read; put it right or take it out",
+        ],
+        [
+            "The file that was given as the poll reads as ballots.",
+            "The key note of the poll file is not read: what it says has not counted.",
+        ],
+        poll=f'{PLAIN_POLL}note = """\n{PLAIN_BALLOTS * 3}"""\n',
+    ),
     Slip("an unended last line", [UNENDED], [UNENDED_SHOWN], ballots=PLAIN_BALLOTS + "dan 1,2,3"),
     Slip("an election that is not closed", [OPEN], [OPEN_SHOWN], acts=["add"]),
     Slip("a close that was cut off", [OPEN], [OPEN_SHOWN], acts=["add", "close"], is_cut_off=True),

@@ -164,7 +164,10 @@ def unread_keys(findings: Findings, poll: str) -> list[Doubt]:
     """Each key of the poll that is not read."""
     found = []
     for words in findings.unread:
-        reason, remark = re.fullmatch(r"(key .*) is not read(?:; (.*))?", words).groups("")
+        parts = re.fullmatch(r"(key .*) is not read(?:; (.*))?", words)
+        if parts is None:
+            raise Fault("what this debvote explains has another format", Status.BAD_SHEET)
+        reason, remark = parts.groups("")
         advice = f"{remark}{' ' if remark.endswith('?') else ', so '}" if remark else ""
         said = f" ({remark})" if remark else ""
         sentence = f"The {reason} of the poll file is not read{said}: what it says has not counted."
