@@ -72,16 +72,16 @@ def found_in(calls: Calls, poll: str, ballots: str) -> list[Doubt]:
 # ---------------------------------------------------------------- a file in the place of the other
 def misplaced(debvote: Debvote, poll: str, ballots: str) -> list[Doubt]:
     """That the poll reads as ballots, and that the ballots read as a poll."""
-    is_swapped_poll, is_swapped_ballots = reads_as_ballots(debvote, "poll.toml"), reads_as_poll(debvote, "ballots")
-    both = f"the two are swapped: give {shlex.join(['--poll', ballots, '--ballots', poll])}"
-    is_both = is_swapped_poll and is_swapped_ballots
+    has_no_poll, has_no_ballots = reads_as_ballots(debvote, "poll.toml"), reads_as_poll(debvote, "ballots")
+    swap = f"the two are swapped: give {shlex.join(['--poll', ballots, '--ballots', poll])}"
+    is_swapped = has_no_poll and has_no_ballots
     found = []
-    if is_swapped_poll:
-        cure = both if is_both else "give the poll file with --poll"
+    if has_no_poll:
+        cure = swap if is_swapped else "give the poll file with --poll"
         sentence = "The file that was given as the poll reads as ballots."
         found.append(Doubt(poll, "it is given as the poll, and reads as ballots", cure, sentence))
-    if is_swapped_ballots:
-        cure = both if is_both else "give the ballot file with --ballots"
+    if has_no_ballots:
+        cure = swap if is_swapped else "give the ballot file with --ballots"
         sentence = "The file that was given as the ballots reads as a poll: the ballots themselves may be elsewhere."
         found.append(Doubt(ballots, "it is given as the ballots, and reads as a poll", cure, sentence))
     return found
