@@ -48,9 +48,11 @@ def write_whole(file: pathlib.Path, data: bytes, mode: int = 0o644) -> None:
             os.fchmod(target.fileno(), mode)
             os.fsync(target.fileno())
         os.rename(name, file)
-    except BaseException:
+    except BaseException as error:
         with contextlib.suppress(OSError):
             os.unlink(name)
+        if isinstance(error, OSError):
+            error.filename = str(file)
         raise
     sync_folder(file.parent)
 

@@ -8,6 +8,7 @@ is killed between the two, the files have the sums of the line before, and the n
 
 import dataclasses
 import datetime
+import errno
 import os
 import pathlib
 import re
@@ -104,7 +105,10 @@ def note(file: pathlib.Path, act: str, envelopes: str, sums: Sums) -> None:
         written = os.write(handle, line if is_ended else b"\n" + line)
         if written < len(line):
             os.ftruncate(handle, size)
-            raise OSError("the disk is full")
+            raise OSError(errno.ENOSPC, os.strerror(errno.ENOSPC))
         os.fsync(handle)
+    except OSError as error:
+        error.filename = str(file)
+        raise
     finally:
         os.close(handle)

@@ -43,6 +43,7 @@ class Election:
         self.result = folder / "result"
         self.journal = folder / journal.NAME
         self.lock = folder / ".lock"
+        self.beside = beside
         self.debvote = Debvote(folder, beside)
 
     # ------------------------------------------------------------ the lock
