@@ -45,7 +45,8 @@ class WithKey(unittest.TestCase):
 
     def test_comments_with_brackets_and_quotes(self) -> None:
         before = "# don't [ \"\n#roll = [\ntitle = 'x' # it's [ \"\"\"\nroll = [ # ' ]\n]  # [\nquorum = 1\n"
-        self.assertEqual(self.changed(before), f"# don't [ \"\n#roll = [\ntitle = 'x' # it's [ \"\"\"\nroll = {ROLL}\nquorum = 1\n")
+        after = before[: before.index("\nroll") + 1] + f"roll = {ROLL}\nquorum = 1\n"
+        self.assertEqual(self.changed(before), after)
 
     def test_quoted_keys_and_spaces(self) -> None:
         for key in ('"roll"', "'roll'", "  roll  ", "\troll"):

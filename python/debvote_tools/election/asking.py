@@ -65,8 +65,9 @@ def quorum_words(sheet: Sheet) -> str:
     if multiple == "0Q":
         return "Quorum: none"
     least = votes.removesuffix(" votes")
-    who = "1 elector" if least == "1" else f"{least} electors"
-    return f"Quorum: {votes if least != '1' else '1 vote'} ({multiple}): {who} at least must prefer an option to the default option"
+    if least == "1":
+        return f"Quorum: 1 vote ({multiple}): at least 1 elector must prefer an option to the default option"
+    return f"Quorum: {votes} ({multiple}): at least {least} electors must prefer an option to the default option"
 
 
 def demand_option(election: Election, name: str) -> None:

@@ -211,8 +211,8 @@ def member_of(file: pathlib.Path, row: Row, head: Row, places: dict[str, int]) -
     last = max(place for place, cell in enumerate(head.cells) if cell.value)
     beyond = next(filter(None, values[last + 1 :]), None)
     if beyond is not None:
-        words = f"`{shown(beyond)}` stands behind the last column of the head line; a cell with the delimiter in it needs quotation marks"
-        raise doubt(file, f"{words}: write them, {AGAIN}", row.line)
+        words = f"`{shown(beyond)}` stands behind the last column of the head line"
+        raise doubt(file, f"{words}; put a cell that has the delimiter in it into quotation marks, {AGAIN}", row.line)
     read = {column: values[place] if place < len(values) else "" for column, place in places.items()}
     if not any(read.values()):
         raise doubt(file, f"it has neither a name nor who nor mail; fill it in, or take the line out, {AGAIN}", row.line)

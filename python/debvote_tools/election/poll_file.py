@@ -17,7 +17,7 @@ CHECK = "debvote-election check"
 
 @dataclasses.dataclass(frozen=True)
 class Statement:
-    """A statement of a TOML text: its first key, or none for the head of a table, and the lines where it stands."""
+    """A statement of a TOML text: its first key, or none for the head of a table, and the places where it begins and ends."""
 
     key: str | None
     start: int
@@ -32,7 +32,7 @@ KEY = re.compile(r"""[ \t]*(?:"((?:[^"\\\n]|\\.)*)"|'([^'\n]*)'|([A-Za-z0-9_-]+)
 
 
 def statements(text: str) -> list[Statement]:
-    """The statements of a TOML text, in their order. `start` and `end` are places in the text; comments and empty lines are none."""
+    """The statements of a TOML text, in their order, each up to the next line; comments and empty lines are none."""
     found, place = [], 0
     while place < len(text):
         end = end_of_statement(text, place)

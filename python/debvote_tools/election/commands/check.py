@@ -36,9 +36,9 @@ def run(election: Election, asked: argparse.Namespace) -> int:
         if answer.status == Status.BAD_POLL:
             raise Fault(f"{election.poll}: {what_to_do(election, files.poll, answer.text.splitlines())}", Status.BAD_POLL)
         if answer.status != Status.DECIDED:
-            words = "it has a line that is not read, which is mostly a slip; put it right, move it above every line that begins with ["
+            words = "a line of it is not read, which is mostly a slip; put it right, move it above every line that begins with [,"
             again = f"or put a # before it, then run: {command(election, 'check')}"
-            raise Fault(f"{election.poll}: {words}, {again}", answer.status)
+            raise Fault(f"{election.poll}: {words} {again}", answer.status)
         sheet = empty_sheet(election)
     if sheet is not None:
         print_poll(sheet)

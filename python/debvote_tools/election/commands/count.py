@@ -47,4 +47,5 @@ def what_next(election: Election, sheet: Sheet, casting: str | None) -> str:
     outside = sheet.casting_outside()
     why = f"; {listed([sheet.names[outside]])} is not among them" if outside is not None else ""
     chosen = f"{command(election, 'count')} --casting=NAME"
-    return f"it is a tie between {left}{why}. Who has the casting vote chooses one of these, and you write it in place of NAME: {chosen}"
+    who = "who has the casting vote chooses one of these, and you write it in place of NAME"
+    return f"it is a tie between {left}{why}; {who}: {chosen}"

@@ -23,7 +23,8 @@ def options(parser: argparse.ArgumentParser) -> None:
     parser.add_argument(
         "--even-so", action="store_true", help="Publish where debvote-publish stops at a doubt; the page says what the doubt is"
     )
-    parser.add_argument("target", metavar="FOLDER", nargs="?", help="The folder to make; result, in the election's folder, if not given")
+    said = "The folder to make; the folder result of the election if it is not given"
+    parser.add_argument("target", metavar="FOLDER", nargs="?", help=said)
 
 
 def run(election: Election, asked: argparse.Namespace) -> int:
@@ -61,8 +62,12 @@ def ended(words: list[str]) -> int:
     Where this one is asked to end, it waits: an interrupt reaches both, and what the other has begun it takes away itself.
     """
     sys.stdout.flush()
-    with subprocess.Popen(words, stdin=subprocess.DEVNULL) as child:
+    child = subprocess.Popen(words, stdin=subprocess.DEVNULL)
+    try:
         status = child.wait()
+    except BaseException:
+        child.wait()
+        raise
     return status if status >= 0 else 128 - status
 
 
@@ -90,4 +95,5 @@ def what_next(election: Election, target: pathlib.Path, status: int) -> str:
     if status == Status.DECIDED:
         return f"put the folder {target} on the web site as it is"
     chosen = f"{command(election, 'publish')} --casting=NAME {shlex.quote(str(free_name(target)))}"
-    return f"it is a tie. Put the folder {target} on the web site, ask for the casting vote, and write the option in place of NAME: {chosen}"
+    ask = f"put the folder {target} on the web site, ask for the casting vote, and write its option in place of NAME"
+    return f"it is a tie: {ask}: {chosen}"

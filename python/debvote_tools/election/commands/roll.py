@@ -112,7 +112,8 @@ def write(election: Election, files: Files, poll: bytes) -> None:
         called = poll_file.without_last_envelope(election.called_poll.read_bytes())
         changes = difference(called, poll_file.without_last_envelope(poll))
         words = f"the call for votes was made with another roll: {shown(changes)}"
-        raise Fault(f"{election.poll}: {words}; to call anew with this one, first remove the folder {election.call}", Status.DOUBT)
+        cure = f"to call anew with this one, first remove the folder {election.call}"
+        raise Fault(f"{election.poll}: {words}; {cure}", Status.DOUBT)
     election.keep_copy(election.poll)
     election.act("roll", files, poll=poll)
 
