@@ -61,16 +61,20 @@ def run(election: Election, asked: argparse.Namespace) -> int:
 
 def state_of(election: Election, files: Files) -> State:
     """Asks debvote."""
-    texts = []
-    for task in ("explain", "standing", "count"):
+    texts = {}
+    # of a refused poll `explain` says more than a fault, so it is not asked first
+    for task in ("standing", "explain", "count"):
         answer = election.debvote.ask(task, *files_of(election, files))
-        # a poll that is refused has findings too
-        if answer.faults or answer.status == Status.BAD_POLL:
+        if answer.faults:
             raise refused(election, answer)
-        texts.append(answer.text)
-    roll = poll_file.document(files.poll)["roll"]
-    lines = (files.ballots or b"").split(b"\n")
-    return State(findings_in(texts[0]), sheet_in(texts[2]), roll, standing_in(texts[1]), lines)
+        texts[task] = answer.text
+    return State(
+        findings=findings_in(texts["explain"]),
+        sheet=sheet_in(texts["count"]),
+        roll=poll_file.document(files.poll)["roll"],
+        standing=standing_in(texts["standing"]),
+        lines=(files.ballots or b"").split(b"\n"),
+    )
 
 
 # ---------------------------------------------------------------- how far it is
