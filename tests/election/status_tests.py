@@ -1,8 +1,8 @@
 """`status`: how far the election is."""
 
+import resource
 import subprocess
 import sys
-import time
 
 import support
 
@@ -211,9 +211,11 @@ class Large(StatusTest):
     def test_ten_thousand_electors_take_less_than_two_seconds(self) -> None:
         lines = [f"elector-{i} 1,2,3,4\n" if i % 3 else f"Elector-{i} 1,2,3,4\n" for i in range(5_000)]
         self.write("ballots", "".join(lines) + "stranger 1,2,3,4\n" * 500)
-        began = time.monotonic()
+        # the processor's time, since other tests may run beside this one
+        began = resource.getrusage(resource.RUSAGE_CHILDREN)
         said = self.status()
-        self.assertLess(time.monotonic() - began, 2)
+        ended = resource.getrusage(resource.RUSAGE_CHILDREN)
+        self.assertLess(ended.ru_utime + ended.ru_stime - began.ru_utime - began.ru_stime, 2)
         self.assertIn("Electors with a ballot that stands: 3333 of 10000", said)
         self.assertIn("Refused lines of electors without a ballot (1667):", said)
         self.assertIn("Refused lines of which no elector can be told (500):", said)
