@@ -181,7 +181,11 @@ class Words(PublishTest):
     def test_no_ballots(self) -> None:
         (self.folder / "ballots").unlink()
         (self.folder / "journal").unlink()
-        self.assertEqual(self.asked("publish")[1], ["--poll", "poll.toml", "--ballots", "/dev/null", "result"])
+        ended, words = self.asked("publish")
+        self.assert_fault(ended, 9, "ballots: there are no ballots; add them with debvote-election add FILE, or publish without any with")
+        self.assertEqual(words, [])
+        words = ["--poll", "poll.toml", "--ballots", "/dev/null", "--even-so", "result"]
+        self.assertEqual(self.asked("publish", "--even-so")[1], words)
 
     def test_its_lines_and_its_status_are_passed_on(self) -> None:
         for status in (2, 4, 7, 9, 127):

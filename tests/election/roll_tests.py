@@ -40,7 +40,7 @@ class Writes(RollTest):
         head = support.POLL[: support.POLL.index("roll = ")]
         self.assertEqual(self.read("poll.toml").decode(), head + 'roll = ["zoe", "ada", "m.x-2"]\n')
         self.assertEqual(self.read("backup/0001-poll.toml").decode(), support.POLL)
-        (entry,) = journal.entries_in(self.folder / "journal")
+        entry = journal.entries_in(self.folder / "journal")[-1]
         self.assertEqual((entry.act, entry.sums), ("roll", journal.Sums.of(self.read("poll.toml"), None)))
 
     def test_the_quorum_is_that_of_the_count(self) -> None:
@@ -269,7 +269,7 @@ class Fails(RollTest):
         ended = self.election("roll")
         self.assertEqual((ended.status, len(self.roll_of()), self.read("members.csv")), (0, 200, listed))
         acts = [entry.act for entry in journal.done(journal.entries_in(self.folder / "journal"))]
-        self.assertEqual(acts, ["roll"])
+        self.assertEqual((acts.count("roll"), acts[-1]), (1, "roll"))
 
     def test_an_output_that_is_full(self) -> None:
         self.write("members.csv", GOOD)
