@@ -163,6 +163,26 @@ class Edited(StatusTest):
         self.assertIn("is kept in backup.", said[1])
         self.assertTrue(said[2].startswith("Note: ballots was edited by hand"))
 
+    def test_an_edit_that_a_later_act_has_found_is_told_too(self) -> None:
+        self.election("add", given="ada 1,2,4,3\nben 1,2,4,3\n")
+        self.write("ballots", "ada 2,1,4,3\n")
+        self.election("add", given="cleo 1,2,4,3\n")
+        said = self.status()
+        self.assertRegex(said[0], r"Note: ballots was edited by hand between 20.* UTC \(add\) and 20.* UTC; what came is kept in received\.")
+        self.assertEqual(said[1], "Title: Where we meet in spring")
+
+    def test_an_act_that_was_cut_off_is_not_done(self) -> None:
+        self.write("ballots", "ada 1,2,4,3\n")
+        self.note("add", "1-1")
+        sums = journal.Sums.of(self.read("poll.toml") + b"last_envelope = 1\n", self.read("ballots"))
+        with open(self.folder / "journal", "a") as file:
+            file.write(journal.Entry("2026-11-25T19:00:00Z", "close", "1-1", sums).line())
+        said = self.status()
+        self.assertEqual(said[0], "Note: the last act (close, 2026-11-25 19:00:00 UTC) was cut off, and is not done; run it again.")
+        self.assertEqual(said[1], "Title: Where we meet in spring")
+        self.assertIn("Closed: not yet", said)
+        self.assertIn("when the vote is over: debvote-election close", said[-1])
+
     def test_it_is_told_where_the_poll_is_refused_by_it(self) -> None:
         self.note("roll")
         self.write("poll.toml", support.POLL.replace("quorum = 1", "quorum = 11"))
