@@ -58,14 +58,18 @@ class Publish(PublishTest):
     def test_a_result_that_is_there_stays_and_a_free_name_is_said(self) -> None:
         self.election("publish")
         before = self.contents()
-        self.assert_fault(self.election("publish"), 2, "result: it is there already, and stays", ": debvote-election publish result-2\n")
+        self.assert_fault(
+            self.election("publish"), 2, "result: it is there already, and stays", ": debvote-election publish result-2\n"
+        )
         (self.folder / "result-2").write_text("")
         ended = self.election("publish", "--casting", "At the lake", "--even-so")
         self.assert_fault(ended, 2, ": debvote-election publish --casting 'At the lake' --even-so result-3\n")
         (self.folder / "result-2").unlink()
         self.assertEqual(self.contents(), before)
         ended = self.election("publish", "result-2")
-        self.assertEqual((ended.status, ended.output.splitlines()[-1]), (0, "Next: put the folder result-2 on the web site as it is"))
+        self.assertEqual(
+            (ended.status, ended.output.splitlines()[-1]), (0, "Next: put the folder result-2 on the web site as it is")
+        )
         self.assert_published(self.folder / "result-2")
 
     def test_the_command_that_is_said_can_be_typed(self) -> None:
@@ -96,7 +100,9 @@ class Publish(PublishTest):
         self.close()
         ended = self.election("publish")
         self.assertEqual((ended.faults, ended.status), ("", 1))
-        self.assertIn("Tie: 1 2\nverified\nNext: it is a tie: put the folder result on the web site, ask for the casting vote", ended.output)
+        self.assertIn(
+            "Tie: 1 2\nverified\nNext: it is a tie: put the folder result on the web site, ask for the casting vote", ended.output
+        )
         self.assertTrue(ended.output.endswith(": debvote-election publish --casting=NAME result-2\n"))
         ended = self.election("publish", "--casting", "In the town hall", "result-2")
         self.assertEqual((ended.output.splitlines()[0], ended.status), ("Winner: 2 In the town hall by casting vote", 0))
@@ -182,7 +188,9 @@ class Words(PublishTest):
         (self.folder / "ballots").unlink()
         (self.folder / "journal").unlink()
         ended, words = self.asked("publish")
-        self.assert_fault(ended, 9, "ballots: there are no ballots; add them with debvote-election add FILE, or publish without any with")
+        self.assert_fault(
+            ended, 9, "ballots: there are no ballots; add them with debvote-election add FILE, or publish without any with"
+        )
         self.assertEqual(words, [])
         words = ["--poll", "poll.toml", "--ballots", "/dev/null", "--even-so", "result"]
         self.assertEqual(self.asked("publish", "--even-so")[1], words)

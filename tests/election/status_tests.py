@@ -85,7 +85,9 @@ Refused lines of which no elector can be told (4):
     bad shape: column 1: byte 0xFF
   line 14: dan_x 1,2,3,4
     bad shape: column 4: "_"
-Next: add the ballots as they come: debvote-election add FILE, or debvote-election desk; when the vote is over: debvote-election close"""
+Next: """
+        said += "add the ballots as they come: debvote-election add FILE, or debvote-election desk; "
+        said += "when the vote is over: debvote-election close"
         self.assertEqual(self.status(), said.splitlines())
 
     def test_it_is_as_debvote_says(self) -> None:
@@ -95,7 +97,9 @@ Next: add the ballots as they come: debvote-election add FILE, or debvote-electi
         for line in explained[:-1]:
             envelope, _, words = line.removeprefix("ballots:").partition(": ")
             if envelope != "9":
-                self.assertEqual(said[next(i for i, told in enumerate(said) if told.startswith(f"  line {envelope}: ")) + 1], f"    {words}")
+                self.assertEqual(
+                    said[next(i for i, told in enumerate(said) if told.startswith(f"  line {envelope}: ")) + 1], f"    {words}"
+                )
         self.assertNotIn("  line 9: ADA 2,1,4,3", said)
 
     def test_an_elector_who_sent_a_right_one_later_is_not_told(self) -> None:
@@ -140,7 +144,9 @@ Next: add the ballots as they come: debvote-election add FILE, or debvote-electi
         self.assertIn("Closed: not yet, but the poll says that the last envelope in time is 0", self.status())
 
     def test_from_another_folder(self) -> None:
-        self.assertEqual(self.status("--folder", "election", cwd=self.scratch)[-1], "Next: debvote-election --folder election call")
+        self.assertEqual(
+            self.status("--folder", "election", cwd=self.scratch)[-1], "Next: debvote-election --folder election call"
+        )
 
 
 class Edited(StatusTest):
@@ -154,7 +160,9 @@ class Edited(StatusTest):
         self.note("add", "1")
         self.write("ballots", "ada 2,1,4,3\n")
         said = self.status()
-        self.assertEqual(said[0], "Note: ballots was edited by hand after the last act of debvote-election (add, 2026-11-25 18:04:11 UTC).")
+        self.assertEqual(
+            said[0], "Note: ballots was edited by hand after the last act of debvote-election (add, 2026-11-25 18:04:11 UTC)."
+        )
         self.assertIn("is kept in received.", said[1])
         self.assertEqual(said[2], "Title: Where we meet in spring")
         self.write("poll.toml", support.POLL.replace("quorum = 1", "quorum = 2"))
@@ -168,7 +176,9 @@ class Edited(StatusTest):
         self.write("ballots", "ada 2,1,4,3\n")
         self.election("add", given="cleo 1,2,4,3\n")
         said = self.status()
-        self.assertRegex(said[0], r"Note: ballots was edited by hand between 20.* UTC \(add\) and 20.* UTC; what came is kept in received\.")
+        self.assertRegex(
+            said[0], r"Note: ballots was edited by hand between 20.* UTC \(add\) and 20.* UTC; what came is kept in received\."
+        )
         self.assertEqual(said[1], "Title: Where we meet in spring")
 
     def test_an_act_that_was_cut_off_is_not_done(self) -> None:
@@ -178,7 +188,9 @@ class Edited(StatusTest):
         with open(self.folder / "journal", "a") as file:
             file.write(journal.Entry("2026-11-25T19:00:00Z", "close", "1-1", sums).line())
         said = self.status()
-        self.assertEqual(said[0], "Note: the last act (close, 2026-11-25 19:00:00 UTC) was cut off, and is not done; run it again.")
+        self.assertEqual(
+            said[0], "Note: the last act (close, 2026-11-25 19:00:00 UTC) was cut off, and is not done; run it again."
+        )
         self.assertEqual(said[1], "Title: Where we meet in spring")
         self.assertIn("Closed: not yet", said)
         self.assertIn("when the vote is over: debvote-election close", said[-1])
@@ -193,7 +205,8 @@ class Edited(StatusTest):
 
 class Stops(StatusTest):
     def test_a_poll_that_is_refused(self) -> None:
-        for poll, words in {"title = ": "syntax", "x = 1\n": "key title", support.POLL.replace('"ada"', '"Ada"'): "voter at position 0"}.items():
+        capital = support.POLL.replace('"ada"', '"Ada"')
+        for poll, words in {"title = ": "syntax", "x = 1\n": "key title", capital: "voter at position 0"}.items():
             self.write("poll.toml", poll)
             self.assert_fault(self.election("status"), 3, f"poll.toml: poll refused: {words}; ", "debvote-election check")
 
@@ -220,7 +233,9 @@ class Stops(StatusTest):
     def test_an_output_that_is_full(self) -> None:
         with open("/dev/full", "w") as full:
             words = [sys.executable, support.ELECTION, "status"]
-            ended = subprocess.run(words, cwd=self.folder, env=support.environment(), stdout=full, stderr=subprocess.PIPE, text=True)
+            ended = subprocess.run(
+                words, cwd=self.folder, env=support.environment(), stdout=full, stderr=subprocess.PIPE, text=True
+            )
         self.assertEqual((ended.returncode, ended.stderr.count("\n")), (7, 1))
         self.assertIn("debvote-election: the output failed", ended.stderr)
 
