@@ -1,11 +1,13 @@
 """Files that are written whole or not at all, and the lock of a folder."""
 
 import contextlib
+import errno
 import fcntl
 import hashlib
 import os
 import pathlib
 import re
+import signal
 import tempfile
 from collections.abc import Iterator
 
@@ -48,9 +50,11 @@ def write_whole(file: pathlib.Path, data: bytes, mode: int = 0o644) -> None:
             os.fchmod(target.fileno(), mode)
             os.fsync(target.fileno())
         os.rename(name, file)
-    except BaseException:
+    except BaseException as error:
         with contextlib.suppress(OSError):
             os.unlink(name)
+        if isinstance(error, OSError):
+            error.filename = str(file)
         raise
     sync_folder(file.parent)
 
@@ -60,6 +64,41 @@ def umask() -> int:
     mask = os.umask(0o077)
     os.umask(mask)
     return mask
+
+
+def append_whole(file: pathlib.Path, data: bytes, has_lines: bool = False) -> None:
+    """Appends to a file, all or nothing, and brings it to the disk. Of a file that has lines, a last one that was cut off is
+    taken away first. Raises OSError, and then nothing was appended.
+    """
+    handle = os.open(file, os.O_RDWR | os.O_CREAT | os.O_APPEND | os.O_CLOEXEC, 0o644)
+    try:
+        size = end_of_lines(handle) if has_lines else os.fstat(handle).st_size
+        os.ftruncate(handle, size)
+        try:
+            written = os.write(handle, data)
+            if written < len(data):
+                raise OSError(errno.ENOSPC, os.strerror(errno.ENOSPC))
+            os.fsync(handle)
+        except OSError:
+            os.ftruncate(handle, size)
+            raise
+    except OSError as error:
+        error.filename = str(file)
+        raise
+    finally:
+        os.close(handle)
+
+
+def end_of_lines(handle: int) -> int:
+    """The place behind the last line feed of a file."""
+    place = os.fstat(handle).st_size
+    while place > 0:
+        start = max(0, place - 4096)
+        found = os.pread(handle, place - start, start).rfind(b"\n")
+        if found >= 0:
+            return start + found + 1
+        place = start
+    return 0
 
 
 def write_new(folder: pathlib.Path, name: str, data: bytes) -> pathlib.Path:
@@ -80,3 +119,25 @@ def locked(file: pathlib.Path, is_shared: bool = False) -> Iterator[None]:
         yield
     finally:
         os.close(handle)
+
+
+@contextlib.contextmanager
+def in_memory(data: bytes) -> Iterator[str]:
+    """A file in memory, which other programs can read by this path as long as it lasts, and of which a kill leaves nothing."""
+    handle = os.memfd_create("debvote")
+    try:
+        with open(handle, "wb", closefd=False) as target:
+            target.write(data)
+        yield f"/proc/{os.getpid()}/fd/{handle}"
+    finally:
+        os.close(handle)
+
+
+@contextlib.contextmanager
+def uninterrupted() -> Iterator[None]:
+    """An interrupt waits until this is done, so that what is done is told too."""
+    before = signal.pthread_sigmask(signal.SIG_BLOCK, {signal.SIGINT, signal.SIGTERM, signal.SIGHUP})
+    try:
+        yield
+    finally:
+        signal.pthread_sigmask(signal.SIG_SETMASK, before)

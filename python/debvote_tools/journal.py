@@ -3,7 +3,8 @@
     2026-11-25T18:04:11Z  add  13-15  <sum of poll.toml>  <sum of ballots>
 
 Its parts have a tab between them, and `-` stands for what there is not. A line is written before the act is done; so where a run
-is killed between the two, the files have the sums of the line before, and the next act notes that this one was not done.
+is killed between the two, the files have the sums of the line before, and the next act notes that this one was not done. For this
+the line before must have the sums that the act finds: where it has not, a line `found` is written first.
 """
 
 import dataclasses
@@ -12,12 +13,15 @@ import os
 import pathlib
 import re
 
-from debvote_tools.files import sum_of
+from debvote_tools.files import append_whole, sum_of
 
 NAME = "journal"
 
 # the act by which the next run notes that the one before was cut off before it was done
 UNDONE = "undone"
+
+# how an act begins that finds the files otherwise than the one before has left them: somebody has edited them, or it is the first
+FOUND = "found"
 
 NONE = "-"
 
@@ -66,8 +70,9 @@ def entries_in(file: pathlib.Path, most: int | None = None) -> list[Entry]:
 
 
 def last_entries(file: pathlib.Path) -> list[Entry]:
-    """The last entries of a journal, some ten: enough for the last acts, however long the journal is."""
-    return entries_in(file, 4096)
+    """The last entries of a journal, as many as the last two acts that were done need, however long the journal is."""
+    entries = entries_in(file, 4096)
+    return entries if len(done(entries)) > 1 else entries_in(file)
 
 
 def done(entries: list[Entry]) -> list[Entry]:
@@ -94,17 +99,6 @@ def is_cut_off(entries: list[Entry], now: Sums) -> bool:
 
 
 def note(file: pathlib.Path, act: str, envelopes: str, sums: Sums) -> None:
-    """Appends an entry, and brings it to the disk. A line that was cut off before is ended first. Raises OSError."""
+    """Appends an entry, and brings it to the disk. A line that was cut off before is taken away first. Raises OSError."""
     time = datetime.datetime.now(datetime.UTC).strftime("%Y-%m-%dT%H:%M:%SZ")
-    line = Entry(time, act, envelopes, sums).line().encode("ascii")
-    handle = os.open(file, os.O_RDWR | os.O_CREAT | os.O_APPEND | os.O_CLOEXEC, 0o644)
-    try:
-        size = os.fstat(handle).st_size
-        is_ended = size == 0 or os.pread(handle, 1, size - 1) == b"\n"
-        written = os.write(handle, line if is_ended else b"\n" + line)
-        if written < len(line):
-            os.ftruncate(handle, size)
-            raise OSError("the disk is full")
-        os.fsync(handle)
-    finally:
-        os.close(handle)
+    append_whole(file, Entry(time, act, envelopes, sums).line().encode("ascii"), has_lines=True)

@@ -48,7 +48,12 @@ def main(beside: pathlib.Path, words: Sequence[str] | None = None) -> int:
     """Runs a command, and returns the exit status. `beside` is the folder of the program."""
     for number in (signal.SIGHUP, signal.SIGTERM):
         signal.signal(number, lambda number, _: sys.exit(128 + number))
+    if sys.stdout is None:
+        return failed("standard output is closed; nothing was changed", Status.BAD_OUTPUT)
+    # a name that the terminal can't show is no reason to stop
+    sys.stdout.reconfigure(errors="backslashreplace")
     asked = parser().parse_args(words)
+    signal.signal(signal.SIGINT, signal.default_int_handler)
     try:
         election = Election(pathlib.Path(getattr(asked, "folder", ".")), beside)
         status = asked.run(election, asked)
@@ -58,18 +63,20 @@ def main(beside: pathlib.Path, words: Sequence[str] | None = None) -> int:
         return failed(fault.words, fault.status)
     except KeyboardInterrupt:
         return failed("interrupted; what was told is done, and nothing else", 128 + signal.SIGINT)
-    except BrokenPipeError:
-        return failed("the output failed; what was told is done: ask debvote-election status", Status.BAD_OUTPUT)
     except OSError as error:
-        where = f"{error.filename}: " if error.filename else ""
-        return failed(f"{where}{error.strerror or error}; nothing was changed by this step", Status.BAD_OUTPUT)
+        # a file that can't be read or written is named; what has no name is the output
+        if error.filename is None:
+            return failed("the output failed; what was told is done: ask debvote-election status", Status.BAD_OUTPUT)
+        words = f"{error.filename}: {error.strerror}; it is as it was; put this right, then run the command again"
+        return failed(words, Status.BAD_OUTPUT)
 
 
 def failed(words: str | None, status: int) -> int:
     """Says why the run did not come to its end, unless that is told, and gives the exit status."""
     # what can't be written now can't be written at the end either
     try:
-        sys.stdout.flush()
+        if sys.stdout is not None:
+            sys.stdout.flush()
     except OSError:
         os.dup2(os.open(os.devnull, os.O_WRONLY), sys.stdout.fileno())
     if words is not None:

@@ -43,7 +43,10 @@ class Election:
         self.result = folder / "result"
         self.journal = folder / journal.NAME
         self.lock = folder / ".lock"
+        self.beside = beside
         self.debvote = Debvote(folder, beside)
+        # the act that the last `changing` has found not done
+        self.cut_off: Entry | None = None
 
     # ------------------------------------------------------------ the lock
     @contextlib.contextmanager
@@ -79,7 +82,12 @@ class Election:
         for name in (self.poll.name, self.ballots.name, self.members.name):
             for file in self.folder.glob(f".{name}.*"):
                 file.unlink()
-        if journal.is_cut_off(journal.last_entries(self.journal), files.sums):
+        for folder in (self.received, self.backup):
+            for file in folder.glob(".[0-9]*"):
+                file.unlink()
+        entries = journal.last_entries(self.journal)
+        self.cut_off = journal.done(entries)[-1] if journal.is_cut_off(entries, files.sums) else None
+        if self.cut_off is not None:
             journal.note(self.journal, journal.UNDONE, journal.NONE, files.sums)
 
     # ------------------------------------------------------------ the files
@@ -124,6 +132,10 @@ class Election:
         none of them the act is noted alone. Raises OSError, and then no file is changed.
         """
         after = Files(files.poll if poll is None else poll, files.ballots if ballots is None else ballots)
+        acts = journal.done(journal.last_entries(self.journal))
+        changes_files = poll is not None or ballots is not None
+        if changes_files and (not acts or acts[-1].sums != files.sums):
+            journal.note(self.journal, journal.FOUND, journal.NONE, files.sums)
         journal.note(self.journal, name, envelopes, after.sums)
         try:
             if poll is not None:
@@ -132,8 +144,8 @@ class Election:
                 write_whole(self.ballots, ballots)
         except OSError:
             # where there is no room for this note either, the next run makes it
-            with contextlib.suppress(OSError):
-                journal.note(self.journal, journal.UNDONE, journal.NONE, files.sums)
+            with contextlib.suppress(OSError, Fault):
+                self.settle(self.files())
             raise
         return after
 

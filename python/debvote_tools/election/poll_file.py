@@ -1,6 +1,7 @@
 """The text of a poll file: its statements, and the changes of one of them that leave all others byte for byte."""
 
 import dataclasses
+import itertools
 import re
 import tomllib
 
@@ -8,10 +9,15 @@ from debvote_tools.faults import Fault, Status
 
 LAST_ENVELOPE = "last_envelope"
 
+# what Windows puts before a text in UTF-8
+MARK = "\ufeff"
+
+CHECK = "debvote-election check"
+
 
 @dataclasses.dataclass(frozen=True)
 class Statement:
-    """A statement of a TOML text: its first key, or none for the head of a table, and the lines where it stands."""
+    """A statement of a TOML text: its first key, or none for the head of a table, and the places where it begins and ends."""
 
     key: str | None
     start: int
@@ -26,16 +32,16 @@ KEY = re.compile(r"""[ \t]*(?:"((?:[^"\\\n]|\\.)*)"|'([^'\n]*)'|([A-Za-z0-9_-]+)
 
 
 def statements(text: str) -> list[Statement]:
-    """The statements of a TOML text, in their order. `start` and `end` are places in the text; comments and empty lines are none."""
+    """The statements of a TOML text, in their order, each up to the next line; comments and empty lines are none."""
     found, place = [], 0
     while place < len(text):
         end = end_of_statement(text, place)
         line = text[place:end]
-        head = line.lstrip(" \t\ufeff")
+        head = line.lstrip(f" \t{MARK}")
         if head.startswith("["):
             found.append(Statement(None, place, end))
         elif head.strip() and not head.startswith("#"):
-            key = KEY.match(line.lstrip("\ufeff"))
+            key = KEY.match(line.removeprefix(MARK))
             found.append(Statement(next(filter(None, key.groups()), "") if key else "", place, end))
         place = end
     return found
@@ -54,43 +60,70 @@ def end_of_statement(text: str, start: int) -> int:
 def document(data: bytes) -> dict[str, object]:
     """What a poll says, as Python reads TOML."""
     try:
-        return tomllib.loads(text_of(data).removeprefix("\ufeff"))
-    except tomllib.TOMLDecodeError as error:
-        raise Fault(f"poll.toml: it is no TOML 1.0: {error}", Status.BAD_POLL) from None
+        return tomllib.loads(text_of(data).removeprefix(MARK))
+    except RecursionError:
+        raise unread("lists stand in lists too deep") from None
+    except ValueError as error:
+        raise unread(str(error)) from None
+
+
+def unread(why: str) -> Fault:
+    """The fault of a poll that can't be read."""
+    words = f"poll.toml: it can't be read as TOML 1.0: {why}; put this right with an editor, then run: {CHECK}"
+    return Fault(words, Status.BAD_POLL)
 
 
 def text_of(data: bytes) -> str:
     """The text of a poll."""
     try:
         return data.decode("utf-8")
-    except UnicodeDecodeError:
-        raise Fault("poll.toml: it is not saved as UTF-8; save it as plain text in UTF-8", Status.BAD_POLL) from None
+    except UnicodeDecodeError as error:
+        line = data.count(b"\n", 0, error.start) + 1
+        words = f"poll.toml: line {line} is not in UTF-8; save the file as plain text in UTF-8, then run: {CHECK}"
+        raise Fault(words, Status.BAD_POLL) from None
 
 
 def with_key(data: bytes, key: str, value: str) -> bytes:
     """The poll in which a key above all tables has this value, written on one line; it takes the place of an earlier value.
 
-    Nothing else changes: that is checked, and where it is not so, it is a fault.
+    A comment behind the earlier value, or within it, goes with it. Nothing else changes: that is checked, and where it is not
+    so, it is a fault.
     """
     text = text_of(data)
+    mark = MARK if text.startswith(MARK) else ""
+    changed = (mark + with_line(text.removeprefix(mark), key, value)).encode("utf-8")
+    wanted = document(data) | tomllib.loads(f"{key} = {value}")
+    if not says(changed, wanted):
+        words = f"poll.toml: its line `{key}` can't be found; write it yourself above every line that begins with [: {key} = .."
+        raise Fault(words, Status.BAD_POLL)
+    return changed
+
+
+def with_line(text: str, key: str, value: str) -> str:
+    """The text in which a line sets the key: where the key stands above all tables, or else behind the last one there."""
     found = statements(text)
-    line = f"{key} = {value}\n"
-    before_tables = next((place for place, statement in enumerate(found) if statement.key is None), len(found))
-    old = next((statement for statement in found[:before_tables] if statement.key == key), None)
+    above = list(itertools.takewhile(lambda statement: statement.key is not None, found))
+    old = next((statement for statement in above if statement.key == key), None)
+    feed = "\r\n" if "\r\n" in text else "\n"
+    line = f"{key} = {value}{feed}"
     if old is not None:
-        changed = text[: old.start] + line + text[old.end :]
-    elif before_tables < len(found):
-        place = found[before_tables].start
-        changed = text[:place] + line + text[place:]
+        return text[: old.start] + line + text[old.end :]
+    if above or not found:
+        place = above[-1].end if found[len(above) :] else len(text)
     else:
-        changed = text + ("" if text.endswith("\n") or not text else "\n") + line
-    wanted = document(data) | tomllib.loads(line)
-    new = changed.encode("utf-8")
-    if document(new) != wanted:
-        raise Fault(f"poll.toml: its line `{key}` can't be found; write it yourself, above every table", Status.BAD_POLL)
-    return new
+        place = found[0].start
+    return text[:place] + (feed if text[:place] and not text[:place].endswith("\n") else "") + line + text[place:]
+
+
+def says(data: bytes, wanted: dict[str, object]) -> bool:
+    """Whether a poll can be read, and says this."""
+    try:
+        return document(data) == wanted
+    except Fault:
+        return False
 
 
 def without_last_envelope(data: bytes) -> bytes:
-    """What `grep -v '^last_envelope'` leaves of a poll."""
-    return re.sub(rb"(?m)^last_envelope[^\n]*\n?", b"", data)
+    """What `grep -v '^last_envelope'` leaves of a poll: it ends a last line that has no line feed."""
+    ended = data if data.endswith(b"\n") or not data else data + b"\n"
+    return re.sub(rb"(?m)^last_envelope[^\n]*\n", b"", ended)

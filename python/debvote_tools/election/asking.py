@@ -1,0 +1,83 @@
+"""What the commands ask debvote, and what they say where it refuses."""
+
+import pathlib
+import shlex
+from collections.abc import Iterable
+
+from debvote_tools.election.folder import Election, Files
+from debvote_tools.faults import Fault, Status
+from debvote_tools.program import Answer
+from debvote_tools.sheet import Sheet, sheet_in
+
+NO_BALLOTS = "/dev/null"
+
+
+def command(election: Election, *words: str) -> str:
+    """A command as the user types it from where the user is."""
+    where = [] if election.folder == pathlib.Path(".") else ["--folder", str(election.folder)]
+    return shlex.join(["debvote-election", *where, *words])
+
+
+def files_of(election: Election, files: Files) -> list[str]:
+    """The words that name the two files to debvote, which runs in the folder of the election."""
+    ballots = NO_BALLOTS if files.ballots is None else election.ballots.name
+    return ["--poll", election.poll.name, "--ballots", ballots]
+
+
+def casting_words(name: str | None) -> list[str]:
+    """The words of a casting vote. A name that begins with a hyphen would be read as another option."""
+    if name is None:
+        return []
+    return [f"--casting={name}"] if name.startswith("-") else ["--casting", name]
+
+
+def refused(election: Election, answer: Answer) -> Fault:
+    """The fault of an answer without a text: what debvote said, with the file that it is about, and its status."""
+    said = answer.faults.strip().removeprefix("debvote: ") or f"it ended with status {answer.status}"
+    cures = {
+        Status.BAD_POLL: (election.poll, f"what is wrong with it says: {command(election, 'check')}"),
+        Status.BAD_BALLOTS: (election.ballots, "it has at most 100000 lines and 33554432 bytes"),
+    }
+    file, cure = cures.get(answer.status, ("debvote", "nothing was counted: run the command again"))
+    return Fault(f"{file}: {said}; {cure}", answer.status)
+
+
+def explained(election: Election, poll: bytes) -> Answer:
+    """What `explain` says of a poll, which may not be written yet."""
+    answer = election.debvote.ask("explain", "--poll", "/dev/stdin", given=poll)
+    if answer.text:
+        return answer
+    if answer.status == Status.BAD_POLL:
+        words = f"{election.poll}: {answer.faults.strip().removeprefix('debvote: ')}; a poll has at most 1048576 bytes"
+        raise Fault(words, answer.status)
+    raise refused(election, answer)
+
+
+def empty_sheet(election: Election) -> Sheet | None:
+    """The sheet of the poll without ballots, which has its options, its quorum and its electors; none where it is refused."""
+    answer = election.debvote.ask("count", "--poll", election.poll.name, "--ballots", NO_BALLOTS)
+    return sheet_in(answer.text) if answer.text else None
+
+
+def quorum_words(sheet: Sheet) -> str:
+    """What the quorum of a sheet wants."""
+    multiple, votes = sheet.facts["Quorum"].split(", ")
+    if multiple == "0Q":
+        return "Quorum: none"
+    least = votes.removesuffix(" votes")
+    if least == "1":
+        return f"Quorum: 1 vote ({multiple}): at least 1 elector must prefer an option to the default option"
+    return f"Quorum: {votes} ({multiple}): at least {least} electors must prefer an option to the default option"
+
+
+def demand_option(election: Election, name: str) -> None:
+    """Stops where no option of the poll has this name, and says which names there are."""
+    sheet = empty_sheet(election)
+    if sheet is not None and name not in sheet.names.values():
+        words = f"no option has this name; give one of these, exactly as it stands here: {listed(sheet.names.values())}"
+        raise Fault(f"--casting={shlex.quote(name)}: {words}", Status.CASTING_OUTSIDE)
+
+
+def listed(names: Iterable[str]) -> str:
+    """Some names, each as it is typed in a shell."""
+    return ", ".join(map(shlex.quote, names))

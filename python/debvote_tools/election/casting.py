@@ -1,0 +1,205 @@
+"""How a batch of lines is cast while the lock is held: what debvote says of it, the new ballots, and what is told."""
+
+import collections
+import dataclasses
+from collections.abc import Callable, Iterator
+
+from debvote_tools.ballots import in_words
+from debvote_tools.election import poll_file
+from debvote_tools.election.asking import NO_BALLOTS, refused
+from debvote_tools.election.folder import Election, Files
+from debvote_tools.election.lines import Line, differences, shown
+from debvote_tools.election.telling import count_of, tell
+from debvote_tools.faults import Fault, Status
+from debvote_tools.files import in_memory, uninterrupted
+from debvote_tools.program import Answer, Finding, findings_in, replies_in, standing_in
+from debvote_tools.sheet import Sheet, sheet_in
+
+
+@dataclasses.dataclass(frozen=True)
+class Ballot:
+    """A line of a batch: what goes into the file, and what debvote says of it."""
+
+    line: Line
+    text: bytes
+    envelope: int
+    reply: str
+    # why debvote refuses the line as it stands in the file, and why the changed one; none where it is valid
+    finding: Finding | None
+    finding_of_changed: Finding | None
+
+
+@dataclasses.dataclass(frozen=True)
+class Batch:
+    """A batch of lines as it would be cast, and the whole ballots with it."""
+
+    ballots: list[Ballot]
+    new: bytes
+    # the last line that was there had no line feed
+    ends_a_line: bool
+    sheet: Sheet
+    right_line: str
+
+    @property
+    def names(self) -> list[str]:
+        """The names of the options in the order of their numbers."""
+        return list(self.sheet.names.values())
+
+
+# ---------------------------------------------------------------- what debvote says
+def judged(election: Election, files: Files, lines: list[Line]) -> Batch:
+    """Asks debvote about lines, none of them empty, as they would be cast. It refuses the whole where that is too long."""
+    before = files.ballots or b""
+    ends_a_line = bool(before) and not before.endswith(b"\n")
+    with in_memory(files.poll) as poll:
+        sheet = sheet_of(election, poll)
+        found_of_changed, found = findings_of(election, files.poll, lines)
+        texts = [line.kept if at in found_of_changed else line.changed for at, line in enumerate(lines)]
+        new = b"".join([before, b"\n" if ends_a_line else b"", *(text + b"\n" for text in texts)])
+        replies = replies_in(asked_of(election, "steps", poll, new).text)
+    first = len(replies) - len(lines)
+    ballots = [
+        Ballot(line, texts[at], first + at + 1, replies[first + at], found.get(at), found_of_changed.get(at))
+        for at, line in enumerate(lines)
+    ]
+    return Batch(ballots, new, ends_a_line, sheet, right_line(files.poll, len(sheet.names)))
+
+
+def sheet_of(election: Election, poll: str) -> Sheet:
+    """The sheet of the poll without ballots, which has the names of the options."""
+    answer = election.debvote.ask("count", "--poll", poll, "--ballots", NO_BALLOTS)
+    if not answer.text:
+        raise refused(election, answer)
+    return sheet_in(answer.text)
+
+
+def findings_of(election: Election, poll: bytes, lines: list[Line]) -> tuple[dict[int, Finding], dict[int, Finding]]:
+    """What debvote finds of the changed lines, and of those it refuses as they came; each by its place, from 0.
+
+    The lines are asked about alone, and without the last envelope: so what is late does not hide what is wrong, and names that
+    are near to an earlier line's do not use up the hints.
+    """
+    with in_memory(without_last_envelope(poll)) as path:
+        of_changed = found_in(election, path, [line.changed for line in lines])
+        others = [at for at in of_changed if lines[at].kept != lines[at].changed]
+        of_kept = found_in(election, path, [lines[at].kept for at in others]) if others else {}
+    return of_changed, of_changed | {others[at]: finding for at, finding in of_kept.items()}
+
+
+def found_in(election: Election, poll: str, lines: list[bytes]) -> dict[int, Finding]:
+    """What debvote finds of some lines, each by its place, from 0."""
+    answer = asked_of(election, "explain", poll, b"".join(line + b"\n" for line in lines))
+    return {finding.envelope - 1: finding for finding in findings_in(answer.text).refused}
+
+
+def without_last_envelope(poll: bytes) -> bytes:
+    """The poll in which no envelope is late, however its line is written."""
+    text = poll_file.text_of(poll)
+    for statement in poll_file.statements(text):
+        if statement.key is None:
+            break
+        if statement.key == poll_file.LAST_ENVELOPE:
+            return (text[: statement.start] + text[statement.end :]).encode()
+    return poll
+
+
+def asked_of(election: Election, task: str, poll: str, ballots: bytes) -> Answer:
+    """What debvote writes about a poll and these ballots. Where it refuses them, nothing is added."""
+    answer = election.debvote.ask(task, "--poll", poll, "--ballots", "/dev/stdin", given=ballots)
+    if answer.status == Status.BAD_BALLOTS:
+        said = answer.faults.strip().removeprefix("debvote: ")
+        cure = f"it takes 100000 lines and 33554432 bytes at most; what came is kept in {election.received}: add less of it"
+        raise Fault(f"{election.ballots}: nothing was added, for with it debvote says `{said}`; {cure}", Status.BAD_BALLOTS)
+    if answer.faults:
+        raise refused(election, answer)
+    return answer
+
+
+def right_line(poll: bytes, options: int) -> str:
+    """A line that is right in this poll: of an elector of the roll, with a rank for each option."""
+    try:
+        name = poll_file.document(poll)["roll"][0]
+    except (Fault, LookupError, TypeError):
+        name = "name"
+    return f"{name} {','.join(map(str, range(1, options + 1)))}"
+
+
+def standing_of(election: Election, files: Files, name: str) -> str | None:
+    """The ranks of the ballot of an elector that stands."""
+    with in_memory(files.poll) as poll:
+        return standing_in(asked_of(election, "standing", poll, files.ballots or b"").text).get(name)
+
+
+# ---------------------------------------------------------------- casting
+def cast(election: Election, act: str, files: Files, lines: list[Line], keep: Callable[[], None]) -> Batch:
+    """Casts lines, none of them empty, and tells what became of each. The caller holds the lock alone.
+
+    First of all `keep` keeps what came. Nothing is told before it is done, and what is done is told: an interrupt waits.
+    """
+    with uninterrupted():
+        keep()
+    batch = judged(election, files, lines)
+    first, last = batch.ballots[0].envelope, batch.ballots[-1].envelope
+    envelopes = str(first) if first == last else f"{first}-{last}"
+    with uninterrupted():
+        election.act(act, files, envelopes, ballots=batch.new)
+        try:
+            tell(*report(election, batch))
+        except Fault as fault:
+            words = f"the output failed; {election.ballots} has envelopes {envelopes} all the same: ask debvote-election status"
+            raise Fault(words, fault.status) from None
+    return batch
+
+
+def report(election: Election, batch: Batch) -> Iterator[str]:
+    """What is told of a batch that was cast."""
+    if batch.ends_a_line:
+        yield f"Note: the last line of {election.ballots} had no line feed; it was ended."
+    for ballot in batch.ballots:
+        yield from change_words(ballot)
+        yield f"{ballot.envelope} {ballot.reply}  {ballot_words(ballot, batch.names)}"
+        yield from cause_words(ballot)
+    if any(ballot.finding for ballot in batch.ballots):
+        yield right_words(batch)
+    late = sum(ballot.reply == "late" for ballot in batch.ballots)
+    if late:
+        yield f"{count_of(late, 'line')} came after the close, and late ones count for nothing."
+
+
+def change_words(ballot: Ballot) -> Iterator[str]:
+    """What was changed of a line, before and after."""
+    came = ballot.line.came
+    if came != ballot.text:
+        how = ", ".join(differences(came, ballot.text))
+        yield f"{ballot.line.where}: `{shown(came)}` was changed to `{shown(ballot.text)}` ({how})"
+
+
+def ballot_words(ballot: Ballot, names: list[str]) -> str:
+    """The ballot in words, or the line and why debvote refuses it."""
+    if ballot.finding is not None:
+        word = "" if ballot.finding.word == ballot.reply else f"{ballot.finding.word}: "
+        return f"{shown(ballot.text)}: {word}{ballot.finding.hint}"
+    voter, ranks = ballot.text.decode("ascii").split(" ")
+    return f"{voter}: {in_words(ranks, names)}"
+
+
+def cause_words(ballot: Ballot) -> Iterator[str]:
+    """Why debvote refuses the changed line too, where that is another cause."""
+    finding, other = ballot.finding, ballot.finding_of_changed
+    if other is not None and (other.word, other.hint) != (finding.word, finding.hint):
+        yield f"  it went in as it came; written as `{shown(ballot.line.changed)}` it is refused too: {other.word}: {other.hint}"
+
+
+def right_words(batch: Batch) -> str:
+    """What a right line looks like."""
+    return (
+        f"A right line in this poll: {batch.right_line} (an elector of the roll, a space, "
+        f"and {len(batch.names)} ranks with commas between, a rank or a hyphen for each option)"
+    )
+
+
+def summary(batches: list[Batch]) -> str:
+    """How many ballots there were, and with which replies."""
+    replies = collections.Counter(ballot.reply for batch in batches for ballot in batch.ballots)
+    told = ", ".join(f"{number} {reply}" for reply, number in replies.items())
+    return count_of(sum(replies.values()), "line") + (f" ({told})" if told else "")

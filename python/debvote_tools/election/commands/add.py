@@ -1,0 +1,174 @@
+"""`add`: ballots from files or standard input, all of them or none."""
+
+import argparse
+import codecs
+import dataclasses
+import os
+import pathlib
+import re
+import sys
+
+from debvote_tools.election.asking import command
+from debvote_tools.election.casting import cast, sheet_of, summary
+from debvote_tools.election.folder import Election, Files
+from debvote_tools.election.forms import columns_of, lines_of_form
+from debvote_tools.election.lines import Line, lines_in
+from debvote_tools.election.telling import tell, tell_edits, time_of
+from debvote_tools.faults import Fault, Status
+from debvote_tools.files import BALLOTS_LIMIT, in_memory, read_at_most, write_new
+
+HELP = "Append ballots from files or standard input, and tell the reply to each"
+
+STANDARD_INPUT = "-"
+
+# how a file begins that is no plain text, and what it is
+KINDS = {
+    b"PK\x03\x04": "a ZIP, as word processors and spreadsheets save",
+    b"PK\x05\x06": "a ZIP, as word processors and spreadsheets save",
+    b"\xd0\xcf\x11\xe0": "a document of a word processor or spreadsheet",
+    b"{\\rtf": "a document with formats (RTF)",
+    b"%PDF": "a PDF",
+}
+UTF_16 = (codecs.BOM_UTF16_LE, codecs.BOM_UTF16_BE)
+
+POLL_KEY = re.compile(rb"(?m)^[ \t]*(title|options|ratios|default|quorum|roll)[ \t]*=")
+
+
+@dataclasses.dataclass(frozen=True)
+class Input:
+    """What came: its name as the user gave it, that under which it is kept, and its bytes."""
+
+    name: str
+    kept_as: str
+    data: bytes
+
+
+def options(parser: argparse.ArgumentParser) -> None:
+    parser.add_argument("files", metavar="FILE", nargs="*", help="Ballots, a line each; - or none is standard input")
+    parser.add_argument("--csv", action="store_true", help="The files are tables of a web form, a row a ballot")
+    parser.add_argument("--name", metavar="COLUMN", help="With --csv: the head of the column with the elector's name")
+    parser.add_argument(
+        "--ranks", metavar="COLUMN,..", help="With --csv: the heads of the columns with the ranks, in the order of the options"
+    )
+
+
+def run(election: Election, asked: argparse.Namespace) -> int:
+    check_words(asked)
+    election.check_folder()
+    inputs = [read(name) for name in asked.files or [STANDARD_INPUT]]
+    with election.changing() as files:
+        tell_edits(election, files)
+        for source in inputs:
+            check_kind(election, source, asked.csv)
+        lines = lines_of(election, files, inputs, asked)
+        tell_notes(election, inputs, lines)
+        batch = cast(election, "add", files, [line for line in lines if not line.is_empty], lambda: keep(election, inputs))
+    tell(f"Added {summary([batch])}.")
+    tell(f"Next: {what_next(election)}")
+    return Status.DECIDED
+
+
+def check_words(asked: argparse.Namespace) -> None:
+    """Stops where the words do not go together."""
+    if asked.csv and (asked.name is None or asked.ranks is None):
+        words = "--csv: it takes --name COLUMN and --ranks COLUMN,COLUMN,.. with it, one column a rank"
+        raise Fault(words, Status.BAD_WORDS)
+    if not asked.csv and (asked.name is not None or asked.ranks is not None):
+        raise Fault("--name, --ranks: they name columns of a table; write --csv with them", Status.BAD_WORDS)
+
+
+# ---------------------------------------------------------------- what came
+def read(name: str) -> Input:
+    """Reads a file whole."""
+    if name == STANDARD_INPUT:
+        if sys.stdin is None:
+            raise Fault("standard input: it is closed; nothing was added: name a file", Status.BAD_BALLOTS)
+        if sys.stdin.isatty():
+            tell("Type the ballots, a line each; Ctrl-D on an empty line ends them.")
+        return Input("standard input", "standard-input", sys.stdin.buffer.read(BALLOTS_LIMIT + 1))
+    try:
+        data = read_at_most(name, BALLOTS_LIMIT)
+    except OSError as error:
+        words = f"{error.strerror}; nothing was added: name a file of ballots that you may read"
+        raise Fault(f"{name}: {words}", Status.BAD_BALLOTS) from None
+    return Input(name, pathlib.Path(name).name[:100], data)
+
+
+def check_kind(election: Election, source: Input, is_form: bool) -> None:
+    """Stops at what is no file of ballots."""
+    if not source.data:
+        raise Fault(f"{source.name}: it is empty; nothing was added: write a ballot a line into it", Status.DOUBT)
+    if len(source.data) > BALLOTS_LIMIT:
+        words = f"it is longer than {BALLOTS_LIMIT} bytes, which debvote takes at most; nothing was added: add it in parts"
+        raise Fault(f"{source.name}: {words}", Status.BAD_BALLOTS)
+    if source.name != "standard input" and election.ballots.exists() and os.path.samefile(source.name, election.ballots):
+        words = "these are the ballots of this election, which are there already; nothing was added"
+        raise Fault(f"{source.name}: {words}: name a file that has come", Status.DOUBT)
+    kind = next((kind for start, kind in KINDS.items() if source.data.startswith(start)), None)
+    if not is_form and source.data.startswith(UTF_16):
+        kind = "a text in UTF-16"
+    if kind is not None:
+        cure = "save it as CSV" if is_form else "save it as plain text in UTF-8"
+        raise Fault(f"{source.name}: it is {kind}; nothing was added: {cure}", Status.BAD_BALLOTS)
+    if reads_as_poll(election, source.data):
+        words = "it reads as a poll, and not as ballots; nothing was added: name the file of the ballots"
+        raise Fault(f"{source.name}: {words}", Status.DOUBT)
+
+
+def reads_as_poll(election: Election, data: bytes) -> bool:
+    """Whether debvote takes it for a poll, or it sets keys as a poll does."""
+    if len({found[1] for found in POLL_KEY.finditer(data)}) > 1:
+        return True
+    return election.debvote.ask("check", "--poll", "/dev/stdin", given=data).status == Status.DECIDED
+
+
+def keep(election: Election, inputs: list[Input]) -> None:
+    """Keeps what came, as it came."""
+    for source in inputs:
+        write_new(election.received, source.kept_as, source.data)
+
+
+# ---------------------------------------------------------------- lines
+def lines_of(election: Election, files: Files, inputs: list[Input], asked: argparse.Namespace) -> list[Line]:
+    """The lines of all that came. There is at least one that is not empty."""
+    if asked.csv:
+        with in_memory(files.poll) as poll:
+            names = list(sheet_of(election, poll).names.values())
+        columns = columns_of(asked.name, asked.ranks, names)
+        found = [lines_of_form(source.data, source.name, columns) for source in inputs]
+    else:
+        found = [lines_in(source.data, source.name) for source in inputs]
+    for source, lines in zip(inputs, found):
+        if all(line.is_empty for line in lines):
+            what = "it has no row of a ballot" if asked.csv else "it has empty lines alone"
+            raise Fault(f"{source.name}: {what}; nothing was added: write a ballot a line into it", Status.DOUBT)
+    return [line for lines in found for line in lines]
+
+
+def tell_notes(election: Election, inputs: list[Input], lines: list[Line]) -> None:
+    """Says what may surprise: the close, a file that was added before, and what is left out."""
+    closed = election.closed()
+    if closed is not None:
+        tell(f"Note: the election was closed at {time_of(closed)}; what is added now is late.")
+    for source in inputs:
+        earlier = same_file(election.received, source.data)
+        if earlier is not None:
+            tell(f"Note: {source.name} has come before, as {earlier}; of each elector's lines the last one counts.")
+    empty = [f"{line.where}: it is empty, and was left out" for line in lines if line.is_empty]
+    if empty:
+        tell(*empty)
+
+
+def same_file(folder: pathlib.Path, data: bytes) -> pathlib.Path | None:
+    """A file of the folder that has these bytes."""
+    files = sorted(folder.iterdir()) if folder.is_dir() else []
+    alike = (file for file in files if file.is_file() and file.stat().st_size == len(data))
+    return next((file for file in alike if file.read_bytes() == data), None)
+
+
+def what_next(election: Election) -> str:
+    """What the election needs next."""
+    if election.closed() is not None:
+        return command(election, "count")
+    more = command(election, "add", "FILE")
+    return f"{command(election, 'status')}; add what comes with {more}, and when the vote is over: {command(election, 'close')}"

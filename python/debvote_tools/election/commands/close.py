@@ -1,0 +1,115 @@
+"""`close`: the end of the vote. The poll gets the number of the last envelope, so that later lines are late."""
+
+import argparse
+import re
+
+from debvote_tools import journal
+from debvote_tools.election import poll_file
+from debvote_tools.election.asking import NO_BALLOTS, command, refused
+from debvote_tools.election.folder import Election, Files
+from debvote_tools.election.telling import count_of, tell, tell_edits, time_of
+from debvote_tools.faults import Fault, Status
+from debvote_tools.files import in_memory, uninterrupted
+from debvote_tools.journal import Entry
+from debvote_tools.sheet import Sheet, sheet_in
+
+HELP = "End the vote: lines that are added later are late"
+
+LAST = "Last envelope"
+
+
+def options(parser: argparse.ArgumentParser) -> None:
+    """It has none of its own."""
+
+
+def run(election: Election, asked: argparse.Namespace) -> int:
+    with election.changing() as files:
+        tell_edits(election, files)
+        sheet = sheet_of_all(election, files)
+        before = election.closed()
+        if before is not None:
+            return say_again(election, sheet, before)
+        stop_at_a_last_envelope(election, files, sheet)
+        files = end_last_line(election, files)
+        number = int(sheet.facts["Lines"])
+        poll = closed_poll(election, files, number)
+        with uninterrupted():
+            election.keep_copy(election.poll)
+            after = election.act("close", files, f"1-{number}" if number else journal.NONE, poll=poll)
+            say(election, after, number)
+    return Status.DECIDED
+
+
+def sheet_of_all(election: Election, files: Files) -> Sheet:
+    """The sheet of the poll and the ballots, which has the number of lines."""
+    with in_memory(files.poll) as poll:
+        ballots = NO_BALLOTS if files.ballots is None else "/dev/stdin"
+        answer = election.debvote.ask("count", "--poll", poll, "--ballots", ballots, given=files.ballots)
+    if not answer.text:
+        raise refused(election, answer)
+    return sheet_in(answer.text)
+
+
+# ---------------------------------------------------------------- where there is a last envelope already
+def say_again(election: Election, sheet: Sheet, before: Entry) -> int:
+    """Says when the close was; stops where the poll has another last envelope than this one gave it."""
+    number = before.envelopes.rpartition("-")[2] or "0"
+    if sheet.facts.get(LAST) != number:
+        there = f"`last_envelope = {sheet.facts[LAST]}` stands there" if LAST in sheet.facts else "that line is gone"
+        words = f"the close at {time_of(before)} wrote `last_envelope = {number}` into it, and now {there}"
+        cure = f"find out who changed it; the line that the close wrote is put back with an editor, above every line that begins with ["
+        raise Fault(f"{election.poll}: {words}; {cure}", Status.DOUBT)
+    tell(f"The election was closed at {time_of(before)}; the last envelope in time is {number}. Nothing was changed.")
+    late = int(sheet.facts["Lines"]) - int(number)
+    if late > 0:
+        tell(f"{count_of(late, 'line')} came after it, and late ones count for nothing.")
+    tell(f"Next: {command(election, 'count')}")
+    return Status.DECIDED
+
+
+def stop_at_a_last_envelope(election: Election, files: Files, sheet: Sheet) -> None:
+    """Stops where the poll has a last envelope that no close has written."""
+    if LAST in sheet.facts:
+        found = re.search(rb"(?m)^[^#\n]*last_envelope[^\n]*", files.poll)
+        line = found[0].decode("utf-8", "backslashreplace").strip() if found else f"last_envelope = {sheet.facts[LAST]}"
+        words = f"`{line}` stands there, and no close has written it; nothing was changed"
+        cure = f"take the line out with an editor and run again: {command(election, 'close')}"
+        raise Fault(f"{election.poll}: {words}: {cure}", Status.DOUBT)
+
+
+# ---------------------------------------------------------------- the close
+def end_last_line(election: Election, files: Files) -> Files:
+    """Ends a last line that has no line feed: it is a line, and what is added later must not become a part of it."""
+    if not files.ballots or files.ballots.endswith(b"\n"):
+        return files
+    with uninterrupted():
+        copy = election.keep_copy(election.ballots)
+        after = election.act("end", files, ballots=files.ballots + b"\n")
+        tell(f"Note: the last line of {election.ballots} had no line feed; it was ended. The file as it was is {copy}.")
+    return after
+
+
+def closed_poll(election: Election, files: Files, number: int) -> bytes:
+    """The poll with the number of the last envelope, of which debvote says that it is in order and reads the number."""
+    poll = poll_file.with_key(files.poll, poll_file.LAST_ENVELOPE, str(number))
+    answer = election.debvote.ask("explain", "--poll", "/dev/stdin", given=poll)
+    is_refused = answer.status not in (Status.DECIDED, Status.DOUBT)
+    sheet = None if is_refused else sheet_of_all(election, Files(poll, files.ballots))
+    is_same = poll_file.without_last_envelope(poll) == poll_file.without_last_envelope(files.poll)
+    if sheet is None or sheet.facts.get(LAST) != str(number) or sheet.facts["Lines"] != str(number) or not is_same:
+        words = f"debvote does not read `last_envelope = {number}` where it would be written; nothing was changed"
+        raise Fault(f"{election.poll}: {words}: ask {command(election, 'check')}", Status.BAD_POLL)
+    return poll
+
+
+def say(election: Election, after: Files, number: int) -> None:
+    """Says what was closed, and the sums."""
+    if number == 0:
+        tell("There are no ballots: the election is closed with none.")
+    else:
+        tell(f"Closed: {count_of(number, 'line')} came in time. What is added from now on is late, and counts for nothing.")
+    tell(f"{election.poll} has got the line: last_envelope = {number}")
+    tell(f"Sum of {election.poll}: {after.sums.poll}")
+    if after.ballots is not None:
+        tell(f"Sum of {election.ballots}: {after.sums.ballots}")
+    tell(f"Next: {command(election, 'count')}")

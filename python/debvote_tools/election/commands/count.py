@@ -1,0 +1,51 @@
+"""`count`: the result sheet."""
+
+import argparse
+import sys
+
+from debvote_tools.election.asking import casting_words, command, demand_option, files_of, listed, refused
+from debvote_tools.election.folder import Election
+from debvote_tools.faults import Status
+from debvote_tools.sheet import Sheet, sheet_in
+
+HELP = "Print the result sheet"
+
+
+def options(parser: argparse.ArgumentParser) -> None:
+    casting_option(parser)
+
+
+def casting_option(parser: argparse.ArgumentParser) -> None:
+    """The casting vote, as all commands have it that count."""
+    parser.add_argument(
+        "--casting",
+        metavar="NAME",
+        help="The exact name of the option that the casting vote chooses in a tie; --casting=NAME where it begins with a hyphen",
+    )
+
+
+def run(election: Election, asked: argparse.Namespace) -> int:
+    with election.reading() as files:
+        answer = election.debvote.ask("count", *files_of(election, files), *casting_words(asked.casting))
+        if not answer.text and answer.status == Status.CASTING_OUTSIDE:
+            demand_option(election, asked.casting)
+    if not answer.text:
+        raise refused(election, answer)
+    # the sheet alone, so that it can go into a file
+    sys.stdout.write(answer.text)
+    sys.stdout.flush()
+    print(f"Next: {what_next(election, sheet_in(answer.text), asked.casting)}", file=sys.stderr)
+    return answer.status
+
+
+def what_next(election: Election, sheet: Sheet, casting: str | None) -> str:
+    """What the secretary does with this sheet."""
+    if sheet.winner() is not None:
+        publish = command(election, "publish", *(casting_words(casting) if sheet.winner()[1] else []))
+        return publish if election.closed() else f"when the vote is over {command(election, 'close')}, then {publish}"
+    left = listed(sheet.names[option] for option in sheet.final_set())
+    outside = sheet.casting_outside()
+    why = f"; {listed([sheet.names[outside]])} is not among them" if outside is not None else ""
+    chosen = f"{command(election, 'count')} --casting=NAME"
+    who = "who has the casting vote chooses one of these, and you write it in place of NAME"
+    return f"it is a tie between {left}{why}; {who}: {chosen}"

@@ -1,0 +1,122 @@
+"""`new`: the folder of an election, with a poll to fill in."""
+
+import argparse
+import contextlib
+import pathlib
+import shlex
+
+from debvote_tools.election.folder import Election
+from debvote_tools.election.telling import tell
+from debvote_tools.faults import Fault, Status
+from debvote_tools.files import locked, uninterrupted, write_whole
+
+HELP = "Make the folder of an election, with a poll and a list of members to fill in"
+
+MEMBERS = "name,who,mail\n"
+
+POLL = """\
+# The poll: what is voted on, how it is decided, and who may vote.
+#
+# Fill it in with an editor that saves plain text. What is missing or wrong is told by:
+#     debvote-election check
+#
+# A line that begins with # is a comment: it is for you, and the count does not read it.
+# "Plain characters" are letters without accents, digits, spaces and punctuation.
+# Write no line that begins with [ above these: what stands below such a line is not read.
+
+# What the vote is about, between the quotation marks: 1 to 80 plain characters.
+title = ""
+
+# What can be chosen, but for the default option: 1 to 31 names of at most 40 plain characters, as in
+#     options = ["At the lake", "In the town hall", "Sell the house"]
+# They are numbered from 1 in this order, and electors write their ranks in it.
+options = []
+
+# For each of these options, in the same order, how great a majority it needs, as in
+#     ratios = [1, 1, 3]
+# 1: more electors prefer it to the default option than the other way round.
+# 3: three times as many do. It may be 1 to 10.
+ratios = []
+
+# The default option: it stays where no other option is good enough, as in
+#     default = "Further discussion"
+default = ""
+
+# The quorum: 0 for none, or how many times Q it is, at most 10. Q is half of the square root of the number
+# of electors; of 100 electors it is 5, so with 1 an option needs 5 votes, and with 3 it needs 15.
+# Your rules say which number it is. Write it here, and take the # away:
+# quorum = 1
+
+# The electors. Write the members into members.csv with a spreadsheet; then this line is written by:
+#     debvote-election roll
+roll = []
+
+# Only where your rules want "more than" so many times as many votes, and not "at least": take the # away.
+# wording = "more_than"
+"""
+
+
+def options(parser: argparse.ArgumentParser) -> None:
+    parser.add_argument("target", metavar="FOLDER", help="The folder to make; one that is there must be empty")
+
+
+def run(election: Election, asked: argparse.Namespace) -> int:
+    if hasattr(asked, "folder"):
+        raise Fault("--folder: new makes the folder that stands behind it; leave --folder out", Status.BAD_WORDS)
+    with uninterrupted():
+        say(made_in(pathlib.Path(asked.target), election.beside))
+    return Status.DECIDED
+
+
+def made_in(folder: pathlib.Path, beside: pathlib.Path | None) -> Election:
+    """Makes the election, or nothing."""
+    is_made = make(folder)
+    made = Election(folder, beside)
+    try:
+        fill(made)
+    except BaseException:
+        take_away(made, is_made)
+        raise
+    return made
+
+
+def say(made: Election) -> None:
+    """Says what was made, and what comes next."""
+    tell(f"Made the folder {made.folder} with {made.poll.name} and {made.members.name}.")
+    steps = f"write the members into {made.members.name} with a spreadsheet, fill in {made.poll.name} with an editor"
+    tell(f"Next: cd {shlex.quote(str(made.folder))}, {steps}, then run: debvote-election roll")
+
+
+def make(folder: pathlib.Path) -> bool:
+    """Makes the folder, and says whether it did; an empty one may be there."""
+    try:
+        folder.mkdir()
+        return True
+    except FileExistsError:
+        if folder.is_dir() and not any(folder.iterdir()):
+            return False
+        is_election = (folder / "poll.toml").exists()
+        what = "an election already" if is_election else "not empty" if folder.is_dir() else "no folder"
+        words = f"it is there, and it is {what}; nothing was changed: choose another name"
+        raise Fault(f"{folder}: {words}", Status.BAD_WORDS) from None
+    except OSError as error:
+        words = f"{error.strerror}; choose a place that is there and where you may write"
+        raise Fault(f"{folder}: {words}", Status.BAD_WORDS) from None
+
+
+def fill(made: Election) -> None:
+    """Writes the files of a new election, and notes it."""
+    with locked(made.lock):
+        write_whole(made.members, MEMBERS.encode())
+        write_whole(made.poll, POLL.encode())
+        made.act("new", made.files())
+
+
+def take_away(made: Election, is_made: bool) -> None:
+    """Takes away what was made of an election, where not all of it could be."""
+    for file in (made.members, made.poll, made.journal, made.lock):
+        with contextlib.suppress(OSError):
+            file.unlink()
+    if is_made:
+        with contextlib.suppress(OSError):
+            made.folder.rmdir()

@@ -1,0 +1,107 @@
+"""`publish`: the folder of the result, which debvote-publish makes."""
+
+import argparse
+import os
+import pathlib
+import shlex
+import shutil
+import subprocess
+import sys
+
+from debvote_tools.election.asking import NO_BALLOTS, casting_words, command, demand_option
+from debvote_tools.election.commands.count import casting_option
+from debvote_tools.election.folder import Election, Files
+from debvote_tools.faults import Fault, Status
+
+HELP = "Make the folder of the result for a web site"
+
+PROGRAM = "debvote-publish"
+
+
+def options(parser: argparse.ArgumentParser) -> None:
+    casting_option(parser)
+    parser.add_argument(
+        "--even-so", action="store_true", help="Publish where debvote-publish stops at a doubt; the page says what the doubt is"
+    )
+    said = "The folder to make; the folder result of the election if it is not given"
+    parser.add_argument("target", metavar="FOLDER", nargs="?", help=said)
+
+
+def run(election: Election, asked: argparse.Namespace) -> int:
+    target = pathlib.Path(asked.target) if asked.target else election.result
+    with election.reading() as files:
+        demand_free(election, asked, target)
+        demand_ballots(election, files, asked)
+        if asked.casting is not None:
+            demand_option(election, asked.casting)
+        status = ended([program(election), *words(election, files, asked), str(target)])
+    if status in (Status.DECIDED, Status.TIE, Status.CASTING_OUTSIDE) and target.is_dir():
+        print(f"Next: {what_next(election, target, status)}")
+    return status
+
+
+def words(election: Election, files: Files, asked: argparse.Namespace) -> list[str]:
+    """The words for debvote-publish, but for the folder."""
+    ballots = NO_BALLOTS if files.ballots is None else str(election.ballots)
+    even_so = ["--even-so"] if asked.even_so else []
+    return ["--poll", str(election.poll), "--ballots", ballots, *casting_words(asked.casting), *even_so]
+
+
+def program(election: Election) -> str:
+    """Where debvote-publish is: in a checkout, beside this program, or in the PATH."""
+    beside = [] if election.beside is None else [election.beside.parent / "publish", election.beside]
+    found = next(filter(None, (shutil.which(PROGRAM, path=str(folder)) for folder in beside)), None) or shutil.which(PROGRAM)
+    if found is None:
+        words = "the program is neither beside this one nor in the PATH; install the package debvote"
+        raise Fault(f"{PROGRAM}: {words}", Status.NOT_FOUND)
+    return found
+
+
+def ended(words: list[str]) -> int:
+    """Runs the program, which writes where this one does, and returns its exit status.
+
+    Where this one is asked to end, it waits: an interrupt reaches both, and what the other has begun it takes away itself.
+    """
+    sys.stdout.flush()
+    child = subprocess.Popen(words, stdin=subprocess.DEVNULL)
+    try:
+        status = child.wait()
+    except BaseException:
+        child.wait()
+        raise
+    return status if status >= 0 else 128 - status
+
+
+def demand_free(election: Election, asked: argparse.Namespace, target: pathlib.Path) -> None:
+    """Stops where the folder is there and has something in it, and says which name is free."""
+    if not os.path.lexists(target) or (target.is_dir() and not any(target.iterdir())):
+        return
+    free = free_name(target)
+    even_so = ["--even-so"] if asked.even_so else []
+    again = command(election, "publish", *casting_words(asked.casting), *even_so, str(free))
+    words = f"it is there already, and stays as it is; publish into another folder: {again}"
+    raise Fault(f"{target}: {words}", Status.BAD_WORDS)
+
+
+def demand_ballots(election: Election, files: Files, asked: argparse.Namespace) -> None:
+    """Stops where there is no ballot file, of which debvote-publish could say no more than that it is not there."""
+    if files.ballots is None and not asked.even_so:
+        cure = f"add them with {command(election, 'add', 'FILE')}, or publish without any with --even-so"
+        raise Fault(f"{election.ballots}: there are no ballots; {cure}", Status.DOUBT)
+
+
+def free_name(target: pathlib.Path) -> pathlib.Path:
+    """The first of result-2, result-3 and so on that is not there."""
+    number = 2
+    while os.path.lexists(target.with_name(f"{target.name}-{number}")):
+        number += 1
+    return target.with_name(f"{target.name}-{number}")
+
+
+def what_next(election: Election, target: pathlib.Path, status: int) -> str:
+    """What the secretary does with the folder."""
+    if status == Status.DECIDED:
+        return f"put the folder {target} on the web site as it is"
+    chosen = f"{command(election, 'publish')} --casting=NAME {shlex.quote(str(free_name(target)))}"
+    ask = f"put the folder {target} on the web site, ask for the casting vote, and write its option in place of NAME"
+    return f"it is a tie: {ask}: {chosen}"

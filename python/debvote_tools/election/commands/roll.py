@@ -1,0 +1,146 @@
+"""`roll`: from the list of members to the roll of the poll."""
+
+import argparse
+import json
+import pathlib
+import re
+from collections.abc import Callable
+
+from debvote_tools.election import poll_file
+from debvote_tools.election.asking import command, empty_sheet, explained, quorum_words
+from debvote_tools.election.folder import Election, Files, difference
+from debvote_tools.election.members import AGAIN, Member, Members, doubles, doubt, members_in, plain, proposals, shown
+from debvote_tools.election.telling import count_of, tell
+from debvote_tools.faults import Fault, Status
+from debvote_tools.files import uninterrupted, write_whole
+
+HELP = "Write the roll of the poll from the list of members"
+
+# so many proposals are shown; all of them stand in the file
+SHOWN = 10
+
+
+def options(parser: argparse.ArgumentParser) -> None:
+    parser.add_argument("file", metavar="FILE", nargs="?", help="The list of members, as CSV; members.csv if it is not given")
+
+
+def run(election: Election, asked: argparse.Namespace) -> int:
+    with election.changing() as files:
+        members = members_in(pathlib.Path(asked.file) if asked.file else election.members)
+        if not all(member.name for member in members.members):
+            propose(election, members)
+        stop_at_doubles(members)
+        poll = poll_file.with_key(files.poll, "roll", list_of([member.name for member in members.members]))
+        demand_allowed(election, members, poll)
+        tell_alike(members, "who", lambda member: " ".join(plain(member.who).split()))
+        tell_alike(members, "mail", lambda member: plain(member.mail))
+        demand_same_call(election, poll)
+        with uninterrupted():
+            write(election, files, poll)
+            tell(f"The roll of {election.poll} has {count_of(len(members.members), 'elector')}.")
+        sheet = empty_sheet(election)
+    if sheet is not None:
+        tell(quorum_words(sheet))
+    tell(f"Next: {command(election, 'check')}")
+    return Status.DECIDED
+
+
+# ---------------------------------------------------------------- names
+def propose(election: Election, members: Members) -> None:
+    """Writes a name for each member who has none into the file, and stops, so that somebody looks at them."""
+    names = proposals(members.members)
+    without = [member.line for member in members.members if not member.name and member.line not in names]
+    if names:
+        with uninterrupted():
+            election.keep_copy(members.file)
+            write_whole(members.file.resolve(), members.with_names(names))
+            tell_proposals(members, names)
+    if without:
+        who = f"{count_of(len(without), 'member')} ({lines_of(without)})"
+        words = f"no name can be made for {who} from who or mail; write one into the column name"
+    else:
+        words = "names were proposed where there were none; open the file anew, look at its column name, and change what you want"
+    raise doubt(members.file, f"{words}, {AGAIN}; the roll of the poll is as it was")
+
+
+def tell_proposals(members: Members, names: dict[int, str]) -> None:
+    """Says which names were written into the file; of many the first."""
+    tell(f"Names that {members.file} has now:")
+    told = [member for member in members.members if member.line in names]
+    for member in told[:SHOWN]:
+        tell(f"  {names[member.line]}: {shown(member.who or member.mail)} (line {member.line})")
+    if len(told) > SHOWN:
+        tell(f"  and {len(told) - SHOWN} more")
+
+
+def stop_at_doubles(members: Members) -> None:
+    """Stops where two members have one name."""
+    found = doubles(members.members, lambda member: member.name)
+    for group in found:
+        tell(f"{members.file}: {lines_of([member.line for member in group])} have the same name: {shown(group[0].name)}")
+    if found:
+        words = "an elector's name stands there more than once; give each elector another one, or take a line out"
+        raise doubt(members.file, f"{words}, {AGAIN}; the roll of the poll is as it was")
+
+
+def demand_allowed(election: Election, members: Members, poll: bytes) -> None:
+    """Asks debvote about the poll with the new roll. What it finds on the roll is told by the lines of the list."""
+    answer = explained(election, poll)
+    findings = answer.text.splitlines()
+    syntax = next((finding for finding in findings if re.match(r"poll:\d", finding)), None)
+    if syntax is not None:
+        words = f"debvote can't read it ({syntax}); put this right with an editor"
+        raise Fault(f"{election.poll}: {words}, {AGAIN}", Status.BAD_POLL)
+    names = [found for found in map(re.compile(r"poll: voter at position (\d+): (.*)").fullmatch, findings) if found]
+    for found in names:
+        tell(f"{members.file}:{members.members[int(found[1])].line}: {found[2]}")
+    if names:
+        words = "a roll does not allow these names: each has 1 to 32 small letters, digits, points and hyphens; put them right"
+        raise doubt(members.file, f"{words}, {AGAIN}; the roll of the poll is as it was")
+    size = next((finding for finding in findings if finding.startswith("poll: size of roll: ")), None)
+    if size is not None:
+        words = f"the roll would have {size.removeprefix('poll: size of roll: ')}"
+        raise doubt(members.file, f"{words}; the roll of the poll is as it was")
+
+
+def tell_alike(members: Members, column: str, key: Callable[[Member], str]) -> None:
+    """Tells the members who look like one person; whether they are is for the secretary to say."""
+    for group in doubles(members.members, key):
+        lines = lines_of([member.line for member in group])
+        texts = " and ".join(dict.fromkeys(f"`{shown(getattr(member, column))}`" for member in group))
+        names = ", ".join(member.name for member in group)
+        tell(f"{members.file}: {lines} have the same {column}: {texts}. Is this one person? They are on the roll as: {names}")
+
+
+# ---------------------------------------------------------------- the poll
+def demand_same_call(election: Election, poll: bytes) -> None:
+    """Stops where the call for votes was made with another roll."""
+    if not election.call.exists() or not election.called_poll.exists():
+        return
+    called, now = map(poll_file.without_last_envelope, (election.called_poll.read_bytes(), poll))
+    if called != now:
+        words = f"the call for votes was made with another roll: {shown(difference(called, now))}"
+        cure = f"to call anew with this one, first remove the folder {election.call}"
+        raise Fault(f"{election.poll}: {words}; {cure}", Status.DOUBT)
+
+
+def write(election: Election, files: Files, poll: bytes) -> None:
+    """Writes the poll with the new roll, where it is another one."""
+    if poll != files.poll:
+        election.keep_copy(election.poll)
+        election.act("roll", files, poll=poll)
+
+
+def list_of(names: list[str]) -> str:
+    """A list of texts as TOML has it, on one line."""
+    return "[" + ", ".join(json.dumps(name, ensure_ascii=False).replace("\x7f", "\\u007f") for name in names) + "]"
+
+
+def lines_of(lines: list[int]) -> str:
+    """Some lines in words; of many the first."""
+    told = [str(line) for line in lines[:SHOWN]]
+    more = [f"{len(lines) - SHOWN} more"] if len(lines) > SHOWN else []
+    first, last = told + more, []
+    if len(first) > 1:
+        last = [first.pop()]
+    return ("line " if len(lines) == 1 else "lines ") + " and ".join([", ".join(first), *last])

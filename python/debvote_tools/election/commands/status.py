@@ -1,0 +1,190 @@
+"""`status`: how far the election is, who has no ballot yet, and which lines were refused."""
+
+import argparse
+import dataclasses
+import itertools
+import re
+import textwrap
+
+from debvote_tools import journal
+from debvote_tools.election import poll_file
+from debvote_tools.election.asking import command, files_of, quorum_words, refused
+from debvote_tools.election.folder import Election, Files
+from debvote_tools.election.members import shown
+from debvote_tools.election.telling import time_of
+from debvote_tools.faults import Status
+from debvote_tools.journal import Entry
+from debvote_tools.program import Finding, Findings, findings_in, standing_in
+from debvote_tools.sheet import Sheet, sheet_in
+
+HELP = "Say how far the election is: lines, ballots, who has none yet, what was refused"
+
+WIDTH = 100
+
+# the word with which a line begins, where it can be a name; a mark, spaces and quotation marks may stand before it
+FIRST_WORD = re.compile(rb"(?:\xef\xbb\xbf)?[\s\"']*([A-Za-z0-9.-]{1,32})(?=[\s\"',;:]|$)")
+
+
+@dataclasses.dataclass(frozen=True)
+class State:
+    """What debvote says of the poll and the ballots as they are."""
+
+    findings: Findings
+    sheet: Sheet
+    roll: list[str]
+    standing: dict[str, str]
+    # the lines of the ballots, that of envelope i at i - 1
+    lines: list[bytes]
+
+    @property
+    def without(self) -> list[str]:
+        """The electors without a ballot, in the order of the roll."""
+        return [name for name in self.roll if name not in self.standing]
+
+
+def options(parser: argparse.ArgumentParser) -> None:
+    """It has none of its own."""
+
+
+def run(election: Election, asked: argparse.Namespace) -> int:
+    with election.reading() as files:
+        acts = acts_of(election, files)
+        tell_edited(election, files, acts)
+        state = state_of(election, files)
+    print(f"Title: {state.sheet.facts['Poll']}")
+    tell_stage(election, acts, state.sheet)
+    print(quorum_words(state.sheet))
+    tell_lines(state)
+    tell_electors(state)
+    tell_refused(state)
+    print(f"Next: {what_next(election, acts, state)}")
+    return Status.DECIDED
+
+
+def acts_of(election: Election, files: Files) -> list[Entry]:
+    """The acts that were done. One that was cut off, and that no later act has noted as such yet, is told."""
+    acts = journal.done(election.entries())
+    if not journal.is_cut_off(acts, files.sums):
+        return acts
+    print(f"Note: the last act ({acts[-1].act}, {time_of(acts[-1])}) was cut off, and is not done; run it again.")
+    return acts[:-1]
+
+
+def state_of(election: Election, files: Files) -> State:
+    """Asks debvote."""
+    texts = {}
+    # of a refused poll `explain` says more than a fault, so it is not asked first
+    for task in ("standing", "explain", "count"):
+        answer = election.debvote.ask(task, *files_of(election, files))
+        if answer.faults:
+            raise refused(election, answer)
+        texts[task] = answer.text
+    return State(
+        findings=findings_in(texts["explain"]),
+        sheet=sheet_in(texts["count"]),
+        roll=poll_file.document(files.poll)["roll"],
+        standing=standing_in(texts["standing"]),
+        lines=(files.ballots or b"").split(b"\n"),
+    )
+
+
+# ---------------------------------------------------------------- how far it is
+def tell_edited(election: Election, files: Files, acts: list[Entry]) -> None:
+    """Says which files somebody has edited by hand. That is allowed, and is not to happen unseen.
+
+    Before the call the poll is there to be edited, and after it no command goes on with another poll; so of earlier edits those
+    of the ballots are told.
+    """
+    for before, found in itertools.pairwise(acts):
+        if found.act == journal.FOUND and found.sums.ballots != before.sums.ballots:
+            since = f"between {time_of(before)} ({before.act}) and {time_of(found)}"
+            print(f"Note: {election.ballots} was edited by hand {since}; what came is kept in {election.received}.")
+    for file in election.edited(files):
+        kept = election.backup if file == election.poll else election.received
+        print(f"Note: {file} was edited by hand after the last act of debvote-election ({acts[-1].act}, {time_of(acts[-1])}).")
+        print(f"  Where you did not do this, find out who did; what debvote-election had is kept in {kept}.")
+
+
+def tell_stage(election: Election, acts: list[Entry], sheet: Sheet) -> None:
+    """Says whether the election is called and closed."""
+    call = journal.last(acts, "call")
+    if election.call.exists():
+        print(f"Call for votes: made{f' at {time_of(call)}' if call else ''}")
+    else:
+        print("Call for votes: not made yet")
+    close = journal.last(acts, "close")
+    last = sheet.facts.get("Last envelope")
+    if close is not None:
+        print(f"Closed: at {time_of(close)}" + (f"; the last envelope in time is {last}" if last else ""))
+    elif last is not None:
+        print(f"Closed: not yet, but the poll says that the last envelope in time is {last}")
+    else:
+        print("Closed: not yet")
+
+
+def what_next(election: Election, acts: list[Entry], state: State) -> str:
+    """The command that the election needs next."""
+    add = f"{command(election, 'add', 'FILE')}, or {command(election, 'desk')}"
+    if not election.call.exists() and not state.findings.totals.lines:
+        return command(election, "call")
+    if journal.last(acts, "close") is None:
+        return f"add the ballots as they come: {add}; when the vote is over: {command(election, 'close')}"
+    return f"{command(election, 'count')}, then {command(election, 'publish')}"
+
+
+# ---------------------------------------------------------------- lines and electors
+def tell_lines(state: State) -> None:
+    """Says how many lines there are, and which of them are late."""
+    totals = state.findings.totals
+    print(f"Lines: {totals.lines} ({totals.valid} valid, {totals.refused} refused, {totals.late} of them late)")
+    late = [finding.envelope for finding in state.findings.refused if finding.word == "late"]
+    if late:
+        which = f"envelope {late[0]}" if len(late) == 1 else f"envelopes {late[0]} to {late[-1]}"
+        print(f"Late, so that they count for nothing: {which}")
+
+
+def tell_electors(state: State) -> None:
+    """Says who has no ballot yet."""
+    print(f"Electors with a ballot that stands: {len(state.standing)} of {len(state.roll)}")
+    if state.without:
+        print(f"Electors without one ({len(state.without)}):")
+        print_wrapped(state.without)
+
+
+def print_wrapped(names: list[str]) -> None:
+    """Prints names with spaces between, in lines that a terminal shows whole."""
+    print(textwrap.fill(" ".join(names), WIDTH, initial_indent="  ", subsequent_indent="  ", break_on_hyphens=False))
+
+
+def tell_refused(state: State) -> None:
+    """Tells the refused lines of electors who have no ballot yet, and those of which no elector can be told."""
+    without, on_roll = set(state.without), set(state.roll)
+    known: list[Finding] = []
+    unknown: list[Finding] = []
+    for finding in state.findings.refused:
+        name = elector_of(state.lines[finding.envelope - 1])
+        if finding.word == "late":
+            continue
+        if name not in on_roll:
+            unknown.append(finding)
+        elif name in without:
+            known.append(finding)
+    tell_findings("Refused lines of electors without a ballot", known, state.lines)
+    tell_findings("Refused lines of which no elector can be told", unknown, state.lines)
+
+
+def elector_of(line: bytes) -> str | None:
+    """Whose line it may be: its first word in small letters."""
+    found = FIRST_WORD.match(line)
+    return found[1].decode("ascii").lower() if found else None
+
+
+def tell_findings(title: str, findings: list[Finding], lines: list[bytes]) -> None:
+    """Tells refused lines, each with what debvote says of it."""
+    if not findings:
+        return
+    print(f"{title} ({len(findings)}):")
+    for finding in findings:
+        line = lines[finding.envelope - 1].decode("utf-8", "backslashreplace")
+        print(f"  line {finding.envelope}: {shown(line) or '(empty)'}")
+        print(f"    {finding.word}: {finding.hint}")

@@ -1,0 +1,121 @@
+"""The rows of a web form, as a spreadsheet or the form saves them: a row is a ballot, with one column a rank."""
+
+import codecs
+import csv
+import dataclasses
+import io
+import re
+
+from debvote_tools.election.lines import BLANKS, Line
+from debvote_tools.faults import Fault, Status
+
+DELIMITERS = {",": "comma", ";": "semicolon", "\t": "tab"}
+
+# the mark that a text begins with, and how it is written
+MARKS = {codecs.BOM_UTF8: "utf-8", codecs.BOM_UTF16_LE: "utf-16-le", codecs.BOM_UTF16_BE: "utf-16-be"}
+
+# above what a ballot file has as a whole
+LONGEST_CELL = 67_108_864
+
+
+@dataclasses.dataclass(frozen=True)
+class Columns:
+    """The heads of the columns that are read: that of the names, and that of each rank in the order of the options."""
+
+    name: str
+    ranks: list[str]
+
+
+def columns_of(name: str, ranks: str, options: list[str]) -> Columns:
+    """The columns that the command line names; there are as many ranks as options."""
+    try:
+        heads = [head.strip() for head in next(csv.reader([ranks], strict=True, skipinitialspace=True), [])]
+    except csv.Error as error:
+        raise Fault(f"--ranks: {error}; put a head that has a comma into quotation marks", Status.BAD_WORDS) from None
+    if len(heads) != len(options):
+        listed = ", ".join(f"{number} {option}" for number, option in enumerate(options, start=1))
+        words = f"--ranks: it names {len(heads)} columns, and the poll has {len(options)} options, the default among them"
+        raise Fault(f"{words}: {listed}; name a column for each, in this order", Status.BAD_WORDS)
+    keys = [key_of(head) for head in [name, *heads]]
+    double = next((head for head, key in zip([name, *heads], keys) if keys.count(key) > 1), None)
+    if double is not None:
+        raise Fault(f"--name, --ranks: the column `{double}` is named twice; name each once", Status.BAD_WORDS)
+    return Columns(name.strip(), heads)
+
+
+def lines_of_form(data: bytes, file: str, columns: Columns) -> list[Line]:
+    """The lines that the rows of a form make. A cell that is empty stays so, and debvote refuses its line."""
+    rows = rows_in(text_of(data, file), file, columns)
+    number, head = next(((number, row) for number, row in enumerate(rows, start=1) if any(row)), (0, []))
+    places = places_of(head, file, columns)
+    found = []
+    for at, row in enumerate(rows[number:], start=number + 1):
+        check_width(row, head, f"{file}: row {at}")
+        found.append(line_of(row, places, f"{file}: row {at}"))
+    return found
+
+
+# ---------------------------------------------------------------- the table
+def text_of(data: bytes, file: str) -> str:
+    """The text of a file, by its mark; without one it is in UTF-8."""
+    mark = next((mark for mark in MARKS if data.startswith(mark)), b"")
+    try:
+        return data.removeprefix(mark).decode(MARKS.get(mark, "utf-8"))
+    except UnicodeDecodeError as error:
+        line = data.count(b"\n", 0, error.start) + 1
+        words = f"line {line} is not in UTF-8; nothing was added: save it anew as CSV in UTF-8"
+        raise Fault(f"{file}: {words}", Status.BAD_BALLOTS) from None
+
+
+def rows_in(text: str, file: str, columns: Columns) -> list[list[str]]:
+    """The rows of a table, by the delimiter with which most of the columns are found."""
+    csv.field_size_limit(LONGEST_CELL)
+    first = next((line for line in re.split(r"[\r\n]+", text) if line.strip(" \t,;")), "")
+    delimiter = max(DELIMITERS, key=lambda sign: (heads_found(first, sign, columns), first.count(sign)))
+    reader = csv.reader(io.StringIO(text, newline=""), delimiter=delimiter, strict=True)
+    try:
+        return list(reader)
+    except csv.Error as error:
+        words = f"it is no table with a {DELIMITERS[delimiter]} between its cells ({error})"
+        raise Fault(f"{file}:{reader.line_num}: {words}; nothing was added: save it anew as CSV", Status.BAD_BALLOTS) from None
+
+
+def heads_found(line: str, delimiter: str, columns: Columns) -> int:
+    """How many of the columns the head line has, read with this delimiter."""
+    heads = {key_of(head) for head in next(csv.reader([line], delimiter=delimiter), [])}
+    return sum(key_of(head) in heads for head in [columns.name, *columns.ranks])
+
+
+def key_of(head: str) -> str:
+    """What two heads are compared by: case and outer spaces do not matter."""
+    return head.strip().casefold()
+
+
+def places_of(head: list[str], file: str, columns: Columns) -> list[int]:
+    """The place of the names, and that of each rank."""
+    keys = [key_of(cell) for cell in head]
+    there = ", ".join(f"`{cell.strip()}`" for cell in head if cell.strip()) or "none"
+    for column in [columns.name, *columns.ranks]:
+        if keys.count(key_of(column)) != 1:
+            what = "there is no column" if key_of(column) not in keys else "there is more than one column"
+            raise Fault(f"{file}: {what} `{column}`; its heads are {there}; nothing was added", Status.BAD_WORDS)
+    return [keys.index(key_of(column)) for column in [columns.name, *columns.ranks]]
+
+
+def check_width(row: list[str], head: list[str], where: str) -> None:
+    """Stops at a row that is longer than the head line: its cells do not stand below their heads."""
+    if any(cell.strip() for cell in row[len(head) :]):
+        words = f"it has {len(row)} cells, and the head line has {len(head)}"
+        cure = "put a cell that has the delimiter in it into quotation marks, and add the file again"
+        raise Fault(f"{where}: {words}; nothing was added: {cure}", Status.BAD_BALLOTS)
+
+
+def line_of(row: list[str], places: list[int], where: str) -> Line:
+    """The line of a row. What may be changed is changed in each cell by itself, so that none becomes a part of another."""
+    name, *ranks = [(row[place] if place < len(row) else "").encode("utf-8", "backslashreplace") for place in places]
+    if not any(cell.strip() for cell in row):
+        return Line(where, b"", b"", b"")
+    came = name + b" " + b",".join(ranks)
+    kept = re.sub(rb"[\r\n]+", b" ", came)
+    name, *ranks = [re.sub(rb"[\r\n]+", b" ", cell).strip(BLANKS) for cell in (name, *ranks)]
+    return Line(where, came, kept, name.lower() + b" " + b",".join(ranks))

@@ -1,0 +1,275 @@
+"""The list of members: a table as spreadsheets save it, of which the cells that are filled in change, and nothing else."""
+
+import codecs
+import collections
+import dataclasses
+import pathlib
+import re
+import unicodedata
+from collections.abc import Callable, Iterable
+
+from debvote_tools.faults import Fault, Status
+from debvote_tools.files import read_at_most
+
+COLUMNS = ("name", "who", "mail")
+DELIMITERS = {",": "comma", ";": "semicolon", "\t": "tab"}
+
+# in bytes; ten thousand members, with a letter about each, are shorter
+LIMIT = 33_554_432
+
+# the longest name that a roll allows
+LONGEST_NAME = 32
+
+AGAIN = "then run debvote-election roll again"
+SAVE_AS = f"save it anew as CSV in UTF-8, {AGAIN}"
+
+# how a file begins that is no text, and what it is
+KINDS = {
+    b"PK\x03\x04": "it is a spreadsheet or another packed file, and no CSV",
+    b"\xd0\xcf\x11\xe0": "it is an old spreadsheet, and no CSV",
+    b"%PDF": "it is a PDF, and no CSV",
+}
+
+# the mark that a text begins with, and how it is written
+MARKS = {codecs.BOM_UTF8: "utf-8", codecs.BOM_UTF16_LE: "utf-16-le", codecs.BOM_UTF16_BE: "utf-16-be"}
+
+# letters that Unicode does not take apart into a letter and its accent
+LETTERS = str.maketrans({"ø": "o", "ł": "l", "đ": "d", "ð": "d", "þ": "th", "æ": "ae", "œ": "oe", "ı": "i", "ħ": "h", "ŧ": "t"})
+
+
+@dataclasses.dataclass(frozen=True)
+class Cell:
+    """A cell, and where it stands in the text, its quotation marks included."""
+
+    start: int
+    end: int
+    value: str
+
+
+@dataclasses.dataclass(frozen=True)
+class Row:
+    """A row: its cells, and the line of the file where it begins, counted from 1."""
+
+    line: int
+    cells: list[Cell]
+
+    def is_blank(self) -> bool:
+        return not any(cell.value for cell in self.cells)
+
+
+@dataclasses.dataclass(frozen=True)
+class Member:
+    """A member. A cell that is empty or not there is an empty text."""
+
+    row: Row
+    name: str
+    who: str
+    mail: str
+
+    @property
+    def line(self) -> int:
+        return self.row.line
+
+
+@dataclasses.dataclass(frozen=True)
+class Members:
+    """The members of a file, in its order, and what it takes to write it again as it was."""
+
+    file: pathlib.Path
+    mark: bytes
+    encoding: str
+    text: str
+    delimiter: str
+    places: dict[str, int]
+    members: list[Member]
+
+    def with_names(self, names: dict[int, str]) -> bytes:
+        """The file in which the members of these lines have these names. Every other cell stays as it is."""
+        parts, done = [], 0
+        for member in self.members:
+            if member.line not in names:
+                continue
+            cells, place = member.row.cells, self.places["name"]
+            # a row may end before the column
+            missing = self.delimiter * max(0, place - len(cells) + 1)
+            start, end = (cells[-1].end,) * 2 if missing else (cells[place].start, cells[place].end)
+            parts += [self.text[done:start], missing, names[member.line]]
+            done = end
+        return self.mark + "".join([*parts, self.text[done:]]).encode(self.encoding)
+
+
+# ---------------------------------------------------------------- the file
+def members_in(file: pathlib.Path) -> Members:
+    """Reads a list of members. What can't be read as one is a fault, which says what it is."""
+    data = bytes_of(file)
+    mark = next((mark for mark in MARKS if data.startswith(mark)), b"")
+    encoding = MARKS.get(mark, "utf-8")
+    text = text_of(file, data.removeprefix(mark), encoding)
+    delimiter, rows = table_of(file, text)
+    places = places_of(file, rows[0], delimiter)
+    members = [member_of(file, row, rows[0], places) for row in rows[1:]]
+    if not members:
+        raise doubt(file, f"there is nobody on it; write a line for each member below the head line, {AGAIN}")
+    return Members(file, mark, encoding, text, delimiter, places, members)
+
+
+def doubt(file: pathlib.Path, words: str, line: int | None = None) -> Fault:
+    """A fault of the file, or of a line of it."""
+    return Fault(f"{file}: {words}" if line is None else f"{file}:{line}: {words}", Status.DOUBT)
+
+
+def bytes_of(file: pathlib.Path) -> bytes:
+    """The bytes of a file that may be a text."""
+    cure = f"the list of members is a CSV file, as a spreadsheet saves it: name it, {AGAIN}"
+    try:
+        # a pipe can't be written again
+        if file.exists() and not file.is_file():
+            raise Fault(f"{file}: it is {'a folder' if file.is_dir() else 'no file'}; {cure}", Status.BAD_WORDS)
+        data = read_at_most(file, LIMIT)
+    except OSError as error:
+        raise Fault(f"{file}: {error.strerror}; {cure}", Status.BAD_WORDS) from None
+    if len(data) > LIMIT:
+        raise doubt(file, f"it is too long for a list of members; {cure}")
+    if not data:
+        raise doubt(file, f"it is empty; write the head line name,who,mail and a line for each member, {AGAIN}")
+    kind = next((kind for start, kind in KINDS.items() if data.startswith(start)), None)
+    if kind is not None:
+        raise doubt(file, f"{kind}; open it in the spreadsheet and {SAVE_AS}")
+    return data
+
+
+def text_of(file: pathlib.Path, data: bytes, encoding: str) -> str:
+    """The text of a file without its mark."""
+    if encoding == "utf-8" and b"\0" in data:
+        raise doubt(file, f"it is no text in UTF-8, and for one in UTF-16 its mark is missing; {SAVE_AS}")
+    try:
+        return data.decode(encoding)
+    except UnicodeDecodeError as error:
+        if encoding != "utf-8":
+            raise doubt(file, f"it begins as a text in UTF-16 and is none to its end; {SAVE_AS}") from None
+        lines = data[: error.start].count(b"\n")
+        seen = shown(data.split(b"\n")[lines].decode("cp1252", "replace"))
+        raise doubt(file, f"it is not in UTF-8, but perhaps in Latin-1: {seen}; {SAVE_AS}", lines + 1) from None
+
+
+# ---------------------------------------------------------------- the table
+def table_of(file: pathlib.Path, text: str) -> tuple[str, list[Row]]:
+    """The delimiter of a table, and its rows but for the blank ones: it is the one by which the head line has most columns."""
+    first = re.search(r'[^\r\n,;\t "][^\r\n]*', text)
+    if first is None:
+        raise doubt(file, f"it is empty; write the head line name,who,mail and a line for each member, {AGAIN}")
+    head = first[0].casefold()
+    found = {mark: len(set(COLUMNS) & {title.strip(' "') for title in head.split(mark)}) for mark in DELIMITERS}
+    delimiter = max(DELIMITERS, key=lambda mark: (found[mark], head.count(mark)))
+    return delimiter, [row for row in rows_in(file, text, delimiter) if not row.is_blank()]
+
+
+def rows_in(file: pathlib.Path, text: str, delimiter: str) -> Iterable[Row]:
+    """The rows of a table. A cell in quotation marks may have line feeds in it, and the marks twice."""
+    cell = re.compile(rf'[ ]*"((?:[^"]|"")*+)"[ ]*(?=[{delimiter}\r\n]|\Z)|([^{delimiter}\r\n]*)')
+    place, line = 0, 1
+    while place < len(text):
+        start, cells = place, []
+        while True:
+            found = cell.match(text, place)
+            if found[1] is None and found[2].lstrip(" ").startswith('"'):
+                at = line + line_feeds(text[start:place])
+                words = f"the quotation mark before {shown(found[2].strip()[1:])} has none that ends the cell"
+                raise doubt(file, f"{words}; put it right, {AGAIN}", at)
+            value = found[2] if found[1] is None else found[1].replace('""', '"')
+            cells.append(Cell(found.start(), found.end(), value.strip()))
+            place = found.end() + 1
+            if text[found.end() : place] != delimiter:
+                break
+        if text[place - 1 : place + 1] == "\r\n":
+            place += 1
+        yield Row(line, cells)
+        line += line_feeds(text[start:place])
+
+
+def line_feeds(text: str) -> int:
+    """How many lines end in a text."""
+    return len(re.findall(r"\r\n|\r|\n", text))
+
+
+def places_of(file: pathlib.Path, head: Row, delimiter: str) -> dict[str, int]:
+    """The place of each column that is read, by the head line."""
+    titles = [cell.value.casefold() for cell in head.cells]
+    for column in COLUMNS:
+        if column not in titles:
+            said = ", ".join(shown(cell.value) for cell in head.cells if cell.value)
+            words = f"the head line has no column `{column}`, it has: {said} (read with the {DELIMITERS[delimiter]} between)"
+            raise doubt(file, f"{words}; name the columns name, who and mail, {AGAIN}", head.line)
+        if titles.count(column) > 1:
+            raise doubt(file, f"the head line has the column `{column}` twice; name one of them otherwise, {AGAIN}", head.line)
+    return {column: titles.index(column) for column in COLUMNS}
+
+
+def member_of(file: pathlib.Path, row: Row, head: Row, places: dict[str, int]) -> Member:
+    """The member of a row."""
+    values = [cell.value for cell in row.cells]
+    last = max(place for place, cell in enumerate(head.cells) if cell.value)
+    beyond = next(filter(None, values[last + 1 :]), None)
+    if beyond is not None:
+        words = f"`{shown(beyond)}` stands behind the last column of the head line"
+        raise doubt(file, f"{words}; put a cell that has the delimiter in it into quotation marks, {AGAIN}", row.line)
+    read = {column: values[place] if place < len(values) else "" for column, place in places.items()}
+    if not any(read.values()):
+        raise doubt(file, f"it has neither a name nor who nor mail; fill it in, or take the line out, {AGAIN}", row.line)
+    return Member(row, **read)
+
+
+# ---------------------------------------------------------------- names
+def plain(text: str) -> str:
+    """A text in small letters and without accents, as far as letters of other scripts have none."""
+    small = unicodedata.normalize("NFKD", text).casefold()
+    parts = unicodedata.normalize("NFKD", small).translate(LETTERS)
+    return "".join(letter for letter in parts if not unicodedata.combining(letter))
+
+
+def name_from(text: str) -> str:
+    """A name as a roll allows it, or an empty text where nothing is left."""
+    name = re.sub(r"[^a-z0-9.-]+", "-", plain(text)).strip("-")[:LONGEST_NAME].strip("-")
+    return name if re.search(r"[a-z0-9]", name) else ""
+
+
+def proposals(members: list[Member]) -> dict[int, str]:
+    """A name for each member who has none, by line; no two are equal, nor equal to one that is there.
+
+    Where neither who nor mail gives one, it is left out.
+    """
+    taken = {member.name for member in members}
+    numbers: dict[str, int] = collections.defaultdict(lambda: 1)
+    found: dict[int, str] = {}
+    for member in members:
+        name = "" if member.name else name_from(member.who) or name_from(member.mail.partition("@")[0])
+        if not name:
+            continue
+        proposed = name
+        while proposed in taken:
+            numbers[name] += 1
+            proposed = numbered(name, numbers[name])
+        found[member.line] = proposed
+        taken.add(proposed)
+    return found
+
+
+def numbered(name: str, number: int) -> str:
+    """The name with a number behind it, cut so that a roll allows it."""
+    end = f"-{number}"
+    return name[: LONGEST_NAME - len(end)].rstrip("-") + end
+
+
+def doubles(members: list[Member], key: Callable[[Member], str]) -> list[list[Member]]:
+    """The members who have a key with others in common, each such group in the order of the file. No key is none."""
+    groups = collections.defaultdict(list)
+    for member in members:
+        groups[key(member)].append(member)
+    return [group for text, group in groups.items() if text and len(group) > 1]
+
+
+def shown(text: str) -> str:
+    """A text as it can be shown in a line: spaces for line feeds, no signs that steer a terminal, at most 60 letters."""
+    line = " ".join(text.split())
+    line = line if len(line) <= 60 else line[:60] + ".."
+    return "".join(letter if letter.isprintable() else f"\\x{ord(letter):02X}" for letter in line)

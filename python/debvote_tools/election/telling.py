@@ -1,0 +1,69 @@
+"""What the commands that cast tell: their lines, what was edited by hand, and what a killed run has left undone."""
+
+from debvote_tools import journal
+from debvote_tools.election.folder import Election, Files
+from debvote_tools.faults import Fault, Status
+from debvote_tools.files import sum_of
+from debvote_tools.journal import Entry
+
+
+def tell(*lines: str, end: str = "\n") -> None:
+    """Writes lines to standard output, at once. Where that fails, the fault says that what was told before is done."""
+    try:
+        print(*lines, sep="\n", end=end, flush=True)
+    except OSError:
+        raise Fault("the output failed; what was told is done: ask debvote-election status", Status.BAD_OUTPUT) from None
+
+
+def count_of(number: int, what: str) -> str:
+    """A number of things in words, as `1 ballot` or `3 ballots`."""
+    return f"{number} {what}" if number == 1 else f"{number} {what}s"
+
+
+def time_of(entry: Entry) -> str:
+    """The time of an act, as a person writes it."""
+    return entry.time.replace("T", " ").replace("Z", " UTC")
+
+
+def tell_edits(election: Election, files: Files) -> None:
+    """Says what was not done, and which files somebody has edited by hand: an editor is allowed, unseen is not.
+
+    The caller holds the lock alone.
+    """
+    undone = election.cut_off
+    if undone is not None:
+        what = f"envelopes {undone.envelopes}, " if undone.act in ("add", "cast") else ""
+        kept = f"; what came is kept in {election.received}" if what else ""
+        tell(f"Note: the last act ({undone.act}, {what}{time_of(undone)}) was cut off, and is not done{kept}.")
+    for file in election.edited(files):
+        acts = journal.done(journal.last_entries(election.journal))
+        how = f": {what_differs(files.ballots or b'', acts)}" if file == election.ballots else ""
+        tell(f"Note: {file} was changed by hand since {time_of(acts[-1])} ({acts[-1].act}){how}.")
+
+
+def what_differs(ballots: bytes, acts: list[Entry]) -> str:
+    """How the ballots differ from those that the journal has last."""
+    noted = acts[-1].sums.ballots
+    before = lines_noted(acts)
+    if noted == journal.NONE:
+        return "it was not there"
+    if before is None:
+        return "it is another one"
+    now = ballots.count(b"\n")
+    if now < before:
+        return f"it has {count_of(now, 'whole line')}, and had {before}; what came is kept in received"
+    if sum_of(beginning(ballots, before)) == noted:
+        return f"something was written behind its first {count_of(before, 'line')}, which are as they were"
+    return f"its first {count_of(before, 'line')} are not all as they were; what came is kept in received"
+
+
+def lines_noted(acts: list[Entry]) -> int | None:
+    """How many lines the ballots had at the last act, as far as the acts tell it."""
+    same = (entry for entry in reversed(acts) if entry.sums.ballots == acts[-1].sums.ballots)
+    found = next((entry for entry in same if entry.act in ("add", "cast")), None)
+    return int(found.envelopes.rpartition("-")[2]) if found else None
+
+
+def beginning(ballots: bytes, lines: int) -> bytes:
+    """So many first lines, each with its line feed."""
+    return b"".join(line + b"\n" for line in ballots.split(b"\n", lines)[:lines])
