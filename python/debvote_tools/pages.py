@@ -1,0 +1,103 @@
+"""What all pages share: their frame, their style, and the forms in which something stands in them.
+
+What is given to these functions is HTML already: a name or a text goes through `html.escape` first.
+"""
+
+from collections.abc import Iterable
+from html import escape
+
+STYLE = """
+:root { color-scheme: light dark;
+  --ink: #1a1a1a; --paper: #ffffff; --line: #767676; --shade: #f1f1ee; --mark: #ffefb0; --link: #0a4f9e; }
+@media (prefers-color-scheme: dark) {
+  :root { --ink: #e9e9e6; --paper: #161617; --line: #8d8d8d; --shade: #262628; --mark: #4d4100; --link: #93bfff; }
+}
+body { margin: 0 auto; padding: 0 1rem 3rem; max-width: 56rem; background: var(--paper); color: var(--ink);
+  font: 1rem/1.5 system-ui, sans-serif; overflow-wrap: anywhere; }
+h1 { font-size: 1.6rem; line-height: 1.25; margin: 1.5rem 0 0.5rem; }
+h2 { font-size: 1.25rem; margin: 2.5rem 0 0.5rem; }
+a { color: var(--link); }
+a:focus-visible, .wide:focus-visible { outline: 3px solid var(--link); outline-offset: 2px; }
+.outcome { font-size: 1.25rem; padding: 0.75rem 1rem; border-left: 0.4rem solid var(--link); background: var(--shade); }
+dl { display: grid; grid-template-columns: minmax(8rem, max-content) 1fr; gap: 0.2rem 1rem; }
+dt { font-weight: 600; }
+dd { margin: 0; }
+nav ul { display: flex; flex-wrap: wrap; gap: 0.25rem 1.25rem; padding: 0; list-style: none; }
+nav a { display: inline-block; padding: 0.3rem 0; }
+.wide { position: relative; overflow-x: auto; max-width: 100%; }
+table { border-collapse: collapse; overflow-wrap: normal; }
+caption { text-align: left; padding-bottom: 0.4rem; }
+th, td { border: 1px solid var(--line); padding: 0.25rem 0.5rem; text-align: right; font-variant-numeric: tabular-nums; }
+th { background: var(--shade); font-weight: 600; }
+th[scope=row] { position: sticky; left: 0; text-align: left; min-width: min(14rem, 30vw); overflow-wrap: anywhere; }
+.beats { background: var(--mark); font-weight: 700; }
+.unseen { position: absolute; width: 1px; height: 1px; overflow: hidden; clip-path: inset(50%); white-space: nowrap; }
+svg text { fill: currentColor; }
+svg path, svg polygon, svg polyline { stroke: currentColor; }
+svg polygon[fill=black] { fill: currentColor; }
+svg polygon[fill=white] { fill: none; stroke: none; }
+figure { margin: 1rem 0; }
+li { margin: 0.2rem 0; }
+.ballots { padding: 0; list-style: none; }
+.ballots li { padding: 0.3rem 0.5rem; border-bottom: 1px solid var(--line); }
+:target { background: var(--mark); }
+pre { background: var(--shade); padding: 0.6rem 0.8rem; white-space: pre-wrap; }
+code { font-family: ui-monospace, monospace; }
+"""
+
+# what a page without scripts may load: nothing but what stands in it
+POLICY = "default-src 'none'; style-src 'unsafe-inline'"
+
+PAGE = """<!DOCTYPE html>
+<html lang="en">
+<head>
+<meta charset="utf-8">
+<meta name="viewport" content="width=device-width, initial-scale=1">
+<meta http-equiv="Content-Security-Policy" content="{policy}">
+<title>{head}</title>
+<style>{style}</style>
+</head>
+<body>
+<main>
+<h1>{heading}</h1>
+{sections}</main>
+{behind}</body>
+</html>
+"""
+
+
+def page(head: str, heading: str, sections: str, *, style: str = STYLE, policy: str = POLICY, behind: str = "") -> str:
+    """A whole page. `head` is what the window is called; `behind` stands behind all parts, as a script does."""
+    return PAGE.format(policy=policy, head=head, style=style, heading=heading, sections=sections, behind=behind)
+
+
+def part(heading: str, *blocks: str) -> str:
+    """A part of the page. The name of an elector has no capital letter, so no ballot has the name of a part."""
+    name = heading.replace(" ", "-")
+    return f'<section aria-labelledby="{name}">\n<h2 id="{name}">{heading}</h2>\n' + "\n".join(blocks) + "\n</section>\n"
+
+
+def wide(name: str, block: str) -> str:
+    """What may be wider than the screen: it scrolls by itself, by keys too."""
+    return f'<div class="wide" role="region" aria-label="{name}" tabindex="0">\n{block}\n</div>'
+
+
+def paragraph(text: str) -> str:
+    return f"<p>{text}</p>"
+
+
+def listed(kind: str, entries: Iterable[str]) -> str:
+    """A list of the kind `ul` or `ol`."""
+    return f"<{kind}>\n" + "".join(f"<li>{entry}</li>\n" for entry in entries) + f"</{kind}>"
+
+
+def joined(entries: Iterable[str]) -> str:
+    """The entries as they stand in a sentence; there is at least one."""
+    entries = list(entries)
+    return entries[0] if len(entries) == 1 else ", ".join(entries[:-1]) + " and " + entries[-1]
+
+
+def command_block(what: str, command: str, output: str | None = None) -> str:
+    """What a command is for, the command, and what it answers where that is known."""
+    answer = "" if output is None else paragraph("It answers:") + f"\n<pre><code>{escape(output)}</code></pre>"
+    return f"<p>{what}</p>\n<pre><code>{escape(command)}</code></pre>\n{answer}"

@@ -1,0 +1,186 @@
+"""What there is to doubt about an election: the traces that a slip of the hand leaves in its files.
+
+Of each file debvote is asked what it reads as, and what is refused in it; only the end of the ballot file and the journal of the
+election are looked at here.
+"""
+
+import dataclasses
+import os
+import pathlib
+import re
+import shlex
+import sys
+
+from debvote_tools import journal
+from debvote_tools.faults import Fault, Status
+from debvote_tools.program import Debvote, Findings, Totals, findings_in
+from debvote_tools.publish.calls import Calls
+
+EVEN_SO = "(or publish it as it is, with --even-so)"
+
+# a poll by which `explain` tells which lines have the shape of ballots: that is the same for all polls
+ANY_POLL = b"""title = "any"
+options = ["any"]
+ratios = [1]
+default = "none"
+quorum = 0
+roll = ["-"]
+"""
+
+# how many keys a poll must have
+REQUIRED_KEYS = 6
+
+
+@dataclasses.dataclass(frozen=True)
+class Doubt:
+    """A reason to stop: file, reason and cure for the one who publishes, and a sentence for the readers of the page."""
+
+    file: str
+    reason: str
+    cure: str
+    sentence: str
+
+    def line(self) -> str:
+        return f"{self.file}: {self.reason}; {self.cure}"
+
+
+def tell(lines: list[str]) -> None:
+    """Tells each line on standard error."""
+    for line in lines:
+        print(f"debvote-publish: {line}", file=sys.stderr)
+
+
+def stop(found: list[Doubt]) -> Fault:
+    """The fault that ends the run at these doubts, which are told."""
+    tell([f"{doubt.line()} {EVEN_SO}" for doubt in found])
+    return Fault(None, Status.DOUBT)
+
+
+def found_in(calls: Calls, poll: str, ballots: str) -> list[Doubt]:
+    """All doubts about a poll that is in order and its ballots. The files lie in the folder, and are called as they were given."""
+    findings = findings_in(calls.explain())
+    return [
+        *misplaced(calls.debvote, poll, ballots),
+        *about_ballots(findings, poll, ballots),
+        *unended(calls.debvote.folder / "ballots", ballots),
+        *unread_keys(findings, poll),
+        *open_election(pathlib.Path(os.path.realpath(poll)).parent),
+    ]
+
+
+# ---------------------------------------------------------------- a file in the place of the other
+def misplaced(debvote: Debvote, poll: str, ballots: str) -> list[Doubt]:
+    """That the poll reads as ballots, and that the ballots read as a poll."""
+    is_swapped_poll, is_swapped_ballots = reads_as_ballots(debvote, "poll.toml"), reads_as_poll(debvote, "ballots")
+    both = f"the two are swapped: give {shlex.join(['--poll', ballots, '--ballots', poll])}"
+    is_both = is_swapped_poll and is_swapped_ballots
+    found = []
+    if is_swapped_poll:
+        cure = both if is_both else "give the poll file with --poll"
+        sentence = "The file that was given as the poll reads as ballots."
+        found.append(Doubt(poll, "it is given as the poll, and reads as ballots", cure, sentence))
+    if is_swapped_ballots:
+        cure = both if is_both else "give the ballot file with --ballots"
+        sentence = "The file that was given as the ballots reads as a poll: the ballots themselves may be elsewhere."
+        found.append(Doubt(ballots, "it is given as the ballots, and reads as a poll", cure, sentence))
+    return found
+
+
+def reads_as_poll(debvote: Debvote, file: str) -> bool:
+    """Whether debvote reads a file as TOML that has a key of a poll, be the poll in order or not."""
+    lines = debvote.ask("explain", "--poll", file).text.splitlines()
+    is_toml = bool(lines) and re.match(r"poll:\d+:\d+: ", lines[0]) is None
+    missing = [line for line in lines if re.fullmatch(r"poll: key \w+: it is missing", line)]
+    return is_toml and len(missing) < REQUIRED_KEYS
+
+
+def reads_as_ballots(debvote: Debvote, file: str) -> bool:
+    """Whether more than half of the lines of a file have the shape of ballots, a carriage return at their end aside."""
+    answer = debvote.ask("explain", "--poll", "/dev/stdin", "--ballots", file, given=ANY_POLL)
+    if not answer.text:
+        return False
+    findings = findings_in(answer.text)
+    others = [line for line in findings.refused if line.word == "bad shape" and not line.hint.endswith("carriage return")]
+    return 2 * len(others) < findings.totals.lines
+
+
+# ---------------------------------------------------------------- the lines of the ballot file
+def about_ballots(findings: Findings, poll: str, ballots: str) -> list[Doubt]:
+    """What `explain` says of the ballots that is no election as one expects it."""
+    totals = findings.totals
+    found = []
+    if totals.voters == 0:
+        found.append(nobody(totals, poll, ballots))
+    if 2 * totals.refused > totals.lines:
+        reason = f"more than half of its lines are refused, {totals.refused} of {totals.lines}"
+        sentence = f"More than half of the lines of the ballot file are refused: {totals.refused} of {totals.lines}."
+        found.append(Doubt(ballots, reason, ask_why(poll, ballots), sentence))
+    if findings.is_windows:
+        unix = f"{ballots}.unix"
+        found.append(
+            Doubt(
+                ballots,
+                "all refused lines end with a carriage return, as those of a file from Windows do",
+                f"take it out, and give the file that this makes: tr -d '\\r' < {shlex.quote(ballots)} > {shlex.quote(unix)}",
+                "All refused lines end with a carriage return, as those of a file from Windows do: they may be ballots that were "
+                "meant to count.",
+            )
+        )
+    return found
+
+
+def nobody(totals: Totals, poll: str, ballots: str) -> Doubt:
+    """That no elector has a ballot that stands."""
+    reason = "no elector has a ballot that stands"
+    sentence = "No elector has a ballot that stands: nobody's vote has decided this."
+    if totals.lines == 0:
+        return Doubt(ballots, f"it is empty, so {reason}", "give the file that has the ballots", sentence)
+    return Doubt(ballots, reason, ask_why(poll, ballots), sentence)
+
+
+def ask_why(poll: str, ballots: str) -> str:
+    """The command that says why lines are refused."""
+    return f"ask why: {shlex.join(['debvote', 'explain', '--poll', poll, '--ballots', ballots])}"
+
+
+def unended(file: pathlib.Path, ballots: str) -> list[Doubt]:
+    """That the last line of the ballots has no line feed."""
+    data = file.read_bytes()
+    if not data or data.endswith(b"\n"):
+        return []
+    return [
+        Doubt(
+            ballots,
+            "its last line has no line feed, as in a file that was cut off",
+            "look whether its end is missing; where it is whole, end the last line with the Enter key in an editor",
+            "The last line of the ballot file has no line feed, as in a file that was cut off: ballots may be missing behind it.",
+        )
+    ]
+
+
+# ---------------------------------------------------------------- the poll and its election
+def unread_keys(findings: Findings, poll: str) -> list[Doubt]:
+    """Each key of the poll that is not read."""
+    found = []
+    for words in findings.unread:
+        reason, remark = re.fullmatch(r"(key .*) is not read(?:; (.*))?", words).groups("")
+        advice = f"{remark}{' ' if remark.endswith('?') else ', so '}" if remark else ""
+        said = f" ({remark})" if remark else ""
+        sentence = f"The {reason} of the poll file is not read{said}: what it says has not counted."
+        found.append(Doubt(poll, f"{reason} is not read", f"{advice}put it right or take it out", sentence))
+    return found
+
+
+def open_election(folder: pathlib.Path) -> list[Doubt]:
+    """That the poll lies in the folder of an election that is not closed."""
+    file = folder / journal.NAME
+    if not file.is_file() or journal.last(journal.entries_in(file), "close") is not None:
+        return []
+    return [
+        Doubt(
+            str(file),
+            "the election in this folder is not closed",
+            f"close it: {shlex.join(['debvote-election', '--folder', str(folder), 'close'])}",
+            "The election was not closed when this page was made: more ballots may come in.",
+        )
+    ]
