@@ -30,7 +30,7 @@ select { width: 8.5rem; }
 button, .letter { display: inline-flex; align-items: center; background: var(--shade); cursor: pointer; text-decoration: none; font-weight: 600; }
 input:focus-visible, select:focus-visible, button:focus-visible { outline: 3px solid var(--link); outline-offset: 2px; }
 #line { display: block; padding: 0.6rem 0.8rem; background: var(--shade); border-left: 0.4rem solid var(--link);
-  font: 1.15rem/1.5 ui-monospace, monospace; }
+  font: 1.15rem/1.5 ui-monospace, monospace; word-break: break-all; }
 #line:empty { display: none; }
 .actions { display: flex; flex-wrap: wrap; gap: 0.75rem; margin: 0.75rem 0; }
 .said:empty { display: none; }
