@@ -12,7 +12,7 @@ import unicodedata
 
 from debvote_tools import journal
 from debvote_tools.election import call_letter, call_page, poll_file
-from debvote_tools.election.asking import command
+from debvote_tools.election.asking import NO_BALLOTS, command
 from debvote_tools.election.call_words import Call
 from debvote_tools.election.checking import checked
 from debvote_tools.election.folder import Election, Files
@@ -23,6 +23,9 @@ HELP = "Make the call for votes, a page and a letter; the poll is not changed an
 
 SUMS = "SHA256SUMS"
 NAMES = ("index.html", "call.txt", "poll.toml", SUMS)
+
+# how the name of a folder begins that is not in its place yet, or no more
+LEFTOVER = ".call."
 
 ADDRESS = re.compile(r"[A-Za-z0-9_][A-Za-z0-9._+=-]*@[A-Za-z0-9-]+(\.[A-Za-z0-9-]+)*")
 ADDRESS_LIMIT = 254
@@ -42,6 +45,7 @@ def run(election: Election, asked: argparse.Namespace) -> int:
     demand_address(asked.to)
     with election.changing() as files:
         sheet = checked(election, files)
+        demand_covered(election, files.poll)
         demand_own(election)
         files = ended(election, files)
         poll_sum = sum_of(poll_file.without_last_envelope(files.poll))
@@ -96,6 +100,23 @@ def sums_in(file: pathlib.Path) -> dict[str, str]:
 
 
 # ---------------------------------------------------------------- the poll
+def demand_covered(election: Election, poll: bytes) -> None:
+    """Stops where the poll says something else without its lines `last_envelope`, for the sum leaves them out.
+
+    A line may begin with these letters and go on with anything within a text of several lines.
+    """
+    whole, bare = (sheet_without_last(election, data) for data in (poll, poll_file.without_last_envelope(poll)))
+    if whole != bare:
+        words = "a line begins with last_envelope and is more than that; the sum of the call would leave it out"
+        raise Fault(f"{election.poll}: {words}; write it in another way, then call again", Status.DOUBT)
+
+
+def sheet_without_last(election: Election, poll: bytes) -> list[str]:
+    """The lines of the sheet of a poll without ballots, but for that of the last envelope."""
+    answer = election.debvote.ask("count", "--poll", "/dev/stdin", "--ballots", NO_BALLOTS, given=poll)
+    return [line for line in answer.text.splitlines() if not line.startswith("Last envelope: ")]
+
+
 def ended(election: Election, files: Files) -> Files:
     """Ends the last line of the poll, so that a line that is put behind it later does not change its sum."""
     if files.poll.endswith(b"\n"):
@@ -118,24 +139,27 @@ def texts_of(call: Call, poll: bytes) -> dict[str, bytes]:
 
 def make(election: Election, files: Files, texts: dict[str, bytes]) -> None:
     """Makes the folder beside its place, keeps the poll that is called, notes the act, and moves the folder there."""
-    made = pathlib.Path(tempfile.mkdtemp(prefix=".call.", dir=election.folder))
+    count = len(journal.done(election.entries()))
+    made = pathlib.Path(tempfile.mkdtemp(prefix=LEFTOVER, dir=election.folder))
     try:
         made.chmod(0o777 & ~umask())
         for name, text in texts.items():
             write_whole(made / name, text)
         keep_called(election, files)
         election.act("call", files)
-    except BaseException:
-        shutil.rmtree(made, ignore_errors=True)
-        raise
-    try:
         put_in_place(election, made)
     except BaseException:
-        take_away(made)
-        with contextlib.suppress(OSError):
-            if not election.call.exists():
-                journal.note(election.journal, journal.UNDONE, journal.NONE, files.sums)
+        if made.exists():
+            shutil.rmtree(made, ignore_errors=True)
+            note_undone(election, files, count)
         raise
+
+
+def note_undone(election: Election, files: Files, count: int) -> None:
+    """Notes that the call was not done, where it stands in the journal: there were so many acts before it."""
+    with contextlib.suppress(OSError):
+        if len(journal.done(election.entries())) > count:
+            journal.note(election.journal, journal.UNDONE, journal.NONE, files.sums)
 
 
 def keep_called(election: Election, files: Files) -> None:
@@ -153,7 +177,7 @@ def put_in_place(election: Election, made: pathlib.Path) -> None:
     """Moves the new folder to its place. The earlier one steps aside first: at each moment the one there is whole, or there is none."""
     before = None
     if election.call.exists():
-        before = pathlib.Path(tempfile.mkdtemp(prefix=".call.", dir=election.folder))
+        before = pathlib.Path(tempfile.mkdtemp(prefix=LEFTOVER, dir=election.folder))
         # takes the place of the empty folder
         election.call.rename(before)
     try:
@@ -177,7 +201,7 @@ def take_away(folder: pathlib.Path) -> None:
 
 def take_away_leftovers(election: Election) -> None:
     """Removes what runs that were killed have left beside the call."""
-    for folder in election.folder.glob(".call.*"):
+    for folder in election.folder.glob(f"{LEFTOVER}*"):
         for file in folder.glob(".*") if folder.is_dir() else ():
             file.unlink()
         take_away(folder)
