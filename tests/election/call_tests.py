@@ -31,7 +31,7 @@ import os, pathlib, shutil, signal, sys
 root, how, template, out = sys.argv[1:]
 sys.path.insert(0, root + "/python")
 from debvote_tools.election.command_line import main
-NAMES = ("rename", "mkdir", "fsync", "write", "unlink", "rmdir", "fchmod")
+NAMES = ("rename", "mkdir", "write", "unlink", "rmdir")
 def stop_at(at):
     steps = [0]
     def stopping(real):
@@ -376,7 +376,7 @@ class FailedTest(CallTest):
         out = self.scratch / "steps"
         ended = self.run_program(sys.executable, "-c", STOPPED, support.ROOT, how, self.folder, out)
         rows = [tuple(map(int, line.split(" "))) for line in ended.output.splitlines()]
-        self.assertGreater(len(rows), 20, ended)
+        self.assertGreater(len(rows), 8, ended)
         self.assertEqual((rows[-1][1], {row[2] for row in rows}), (0, {0}), ended)
         return [(status, (out / str(at) / "faults").read_text(), out / str(at)) for at, status, _ in rows[:-1]]
 
@@ -403,13 +403,10 @@ class FailedTest(CallTest):
             self.check(faults, out)
 
     def test_interrupted(self) -> None:
-        for is_called in (False, True):
-            for status, faults, out in self.each_step("interrupt", is_called):
-                self.assertEqual((status, len(faults.splitlines())), (130, 1), faults)
-                self.check(faults, out)
-                self.assertEqual((out / "stopped" / "call").exists() or not is_called, True)
-            shutil.rmtree(self.scratch / "steps")
-            self.folder = self.scratch / "election"
+        for status, faults, out in self.each_step("interrupt", is_called=True):
+            self.assertEqual((status, len(faults.splitlines())), (130, 1), faults)
+            self.assertTrue((out / "stopped" / "call").exists())
+            self.check(faults, out)
 
     def test_no_room_at_a_step(self) -> None:
         for status, faults, out in self.each_step("full", is_called=True):
