@@ -73,7 +73,9 @@
 
   // The sentences that say what the ranks prefer to what, each a list of texts and names.
   function sentencesOf({ ranked, unranked }) {
-    const sentences = ranked.slice(1).map((lower, place) => ["You prefer ", ...joined(ranked[place]), " to ", ...joined(lower), "."]);
+    const sentences = ranked
+      .slice(1)
+      .map((lower, place) => ["You prefer ", ...joined(ranked[place]), " to ", ...joined(lower), "."]);
     if (ranked.length === 1 && unranked.length > 0) {
       sentences.push(["You prefer ", ...joined(ranked[0]), " to all others."]);
     }
@@ -129,8 +131,9 @@
     const isRanked = ranks.some((rank) => rank !== UNRANKED);
     byId("words").replaceChildren(...(isRanked ? [listOf(sentencesOf(groupsOf(ranks)))] : []));
     byId("meaning").hidden = !isRanked;
-    const missing = [fault && isTyped ? "The name has to be put right." : fault, isRanked ? "" : "Give at least one option a rank."];
-    say("missing", missing.filter(Boolean).join(" "));
+    const nameMissing = fault && isTyped ? "The name has to be put right." : fault;
+    const rankMissing = isRanked ? "" : "Give at least one option a rank.";
+    say("missing", [nameMissing, rankMissing].filter(Boolean).join(" "));
     say("copied", "");
     showLine(fault === "" && isRanked ? `${name} ${ranks.join(",")}` : "");
   }

@@ -27,7 +27,8 @@ input, select, button, .letter { box-sizing: border-box; min-height: 2.75rem; pa
   color: var(--ink); background: var(--paper); border: 1px solid var(--line); border-radius: 0.3rem; }
 input { width: 100%; max-width: 40rem; }
 select { width: 8.5rem; }
-button, .letter { display: inline-flex; align-items: center; background: var(--shade); cursor: pointer; text-decoration: none; font-weight: 600; }
+button, .letter { display: inline-flex; align-items: center; background: var(--shade); cursor: pointer;
+  text-decoration: none; font-weight: 600; }
 input:focus-visible, select:focus-visible, button:focus-visible { outline: 3px solid var(--link); outline-offset: 2px; }
 #line { display: block; padding: 0.6rem 0.8rem; background: var(--shade); border-left: 0.4rem solid var(--link);
   font: 1.15rem/1.5 ui-monospace, monospace; word-break: break-all; }
@@ -55,7 +56,8 @@ FORM = """<div class="field">
 <p id="missing" class="said" role="status"></p>
 <output id="line" for="name"></output>
 <div id="ready" hidden>
-<p id="long" hidden>This line is long, and a mail program may break it. Look at the letter before you send it: it has to be one line.</p>
+<p id="long" hidden>This line is long, and a mail program may break it.
+Look at the letter before you send it: it has to be one line.</p>
 <div class="actions">
 <button id="copy" type="button">Copy the line</button>
 {letter}</div>

@@ -12,12 +12,12 @@ TIMES = {2: "twice", 3: "three times", 4: "four times", 5: "five times", 6: "six
 TIMES |= {8: "eight times", 9: "nine times", 10: "ten times"}
 
 HOW = (
-    "A ballot is one line: your name as it stands on the roll, a space, and a rank for each option in the order of their numbers, "
-    "the default option last. Between the ranks stand commas, and no spaces."
+    "A ballot is one line: your name as it stands on the roll, a space, and a rank for each option in the order of their "
+    "numbers, the default option last. Between the ranks stand commas, and no spaces."
 )
 RANKS = (
-    "1 is your first preference: an option with a smaller rank is preferred to one with a greater rank. Options that you give the "
-    "same rank are equal to you. A hyphen stands for an option that you do not rank: it is behind all others."
+    "1 is your first preference: an option with a smaller rank is preferred to one with a greater rank. Options that you give "
+    "the same rank are equal to you. A hyphen stands for an option that you do not rank: it is behind all others."
 )
 AGAIN = "You may vote again: of your ballots that are valid and in time the last one counts."
 DEFAULT = (
@@ -25,8 +25,8 @@ DEFAULT = (
     "than the default option."
 )
 PUBLIC = (
-    "After the vote all ballots are published, each with the name of its elector, so that everybody can count again. So everybody "
-    "sees how you voted. Lines that were refused or came late are published too."
+    "After the vote all ballots are published, each with the name of its elector, so that everybody can count again. So "
+    "everybody sees how you voted. Lines that were refused or came late are published too."
 )
 COMPARE = "grep -v '^last_envelope' poll.toml | sha256sum"
 LATER = (

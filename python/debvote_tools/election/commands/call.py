@@ -35,9 +35,11 @@ ODD = ("Cc", "Cs", "Zl", "Zp")
 
 
 def options(parser: argparse.ArgumentParser) -> None:
-    parser.add_argument("--until", metavar="TEXT", help="Until when one can vote, in your own words; it is printed as you give it")
+    until = "Until when one can vote, in your own words; it is printed as you give it"
+    no_roll = "Leave the poll, with its roll, out of the folder: its sum stands alone"
+    parser.add_argument("--until", metavar="TEXT", help=until)
     parser.add_argument("--to", metavar="ADDRESS", help="The mail address that ballots are sent to")
-    parser.add_argument("--no-roll", action="store_true", help="Leave the poll, with its roll, out of the folder: its sum stands alone")
+    parser.add_argument("--no-roll", action="store_true", help=no_roll)
 
 
 def run(election: Election, asked: argparse.Namespace) -> int:
@@ -175,7 +177,7 @@ def keep_called(election: Election, files: Files) -> None:
 
 
 def put_in_place(election: Election, made: pathlib.Path) -> None:
-    """Moves the new folder to its place. The earlier one steps aside first: at each moment the one there is whole, or there is none."""
+    """Moves the new folder to its place; the earlier one steps aside first. At each moment the one there is whole, or none is."""
     before = None
     if election.call.exists():
         before = pathlib.Path(tempfile.mkdtemp(prefix=LEFTOVER, dir=election.folder))
