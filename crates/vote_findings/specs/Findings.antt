@@ -6,24 +6,8 @@ use Rattle.std.specs.Fmt.{decimal}
 use Rattle.toml.specs.Data.{Members}
 use Rattle.vote_text.specs.Lines.{IsUnbroken, line_feed}
 use Rattle.vote_poll.specs.PollFaults.{faults_in}
-use Rattle.vote_keys.specs.Keys.{key_name}
+use Rattle.vote_keys.specs.FaultWords.{fault_words}
 use Rattle.vote_keys.specs.declared.fault.PollFault.{PollFault}
-use Rattle.vote_keys.specs.declared.fault.PollFault.TheVariants as fault
-
--- what the fault line of a fault says behind `poll refused: `
-abbrev pub fault_words : PollFault → List ℕ
-fault_words fault.Syntax = codes "syntax"
-fault_words (fault.Key name) = codes "key " ++ key_name name
-fault_words fault.Title = codes "title"
-fault_words fault.OptionCount = codes "number of options"
-fault_words (fault.OptionName option) = codes "name of option " ++ decimal option
-fault_words fault.Ratio = codes "ratios"
-fault_words fault.Quorum = codes "quorum"
-fault_words fault.RollSize = codes "size of roll"
-fault_words (fault.VoterName place) = codes "voter at position " ++ decimal place
-fault_words fault.LastEnvelope = codes "last envelope"
-fault_words fault.Wording = codes "wording"
-fault_words fault.Memory = codes "out of memory"
 
 -- the line of a fault
 abbrev pub finding : PollFault → List ℕ → List ℕ
