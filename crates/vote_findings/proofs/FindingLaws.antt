@@ -7,7 +7,8 @@ use Rattle.std.proofs.lemmas.Bool.Decides.{nat_tests}
 use Rattle.std.proofs.lemmas.List.Elements.{All-nil, All-cons, All-append, filter-append}
 use Rattle.std.proofs.lemmas.List.{map-append}
 use Rattle.std.proofs.lemmas.List.Concat.{concat_is, flat_map-append}
-use Rattle.vote_findings.specs.Findings.{AddsFindings, AddsKeyLine, AddsKeyLines, AreFindings, EndsFinding, IsKeyLine, fault_words, finding}
+use Rattle.vote_findings.specs.Findings.{AddsFindings, AddsKeyLine, AddsKeyLines, AreFindings, EndsFinding, IsKeyLine, finding}
+use Rattle.vote_keys.specs.FaultWords.{fault_words}
 use Rattle.vote_text.specs.Lines.{IsUnbroken, line_feed}
 use Rattle.vote_text.specs.Names.{is_printable}
 use Rattle.vote_poll.specs.PollFaults.{fault_unless}

@@ -1,4 +1,5 @@
--- what the contract of the public call says
+-- what the contracts of public calls say
+pub mod Limits
 pub mod Findings
 -- what types stand for, and what private functions say of their parts
 pub mod FoundView
