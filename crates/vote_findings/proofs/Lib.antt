@@ -2,3 +2,5 @@ mod FindingLaws
 mod FoundLaws
 mod KeyLaws
 mod SeenLaws
+mod PathLaws
+mod UnreadLaws

@@ -1,7 +1,9 @@
 -- what the contracts of public calls say
 pub mod Limits
+pub mod UnreadKeys
 pub mod Findings
 -- what types stand for, and what private functions say of their parts
 pub mod FoundView
+pub mod UnreadView
 pub mod KeyFindings
 pub mod NameFindings

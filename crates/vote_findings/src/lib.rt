@@ -29,6 +29,7 @@ mod found;
 mod hints;
 mod key_findings;
 mod name_findings;
+mod path;
 mod unread;
 
 pub use explain::{ExplainedPoll, explain_poll};
