@@ -4,3 +4,4 @@ mod KeyLaws
 mod SeenLaws
 mod PathLaws
 mod UnreadLaws
+mod EditLaws

@@ -5,5 +5,6 @@ pub mod Findings
 -- what types stand for, and what private functions say of their parts
 pub mod FoundView
 pub mod UnreadView
+pub mod HintView
 pub mod KeyFindings
 pub mod NameFindings

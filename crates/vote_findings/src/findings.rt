@@ -26,7 +26,7 @@ use vote_poll::{
 };
 
 /// Adds words as they are shown, and ends the line.
-pub(crate) fn end_line(text: &mut String, words: &str) -> Result<(), AllocError>
+fn end_line(text: &mut String, words: &str) -> Result<(), AllocError>
     ensures { OnOk result (string_bytes text.new ≡ string_bytes text.old ++ shown (length words.now) words.now ++ line_feed) }
 {
     push_shown(text, words.as_bytes(), words.len())?;
