@@ -145,6 +145,7 @@ impl<'t> Lines<'t> {
     }
 
     /// Whether there is no line.
+    /// For callers of the library; the program does not call it.
     pub fn is_empty(&self) -> bool
         ensures { result ≡ (length self.now == 0) }
     {
