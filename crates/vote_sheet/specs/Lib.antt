@@ -8,3 +8,4 @@ pub mod ElectorLaws
 pub mod Standing
 pub mod Picture
 pub mod Verify
+pub mod Limits

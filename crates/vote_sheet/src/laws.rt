@@ -1,6 +1,7 @@
 //! Laws of the count on what people see, from the lines of a ballot file to the sheet. Each function does nothing but call the laws
 //! of the count that it stands on: its contract is the law, and that is proved.
 ghost use Rattle.vote_sheet.specs.ElectorLaws.{NamesDoNotMatter, NobodyCountsTwice, OneBallotMovesEachCountByOne, OnlyTheLastBallotCounts, RefusedLinesAreOnlyCounted, RefusedLinesHaveNoInfluence};
+ghost use Rattle.vote_sheet.specs.Limits.{LimitsAreAsWritten};
 ghost use Rattle.vote_sheet.specs.SheetLaws.{CondorcetWinnersAreNamed, LikedOptionsStay, LikedWinnersStay, UnanimityRules};
 ghost use Rattle.vote_sheet.specs.Standing.{StandingHasTheSameSheet, StandingSaysTheSame};
 ghost use Rattle.vote_sheet.specs.Verify.{NamesTheFirstLine};
@@ -100,3 +101,8 @@ pub fn names_do_not_matter()
 {
     each_line_is_read();
 }
+
+/// The limit of what is shown of a line is the one that `docs/FORMATS.md` writes.
+pub fn limits_are_as_written()
+    ensures { LimitsAreAsWritten }
+{}
