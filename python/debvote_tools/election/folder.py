@@ -95,15 +95,16 @@ class Election:
         """The files as they are. Of one that is too long one byte more than its limit is read, so that debvote says so."""
         cure = f"write it, or take the last one from {self.backup}"
         poll = bytes_of(self.poll, POLL_LIMIT, Status.BAD_POLL, cure)
-        if not self.ballots.exists() and not self.had_ballots():
+        if not self.ballots.exists() and not self.had_ballots(poll):
             return Files(poll, None)
         cure = f"what came is kept in {self.received}"
         return Files(poll, bytes_of(self.ballots, BALLOTS_LIMIT, Status.BAD_BALLOTS, cure))
 
-    def had_ballots(self) -> bool:
-        """Whether ballots were there at the last act."""
-        acts = journal.done(journal.last_entries(self.journal))
-        return bool(acts) and acts[-1].sums.ballots != journal.NONE
+    def had_ballots(self, poll: bytes) -> bool:
+        """Whether ballots were there at the last act, of which a first one may be cut off before it has written any."""
+        entries = journal.last_entries(self.journal)
+        acts = journal.done(entries)
+        return bool(acts) and acts[-1].sums.ballots != journal.NONE and not journal.is_cut_off(entries, Sums.of(poll, None))
 
     def entries(self) -> list[Entry]:
         """All entries of the journal."""

@@ -32,7 +32,8 @@ def tell_edits(election: Election, files: Files) -> None:
     """
     undone = election.cut_off
     if undone is not None:
-        what = f"envelopes {undone.envelopes}, " if undone.act in ("add", "cast") else ""
+        many = "envelopes" if "-" in undone.envelopes else "envelope"
+        what = f"{many} {undone.envelopes}, " if undone.act in ("add", "cast") else ""
         kept = f"; what came is kept in {election.received}" if what else ""
         tell(f"Note: the last act ({undone.act}, {what}{time_of(undone)}) was cut off, and is not done{kept}.")
     for file in election.edited(files):
