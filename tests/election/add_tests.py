@@ -53,8 +53,8 @@ class Good(AddTest):
         self.assertEqual(self.read("ballots"), self.read("more.txt"))
         self.assertEqual(self.received(), {"0001-more.txt": self.read("more.txt")})
         acts = journal.entries_in(self.folder / "journal")
-        self.assertEqual([(act.act, act.envelopes) for act in acts], [("found", "-"), ("add", "1-3")])
-        self.assertEqual(acts[1].sums, journal.Sums.of(self.read("poll.toml"), self.read("ballots")))
+        self.assertEqual([(act.act, act.envelopes) for act in acts], [("add", "1-3")])
+        self.assertEqual(acts[0].sums, journal.Sums.of(self.read("poll.toml"), self.read("ballots")))
 
     def test_several_files_and_standard_input(self) -> None:
         self.write("a", "ada 1,2,4,3\n")
@@ -278,7 +278,7 @@ class Failing(AddTest):
         self.assertEqual((ended.output, self.read("ballots")), ("", before))
         self.assertEqual([name for name in os.listdir(self.folder) if name.startswith(".b")], [])
         acts = journal.done(journal.entries_in(self.folder / "journal"))
-        self.assertEqual([act.act for act in acts], ["found"])
+        self.assertEqual([act.act for act in acts], [])
         ended = self.election("add", given="ada 1,2,4,3\n")
         self.assertIn("\n101 counted  ada: ", "\n" + ended.output)
         self.assertEqual(self.read("ballots"), before + b"ada 1,2,4,3\n")

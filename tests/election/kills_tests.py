@@ -142,11 +142,11 @@ class BetweenSteps(KillTest):
         undone = []
 
         def told(run: killing.Run) -> None:
-            noted = journal.entries_in(self.folder / "journal")[-1]
+            begun = journal.begun(self.folder / "journal")
             is_done = len(self.lines()) == 2
             following = killing.run(self.folder, ["desk"], b"hal 1,2,3,4\n")
             said = "Note: the last act (cast, envelope 2, " in following.output
-            self.assertEqual(said, noted.envelopes == "2" and not is_done, following)
+            self.assertEqual(said, begun is not None and not is_done, following)
             undone.append(said)
 
         self.each_kill(["desk"], b"ada 1,2,3,4\n", told, has_acts=True)
@@ -169,7 +169,7 @@ class BetweenSteps(KillTest):
             self.assertEqual(self.read("ballots"), ballots + b"\n")
             self.assert_nothing_half_written()
             acts = [act.act for act in journal.done(journal.entries_in(self.folder / "journal"))]
-            self.assertEqual(acts, ["found", "end", "close"])
+            self.assertEqual(acts, ["end", "close"])
 
         self.each_kill(["close"], b"", closed, ballots=ballots)
 
