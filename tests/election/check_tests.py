@@ -80,7 +80,9 @@ class Faults(support.ElectionTest):
     def test_the_roll_is_written_by_roll(self) -> None:
         poll = support.POLL.split("roll = ")[0]
         for roll in ('roll = ["Ada"]', "roll = []", "roll = 3", 'roll = ["a", "a"]', ""):
-            ended = self.assert_told(poll + roll, 3, "it is not in order yet; write the members into members.csv and run: debvote-election roll; ")
+            ended = self.assert_told(
+                poll + roll, 3, "it is not in order yet; write the members into members.csv and run: debvote-election roll; "
+            )
             self.assertNotIn("with an editor", ended.faults)
 
     def test_no_toml(self) -> None:
@@ -112,13 +114,17 @@ class Faults(support.ElectionTest):
         self.write("backup/poll.toml.called", support.POLL)
         self.write("poll.toml", support.POLL.replace("quorum = 1", "quorum = 0") + "last_envelope = 3\n")
         ended = self.election("check")
-        self.assert_fault(ended, 9, "poll.toml: it was changed after the call for votes", "line 5 was `quorum = 1`", "line 5 is `quorum = 0`")
+        self.assert_fault(
+            ended, 9, "poll.toml: it was changed after the call for votes", "line 5 was `quorum = 1`", "line 5 is `quorum = 0`"
+        )
         self.assertNotIn("last_envelope", ended.faults)
 
     def test_an_output_that_is_full(self) -> None:
         with open("/dev/full", "w") as full:
             words = [sys.executable, support.ELECTION, "check"]
-            ended = subprocess.run(words, cwd=self.folder, env=support.environment(), stdout=full, stderr=subprocess.PIPE, text=True)
+            ended = subprocess.run(
+                words, cwd=self.folder, env=support.environment(), stdout=full, stderr=subprocess.PIPE, text=True
+            )
         self.assertEqual((ended.returncode, ended.stderr.count("\n")), (7, 1))
         self.assertIn("debvote-election: the output failed", ended.stderr)
 

@@ -24,7 +24,9 @@ class Count(support.ElectionTest):
     def test_an_option_that_has_won(self) -> None:
         self.write("ballots", WON)
         before = self.contents()
-        self.assert_counted(self.election("count"), self.sheet(), 0, "when the vote is over debvote-election close, then debvote-election publish\n")
+        self.assert_counted(
+            self.election("count"), self.sheet(), 0, "the vote is over debvote-election close, then debvote-election publish\n"
+        )
         self.assertEqual(self.contents(), before)
 
     def test_when_the_election_is_closed(self) -> None:
@@ -107,11 +109,14 @@ class Count(support.ElectionTest):
         self.write("ballots", WON)
         with open("/dev/full", "w") as full:
             words = [sys.executable, support.ELECTION, "count"]
-            ended = subprocess.run(words, cwd=self.folder, env=support.environment(), stdout=full, stderr=subprocess.PIPE, text=True)
+            ended = subprocess.run(
+                words, cwd=self.folder, env=support.environment(), stdout=full, stderr=subprocess.PIPE, text=True
+            )
         self.assertEqual((ended.returncode, ended.stderr.count("\n")), (7, 1))
         self.assertIn("debvote-election: the output failed", ended.stderr)
 
     def test_wrong_words(self) -> None:
         self.assertEqual(self.election("count", "--cast", "x").status, 2)
         self.assertEqual(self.election("count", "x").status, 2)
-        self.assertEqual(self.run_program(sys.executable, support.ELECTION, "count", b"--casting=\xff".decode(errors="surrogateescape")).status, 2)
+        ended = self.election("count", b"--casting=\xff".decode(errors="surrogateescape"))
+        self.assert_fault(ended, 2, "an argument is not UTF-8")

@@ -66,10 +66,13 @@ class Read(MembersTest):
 
     def test_quotation_marks(self) -> None:
         text = 'name,who,mail\nada,"Lovelace, Ada",a@x\n"ben","Ben ""the"" B", "b@x" \ncleo,Cleo "C" C,c@x\ndan,"",""\n'
-        self.assertEqual(
-            self.told(text),
-            [(2, "ada", "Lovelace, Ada", "a@x"), (3, "ben", 'Ben "the" B', "b@x"), (4, "cleo", 'Cleo "C" C', "c@x"), (5, "dan", "", "")],
-        )
+        wanted = [
+            (2, "ada", "Lovelace, Ada", "a@x"),
+            (3, "ben", 'Ben "the" B', "b@x"),
+            (4, "cleo", 'Cleo "C" C', "c@x"),
+            (5, "dan", "", ""),
+        ]
+        self.assertEqual(self.told(text), wanted)
 
     def test_line_feeds_within_quotation_marks_keep_the_numbers_of_lines(self) -> None:
         for feed in ("\n", "\r\n", "\r"):
@@ -80,7 +83,9 @@ class Read(MembersTest):
         self.assertEqual(self.told("name,who,mail\n ada ,\xa0Ada L\t, a@x \n"), [(2, "ada", "Ada L", "a@x")])
 
     def test_the_delimiter_is_that_of_the_head_line(self) -> None:
-        self.assertEqual(self.told("name;who;mail\nada;Lovelace, Ada, Countess;a@x\n"), [(2, "ada", "Lovelace, Ada, Countess", "a@x")])
+        self.assertEqual(
+            self.told("name;who;mail\nada;Lovelace, Ada, Countess;a@x\n"), [(2, "ada", "Lovelace, Ada, Countess", "a@x")]
+        )
 
     def test_many_members_take_no_time(self) -> None:
         text = "name,who,mail\n" + "".join(f',"Ann ""A"" Lee, no. {i % 7}",\n' for i in range(10_000))
@@ -101,7 +106,9 @@ class Refused(MembersTest):
         self.assert_refused(b"%PDF-1.7", "a PDF")
 
     def test_another_encoding(self) -> None:
-        self.assert_refused("name,who,mail\nzoe,Zoë,z@x\n".encode("latin-1"), "members.csv:2: ", "Latin-1", "zoe,Zoë,z@x", "UTF-8")
+        self.assert_refused(
+            "name,who,mail\nzoe,Zoë,z@x\n".encode("latin-1"), "members.csv:2: ", "Latin-1", "zoe,Zoë,z@x", "UTF-8"
+        )
         self.assert_refused("name,who,mail\nzoe,Zoë,z@x\n".encode("utf-16-le"), "mark is missing")
         self.assert_refused(codecs.BOM_UTF16_LE + "name,who,mail\n".encode("utf-16-le") + b"x", "UTF-16")
 
@@ -133,7 +140,8 @@ class Refused(MembersTest):
         self.assert_refused("name,who,mail,note\nada,Ada,a@x,\n,,,sum: 1\n", "members.csv:3: ", "neither a name nor who nor mail")
 
     def test_a_folder_and_no_file(self) -> None:
-        for file, part in ((self.file.parent, "it is a folder"), (self.file, "No such file"), (pathlib.Path("/dev/null"), "it is no file")):
+        device = pathlib.Path("/dev/null")
+        for file, part in ((self.file.parent, "it is a folder"), (self.file, "No such file"), (device, "it is no file")):
             with self.assertRaises(Fault) as caught:
                 members.members_in(file)
             self.assertEqual(caught.exception.status, Status.BAD_WORDS)
@@ -157,9 +165,12 @@ class Proposals(MembersTest):
 
     def test_accents_capitals_and_what_is_not_allowed(self) -> None:
         for who, name in {
-            "Zoë Müller": "zoe-muller", "ÅSA ÖSTERBERG": "asa-osterberg", "Łukasz Møller": "lukasz-moller", "Groß Weiß": "gross-weiss",
-            "O'Brien, Anna": "o-brien-anna", "José  Ñuñez-Peña": "jose-nunez-pena", "Đỗ Ánh": "do-anh", "J. R. Smith": "j.-r.-smith",
-            "İpek Işık": "ipek-isik", "Þór Æsir": "thor-aesir", "ﬁnn Ａｄａ": "finn-ada", "-x_y-": "x-y", "Zoe\u0308": "zoe", "3rd": "3rd",
+            "Zoë Müller": "zoe-muller", "ÅSA ÖSTERBERG": "asa-osterberg", "Łukasz Møller": "lukasz-moller",
+            "Groß Weiß": "gross-weiss",
+            "O'Brien, Anna": "o-brien-anna", "José  Ñuñez-Peña": "jose-nunez-pena", "Đỗ Ánh": "do-anh",
+            "J. R. Smith": "j.-r.-smith",
+            "İpek Işık": "ipek-isik", "Þór Æsir": "thor-aesir", "ﬁnn Ａｄａ": "finn-ada", "-x_y-": "x-y",
+            "Zoe\u0308": "zoe", "3rd": "3rd",
         }.items():  # fmt: skip
             self.assertEqual(self.names(f";{who};"), [name], who)
 
@@ -193,7 +204,7 @@ class Write(MembersTest):
 
     def test_it_keeps_the_encoding_and_its_mark(self) -> None:
         before, after = "name\twho\tmail\r\n\tZoë\t\r\n", "name\twho\tmail\r\nzoe\tZoë\t\r\n"
-        for mark, encoding in ((codecs.BOM_UTF8, "utf-8"), (codecs.BOM_UTF16_LE, "utf-16-le"), (codecs.BOM_UTF16_BE, "utf-16-be")):
+        for mark, encoding in members.MARKS.items():
             self.assertEqual(self.filled(mark + before.encode(encoding)), mark + after.encode(encoding))
 
     def test_a_row_that_ends_before_the_column(self) -> None:

@@ -25,8 +25,8 @@ class New(support.ElectionTest):
         self.assertEqual(self.read("spring/members.csv"), b"name,who,mail\n")
         poll = self.read("spring/poll.toml").decode()
         self.assertEqual(tomllib.loads(poll), {"title": "", "options": [], "ratios": [], "default": "", "roll": []})
-        for key in ["debvote-election roll", "debvote-election check", "begins with [", "# quorum = 1", '# wording = "more_than"']:
-            self.assertIn(key, poll)
+        for words in ("debvote-election roll", "debvote-election check", "begins with [", "\n# quorum = 1\n", "\n# wording = "):
+            self.assertIn(words, poll)
         self.assertLess(max(map(len, poll.splitlines())), 111)
 
     def test_its_journal_has_the_act(self) -> None:
@@ -39,12 +39,15 @@ class New(support.ElectionTest):
         self.election("new", "spring")
         ended = self.election("--folder", "spring", "check")
         said = [
-            "poll: key quorum: it is missing", "poll: title: it is empty", "poll: number of options: the default alone, 2 are the least",
+            "poll: key quorum: it is missing", "poll: title: it is empty",
+            "poll: number of options: the default alone, 2 are the least",
             "poll: name of option 1: it is empty", "poll: size of roll: no name, 1 is the least",
         ]  # fmt: skip
         self.assertEqual(ended.output.splitlines(), said)
         steps = "fill in or put right with an editor: title, options, default, quorum"
-        self.assert_fault(ended, 3, "spring/poll.toml: ", steps, "write the members into members.csv", "debvote-election --folder spring roll")
+        self.assert_fault(
+            ended, 3, "spring/poll.toml: ", steps, "write the members into members.csv", "debvote-election --folder spring roll"
+        )
 
     def test_filled_in_as_its_comments_say_it_is_in_order(self) -> None:
         self.election("new", "spring")
@@ -114,7 +117,9 @@ class New(support.ElectionTest):
     def test_an_output_that_is_full(self) -> None:
         with open("/dev/full", "w") as full:
             words = [sys.executable, support.ELECTION, "new", "spring"]
-            ended = subprocess.run(words, cwd=self.folder, env=support.environment(), stdout=full, stderr=subprocess.PIPE, text=True)
+            ended = subprocess.run(
+                words, cwd=self.folder, env=support.environment(), stdout=full, stderr=subprocess.PIPE, text=True
+            )
         self.assertEqual((ended.returncode, ended.stderr.count("\n")), (7, 1))
         self.assertIn("the output failed; what was told is done", ended.stderr)
         self.assertEqual(sorted(os.listdir(self.folder / "spring")), [".lock", "journal", "members.csv", "poll.toml"])

@@ -112,14 +112,14 @@ class WithKey(unittest.TestCase):
 
     def test_what_is_no_toml(self) -> None:
         self.assert_refused(b"title = \n", "line 1", "debvote-election check")
-        self.assert_refused(b"roll = [\n", "it can't be read")
+        self.assert_refused(b"roll = [\n", "it can't be read as TOML 1.0: ")
         self.assert_refused(b"title = \xe9\n", "line 1 is not in UTF-8")
         self.assert_refused(b"a = 1\r\nb = 'x\xff'\r\n", "line 2 is not in UTF-8")
 
     def test_what_python_does_not_read_as_other_toml(self) -> None:
         self.assert_refused(b"a = " + b"[" * 5000 + b"]" * 5000 + b"\n", "too deep")
-        self.assert_refused(b"a = " + b"1" * 5000 + b"\n", "it can't be read")
-        self.assert_refused(b"a = 2025-02-30\n", "it can't be read")
+        self.assert_refused(b"a = " + b"1" * 5000 + b"\n", "it can't be read as TOML 1.0: ")
+        self.assert_refused(b"a = 2025-02-30\n", "it can't be read as TOML 1.0: ")
 
 
 class WithoutLastEnvelope(unittest.TestCase):

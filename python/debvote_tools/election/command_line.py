@@ -53,6 +53,7 @@ def main(beside: pathlib.Path, words: Sequence[str] | None = None) -> int:
     # a name that the terminal can't show is no reason to stop
     sys.stdout.reconfigure(errors="backslashreplace")
     asked = parser().parse_args(words)
+    signal.signal(signal.SIGINT, signal.default_int_handler)
     try:
         election = Election(pathlib.Path(getattr(asked, "folder", ".")), beside)
         status = asked.run(election, asked)

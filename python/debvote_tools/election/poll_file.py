@@ -69,7 +69,8 @@ def document(data: bytes) -> dict[str, object]:
 
 def unread(why: str) -> Fault:
     """The fault of a poll that can't be read."""
-    return Fault(f"poll.toml: it can't be read: {why}; put this right with an editor, then run: {CHECK}", Status.BAD_POLL)
+    words = f"poll.toml: it can't be read as TOML 1.0: {why}; put this right with an editor, then run: {CHECK}"
+    return Fault(words, Status.BAD_POLL)
 
 
 def text_of(data: bytes) -> str:

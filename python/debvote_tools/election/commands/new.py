@@ -6,8 +6,9 @@ import pathlib
 import shlex
 
 from debvote_tools.election.folder import Election
+from debvote_tools.election.telling import tell
 from debvote_tools.faults import Fault, Status
-from debvote_tools.files import locked, write_whole
+from debvote_tools.files import locked, uninterrupted, write_whole
 
 HELP = "Make the folder of an election, with a poll and a list of members to fill in"
 
@@ -62,18 +63,28 @@ def options(parser: argparse.ArgumentParser) -> None:
 def run(election: Election, asked: argparse.Namespace) -> int:
     if hasattr(asked, "folder"):
         raise Fault("--folder: new makes the folder that stands behind it; leave --folder out", Status.BAD_WORDS)
-    folder = pathlib.Path(asked.target)
+    with uninterrupted():
+        say(made_in(pathlib.Path(asked.target), election.beside))
+    return Status.DECIDED
+
+
+def made_in(folder: pathlib.Path, beside: pathlib.Path | None) -> Election:
+    """Makes the election, or nothing."""
     is_made = make(folder)
-    made = Election(folder, election.beside)
+    made = Election(folder, beside)
     try:
         fill(made)
     except BaseException:
         take_away(made, is_made)
         raise
-    print(f"Made the folder {folder} with {made.poll.name} and {made.members.name}.")
+    return made
+
+
+def say(made: Election) -> None:
+    """Says what was made, and what comes next."""
+    tell(f"Made the folder {made.folder} with {made.poll.name} and {made.members.name}.")
     steps = f"write the members into {made.members.name} with a spreadsheet, fill in {made.poll.name} with an editor"
-    print(f"Next: cd {shlex.quote(str(folder))}, {steps}, then run: debvote-election roll")
-    return Status.DECIDED
+    tell(f"Next: cd {shlex.quote(str(made.folder))}, {steps}, then run: debvote-election roll")
 
 
 def make(folder: pathlib.Path) -> bool:

@@ -31,6 +31,7 @@ def run(election: Election, asked: argparse.Namespace) -> int:
     target = pathlib.Path(asked.target) if asked.target else election.result
     with election.reading() as files:
         demand_free(election, asked, target)
+        demand_ballots(election, files, asked)
         if asked.casting is not None:
             demand_option(election, asked.casting)
         status = ended([program(election), *words(election, files, asked), str(target)])
@@ -80,6 +81,13 @@ def demand_free(election: Election, asked: argparse.Namespace, target: pathlib.P
     again = command(election, "publish", *casting_words(asked.casting), *even_so, str(free))
     words = f"it is there already, and stays as it is; publish into another folder: {again}"
     raise Fault(f"{target}: {words}", Status.BAD_WORDS)
+
+
+def demand_ballots(election: Election, files: Files, asked: argparse.Namespace) -> None:
+    """Stops where there is no ballot file, of which debvote-publish could say no more than that it is not there."""
+    if files.ballots is None and not asked.even_so:
+        cure = f"add them with {command(election, 'add', 'FILE')}, or publish without any with --even-so"
+        raise Fault(f"{election.ballots}: there are no ballots; {cure}", Status.DOUBT)
 
 
 def free_name(target: pathlib.Path) -> pathlib.Path:

@@ -10,8 +10,9 @@ from debvote_tools.election import poll_file
 from debvote_tools.election.asking import command, empty_sheet, explained, quorum_words
 from debvote_tools.election.folder import Election, Files, difference
 from debvote_tools.election.members import AGAIN, Member, Members, doubles, doubt, members_in, plain, proposals, shown
+from debvote_tools.election.telling import count_of, tell
 from debvote_tools.faults import Fault, Status
-from debvote_tools.files import write_whole
+from debvote_tools.files import uninterrupted, write_whole
 
 HELP = "Write the roll of the poll from the list of members"
 
@@ -33,8 +34,15 @@ def run(election: Election, asked: argparse.Namespace) -> int:
         demand_allowed(election, members, poll)
         tell_alike(members, "who", lambda member: " ".join(plain(member.who).split()))
         tell_alike(members, "mail", lambda member: plain(member.mail))
-        write(election, files, poll)
-        return say(election, len(members.members))
+        demand_same_call(election, poll)
+        with uninterrupted():
+            write(election, files, poll)
+            tell(f"The roll of {election.poll} has {count_of(len(members.members), 'elector')}.")
+        sheet = empty_sheet(election)
+    if sheet is not None:
+        tell(quorum_words(sheet))
+    tell(f"Next: {command(election, 'check')}")
+    return Status.DECIDED
 
 
 # ---------------------------------------------------------------- names
@@ -43,12 +51,13 @@ def propose(election: Election, members: Members) -> None:
     names = proposals(members.members)
     without = [member.line for member in members.members if not member.name and member.line not in names]
     if names:
-        election.keep_copy(members.file)
-        write_whole(members.file.resolve(), members.with_names(names))
-        tell_proposals(members, names)
+        with uninterrupted():
+            election.keep_copy(members.file)
+            write_whole(members.file.resolve(), members.with_names(names))
+            tell_proposals(members, names)
     if without:
-        count = "1 member" if len(without) == 1 else f"{len(without)} members"
-        words = f"no name can be made for {count} ({lines_of(without)}) from who or mail; write one into the column name"
+        who = f"{count_of(len(without), 'member')} ({lines_of(without)})"
+        words = f"no name can be made for {who} from who or mail; write one into the column name"
     else:
         words = "names were proposed where there were none; open the file anew, look at its column name, and change what you want"
     raise doubt(members.file, f"{words}, {AGAIN}; the roll of the poll is as it was")
@@ -56,19 +65,19 @@ def propose(election: Election, members: Members) -> None:
 
 def tell_proposals(members: Members, names: dict[int, str]) -> None:
     """Says which names were written into the file; of many the first."""
-    print(f"Names that {members.file} has now:")
+    tell(f"Names that {members.file} has now:")
     told = [member for member in members.members if member.line in names]
     for member in told[:SHOWN]:
-        print(f"  {names[member.line]}: {shown(member.who or member.mail)} (line {member.line})")
+        tell(f"  {names[member.line]}: {shown(member.who or member.mail)} (line {member.line})")
     if len(told) > SHOWN:
-        print(f"  and {len(told) - SHOWN} more")
+        tell(f"  and {len(told) - SHOWN} more")
 
 
 def stop_at_doubles(members: Members) -> None:
     """Stops where two members have one name."""
     found = doubles(members.members, lambda member: member.name)
     for group in found:
-        print(f"{members.file}: {lines_of([member.line for member in group])} have the same name: {shown(group[0].name)}")
+        tell(f"{members.file}: {lines_of([member.line for member in group])} have the same name: {shown(group[0].name)}")
     if found:
         words = "an elector's name stands there more than once; give each elector another one, or take a line out"
         raise doubt(members.file, f"{words}, {AGAIN}; the roll of the poll is as it was")
@@ -84,7 +93,7 @@ def demand_allowed(election: Election, members: Members, poll: bytes) -> None:
         raise Fault(f"{election.poll}: {words}, {AGAIN}", Status.BAD_POLL)
     names = [found for found in map(re.compile(r"poll: voter at position (\d+): (.*)").fullmatch, findings) if found]
     for found in names:
-        print(f"{members.file}:{members.members[int(found[1])].line}: {found[2]}")
+        tell(f"{members.file}:{members.members[int(found[1])].line}: {found[2]}")
     if names:
         words = "a roll does not allow these names: each has 1 to 32 small letters, digits, points and hyphens; put them right"
         raise doubt(members.file, f"{words}, {AGAIN}; the roll of the poll is as it was")
@@ -100,32 +109,26 @@ def tell_alike(members: Members, column: str, key: Callable[[Member], str]) -> N
         lines = lines_of([member.line for member in group])
         texts = " and ".join(dict.fromkeys(f"`{shown(getattr(member, column))}`" for member in group))
         names = ", ".join(member.name for member in group)
-        print(f"{members.file}: {lines} have the same {column}: {texts}. Is this one person? They are on the roll as: {names}")
+        tell(f"{members.file}: {lines} have the same {column}: {texts}. Is this one person? They are on the roll as: {names}")
 
 
 # ---------------------------------------------------------------- the poll
-def write(election: Election, files: Files, poll: bytes) -> None:
-    """Writes the poll with the new roll; after the call it can't be another one."""
-    if poll == files.poll:
+def demand_same_call(election: Election, poll: bytes) -> None:
+    """Stops where the call for votes was made with another roll."""
+    if not election.call.exists() or not election.called_poll.exists():
         return
-    if election.call.exists() and election.called_poll.exists():
-        called = poll_file.without_last_envelope(election.called_poll.read_bytes())
-        changes = difference(called, poll_file.without_last_envelope(poll))
-        words = f"the call for votes was made with another roll: {shown(changes)}"
+    called, now = map(poll_file.without_last_envelope, (election.called_poll.read_bytes(), poll))
+    if called != now:
+        words = f"the call for votes was made with another roll: {shown(difference(called, now))}"
         cure = f"to call anew with this one, first remove the folder {election.call}"
         raise Fault(f"{election.poll}: {words}; {cure}", Status.DOUBT)
-    election.keep_copy(election.poll)
-    election.act("roll", files, poll=poll)
 
 
-def say(election: Election, count: int) -> int:
-    """Says how many electors there are, and where the poll is in order what the quorum is."""
-    print(f"The roll of {election.poll} has {'1 elector' if count == 1 else f'{count} electors'}.")
-    sheet = empty_sheet(election)
-    if sheet is not None:
-        print(quorum_words(sheet))
-    print(f"Next: {command(election, 'check')}")
-    return Status.DECIDED
+def write(election: Election, files: Files, poll: bytes) -> None:
+    """Writes the poll with the new roll, where it is another one."""
+    if poll != files.poll:
+        election.keep_copy(election.poll)
+        election.act("roll", files, poll=poll)
 
 
 def list_of(names: list[str]) -> str:

@@ -2,6 +2,7 @@
 
 import argparse
 import dataclasses
+import itertools
 import re
 import textwrap
 
@@ -10,6 +11,7 @@ from debvote_tools.election import poll_file
 from debvote_tools.election.asking import command, files_of, quorum_words, refused
 from debvote_tools.election.folder import Election, Files
 from debvote_tools.election.members import shown
+from debvote_tools.election.telling import time_of
 from debvote_tools.faults import Status
 from debvote_tools.journal import Entry
 from debvote_tools.program import Finding, Findings, findings_in, standing_in
@@ -46,51 +48,71 @@ def options(parser: argparse.ArgumentParser) -> None:
 
 def run(election: Election, asked: argparse.Namespace) -> int:
     with election.reading() as files:
-        entries = journal.done(election.entries())
-        tell_edited(election, files, entries)
+        acts = acts_of(election, files)
+        tell_edited(election, files, acts)
         state = state_of(election, files)
     print(f"Title: {state.sheet.facts['Poll']}")
-    tell_stage(election, entries, state.sheet)
+    tell_stage(election, acts, state.sheet)
     print(quorum_words(state.sheet))
     tell_lines(state)
     tell_electors(state)
     tell_refused(state)
-    print(f"Next: {what_next(election, state)}")
+    print(f"Next: {what_next(election, acts, state)}")
     return Status.DECIDED
+
+
+def acts_of(election: Election, files: Files) -> list[Entry]:
+    """The acts that were done. One that was cut off, and that no later act has noted as such yet, is told."""
+    acts = journal.done(election.entries())
+    if not journal.is_cut_off(acts, files.sums):
+        return acts
+    print(f"Note: the last act ({acts[-1].act}, {time_of(acts[-1])}) was cut off, and is not done; run it again.")
+    return acts[:-1]
 
 
 def state_of(election: Election, files: Files) -> State:
     """Asks debvote."""
-    texts = []
-    for task in ("explain", "standing", "count"):
+    texts = {}
+    # of a refused poll `explain` says more than a fault, so it is not asked first
+    for task in ("standing", "explain", "count"):
         answer = election.debvote.ask(task, *files_of(election, files))
-        # a poll that is refused has findings too
-        if answer.faults or answer.status == Status.BAD_POLL:
+        if answer.faults:
             raise refused(election, answer)
-        texts.append(answer.text)
-    roll = poll_file.document(files.poll)["roll"]
-    lines = (files.ballots or b"").split(b"\n")
-    return State(findings_in(texts[0]), sheet_in(texts[2]), roll, standing_in(texts[1]), lines)
+        texts[task] = answer.text
+    return State(
+        findings=findings_in(texts["explain"]),
+        sheet=sheet_in(texts["count"]),
+        roll=poll_file.document(files.poll)["roll"],
+        standing=standing_in(texts["standing"]),
+        lines=(files.ballots or b"").split(b"\n"),
+    )
 
 
 # ---------------------------------------------------------------- how far it is
-def tell_edited(election: Election, files: Files, entries: list[Entry]) -> None:
-    """Says which files somebody has edited by hand. That is allowed, and is not to happen unseen."""
+def tell_edited(election: Election, files: Files, acts: list[Entry]) -> None:
+    """Says which files somebody has edited by hand. That is allowed, and is not to happen unseen.
+
+    Before the call the poll is there to be edited, and after it no command goes on with another poll; so of earlier edits those
+    of the ballots are told.
+    """
+    for before, found in itertools.pairwise(acts):
+        if found.act == journal.FOUND and found.sums.ballots != before.sums.ballots:
+            since = f"between {time_of(before)} ({before.act}) and {time_of(found)}"
+            print(f"Note: {election.ballots} was edited by hand {since}; what came is kept in {election.received}.")
     for file in election.edited(files):
-        when = f"{entries[-1].act}, {time_of(entries[-1])}"
         kept = election.backup if file == election.poll else election.received
-        print(f"Note: {file} was edited by hand after the last act of debvote-election ({when}).")
+        print(f"Note: {file} was edited by hand after the last act of debvote-election ({acts[-1].act}, {time_of(acts[-1])}).")
         print(f"  Where you did not do this, find out who did; what debvote-election had is kept in {kept}.")
 
 
-def tell_stage(election: Election, entries: list[Entry], sheet: Sheet) -> None:
+def tell_stage(election: Election, acts: list[Entry], sheet: Sheet) -> None:
     """Says whether the election is called and closed."""
-    call = journal.last(entries, "call")
+    call = journal.last(acts, "call")
     if election.call.exists():
         print(f"Call for votes: made{f' at {time_of(call)}' if call else ''}")
     else:
         print("Call for votes: not made yet")
-    close = journal.last(entries, "close")
+    close = journal.last(acts, "close")
     last = sheet.facts.get("Last envelope")
     if close is not None:
         print(f"Closed: at {time_of(close)}" + (f"; the last envelope in time is {last}" if last else ""))
@@ -100,17 +122,12 @@ def tell_stage(election: Election, entries: list[Entry], sheet: Sheet) -> None:
         print("Closed: not yet")
 
 
-def time_of(entry: Entry) -> str:
-    """The time of an act, as a person writes it."""
-    return entry.time.replace("T", " ").replace("Z", " UTC")
-
-
-def what_next(election: Election, state: State) -> str:
+def what_next(election: Election, acts: list[Entry], state: State) -> str:
     """The command that the election needs next."""
     add = f"{command(election, 'add', 'FILE')}, or {command(election, 'desk')}"
     if not election.call.exists() and not state.findings.totals.lines:
         return command(election, "call")
-    if election.closed() is None:
+    if journal.last(acts, "close") is None:
         return f"add the ballots as they come: {add}; when the vote is over: {command(election, 'close')}"
     return f"{command(election, 'count')}, then {command(election, 'publish')}"
 

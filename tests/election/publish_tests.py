@@ -1,0 +1,242 @@
+"""`publish`: debvote-publish on the files of the election."""
+
+import fcntl
+import os
+import pathlib
+import shlex
+import shutil
+import signal
+import subprocess
+import sys
+import time
+
+import support
+
+WON = "ada 1,2,4,3\nben 2,1,4,3\ncleo 1,2,4,3\n"
+TIE = "ada 1,2,4,3\nben 2,1,4,3\n"
+
+# stands for debvote-publish: notes its words, and does what it is told to by its environment
+STUB = r"""#!/bin/sh
+printf '%s\n' "$@" > "$NOTED"
+eval "$THEN"
+"""
+
+
+class PublishTest(support.ElectionTest):
+    def setUp(self) -> None:
+        super().setUp()
+        self.write("ballots", WON)
+        self.close()
+
+    def close(self) -> None:
+        """Notes a close, as the command does."""
+        ballots = self.read("ballots") if (self.folder / "ballots").exists() else None
+        sums = [support_sum(self.read("poll.toml")), "-" if ballots is None else support_sum(ballots)]
+        self.write("journal", "\t".join(["2026-11-25T18:00:00Z", "close", "-", *sums]) + "\n")
+
+    def assert_published(self, folder: pathlib.Path) -> None:
+        """The folder has the files of the election, its page and the sheet."""
+        self.assertTrue((folder / "index.html").exists())
+        self.assertEqual((folder / "poll.toml").read_bytes(), self.read("poll.toml"))
+        self.assertIn(b"Voters: ", b"".join(file.read_bytes() for file in folder.glob("sheet*")))
+
+
+def support_sum(data: bytes) -> str:
+    return subprocess.run(["sha256sum"], input=data, capture_output=True).stdout.decode().split()[0]
+
+
+class Publish(PublishTest):
+    def test_an_option_that_has_won(self) -> None:
+        before = self.contents()
+        ended = self.election("publish")
+        said = "Winner: 1 At the lake\nverified\nNext: put the folder result on the web site as it is\n"
+        self.assertEqual((ended.output, ended.faults, ended.status), (said, "", 0))
+        self.assert_published(self.folder / "result")
+        kept = {name: data for name, data in self.contents().items() if not name.startswith("result/")}
+        self.assertEqual(kept, before)
+
+    def test_a_result_that_is_there_stays_and_a_free_name_is_said(self) -> None:
+        self.election("publish")
+        before = self.contents()
+        self.assert_fault(
+            self.election("publish"), 2, "result: it is there already, and stays", ": debvote-election publish result-2\n"
+        )
+        (self.folder / "result-2").write_text("")
+        ended = self.election("publish", "--casting", "At the lake", "--even-so")
+        self.assert_fault(ended, 2, ": debvote-election publish --casting 'At the lake' --even-so result-3\n")
+        (self.folder / "result-2").unlink()
+        self.assertEqual(self.contents(), before)
+        ended = self.election("publish", "result-2")
+        self.assertEqual(
+            (ended.status, ended.output.splitlines()[-1]), (0, "Next: put the folder result-2 on the web site as it is")
+        )
+        self.assert_published(self.folder / "result-2")
+
+    def test_the_command_that_is_said_can_be_typed(self) -> None:
+        (self.scratch / "our result").mkdir()
+        (self.scratch / "our result" / "x").touch()
+        ended = self.election("--folder", "election", "publish", "our result", cwd=self.scratch)
+        self.assert_fault(ended, 2, "our result: it is there already")
+        typed = shlex.split(ended.faults.partition("publish into another folder: ")[2])
+        self.assertEqual(typed, ["debvote-election", "--folder", "election", "publish", "our result-2"])
+        self.assertEqual(self.election(*typed[1:], cwd=self.scratch).status, 0)
+        self.assert_published(self.scratch / "our result-2")
+
+    def test_an_empty_folder_is_taken(self) -> None:
+        (self.folder / "result").mkdir()
+        self.assertEqual(self.election("publish").status, 0)
+        self.assert_published(self.folder / "result")
+
+    def test_a_folder_elsewhere_and_one_for_the_election(self) -> None:
+        ended = self.election("--folder", "election", "publish", cwd=self.scratch)
+        self.assertEqual((ended.faults, ended.status), ("", 0))
+        self.assert_published(self.folder / "result")
+        self.assertIn("Next: put the folder election/result on", ended.output)
+        self.assertEqual(self.election("publish", "../web").status, 0)
+        self.assert_published(self.scratch / "web")
+
+    def test_a_tie_and_its_casting_vote(self) -> None:
+        self.write("ballots", TIE)
+        self.close()
+        ended = self.election("publish")
+        self.assertEqual((ended.faults, ended.status), ("", 1))
+        self.assertIn(
+            "Tie: 1 2\nverified\nNext: it is a tie: put the folder result on the web site, ask for the casting vote", ended.output
+        )
+        self.assertTrue(ended.output.endswith(": debvote-election publish --casting=NAME result-2\n"))
+        ended = self.election("publish", "--casting", "In the town hall", "result-2")
+        self.assertEqual((ended.output.splitlines()[0], ended.status), ("Winner: 2 In the town hall by casting vote", 0))
+
+    def test_a_casting_vote_that_is_not_left(self) -> None:
+        self.write("ballots", TIE)
+        self.close()
+        ended = self.election("publish", "--casting", "Further discussion")
+        self.assertEqual(ended.status, 8)
+        self.assert_published(self.folder / "result")
+        self.assertIn("Next: it is a tie: ", ended.output)
+
+    def test_a_name_that_is_no_option(self) -> None:
+        before = self.contents()
+        ended = self.election("publish", "--casting", "the lake")
+        self.assert_fault(ended, 8, "--casting='the lake': no option has this name", "'At the lake', 'In the town hall'")
+        self.assertEqual((ended.output, self.contents()), ("", before))
+
+    def test_a_name_that_begins_with_a_hyphen(self) -> None:
+        self.write("poll.toml", support.POLL.replace("In the town hall", "--even-so"))
+        self.write("ballots", TIE)
+        self.close()
+        ended = self.election("publish", "--casting=--even-so")
+        self.assertEqual((ended.output.splitlines()[0], ended.status), ("Winner: 2 --even-so by casting vote", 0))
+
+    def test_a_poll_that_is_refused_makes_nothing(self) -> None:
+        self.write("poll.toml", support.POLL.replace("quorum = 1", "quorum = 11"))
+        before = self.contents()
+        ended = self.election("publish")
+        self.assertEqual((ended.status, ended.output), (3, ""))
+        self.assertIn("poll refused: quorum", ended.faults)
+        self.assertEqual(self.contents(), before)
+
+    def test_a_poll_that_was_changed_after_the_call_makes_nothing(self) -> None:
+        (self.folder / "call").mkdir()
+        (self.folder / "backup").mkdir()
+        self.write("backup/poll.toml.called", support.POLL.replace("quorum = 1", "quorum = 3"))
+        self.assert_fault(self.election("publish"), 9, "poll.toml: it was changed after the call", "line 5 is `quorum = 1`")
+        self.assertFalse((self.folder / "result").exists())
+
+    def test_a_place_where_it_can_not_be_made(self) -> None:
+        before = self.contents()
+        ended = self.election("publish", "no/result")
+        self.assertEqual((ended.status, ended.output), (7, ""))
+        self.assertIn("no", ended.faults)
+        self.assertEqual(self.contents(), before)
+
+
+class Words(PublishTest):
+    """What debvote-publish is given, and what becomes of what it answers."""
+
+    def setUp(self) -> None:
+        super().setUp()
+        # a checkout: the program, its Python, and debvote-publish beside it
+        self.checkout = self.scratch / "checkout"
+        (self.checkout / "election").mkdir(parents=True)
+        (self.checkout / "publish").mkdir()
+        shutil.copy(support.ELECTION, self.checkout / "election" / "debvote-election")
+        (self.checkout / "python").symlink_to(support.ROOT / "python")
+        self.stub(self.checkout / "publish" / "debvote-publish")
+        self.noted = self.scratch / "noted"
+
+    def stub(self, file: pathlib.Path) -> None:
+        file.write_text(STUB)
+        file.chmod(0o755)
+
+    def asked(self, *words: str, then: str = "exit 0", path: str | None = None, **how: object) -> tuple[support.Ended, list[str]]:
+        """How the run ended, and the words that debvote-publish was given."""
+        env = {**support.environment(), "NOTED": str(self.noted), "THEN": then}
+        env["PATH"] = env["PATH"] if path is None else path
+        ended = self.run_program(sys.executable, self.checkout / "election" / "debvote-election", *words, env=env, **how)
+        return ended, self.noted.read_text().splitlines() if self.noted.exists() else []
+
+    def test_the_words(self) -> None:
+        files = ["--poll", "poll.toml", "--ballots", "ballots"]
+        self.assertEqual(self.asked("publish")[1], [*files, "result"])
+        self.assertEqual(self.asked("publish", "--even-so", "x y")[1], [*files, "--even-so", "x y"])
+        self.assertEqual(self.asked("publish", "--casting", "At the lake")[1], [*files, "--casting", "At the lake", "result"])
+        where = ["--poll", "election/poll.toml", "--ballots", "election/ballots", "election/result"]
+        self.assertEqual(self.asked("--folder", "election", "publish", cwd=self.scratch)[1], where)
+
+    def test_no_ballots(self) -> None:
+        (self.folder / "ballots").unlink()
+        (self.folder / "journal").unlink()
+        ended, words = self.asked("publish")
+        self.assert_fault(
+            ended, 9, "ballots: there are no ballots; add them with debvote-election add FILE, or publish without any with"
+        )
+        self.assertEqual(words, [])
+        words = ["--poll", "poll.toml", "--ballots", "/dev/null", "--even-so", "result"]
+        self.assertEqual(self.asked("publish", "--even-so")[1], words)
+
+    def test_its_lines_and_its_status_are_passed_on(self) -> None:
+        for status in (2, 4, 7, 9, 127):
+            ended, _ = self.asked("publish", then=f"echo out; echo fault >&2; exit {status}")
+            self.assertEqual((ended.output, ended.faults, ended.status), ("out\n", "fault\n", status))
+        self.assertEqual(self.asked("publish", then="kill -9 $$")[0].status, 137)
+
+    def test_it_holds_the_lock_as_a_reader(self) -> None:
+        lock = shlex.quote(str(self.folder / ".lock"))
+        shared, alone = (f"flock -n {kind} {lock} true && echo {kind}" for kind in ("-s", "-x"))
+        ended, _ = self.asked("publish", then=f"{shared}; {alone}; exit 0")
+        self.assertEqual(ended.output, "-s\n")
+
+    def test_where_it_is_found(self) -> None:
+        place = self.checkout / "publish" / "debvote-publish"
+        beside = self.checkout / "election" / "debvote-publish"
+        self.stub(beside)
+        place.write_text(STUB + "echo of the checkout\n")
+        beside.write_text(STUB + "echo beside\n")
+        self.assertEqual(self.asked("publish", then=":")[0].output, "of the checkout\n")
+        place.unlink()
+        self.assertEqual(self.asked("publish", then=":")[0].output, "beside\n")
+        beside.unlink()
+        (self.scratch / "bin").mkdir()
+        self.stub(self.scratch / "bin" / "debvote-publish")
+        (self.scratch / "bin" / "debvote-publish").write_text(STUB + "echo in the path\n")
+        path = f"{self.scratch / 'bin'}:{support.environment()['PATH']}"
+        self.assertEqual(self.asked("publish", then=":", path=path)[0].output, "in the path\n")
+        ended, _ = self.asked("publish", path=f"{support.PROGRAM.parent}:/nowhere")
+        self.assert_fault(ended, 127, "debvote-publish: the program is neither beside this one nor in the PATH; install")
+
+    def test_an_interrupt_ends_both(self) -> None:
+        then = "trap 'sleep 0.5; echo taken away; exit 130' INT; touch began; while :; do sleep 0.05; done"
+        env = {**support.environment(), "NOTED": str(self.noted), "THEN": then}
+        words = [sys.executable, self.checkout / "election" / "debvote-election", "publish"]
+        how = {"cwd": self.folder, "env": env, "stdout": subprocess.PIPE, "stderr": subprocess.PIPE, "text": True}
+        running = subprocess.Popen(words, start_new_session=True, **how)
+        until = time.monotonic() + 10
+        while not (self.folder / "began").exists() and time.monotonic() < until:
+            time.sleep(0.01)
+        os.killpg(running.pid, signal.SIGINT)
+        output, faults = running.communicate(timeout=30)
+        self.assertEqual((output, running.returncode), ("taken away\n", 130))
+        self.assertEqual(faults, "debvote-election: interrupted; what was told is done, and nothing else\n")
+        with open(self.folder / ".lock") as lock:
+            fcntl.flock(lock, fcntl.LOCK_EX | fcntl.LOCK_NB)
