@@ -98,6 +98,6 @@ def joined(entries: Iterable[str]) -> str:
 
 
 def command_block(what: str, command: str, output: str | None = None) -> str:
-    """What a command is for, the command, and what it answers where that is known."""
+    """What a command is for, the command, and what it answers where that is known; these two are plain text."""
     answer = "" if output is None else paragraph("It answers:") + f"\n<pre><code>{escape(output)}</code></pre>"
     return f"<p>{what}</p>\n<pre><code>{escape(command)}</code></pre>\n{answer}"

@@ -1,0 +1,69 @@
+"""The words with which debvote is called on the files of the folder that is made."""
+
+import dataclasses
+import pathlib
+import sys
+
+from debvote_tools.faults import Fault, Status
+from debvote_tools.program import Debvote
+
+FILES = ["--poll", "poll.toml", "--ballots", "ballots"]
+
+
+def casting_words(name: str | None) -> list[str]:
+    """The words of a casting vote. A name that begins with a hyphen would be read as another option."""
+    if name is None:
+        return []
+    return [f"--casting={name}"] if name.startswith("-") else ["--casting", name]
+
+
+@dataclasses.dataclass(frozen=True)
+class Calls:
+    """debvote in the folder, with the casting vote and the number of desks that were asked for."""
+
+    debvote: Debvote
+    casting: list[str]
+    desks: list[str]
+
+    def write(self, *words: str, also: tuple[int, ...] = ()) -> tuple[str, int]:
+        """What debvote writes for these words, and its exit status: 0, or one of these with a text.
+
+        Its fault lines go to standard error as they are.
+        """
+        answer = self.debvote.ask(*words)
+        print(answer.faults, end="", file=sys.stderr, flush=True)
+        if answer.status != Status.DECIDED and not (answer.text and answer.status in also):
+            raise Fault(None, answer.status)
+        return answer.text, answer.status
+
+    def version(self) -> str:
+        """The name of debvote with its version."""
+        return self.write("--version")[0].strip()
+
+    def count(self) -> tuple[str, int]:
+        """The sheet, and how the count ended."""
+        return self.write("count", *FILES, *self.desks, *self.casting, also=(Status.TIE, Status.CASTING_OUTSIDE))
+
+    def picture(self) -> str:
+        """The outcome as a graph."""
+        return self.write("picture", *FILES, *self.desks, *self.casting, also=(Status.TIE, Status.CASTING_OUTSIDE))[0]
+
+    def standing(self) -> str:
+        """The ballots that stand."""
+        return self.write("standing", *FILES)[0]
+
+    def verify(self) -> str:
+        """What `verify` says of the sheet in the folder; a sheet that differs is a fault."""
+        text, status = self.write("verify", *FILES, "--sheet", "sheet", *self.desks, also=(Status.DIFFERS,))
+        if status == Status.DIFFERS:
+            raise Fault(text.rstrip("\n"), status)
+        return text
+
+    def explain(self) -> str:
+        """What `explain` says of a poll in order and its ballots."""
+        return self.write("explain", *FILES, also=(Status.DIFFERS,))[0]
+
+
+def calls_in(folder: pathlib.Path, beside: pathlib.Path, casting: str | None, desks: int) -> Calls:
+    """The calls of debvote in this folder. `beside` is the folder of the program that asks."""
+    return Calls(Debvote(folder, beside), casting_words(casting), ["--desks", str(desks)])

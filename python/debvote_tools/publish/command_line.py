@@ -1,0 +1,57 @@
+"""The command line of debvote-publish."""
+
+import argparse
+import os
+import pathlib
+import signal
+import sys
+from collections.abc import Sequence
+
+from debvote_tools.faults import Fault, Status
+from debvote_tools.publish.folder import publish
+
+PROGRAM = "debvote-publish"
+
+
+def parser() -> argparse.ArgumentParser:
+    """The options of the program."""
+    found = argparse.ArgumentParser(
+        prog=PROGRAM, allow_abbrev=False, description="Makes the folder of an election for a web site, by debvote."
+    )
+    found.add_argument("--poll", metavar="FILE", required=True, help="The poll file, in TOML")
+    found.add_argument("--ballots", metavar="FILE", required=True, help="The ballot file, one ballot a line: name 1,2,3")
+    found.add_argument("--casting", metavar="NAME", help="The exact name of the option that the casting vote chooses in a tie")
+    desks = {"metavar": "K", "type": int, "choices": range(1, 9), "default": 1}
+    found.add_argument("--desks", **desks, help="How many desks enter the ballots, 1 to 8")
+    found.add_argument(
+        "--even-so", action="store_true", help="Publish where there are doubts about the files; the page then tells each of them"
+    )
+    found.add_argument("folder", metavar="FOLDER", help="The folder to make; one that is there must be empty")
+    return found
+
+
+def main(beside: pathlib.Path, words: Sequence[str] | None = None) -> int:
+    """Publishes, and returns the exit status. `beside` is the folder of the program."""
+    # where it is asked to end, it takes away what it has made
+    for number in (signal.SIGHUP, signal.SIGINT, signal.SIGTERM):
+        signal.signal(number, lambda number, _: sys.exit(128 + number))
+    asked = parser().parse_args(words)
+    try:
+        said, status = publish(asked, beside)
+    except Fault as fault:
+        return failed(fault.words, fault.status)
+    except OSError as error:
+        return failed(f"the folder can't be made: {error}", Status.BAD_OUTPUT)
+    try:
+        os.write(sys.stdout.fileno(), said.encode())
+    except (OSError, AttributeError):
+        # the folder is there
+        return failed("output failed", Status.BAD_OUTPUT)
+    return status
+
+
+def failed(words: str | None, status: int) -> int:
+    """Says why the run did not come to its end, unless that is told, and gives the exit status."""
+    if words is not None:
+        print(f"{PROGRAM}: {words}", file=sys.stderr)
+    return status

@@ -1,0 +1,200 @@
+"""What there is to doubt about an election: the traces that a slip of the hand leaves in its files.
+
+Of each file debvote is asked what it reads as, and what is refused in it; only the end of the ballot file and the journal of the
+election are looked at here.
+"""
+
+import dataclasses
+import os
+import pathlib
+import re
+import shlex
+import sys
+
+from debvote_tools import journal
+from debvote_tools.faults import Fault, Status
+from debvote_tools.journal import Sums
+from debvote_tools.program import Debvote, Findings, Totals, findings_in
+from debvote_tools.publish.calls import Calls
+
+EVEN_SO = "(or publish it as it is, with --even-so)"
+
+# a poll by which `explain` tells which lines have the shape of ballots: that is the same for all polls
+ANY_POLL = b"""title = "any"
+options = ["any"]
+ratios = [1]
+default = "none"
+quorum = 0
+roll = ["-"]
+"""
+
+# how many keys a poll must have
+REQUIRED_KEYS = 6
+
+
+@dataclasses.dataclass(frozen=True)
+class Doubt:
+    """A reason to stop: file, reason and cure for the one who publishes, and a sentence for the readers of the page."""
+
+    file: str
+    reason: str
+    cure: str
+    sentence: str
+
+    def line(self) -> str:
+        return f"{self.file}: {self.reason}; {self.cure}"
+
+
+def tell(lines: list[str]) -> None:
+    """Tells each line on standard error."""
+    for line in lines:
+        print(f"debvote-publish: {line}", file=sys.stderr)
+
+
+def stop(found: list[Doubt]) -> Fault:
+    """The fault that ends the run at these doubts, which are told."""
+    tell([f"{doubt.line()} {EVEN_SO}" for doubt in found])
+    return Fault(None, Status.DOUBT)
+
+
+def found_in(calls: Calls, poll: str, ballots: str) -> list[Doubt]:
+    """All doubts about a poll in order and its ballots. The files lie in the folder, and are called as they were given."""
+    findings = findings_in(calls.explain())
+    return [
+        *misplaced(calls.debvote, poll, ballots),
+        *about_ballots(findings, poll, ballots),
+        *unended(calls.debvote.folder / "ballots", ballots),
+        *unread_keys(findings, poll),
+        *open_election(calls.debvote.folder, poll),
+    ]
+
+
+# ---------------------------------------------------------------- a file in the place of the other
+def misplaced(debvote: Debvote, poll: str, ballots: str) -> list[Doubt]:
+    """That the poll reads as ballots, and that the ballots read as a poll."""
+    has_no_poll, has_no_ballots = reads_as_ballots(debvote, "poll.toml"), reads_as_poll(debvote, "ballots")
+    swap = f"the two are swapped: give {shlex.join(['--poll', ballots, '--ballots', poll])}"
+    is_swapped = has_no_poll and has_no_ballots
+    found = []
+    if has_no_poll:
+        cure = swap if is_swapped else "give the poll file with --poll"
+        sentence = "The file that was given as the poll reads as ballots."
+        found.append(Doubt(poll, "it is given as the poll, and reads as ballots", cure, sentence))
+    if has_no_ballots:
+        cure = swap if is_swapped else "give the ballot file with --ballots"
+        sentence = "The file that was given as the ballots reads as a poll: the ballots themselves may be elsewhere."
+        found.append(Doubt(ballots, "it is given as the ballots, and reads as a poll", cure, sentence))
+    return found
+
+
+def reads_as_poll(debvote: Debvote, file: str) -> bool:
+    """Whether debvote reads a file as TOML that has a key of a poll, be the poll in order or not."""
+    lines = debvote.ask("explain", "--poll", file).text.splitlines()
+    is_toml = bool(lines) and re.match(r"poll:\d+:\d+: ", lines[0]) is None
+    missing = [line for line in lines if re.fullmatch(r"poll: key \w+: it is missing", line)]
+    return is_toml and len(missing) < REQUIRED_KEYS
+
+
+def reads_as_ballots(debvote: Debvote, file: str) -> bool:
+    """Whether more than half of the lines of a file have the shape of ballots, a carriage return at their end aside."""
+    answer = debvote.ask("explain", "--poll", "/dev/stdin", "--ballots", file, given=ANY_POLL)
+    if not answer.text:
+        return False
+    findings = findings_in(answer.text)
+    others = [line for line in findings.refused if line.word == "bad shape" and not line.hint.endswith("carriage return")]
+    return 2 * len(others) < findings.totals.lines
+
+
+# ---------------------------------------------------------------- the lines of the ballot file
+def about_ballots(findings: Findings, poll: str, ballots: str) -> list[Doubt]:
+    """What `explain` says of the ballots that is no election as one expects it."""
+    totals = findings.totals
+    found = []
+    if totals.voters == 0:
+        found.append(nobody(totals, poll, ballots))
+    if 2 * totals.refused > totals.lines:
+        reason = f"more than half of its lines are refused, {totals.refused} of {totals.lines}"
+        sentence = f"More than half of the lines of the ballot file are refused: {totals.refused} of {totals.lines}."
+        found.append(Doubt(ballots, reason, ask_why(poll, ballots), sentence))
+    if findings.is_windows:
+        unix = f"{ballots}.unix"
+        found.append(
+            Doubt(
+                ballots,
+                "all refused lines end with a carriage return, as those of a file from Windows do",
+                f"take it out, and give the file that this makes: tr -d '\\r' < {shlex.quote(ballots)} > {shlex.quote(unix)}",
+                "All refused lines end with a carriage return, as those of a file from Windows do: they may be ballots that were "
+                "meant to count.",
+            )
+        )
+    return found
+
+
+def nobody(totals: Totals, poll: str, ballots: str) -> Doubt:
+    """That no elector has a ballot that stands."""
+    reason = "no elector has a ballot that stands"
+    sentence = "No elector has a ballot that stands: nobody's vote has decided this."
+    if totals.lines == 0:
+        return Doubt(ballots, f"it is empty, so {reason}", "give the file that has the ballots", sentence)
+    return Doubt(ballots, reason, ask_why(poll, ballots), sentence)
+
+
+def ask_why(poll: str, ballots: str) -> str:
+    """The command that says why lines are refused."""
+    return f"ask why: {shlex.join(['debvote', 'explain', '--poll', poll, '--ballots', ballots])}"
+
+
+def unended(file: pathlib.Path, ballots: str) -> list[Doubt]:
+    """That the last line of the ballots has no line feed."""
+    data = file.read_bytes()
+    if not data or data.endswith(b"\n"):
+        return []
+    return [
+        Doubt(
+            ballots,
+            "its last line has no line feed, as in a file that was cut off",
+            "look whether its end is missing; where it is whole, end the last line with the Enter key in an editor",
+            "The last line of the ballot file has no line feed, as in a file that was cut off: ballots may be missing behind it.",
+        )
+    ]
+
+
+# ---------------------------------------------------------------- the poll and its election
+def unread_keys(findings: Findings, poll: str) -> list[Doubt]:
+    """Each key of the poll that is not read."""
+    found = []
+    for words in findings.unread:
+        parts = re.fullmatch(r"(key .*) is not read(?:; (.*))?", words)
+        if parts is None:
+            raise Fault("what this debvote explains has another format", Status.BAD_SHEET)
+        reason, remark = parts.groups("")
+        advice = f"{remark}{' ' if remark.endswith('?') else ', so '}" if remark else ""
+        said = f" ({remark})" if remark else ""
+        sentence = f"The {reason} of the poll file is not read{said}: what it says has not counted."
+        found.append(Doubt(poll, f"{reason} is not read", f"{advice}put it right or take it out", sentence))
+    return found
+
+
+def open_election(made: pathlib.Path, poll: str) -> list[Doubt]:
+    """That the poll lies in the folder of an election that is not closed. `made` is the folder with the copies of the files."""
+    # where the poll is named by a link, either place may be the folder of the election
+    places = [pathlib.Path(poll).parent, pathlib.Path(os.path.realpath(poll)).parent]
+    folder = next((place for place in places if (place / journal.NAME).is_file()), None)
+    now = Sums.of((made / "poll.toml").read_bytes(), (made / "ballots").read_bytes())
+    if folder is None or is_closed(journal.entries_in(folder / journal.NAME), now):
+        return []
+    where = [] if folder == pathlib.Path() else ["--folder", str(folder)]
+    return [
+        Doubt(
+            str(folder / journal.NAME),
+            "the election in this folder is not closed",
+            f"close it: {shlex.join(['debvote-election', *where, 'close'])}",
+            "The election was not closed when this page was made: more ballots may come in.",
+        )
+    ]
+
+
+def is_closed(entries: list[journal.Entry], now: Sums) -> bool:
+    """Whether the close is among the acts that were done. The last one is not, where its run was killed before it wrote."""
+    acts = journal.done(entries)
+    return any(entry.act == "close" for entry in (acts[:-1] if journal.is_cut_off(entries, now) else acts))

@@ -1,0 +1,207 @@
+"""Elections with a slip of the hand, for tests/publish: what debvote-publish tells of each, and what its page says of it."""
+
+import dataclasses
+import hashlib
+
+# an election without a doubt, of which each slip changes something
+PLAIN_POLL = """title = "Where we meet in spring"
+options = ["At the lake", "In the town hall"]
+ratios = [1, 1]
+default = "Further discussion"
+quorum = 1
+roll = ["ada", "ben", "cleo", "dan"]
+"""
+PLAIN_BALLOTS = "ada 1,2,3\nben 2,1,3\ncleo 1,2,3\n"
+
+# what ends each line, where --even-so helps
+EVEN_SO = " (or publish it as it is, with --even-so)"
+
+WHY = "ask why: debvote explain --poll poll.toml --ballots ballots"
+NOBODY = "No elector has a ballot that stands: nobody's vote has decided this."
+AS_POLL = "The file that was given as the ballots reads as a poll: the ballots themselves may be elsewhere."
+FROM_WINDOWS = (
+    "ballots: all refused lines end with a carriage return, as those of a file from Windows do; "
+    "take it out, and give the file that this makes: tr -d '\\r' < ballots > ballots.unix"
+)
+FROM_WINDOWS_SHOWN = (
+    "All refused lines end with a carriage return, as those of a file from Windows do: "
+    "they may be ballots that were meant to count."
+)
+UNENDED = (
+    "ballots: its last line has no line feed, as in a file that was cut off; "
+    "look whether its end is missing; where it is whole, end the last line with the Enter key in an editor"
+)
+UNENDED_SHOWN = (
+    "The last line of the ballot file has no line feed, as in a file that was cut off: ballots may be missing behind it."
+)
+OPEN = "journal: the election in this folder is not closed; close it: debvote-election close"
+OPEN_SHOWN = "The election was not closed when this page was made: more ballots may come in."
+
+
+@dataclasses.dataclass
+class Slip:
+    """An election with a slip of the hand: its files, what is told of it line by line, and what the page says with --even-so."""
+
+    name: str
+    told: list[str] = dataclasses.field(default_factory=list)
+    shown: list[str] = dataclasses.field(default_factory=list)
+    poll: str = PLAIN_POLL
+    ballots: str = PLAIN_BALLOTS
+    # the acts that the journal of an election has; without them there is no journal
+    acts: list[str] = dataclasses.field(default_factory=list)
+    # the last of these was noted, and its run killed before it had written its file
+    is_cut_off: bool = False
+
+    def write(self, room):
+        """Writes the files into a new folder."""
+        room.mkdir(parents=True)
+        (room / "poll.toml").write_bytes(self.poll.encode())
+        (room / "ballots").write_bytes(self.ballots.encode())
+        if self.acts:
+            (room / "journal").write_text("".join(self.journal()))
+
+    def journal(self):
+        """The lines of the journal: the sums after all acts are those of the files, but for an act that was cut off."""
+        poll, ballots = (hashlib.sha256(text.encode()).hexdigest() for text in (self.poll, self.ballots))
+        for number, act in enumerate(self.acts, start=1):
+            is_lost = self.is_cut_off and number == len(self.acts)
+            yield f"2026-11-25T18:04:11Z\t{act}\t-\t{'0' * 64 if is_lost else poll}\t{ballots}\n"
+
+
+SLIPS = [
+    Slip(
+        "an empty file",
+        ["ballots: it is empty, so no elector has a ballot that stands; give the file that has the ballots"],
+        [NOBODY],
+        ballots="",
+    ),
+    Slip(
+        "names of another roll",
+        [
+            f"ballots: no elector has a ballot that stands; {WHY}",
+            f"ballots: more than half of its lines are refused, 2 of 2; {WHY}",
+        ],
+        [NOBODY, "More than half of the lines of the ballot file are refused: 2 of 2."],
+        ballots="zoe 1,2,3\nyan 2,1,3\n",
+    ),
+    Slip(
+        "more refused lines than ballots",
+        [f"ballots: more than half of its lines are refused, 2 of 3; {WHY}"],
+        ["More than half of the lines of the ballot file are refused: 2 of 3."],
+        ballots="ada 1,2,3\nben 1,2\nCleo 1,2,3\n",
+    ),
+    Slip(
+        "Windows line ends",
+        [
+            f"ballots: no elector has a ballot that stands; {WHY}",
+            f"ballots: more than half of its lines are refused, 3 of 3; {WHY}",
+            FROM_WINDOWS,
+        ],
+        [NOBODY, "More than half of the lines of the ballot file are refused: 3 of 3.", FROM_WINDOWS_SHOWN],
+        ballots=PLAIN_BALLOTS.replace("\n", "\r\n"),
+    ),
+    Slip("one line from Windows", [FROM_WINDOWS], [FROM_WINDOWS_SHOWN], ballots=PLAIN_BALLOTS + "dan 1,2,3\r\n"),
+    Slip(
+        "a misspelt key",
+        ["poll.toml: key last-envelope is not read; did you mean last_envelope? put it right or take it out"],
+        ["The key last-envelope of the poll file is not read (did you mean last_envelope?): what it says has not counted."],
+        poll=PLAIN_POLL + "last-envelope = 2\n",
+    ),
+    Slip(
+        "keys of its own",
+        [
+            "poll.toml: key a.<b> is not read; put it right or take it out",
+            "poll.toml: key a.last_envelope is not read; it stands below [a], and is read above all tables only, so "
+            "put it right or take it out",
+        ],
+        [
+            "The key a.<b> of the poll file is not read: what it says has not counted.",
+            "The key a.last_envelope of the poll file is not read (it stands below [a], and is read above all tables only): "
+            "what it says has not counted.",
+        ],
+        poll=PLAIN_POLL + '[a]\nlast_envelope = 2\n"<b>" = 1\n',
+    ),
+    Slip(
+        "the poll as ballots",
+        [
+            "ballots: it is given as the ballots, and reads as a poll; give the ballot file with --ballots",
+            f"ballots: no elector has a ballot that stands; {WHY}",
+            f"ballots: more than half of its lines are refused, 6 of 6; {WHY}",
+        ],
+        [AS_POLL, NOBODY, "More than half of the lines of the ballot file are refused: 6 of 6."],
+        ballots=PLAIN_POLL,
+    ),
+    Slip(
+        "a draft of a poll as ballots",
+        [
+            "ballots: it is given as the ballots, and reads as a poll; give the ballot file with --ballots",
+            f"ballots: no elector has a ballot that stands; {WHY}",
+            f"ballots: more than half of its lines are refused, 1 of 1; {WHY}",
+        ],
+        [AS_POLL, NOBODY, "More than half of the lines of the ballot file are refused: 1 of 1."],
+        ballots='title = "Draft"\n',
+    ),
+    Slip(
+        "a poll as ballots that has ballots in a text",
+        ["ballots: it is given as the ballots, and reads as a poll; give the ballot file with --ballots"],
+        [AS_POLL],
+        ballots=f'title = """\n{PLAIN_BALLOTS}"""\n',
+    ),
+    Slip(
+        "a poll that has ballots in a text",
+        [
+            "poll.toml: it is given as the poll, and reads as ballots; give the poll file with --poll",
+            "poll.toml: key note is not read; put it right or take it out",
+        ],
+        [
+            "The file that was given as the poll reads as ballots.",
+            "The key note of the poll file is not read: what it says has not counted.",
+        ],
+        poll=f'{PLAIN_POLL}note = """\n{PLAIN_BALLOTS * 3}"""\n',
+    ),
+    Slip("an unended last line", [UNENDED], [UNENDED_SHOWN], ballots=PLAIN_BALLOTS + "dan 1,2,3"),
+    Slip("an election that is not closed", [OPEN], [OPEN_SHOWN], acts=["add"]),
+    Slip("a close that was cut off", [OPEN], [OPEN_SHOWN], acts=["add", "close"], is_cut_off=True),
+    Slip("a close that was cut off, and is noted so", [OPEN], [OPEN_SHOWN], acts=["add", "close", "undone"]),
+    Slip(
+        "several at once",
+        [
+            FROM_WINDOWS,
+            UNENDED,
+            "poll.toml: key last-envelope is not read; did you mean last_envelope? put it right or take it out",
+            OPEN,
+        ],
+        [
+            FROM_WINDOWS_SHOWN,
+            UNENDED_SHOWN,
+            "The key last-envelope of the poll file is not read (did you mean last_envelope?): what it says has not counted.",
+            OPEN_SHOWN,
+        ],
+        poll=PLAIN_POLL + "last-envelope = 2\n",
+        ballots="ada 1,2,3\r\n" + PLAIN_BALLOTS + "dan 1,2,3",
+        acts=["new"],
+    ),
+]
+
+# what is near a doubt, and none
+NEAR_SLIPS = [
+    Slip("as many refused lines as ballots", ballots="ada 1,2,3\nben 1,2\n"),
+    Slip("a line from Windows and another refused one", ballots=PLAIN_BALLOTS + "dan 1,2,3\r\ndan 1\n"),
+    Slip("a poll from Windows", poll=PLAIN_POLL.replace("\n", "\r\n")),
+    Slip("hyphens alone", ballots="ada -,-,-\n"),
+    Slip(
+        "an election that is closed, and has a late line",
+        poll="last_envelope = 3\n" + PLAIN_POLL,
+        ballots=PLAIN_BALLOTS + "dan 1,2,3\n",
+        acts=["add", "close", "add"],
+    ),
+]
+
+# what is told where the poll is refused since it is the ballot file
+SWAPPED = """debvote: poll refused: syntax
+debvote-publish: ballots: it is given as the poll, and reads as ballots; {swap}
+debvote-publish: poll.toml: it is given as the ballots, and reads as a poll; {swap}
+""".format(swap="the two are swapped: give --poll poll.toml --ballots ballots")
+BALLOTS_TWICE = """debvote: poll refused: syntax
+debvote-publish: ballots: it is given as the poll, and reads as ballots; give the poll file with --poll
+"""
