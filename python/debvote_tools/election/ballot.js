@@ -1,0 +1,166 @@
+// Makes the line of a ballot from the name and the ranks that are chosen on the page, and says it in words.
+// It counts nothing and asks nobody. All texts of the poll are read in the page, and written as texts, never as markup.
+"use strict";
+
+(() => {
+  const NAME_LIMIT = 32;
+  // mail programs break longer lines at their space
+  const MAIL_LIMIT = 72;
+  const UNRANKED = "-";
+
+  const byId = (id) => document.getElementById(id);
+  const form = byId("ballot");
+  const nameInput = byId("name");
+  const selects = [...form.querySelectorAll("select")];
+
+  // ---------------------------------------------------------------- the name
+  // What is put right in a name, and the sentence that says so.
+  const repairs = [
+    [(text) => text.trim(), "Spaces before or behind the name are left out."],
+    [(text) => text.replace(/[A-Z]/g, (letter) => letter.toLowerCase()), "Capital letters of the name are made small."],
+  ];
+
+  // The name as it stands in the line, with the sentences on what was put right.
+  function repaired(typed) {
+    const notes = [];
+    let name = typed;
+    for (const [repair, note] of repairs) {
+      const next = repair(name);
+      if (next !== name) notes.push(note);
+      name = next;
+    }
+    return { name, notes };
+  }
+
+  // Why no elector can have this name, or nothing.
+  function faultOf(name) {
+    if (name === "") return "Type your name as it stands on the roll.";
+    const odd = [...name].find((character) => !/[a-z0-9.-]/.test(character));
+    if (odd !== undefined) {
+      const shown = /\s/.test(odd) ? "a space" : `“${odd}”`;
+      return `The name has ${shown}. Names on the roll have only small letters without accents, digits, points and hyphens.`;
+    }
+    if (name.length > NAME_LIMIT) return `The name has ${name.length} characters. Names on the roll have at most ${NAME_LIMIT}.`;
+    return "";
+  }
+
+  // ---------------------------------------------------------------- the ranks in words
+  // The options of each rank, the first preference first, and those without a rank.
+  function groupsOf(ranks) {
+    const byRank = new Map();
+    ranks.forEach((rank, option) => byRank.set(rank, [...(byRank.get(rank) || []), option]));
+    const unranked = byRank.get(UNRANKED) || [];
+    byRank.delete(UNRANKED);
+    const ranked = [...byRank.keys()].sort((a, b) => a - b).map((rank) => byRank.get(rank));
+    return { ranked, unranked };
+  }
+
+  // The name of an option with its number, as it stands in a sentence.
+  function optionNode(option) {
+    const node = document.createElement("b");
+    node.dataset.option = option + 1;
+    node.textContent = `${option + 1} ${selects[option].dataset.name}`;
+    return node;
+  }
+
+  // Some options in a sentence: "1 A, 2 B and 3 C".
+  function joined(options) {
+    return options.flatMap((option, place) => {
+      const before = place === 0 ? [] : [place === options.length - 1 ? " and " : ", "];
+      return [...before, optionNode(option)];
+    });
+  }
+
+  // The sentences that say what the ranks prefer to what, each a list of texts and names.
+  function sentencesOf({ ranked, unranked }) {
+    const sentences = ranked.slice(1).map((lower, place) => ["You prefer ", ...joined(ranked[place]), " to ", ...joined(lower), "."]);
+    if (ranked.length === 1 && unranked.length > 0) {
+      sentences.push(["You prefer ", ...joined(ranked[0]), " to all others."]);
+    }
+    for (const equal of ranked.filter((options) => options.length > 1)) {
+      sentences.push(["You rank ", ...joined(equal), " equally: none of them is preferred to another."]);
+    }
+    if (unranked.length > 0) {
+      const they = unranked.length === 1 ? "it is" : "they are";
+      sentences.push(["You rank ", ...joined(unranked), ` not at all, so ${they} behind all others.`]);
+    }
+    return sentences;
+  }
+
+  // The sentences as a list.
+  function listOf(sentences) {
+    const list = document.createElement("ul");
+    for (const sentence of sentences) {
+      const item = document.createElement("li");
+      item.append(...sentence);
+      list.append(item);
+    }
+    return list;
+  }
+
+  // ---------------------------------------------------------------- what the page shows
+  // A text that has not changed is not written again, so that a screen reader does not read it again.
+  function say(id, text) {
+    const node = byId(id);
+    if (node.textContent !== text) node.textContent = text;
+  }
+
+  function mailTo(line) {
+    const subject = encodeURIComponent(`Ballot: ${form.dataset.title}`);
+    return `${form.dataset.to}?subject=${subject}&body=${encodeURIComponent(`${line}\r\n`)}`;
+  }
+
+  function showLine(line) {
+    say("line", line);
+    byId("ready").hidden = line === "";
+    byId("long").hidden = line.length <= MAIL_LIMIT;
+    const letter = byId("letter");
+    if (letter !== null && line !== "") letter.href = mailTo(line);
+    if (letter !== null && line === "") letter.removeAttribute("href");
+  }
+
+  function update() {
+    const { name, notes } = repaired(nameInput.value);
+    const fault = faultOf(name);
+    const isTyped = nameInput.value !== "";
+    say("name-said", isTyped ? [...notes, fault].filter(Boolean).join(" ") : "");
+    nameInput.setAttribute("aria-invalid", String(isTyped && fault !== ""));
+    const ranks = selects.map((select) => select.value);
+    const isRanked = ranks.some((rank) => rank !== UNRANKED);
+    byId("words").replaceChildren(...(isRanked ? [listOf(sentencesOf(groupsOf(ranks)))] : []));
+    byId("meaning").hidden = !isRanked;
+    const missing = [fault && isTyped ? "The name has to be put right." : fault, isRanked ? "" : "Give at least one option a rank."];
+    say("missing", missing.filter(Boolean).join(" "));
+    say("copied", "");
+    showLine(fault === "" && isRanked ? `${name} ${ranks.join(",")}` : "");
+  }
+
+  // ---------------------------------------------------------------- the copy
+  function selectLine() {
+    const range = document.createRange();
+    range.selectNodeContents(byId("line"));
+    const selection = window.getSelection();
+    selection.removeAllRanges();
+    selection.addRange(range);
+    say("copied", "The line is selected. Copy it with Ctrl+C, or Cmd+C on a Mac.");
+  }
+
+  async function copyLine() {
+    try {
+      await navigator.clipboard.writeText(byId("line").textContent);
+      say("copied", "The line is copied.");
+    } catch {
+      // a browser gives no clipboard to a page that did not come by https
+      selectLine();
+    }
+  }
+
+  // a telephone begins a text with a capital letter
+  nameInput.autocapitalize = "none";
+  form.addEventListener("input", update);
+  byId("copy").addEventListener("click", copyLine);
+  // a browser that comes back to the page may fill in what was chosen before
+  window.addEventListener("pageshow", update);
+  form.hidden = false;
+  update();
+})();

@@ -1,0 +1,58 @@
+"""The call for votes as a letter, in plain text."""
+
+import textwrap
+
+from debvote_tools.election import call_words
+from debvote_tools.election.call_words import Call
+
+# mail programs leave lines of this length as they are
+COLUMNS = 72
+
+
+def letter(call: Call) -> str:
+    """The text of the letter. A line that somebody copies, as the example or the sum, is never wrapped."""
+    parts = [
+        wrapped(call.title),
+        wrapped(call.until_words()) + wrapped(call.to_words()),
+        heading("What is voted on"),
+        "".join(option_of(call, option) for option in call.sheet.names),
+        "".join(map(wrapped, call.ratio_words())),
+        wrapped(call.default_words()),
+        wrapped(call.quorum_words()),
+        heading("How a ballot is written"),
+        wrapped(call_words.HOW),
+        wrapped(call_words.RANKS),
+        "For example:\n",
+        copied(call.example()),
+        wrapped(call.example_words()),
+        wrapped(call_words.AGAIN),
+        heading("What will be public"),
+        wrapped(call_words.PUBLIC),
+        heading("The poll"),
+        wrapped(call.poll_words()),
+        copied(call.poll_sum),
+        wrapped(call.compare_words()),
+        copied(call_words.COMPARE),
+        wrapped(call_words.LATER),
+    ]
+    return "\n".join(parts)
+
+
+def option_of(call: Call, option: int) -> str:
+    """An option, by its number; what does not fit on the line stands below its name."""
+    return wrapped(f"{option:4} {call.sheet.names[option]} ({call.kind_of(option)})", "", " " * 5)
+
+
+def wrapped(text: str, first: str = "", then: str = "") -> str:
+    """A paragraph. A word that is longer than a line, as an address, stays whole."""
+    how = {"initial_indent": first, "subsequent_indent": then, "break_long_words": False, "break_on_hyphens": False}
+    return textwrap.fill(text, COLUMNS, **how) + "\n"
+
+
+def heading(text: str) -> str:
+    return text.upper() + "\n"
+
+
+def copied(line: str) -> str:
+    """A line to be copied, as it is."""
+    return f"  {line}\n"

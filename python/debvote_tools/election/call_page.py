@@ -1,0 +1,148 @@
+"""The page of the call for votes: it can be read without scripts, and with its one script it makes the line of a ballot."""
+
+import base64
+import hashlib
+import pathlib
+import urllib.parse
+from html import escape
+
+from debvote_tools import pages
+from debvote_tools.election import call_words
+from debvote_tools.election.call_words import Call
+from debvote_tools.pages import command_block, listed, paragraph, part
+
+SCRIPT = pathlib.Path(__file__).with_name("ballot.js")
+
+STYLE = """
+[hidden] { display: none !important; }
+h3 { font-size: 1.05rem; margin: 1.5rem 0 0.3rem; }
+fieldset { margin: 1.25rem 0; padding: 0; border: 0; min-width: 0; }
+legend, .field label { padding: 0; font-weight: 600; }
+fieldset p { margin: 0.2rem 0 0.6rem; }
+.field label { display: block; margin-bottom: 0.3rem; }
+.rank { display: grid; grid-template-columns: minmax(0, 1fr) auto; gap: 0.25rem 1rem; align-items: center;
+  padding: 0.35rem 0; border-top: 1px solid var(--line); max-width: 40rem; }
+.rank:last-child { border-bottom: 1px solid var(--line); }
+input, select, button, .letter { box-sizing: border-box; min-height: 2.75rem; padding: 0.4rem 0.7rem; font: inherit;
+  color: var(--ink); background: var(--paper); border: 1px solid var(--line); border-radius: 0.3rem; }
+input { width: 100%; max-width: 40rem; }
+select { width: 8.5rem; }
+button, .letter { display: inline-flex; align-items: center; background: var(--shade); cursor: pointer; text-decoration: none; font-weight: 600; }
+input:focus-visible, select:focus-visible, button:focus-visible { outline: 3px solid var(--link); outline-offset: 2px; }
+#line { display: block; padding: 0.6rem 0.8rem; background: var(--shade); border-left: 0.4rem solid var(--link);
+  font: 1.15rem/1.5 ui-monospace, monospace; word-break: break-all; }
+#line:empty { display: none; }
+.actions { display: flex; flex-wrap: wrap; gap: 0.75rem; margin: 0.75rem 0; }
+.said:empty { display: none; }
+#words ul { padding-left: 1.25rem; }
+.outcome p { margin: 0; }
+"""
+
+FORM = """<div class="field">
+<label for="name">Your name, as it stands on the roll</label>
+<input id="name" type="text" autocomplete="off" spellcheck="false" aria-describedby="name-said">
+<p id="name-said" class="said" role="status"></p>
+</div>
+<fieldset>
+<legend>A rank for each option</legend>
+<p>1 is your first preference. Options may have equal ranks, or none.</p>
+{ranks}</fieldset>
+<div id="meaning" hidden>
+<h3>What your ballot says</h3>
+<div id="words"></div>
+</div>
+<h3>The line that you send</h3>
+<p id="missing" class="said" role="status"></p>
+<output id="line" for="name"></output>
+<div id="ready" hidden>
+<p id="long" hidden>This line is long, and a mail program may break it. Look at the letter before you send it: it has to be one line.</p>
+<div class="actions">
+<button id="copy" type="button">Copy the line</button>
+{letter}</div>
+<p id="copied" class="said" role="status"></p>
+<p>{to}</p>
+<p>This page sends nothing by itself.</p>
+</div>"""
+
+
+def html(call: Call) -> str:
+    """The page. It loads nothing, and runs its own script alone."""
+    script = SCRIPT.read_text(encoding="utf-8")
+    style = pages.STYLE + STYLE
+    policy = (
+        f"default-src 'none'; script-src {source_of(script)}; style-src {source_of(style)}; base-uri 'none'; form-action 'none'"
+    )
+    parts = [head(call), options(call), form(call), how(call), public(), poll(call)]
+    title = escape(call.title)
+    behind = f"<script>{script}</script>\n"
+    return pages.page(f"Vote: {title}", title, "".join(parts), style=style, policy=policy, behind=behind)
+
+
+def source_of(text: str) -> str:
+    """How the policy of a page allows a script or a style that stands in it."""
+    return f"'sha256-{base64.b64encode(hashlib.sha256(text.encode()).digest()).decode()}'"
+
+
+def head(call: Call) -> str:
+    """Until when, and where to."""
+    return f'<div class="outcome">\n{paragraph(until(call))}\n{paragraph(to(call))}\n</div>\n'
+
+
+def until(call: Call) -> str:
+    # a text from right to left does not turn what stands around it
+    return escape(call.until_words()) if call.until is None else f"Until when: <b><bdi>{escape(call.until)}</bdi></b>"
+
+
+def to(call: Call) -> str:
+    if call.to is None:
+        return escape(call.to_words())
+    return f'Send your ballot to: <a href="{escape(mail_to(call))}">{escape(call.to)}</a>'
+
+
+def mail_to(call: Call) -> str:
+    """The address of a letter, without its subject; nothing where there is none."""
+    return "" if call.to is None else f"mailto:{urllib.parse.quote(call.to, safe='@')}"
+
+
+def options(call: Call) -> str:
+    entries = [f"<b>{option} {escape(name)}</b>, {call.kind_of(option)}" for option, name in call.sheet.names.items()]
+    said = [*call.ratio_words(), escape(call.default_words()), call.quorum_words()]
+    blocks = [listed("ul", entries), *map(paragraph, said)]
+    return part("What is voted on", *blocks)
+
+
+def form(call: Call) -> str:
+    """What the script works on. It stays hidden where there is none."""
+    ranks = "".join(rank(option, name, len(call.sheet.names)) for option, name in call.sheet.names.items())
+    letter = '<a id="letter" class="letter">Write a letter with it</a>\n' if call.to else ""
+    filled = FORM.format(ranks=ranks, letter=letter, to=to(call))
+    data = f'data-title="{escape(call.title)}" data-to="{escape(mail_to(call))}"'
+    return f'<div id="ballot" {data} hidden>\n{part("Your ballot", filled)}</div>\n'
+
+
+def rank(option: int, name: str, count: int) -> str:
+    """The list of ranks of an option."""
+    choices = "".join(f'<option value="{number}">{number}</option>' for number in range(1, count + 1))
+    return (
+        f'<div class="rank">\n<label for="rank-{option}"><b>{option}</b> {escape(name)}</label>\n'
+        f'<select id="rank-{option}" data-name="{escape(name)}"><option value="-">not ranked</option>{choices}</select>\n</div>\n'
+    )
+
+
+def how(call: Call) -> str:
+    example = command_block("For example:", call.example())
+    said = [call_words.HOW, call_words.RANKS]
+    blocks = [*map(paragraph, said), example, paragraph(escape(call.example_words())), paragraph(call_words.AGAIN)]
+    return part("How a ballot is written", *blocks)
+
+
+def public() -> str:
+    return part("What will be public", paragraph(call_words.PUBLIC))
+
+
+def poll(call: Call) -> str:
+    """The sum of the poll, and how it is compared."""
+    beside = [paragraph('The file: <a href="poll.toml">poll.toml</a>')] if call.has_poll else []
+    shown = f"<pre><code>{call.poll_sum}</code></pre>"
+    compare = command_block(call.compare_words(), call_words.COMPARE)
+    return part("The poll", paragraph(call.poll_words()), shown, *beside, compare, paragraph(call_words.LATER))

@@ -1,0 +1,121 @@
+"""What a call for votes says, in plain text; the page and the letter put the same sentences."""
+
+import dataclasses
+
+from debvote_tools.ballots import UNRANKED, in_words
+from debvote_tools.sheet import Sheet
+
+# it stands in the example where the elector's own name goes
+EXAMPLE_NAME = "name"
+
+TIMES = {2: "twice", 3: "three times", 4: "four times", 5: "five times", 6: "six times", 7: "seven times"}
+TIMES |= {8: "eight times", 9: "nine times", 10: "ten times"}
+
+HOW = (
+    "A ballot is one line: your name as it stands on the roll, a space, and a rank for each option in the order of their numbers, "
+    "the default option last. Between the ranks stand commas, and no spaces."
+)
+RANKS = (
+    "1 is your first preference: an option with a smaller rank is preferred to one with a greater rank. Options that you give the "
+    "same rank are equal to you. A hyphen stands for an option that you do not rank: it is behind all others."
+)
+AGAIN = "You may vote again: of your ballots that are valid and in time the last one counts."
+DEFAULT = (
+    "It stays where no other option is good enough. Rank before it what you would accept, and behind it what is worse to you "
+    "than the default option."
+)
+PUBLIC = (
+    "After the vote all ballots are published, each with the name of its elector, so that everybody can count again. So everybody "
+    "sees how you voted. Lines that were refused or came late are published too."
+)
+COMPARE = "grep -v '^last_envelope' poll.toml | sha256sum"
+LATER = (
+    "The poll is not changed any more, but for one line that it may get when the vote closes, last_envelope: it says how many "
+    "ballots were in time. The sum and the command leave it out."
+)
+
+
+@dataclasses.dataclass(frozen=True)
+class Call:
+    """What is called for: the sheet of the poll without ballots, and the sum of the poll without its last envelope.
+
+    `until` and `to` are none where the secretary announces them otherwise, and `has_poll` says whether the poll lies beside.
+    """
+
+    sheet: Sheet
+    poll_sum: str
+    until: str | None
+    to: str | None
+    has_poll: bool
+
+    @property
+    def title(self) -> str:
+        return self.sheet.facts["Poll"]
+
+    def until_words(self) -> str:
+        """Until when one can vote."""
+        return "You can vote until the time that the secretary announces." if self.until is None else f"Until when: {self.until}"
+
+    def to_words(self) -> str:
+        """Where a ballot goes."""
+        return "Send your ballot as the secretary announces." if self.to is None else f"Send your ballot to: {self.to}"
+
+    def kind_of(self, option: int) -> str:
+        """What an option needs, in short."""
+        return "the default option" if option == self.sheet.default else f"majority ratio {self.sheet.ratios[option]}"
+
+    def ratio_words(self) -> list[str]:
+        """What each ratio of the poll means, a sentence each."""
+        return [f"Majority ratio {ratio}: {self.rule(ratio)}." for ratio in sorted(set(map(int, self.sheet.ratios.values())))]
+
+    def rule(self, ratio: int) -> str:
+        """What a ratio means."""
+        if ratio == 1:
+            return "more electors must prefer the option to the default option than prefer the default option to it"
+        least = "more than" if "Majority" in self.sheet.facts else "at least"
+        times = f"{least} {TIMES[ratio]} as many electors"
+        return f"{times} must prefer the option to the default option as prefer the default option to it"
+
+    def default_words(self) -> str:
+        """What the default option means."""
+        return f"The default option is {self.sheet.default} {self.sheet.names[self.sheet.default]}. {DEFAULT}"
+
+    def quorum_words(self) -> str:
+        """What the quorum wants, in votes."""
+        multiple, votes = self.sheet.facts["Quorum"].split(", ")
+        electors = self.sheet.facts["Electors"]
+        of = f"The roll has {electors} elector{'' if electors == '1' else 's'}."
+        if multiple == "0Q":
+            return f"There is no quorum. {of}"
+        least = votes.removesuffix(" votes")
+        who = "1 elector must prefer" if least == "1" else f"{least} electors must prefer"
+        return f"The quorum is {least} vote{'' if least == '1' else 's'}: at least {who} an option to the default option. {of}"
+
+    def example(self) -> str:
+        """A ballot line of this poll."""
+        return f"{EXAMPLE_NAME} {self.example_ranks()}"
+
+    def example_ranks(self) -> str:
+        """Ranks that show the order, and in a poll of four options or more an option that is not ranked."""
+        count = len(self.sheet.names)
+        if count == 2:
+            return "1,2"
+        return ",".join(["2", "1", *[UNRANKED] * (count - 3), "3"])
+
+    def example_words(self) -> str:
+        """What the example says."""
+        said = in_words(self.example_ranks(), list(self.sheet.names.values()))
+        return f"Your own name stands in the place of {EXAMPLE_NAME}. This ballot says: {said}."
+
+    def poll_words(self) -> str:
+        """What the sum is for."""
+        where = "lies beside this call" if self.has_poll else "is published with the result"
+        return (
+            f"All that decides stands in the file poll.toml: title, options, ratios, quorum and roll. It {where}. "
+            "So that nobody can change it unseen, this is its sum (SHA-256):"
+        )
+
+    def compare_words(self) -> str:
+        """How the sum is compared."""
+        when = "Now, and again when the result is published" if self.has_poll else "When the result is published"
+        return f"{when}, everybody can compare it: this command, typed in the folder of the file, has to answer the same sum:"

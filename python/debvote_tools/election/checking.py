@@ -1,0 +1,77 @@
+"""Whether debvote takes the poll, for the commands that go on with it alone where it does."""
+
+import re
+import sys
+
+from debvote_tools.election import poll_file
+from debvote_tools.election.asking import NO_BALLOTS, command, explained, refused
+from debvote_tools.election.folder import Election, Files
+from debvote_tools.faults import Fault, Status
+from debvote_tools.sheet import Sheet, sheet_in
+
+# the lines of a poll, in the order in which a new one has them
+LINES = ("title", "options", "ratios", "default", "quorum", "roll", "last_envelope", "wording")
+
+# how a finding begins that does not name its line, and the line that it is about
+ABOUT = {
+    "number of options": "options",
+    "name of option": "options",
+    "size of roll": "roll",
+    "voter at position": "roll",
+    "last envelope": "last_envelope",
+}
+
+
+def checked(election: Election, files: Files) -> Sheet:
+    """Prints what debvote says of the poll, and gives its sheet without ballots. It stops where a key is refused or not read."""
+    answer = explained(election, files.poll)
+    sys.stdout.write(answer.text)
+    if answer.status == Status.BAD_POLL:
+        raise Fault(f"{election.poll}: {what_to_do(election, files.poll, answer.text.splitlines())}", Status.BAD_POLL)
+    if answer.status != Status.DECIDED:
+        words = "a line of it is not read, which is mostly a slip; put it right, move it above every line that begins with [,"
+        again = f"or put a # before it, then run: {command(election, 'check')}"
+        raise Fault(f"{election.poll}: {words} {again}", answer.status)
+    counted = election.debvote.ask("count", "--poll", "/dev/stdin", "--ballots", NO_BALLOTS, given=files.poll)
+    if not counted.text:
+        raise refused(election, counted)
+    return sheet_in(counted.text)
+
+
+def what_to_do(election: Election, poll: bytes, findings: list[str]) -> str:
+    """What the secretary does where debvote refuses the poll."""
+    again = f"then run: {command(election, 'check')}"
+    syntax = re.match(r"poll:(\d+):", findings[0])
+    if syntax is not None:
+        return f"line {syntax[1]} can't be read; put it right with an editor, {again}"
+    lines = lines_about(poll, findings)
+    by_hand = [line for line in lines if line != "roll"]
+    steps = []
+    if by_hand:
+        steps.append(f"fill in or put right with an editor: {', '.join(by_hand)}")
+    if "roll" in lines:
+        steps.append(f"write the members into {election.members.name} and run: {command(election, 'roll')}")
+    return f"it is not in order yet; {'; '.join(steps)}; {again}"
+
+
+def lines_about(poll: bytes, findings: list[str]) -> list[str]:
+    """The lines of the poll that the findings are about."""
+    found = set()
+    default = f"name of option {len(options_of(poll)) + 1}"
+    for finding in findings:
+        said = re.match(r"poll: (?:key )?([^:]+): ", finding)
+        words = said[1] if said else ""
+        if words == default:
+            found.add("default")
+        else:
+            found.add(ABOUT.get(re.sub(r" \d+$", "", words), words))
+    return [line for line in LINES if line in found]
+
+
+def options_of(poll: bytes) -> list[object]:
+    """The options of a poll that may be out of order."""
+    try:
+        listed = poll_file.document(poll).get("options")
+    except Fault:
+        return []
+    return listed if isinstance(listed, list) else []

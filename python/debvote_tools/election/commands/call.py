@@ -1,0 +1,223 @@
+"""`call`: the call for votes. From then on the poll is not changed."""
+
+import argparse
+import contextlib
+import os
+import pathlib
+import re
+import shutil
+import stat
+import tempfile
+import unicodedata
+
+from debvote_tools import journal
+from debvote_tools.election import call_letter, call_page, poll_file
+from debvote_tools.election.asking import NO_BALLOTS, command
+from debvote_tools.election.call_words import Call
+from debvote_tools.election.checking import checked
+from debvote_tools.election.folder import Election, Files
+from debvote_tools.faults import Fault, Status
+from debvote_tools.files import sum_of, sync_folder, umask, write_whole
+
+HELP = "Make the call for votes, a page and a letter; the poll is not changed any more"
+
+SUMS = "SHA256SUMS"
+NAMES = ("index.html", "call.txt", "poll.toml", SUMS)
+
+# how the name of a folder begins that is not in its place yet, or no more
+LEFTOVER = ".call."
+
+ADDRESS = re.compile(r"[A-Za-z0-9_][A-Za-z0-9._+=-]*@[A-Za-z0-9-]+(\.[A-Za-z0-9-]+)*")
+ADDRESS_LIMIT = 254
+
+# control characters, what ends a line, and bytes that are no text
+ODD = ("Cc", "Cs", "Zl", "Zp")
+
+
+def options(parser: argparse.ArgumentParser) -> None:
+    parser.add_argument("--until", metavar="TEXT", help="Until when one can vote, in your own words; it is printed as you give it")
+    parser.add_argument("--to", metavar="ADDRESS", help="The mail address that ballots are sent to")
+    parser.add_argument("--no-roll", action="store_true", help="Leave the poll, with its roll, out of the folder: its sum stands alone")
+
+
+def run(election: Election, asked: argparse.Namespace) -> int:
+    demand_until(asked.until)
+    demand_address(asked.to)
+    with election.changing() as files:
+        sheet = checked(election, files)
+        demand_covered(election, files.poll)
+        demand_own(election)
+        files = ended(election, files)
+        poll_sum = sum_of(poll_file.without_last_envelope(files.poll))
+        call = Call(sheet, poll_sum, asked.until, asked.to, not asked.no_roll)
+        is_anew = election.call.exists()
+        take_away_leftovers(election)
+        make(election, files, texts_of(call, files.poll))
+    say(election, call, is_anew)
+    return Status.DECIDED
+
+
+# ---------------------------------------------------------------- what is asked
+def demand_until(text: str | None) -> None:
+    """Stops where the time is no line of text."""
+    if text is not None and (not text.strip() or any(unicodedata.category(character) in ODD for character in text)):
+        words = "it has to be one line of text, in UTF-8; nothing was changed: write it anew"
+        raise Fault(f"--until: {words}", Status.BAD_WORDS)
+
+
+def demand_address(text: str | None) -> None:
+    """Stops where this is not one plain mail address."""
+    if text is not None and (len(text) > ADDRESS_LIMIT or not ADDRESS.fullmatch(text)):
+        words = "it has to be one mail address, as secretary@example.org; nothing was changed: write it anew"
+        raise Fault(f"--to: {words}", Status.BAD_WORDS)
+
+
+def demand_own(election: Election) -> None:
+    """Stops where the folder of the call has something that this command did not make, or that was changed since."""
+    folder = election.call
+    if not os.path.lexists(folder):
+        return
+    if folder.is_symlink() or not folder.is_dir():
+        raise foreign(f"{folder}: it is no folder", "move it away")
+    sums = sums_in(folder / SUMS)
+    for file in sorted(folder.iterdir()):
+        if file.name not in NAMES or not stat.S_ISREG(file.lstat().st_mode):
+            raise foreign(f"{file}: this command did not make it", f"move it out of {folder}")
+        if file.name != SUMS and sums.get(file.name) != sum_of(file.read_bytes()):
+            raise foreign(f"{file}: it is not as this command made it", f"move the folder {folder} away if you want to keep it")
+
+
+def foreign(what: str, cure: str) -> Fault:
+    return Fault(f"{what}; nothing was changed: {cure}, then call again", Status.DOUBT)
+
+
+def sums_in(file: pathlib.Path) -> dict[str, str]:
+    """The sums of a file of sums, by the names; none where there is no such file."""
+    if file.is_symlink() or not file.is_file():
+        return {}
+    rows = [line.split("  ", 1) for line in file.read_text("utf-8", "replace").splitlines()]
+    return {row[1]: row[0] for row in rows if len(row) == 2}
+
+
+# ---------------------------------------------------------------- the poll
+def demand_covered(election: Election, poll: bytes) -> None:
+    """Stops where the poll says something else without its lines `last_envelope`, for the sum leaves them out.
+
+    A line may begin with these letters and go on with anything within a text of several lines.
+    """
+    whole, bare = (sheet_without_last(election, data) for data in (poll, poll_file.without_last_envelope(poll)))
+    if whole != bare:
+        words = "a line begins with last_envelope and is more than that; the sum of the call would leave it out"
+        raise Fault(f"{election.poll}: {words}; write it in another way, then call again", Status.DOUBT)
+
+
+def sheet_without_last(election: Election, poll: bytes) -> list[str]:
+    """The lines of the sheet of a poll without ballots, but for that of the last envelope."""
+    answer = election.debvote.ask("count", "--poll", "/dev/stdin", "--ballots", NO_BALLOTS, given=poll)
+    return [line for line in answer.text.splitlines() if not line.startswith("Last envelope: ")]
+
+
+def ended(election: Election, files: Files) -> Files:
+    """Ends the last line of the poll, so that a line that is put behind it later does not change its sum."""
+    if files.poll.endswith(b"\n"):
+        return files
+    kept = election.keep_copy(election.poll)
+    after = election.act("ended", files, poll=files.poll + b"\n")
+    print(f"{election.poll}: its last line had no line feed, and has one now; the file as it was is {kept}")
+    return after
+
+
+# ---------------------------------------------------------------- the folder
+def texts_of(call: Call, poll: bytes) -> dict[str, bytes]:
+    """The files of the call, the sums last."""
+    texts = {"index.html": call_page.html(call).encode(), "call.txt": call_letter.letter(call).encode()}
+    if call.has_poll:
+        texts["poll.toml"] = poll
+    sums = "".join(f"{sum_of(texts[name])}  {name}\n" for name in sorted(texts))
+    return texts | {SUMS: sums.encode()}
+
+
+def make(election: Election, files: Files, texts: dict[str, bytes]) -> None:
+    """Makes the folder beside its place, keeps the poll that is called, notes the act, and moves the folder there."""
+    count = len(journal.done(election.entries()))
+    made = pathlib.Path(tempfile.mkdtemp(prefix=LEFTOVER, dir=election.folder))
+    try:
+        made.chmod(0o777 & ~umask())
+        for name, text in texts.items():
+            write_whole(made / name, text)
+        keep_called(election, files)
+        election.act("call", files)
+        put_in_place(election, made)
+    except BaseException:
+        if made.exists():
+            shutil.rmtree(made, ignore_errors=True)
+            note_undone(election, files, count)
+        raise
+
+
+def note_undone(election: Election, files: Files, count: int) -> None:
+    """Notes that the call was not done, where it stands in the journal: there were so many acts before it."""
+    with contextlib.suppress(OSError):
+        if len(journal.done(election.entries())) > count:
+            journal.note(election.journal, journal.UNDONE, journal.NONE, files.sums)
+
+
+def keep_called(election: Election, files: Files) -> None:
+    """Keeps the poll that is called; of one that was called before, and taken back, a copy."""
+    kept = election.called_poll
+    if kept.exists():
+        if poll_file.without_last_envelope(kept.read_bytes()) == poll_file.without_last_envelope(files.poll):
+            return
+        election.keep_copy(kept)
+    election.backup.mkdir(exist_ok=True)
+    write_whole(kept, files.poll)
+
+
+def put_in_place(election: Election, made: pathlib.Path) -> None:
+    """Moves the new folder to its place. The earlier one steps aside first: at each moment the one there is whole, or there is none."""
+    before = None
+    if election.call.exists():
+        before = pathlib.Path(tempfile.mkdtemp(prefix=LEFTOVER, dir=election.folder))
+        # takes the place of the empty folder
+        election.call.rename(before)
+    try:
+        made.rename(election.call)
+    except BaseException:
+        if before is not None and not election.call.exists():
+            before.rename(election.call)
+        raise
+    sync_folder(election.folder)
+    if before is not None:
+        take_away(before)
+
+
+def take_away(folder: pathlib.Path) -> None:
+    """Removes the files of a call, and its folder where nothing else is in it."""
+    with contextlib.suppress(OSError):
+        for name in NAMES:
+            (folder / name).unlink(missing_ok=True)
+        folder.rmdir()
+
+
+def take_away_leftovers(election: Election) -> None:
+    """Removes what runs that were killed have left beside the call."""
+    for folder in election.folder.glob(f"{LEFTOVER}*"):
+        for file in folder.glob(".*") if folder.is_dir() else ():
+            file.unlink()
+        take_away(folder)
+
+
+# ---------------------------------------------------------------- what is said
+def say(election: Election, call: Call, is_anew: bool) -> None:
+    """Says what was made, and what comes next."""
+    print(f"Made the folder {election.call} {'anew' if is_anew else 'with the page index.html and the letter call.txt'}.")
+    print(f"The sum of the poll: {call.poll_sum}")
+    if call.until is None:
+        print("The call does not say until when one can vote; to say it, call again with --until TEXT.")
+    if call.to is None:
+        print("The call does not say where ballots are sent; to say it, call again with --to ADDRESS.")
+    if election.closed() is not None:
+        print("The election is closed already: ballots that come now are late.")
+    print(f"{election.poll} must not be changed any more.")
+    send = f"put the folder {election.call} on the web site, or send {election.call / 'call.txt'} to each elector"
+    print(f"Next: {send}; enter the ballots that come with: {command(election, 'add')} or {command(election, 'desk')}")

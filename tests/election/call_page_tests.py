@@ -1,0 +1,319 @@
+"""The page of a call for votes, in a real browser: each line that it makes is one that debvote reads as what was chosen."""
+
+import html
+import json
+import pathlib
+import random
+import re
+import shutil
+import subprocess
+import sys
+import unittest
+import urllib.parse
+
+import support
+
+sys.path.insert(0, str(support.ROOT / "python"))
+
+from debvote_tools.ballots import preferences  # noqa: E402
+
+BROWSER = shutil.which("chromium") or shutil.which("chromium-browser")
+FLAGS = ["--headless", "--no-sandbox", "--disable-gpu", "--hide-scrollbars", "--allow-file-access-from-files", "--dump-dom"]
+FLAGS += ["--enable-logging=stderr", "--virtual-time-budget=60000"]
+
+SIZES = (2, 3, 8, 31, 32)
+CHOICES = 40
+WIDTHS = (360, 1280)
+ADDRESS = "secretary+vote=2026@example.org"
+
+HOSTILE_TITLE = '</title><script>document.title = "x"</script> & {title} "q" %s'
+HOSTILE = ["</script><b>x</b><script>", '" autofocus onfocus="x', "<!-- & &amp; -->", "\\u003c\\\\'`${x}", "2 B to 1 A. You prefer"]
+
+# opens each page in a frame, types and chooses as an elector does, and writes down what the page shows
+DRIVER = """<!DOCTYPE html><meta charset="utf-8"><title>driver</title><pre id="out"></pre><script>
+const jobs = JSON.parse(JSON_HERE);
+const told = (node) => [...node.querySelectorAll("li")].map((item) => [...item.childNodes].map((part) =>
+  part.nodeType === 3 ? part.data : `{${part.dataset.option}}`).join(""));
+const named = (node) => Object.fromEntries([...node.querySelectorAll("b")].map((part) => [part.dataset.option, part.textContent]));
+function choose(doc, choice) {
+  const name = doc.getElementById("name");
+  name.value = choice.name;
+  name.dispatchEvent(new Event("input", { bubbles: true }));
+  [...doc.querySelectorAll("select")].forEach((select, place) => {
+    select.value = choice.ranks[place];
+    select.dispatchEvent(new Event("input", { bubbles: true }));
+  });
+  const letter = doc.getElementById("letter");
+  const is = (id) => !doc.getElementById(id).hidden;
+  return { line: doc.getElementById("line").textContent, words: told(doc.getElementById("words")), names: named(doc.getElementById("words")),
+    said: doc.getElementById("name-said").textContent, missing: doc.getElementById("missing").textContent,
+    letter: letter && letter.getAttribute("href"), ready: is("ready"), long: is("long"), invalid: name.getAttribute("aria-invalid") };
+}
+async function copied(win, write) {
+  Object.defineProperty(win.navigator, "clipboard", { value: { writeText: write }, configurable: true });
+  win.document.getElementById("copy").click();
+  await new Promise((done) => setTimeout(done, 50));
+  return { said: win.document.getElementById("copied").textContent, selected: String(win.getSelection()) };
+}
+async function run(job) {
+  const frame = document.createElement("iframe");
+  frame.width = job.width; frame.height = 600; frame.style.border = "0";
+  const loaded = new Promise((done) => { frame.onload = done; });
+  frame.src = job.page;
+  document.body.append(frame);
+  await loaded;
+  await new Promise((done) => setTimeout(done, 20));
+  const win = frame.contentWindow, doc = win.document, violations = [];
+  doc.addEventListener("securitypolicyviolation", (event) => violations.push(event.violatedDirective));
+  const results = job.choices.map((choice) => choose(doc, choice));
+  let clip = null;
+  const copies = job.choices.length === 0 ? [] : [await copied(win, async (text) => { clip = text; }), await copied(win, async () => { throw 1; })];
+  const style = win.getComputedStyle(doc.body);
+  const unlabelled = [...doc.querySelectorAll("input, select")].filter((field) => field.labels.length !== 1).length;
+  return { results, clip, copies, violations, unlabelled, wide: doc.documentElement.scrollWidth, title: doc.title, head: doc.querySelector("h1").textContent,
+    colours: style.color + " " + style.backgroundColor, requests: win.performance.getEntriesByType("resource").length,
+    scripts: doc.querySelectorAll("script").length, shown: !doc.getElementById("ballot").hidden };
+}
+(async () => {
+  const all = [];
+  for (const job of jobs) all.push(await run(job));
+  document.getElementById("out").textContent = JSON.stringify(all);
+})();
+</script>
+"""
+
+
+def names_of(size: int) -> list[str]:
+    """Names of options, hostile ones first, all of forty characters where they are filled up."""
+    own = [f"{number} option with a long name, and so on.......".ljust(40, ".")[:40] for number in range(1, size + 1)]
+    return [*HOSTILE, *own[len(HOSTILE) :]][: size - 1] + ["None of the above"]
+
+
+def poll_of(names: list[str], title: str, electors: int) -> str:
+    ratios = [1 + place % 10 for place in range(len(names) - 1)]
+    roll = [f"e{number:02}" for number in range(electors)]
+    keys = {"title": title, "options": names[:-1], "ratios": ratios, "default": names[-1], "quorum": 3, "roll": roll}
+    return "".join(f"{key} = {json.dumps(value)}\n" for key, value in keys.items())
+
+
+def choices_of(size: int, chance: random.Random) -> list[dict]:
+    """Names as electors type them, and ranks: many equal, many different, few or all of them given."""
+    chosen = []
+    for number in range(CHOICES):
+        most, share = chance.randint(1, size), chance.choice((0.1, 0.5, 0.9, 1))
+        ranks = [str(chance.randint(1, most)) if chance.random() < share else "-" for _ in range(size)]
+        ranks[chance.randrange(size)] = str(chance.randint(1, size))
+        typed = chance.choice(("e{:02}", "E{:02}", "  e{:02}", "\te{:02} \u00a0")).format(number)
+        chosen.append({"name": typed, "ranks": ranks})
+    return chosen
+
+
+def browse(scratch: pathlib.Path, jobs: list[dict], scheme: int = 1) -> tuple[list[dict], str]:
+    """What the browser found in each job, and what it wrote on its console."""
+    data = json.dumps(json.dumps(jobs)).replace("<", "\\u003c")
+    driver = scratch / "driver.html"
+    driver.write_text(DRIVER.replace("JSON_HERE", data), encoding="utf-8")
+    words = [BROWSER, *FLAGS, f"--user-data-dir={scratch}/browser", f"--blink-settings=preferredColorScheme={scheme}", driver.as_uri()]
+    ended = subprocess.run(words, capture_output=True, timeout=support.SECONDS)
+    console = "\n".join(line for line in ended.stderr.decode("utf-8", "replace").splitlines() if ":CONSOLE" in line)
+    found = re.search(r'<pre id="out">(.+?)</pre>', ended.stdout.decode("utf-8", "replace"), re.DOTALL)
+    if found is None:
+        raise AssertionError(f"the driver did not come to its end: {console}")
+    return json.loads(html.unescape(found[1])), console
+
+
+def order_in(sentences: list[str]) -> tuple[list[list[int]], list[int]]:
+    """What the sentences say: the options from the first preference on, equal ones together, and those without a rank."""
+    steps: list[list[int]] = []
+    equal: list[list[int]] = []
+    unranked: list[int] = []
+    for sentence in sentences:
+        groups = [[int(number) for number in re.findall(r"\{(\d+)\}", part)] for part in sentence.split(" to ")]
+        if sentence.startswith("You prefer "):
+            if steps and steps[-1] != groups[0]:
+                raise AssertionError(f"the sentences are no chain: {sentences}")
+            steps += ([] if steps else [groups[0]]) + ([] if sentence.endswith(" to all others.") else [groups[1]])
+        elif " equally: " in sentence:
+            equal.append(groups[0])
+        else:
+            unranked = groups[0]
+    steps = steps or equal
+    if [step for step in steps if step[1:]] != equal:
+        raise AssertionError(f"equal options are not told as that: {sentences}")
+    return steps, unranked
+
+
+@unittest.skipUnless(BROWSER, "chromium is not installed")
+class CallPageTest(support.ElectionTest):
+    """The page of polls of all sizes."""
+
+    def called(self, name: str, poll: str, *words: str) -> pathlib.Path:
+        """The page of the call for a poll."""
+        folder = self.scratch / name
+        folder.mkdir()
+        (folder / "poll.toml").write_text(poll)
+        ended = self.election("--folder", folder, "call", *words)
+        self.assertEqual((ended.status, ended.faults), (0, ""))
+        return folder / "call" / "index.html"
+
+    def test_each_line_is_read_as_what_was_chosen(self) -> None:
+        chance = random.Random(2026)
+        jobs, polls = [], {}
+        for size in SIZES:
+            polls[size] = poll_of(names_of(size), HOSTILE_TITLE, CHOICES)
+            page = self.called(str(size), polls[size], "--to", ADDRESS, "--until", "<b>soon</b> & \u05d0")
+            jobs.append({"page": page.as_uri(), "width": 360, "choices": choices_of(size, chance)})
+        found, console = browse(self.scratch, jobs)
+        self.assertEqual(console, "")
+        for size, job, page in zip(SIZES, jobs, found, strict=True):
+            with self.subTest(size=size):
+                self.check_page(page)
+                self.check_lines(self.scratch / str(size), job["choices"], page["results"])
+                for choice, result in zip(job["choices"], page["results"], strict=True):
+                    self.check_result(names_of(size), choice, result)
+                self.check_copy(page)
+
+    def check_page(self, page: dict) -> None:
+        """It loads nothing, breaks no rule, and shows the hostile title as a text."""
+        self.assertEqual((page["requests"], page["violations"], page["scripts"], page["unlabelled"]), (0, [], 1, 0))
+        self.assertEqual((page["title"], page["head"]), (f"Vote: {HOSTILE_TITLE}", HOSTILE_TITLE))
+        self.assertEqual(page["wide"], 360)
+        self.assertTrue(page["shown"])
+
+    def check_lines(self, folder: pathlib.Path, choices: list[dict], results: list[dict]) -> None:
+        """debvote takes all lines, and has the ranks that were chosen for each elector."""
+        (folder / "lines").write_text("".join(result["line"] + "\n" for result in results))
+        files = ["--poll", folder / "poll.toml", "--ballots", folder / "lines"]
+        explained = self.debvote("explain", *files)
+        told = f"{CHOICES} lines: {CHOICES} valid, 0 refused, 0 of them late; {CHOICES} of {CHOICES} electors have a ballot\n"
+        self.assertEqual((explained.output, explained.status), (told, 0))
+        wanted = "".join(f"e{number:02} {','.join(choice['ranks'])}\n" for number, choice in enumerate(choices))
+        self.assertEqual(self.debvote("standing", *files).output, wanted)
+
+    def check_result(self, names: list[str], choice: dict, result: dict) -> None:
+        """The words say the order that the ranks have, and the letter has the line."""
+        said = preferences(",".join(choice["ranks"]))
+        self.assertEqual(order_in(result["words"]), (said.steps, said.unranked))
+        shown = {str(number): f"{number} {name}" for number, name in enumerate(names, start=1)}
+        self.assertEqual(result["names"], shown)
+        self.assertEqual((result["missing"], result["ready"], result["invalid"]), ("", True, "false"))
+        self.assertEqual(result["long"], len(result["line"]) > 72)
+        self.assertEqual("made small" in result["said"], "E" in choice["name"])
+        self.assertEqual("left out" in result["said"], choice["name"].strip() != choice["name"])
+        address, _, query = result["letter"].partition("?")
+        self.assertEqual(address, "mailto:" + urllib.parse.quote(ADDRESS, safe="@"))
+        self.assertEqual(urllib.parse.parse_qs(query), {"subject": [f"Ballot: {HOSTILE_TITLE}"], "body": [result["line"] + "\r\n"]})
+
+    def check_copy(self, page: dict) -> None:
+        """The line is copied, or selected where the browser refuses."""
+        line = page["results"][-1]["line"]
+        self.assertEqual((page["clip"], page["copies"][0]["said"]), (line, "The line is copied."))
+        self.assertEqual(page["copies"][1]["selected"], line)
+        self.assertIn("The line is selected", page["copies"][1]["said"])
+
+    def test_no_line_before_name_and_rank(self) -> None:
+        odd = {"a b": "a space", "\u00e9va": "“\u00e9”", "x_y": "“_”", "\u212aate": "“\u212a”", "a,b": "“,”", "x" * 33: "33 characters"}
+        odd |= {"": "", "   ": "Type your name"}
+        choices = [{"name": name, "ranks": list("213-")} for name in odd] + [{"name": "ada", "ranks": list("----")}]
+        page = self.called("odd", support.POLL)
+        job = {"page": page.as_uri(), "width": 360, "choices": choices}
+        found, console = browse(self.scratch, [job])
+        results = found[0]["results"]
+        self.assertEqual(console, "")
+        for (name, part), result in zip(odd.items(), results[:-1], strict=True):
+            self.assertEqual((result["line"], result["ready"], result["letter"]), ("", False, None), name)
+            self.assertIn(part, result["said"])
+            self.assertTrue(result["missing"])
+            self.assertEqual(result["invalid"], "true" if name else "false")
+        self.assertEqual((results[-1]["line"], results[-1]["missing"]), ("", "Give at least one option a rank."))
+        self.assertEqual(results[-1]["words"], [])
+
+    def test_words(self) -> None:
+        ranks = ["21-3", "1111", "1---", "1-1-", "99--", "2112"]
+        job = {"width": 360, "choices": [{"name": "ada", "ranks": list(given)} for given in ranks]}
+        job["choices"][4]["ranks"] = ["4", "4", "1", "-"]
+        job["page"] = self.called("words", support.POLL).as_uri()
+        words = [result["words"] for result in browse(self.scratch, [job])[0][0]["results"]]
+        self.assertEqual(
+            words,
+            [
+                ["You prefer {2} to {1}.", "You prefer {1} to {4}.", "You rank {3} not at all, so it is behind all others."],
+                ["You rank {1}, {2}, {3} and {4} equally: none of them is preferred to another."],
+                ["You prefer {1} to all others.", "You rank {2}, {3} and {4} not at all, so they are behind all others."],
+                [
+                    "You prefer {1} and {3} to all others.",
+                    "You rank {1} and {3} equally: none of them is preferred to another.",
+                    "You rank {2} and {4} not at all, so they are behind all others.",
+                ],
+                [
+                    "You prefer {3} to {1} and {2}.",
+                    "You rank {1} and {2} equally: none of them is preferred to another.",
+                    "You rank {4} not at all, so it is behind all others.",
+                ],
+                [
+                    "You prefer {2} and {3} to {1} and {4}.",
+                    "You rank {2} and {3} equally: none of them is preferred to another.",
+                    "You rank {1} and {4} equally: none of them is preferred to another.",
+                ],
+            ],
+        )
+
+    def test_widths_and_colours(self) -> None:
+        pages = [self.called(str(size), poll_of(names_of(size), HOSTILE_TITLE, 9), "--to", ADDRESS) for size in (4, 32)]
+        choices = [{"name": "x" * 32, "ranks": [str(32 if len(names) > 9 else 4)] * len(names)} for names in map(names_of, (4, 32))]
+        jobs = [
+            {"page": page.as_uri(), "width": width, "choices": [choice]}
+            for page, choice in zip(pages, choices, strict=True)
+            for width in WIDTHS
+        ]
+        light, dark = (browse(self.scratch, jobs, scheme)[0] for scheme in (1, 0))
+        self.assertEqual([page["wide"] for page in light + dark], list(WIDTHS) * 4)
+        colours = [{page["colours"] for page in pages} for pages in (light, dark)]
+        self.assertEqual((len(colours[0]), len(colours[1]), len(colours[0] | colours[1])), (1, 1, 2))
+
+    def test_a_script_that_was_changed_does_not_run(self) -> None:
+        page = self.called("changed", support.POLL)
+        page.write_text(page.read_text().replace('"use strict";', '"use strict"; '))
+        found, console = browse(self.scratch, [{"page": page.as_uri(), "width": 360, "choices": []}])
+        self.assertFalse(found[0]["shown"])
+        self.assertIn("Content Security Policy", console)
+
+
+class CallPageTextTest(support.ElectionTest):
+    """The page without a browser."""
+
+    def page(self, *words: str) -> str:
+        ended = self.election("call", *words)
+        self.assertEqual(ended.status, 0, ended)
+        return self.read("call/index.html").decode()
+
+    @unittest.skipUnless(shutil.which("tidy"), "tidy is not installed")
+    def test_tidy(self) -> None:
+        polls = [support.POLL, *(poll_of(names_of(size), HOSTILE_TITLE, 9) for size in (2, 8, 32))]
+        for poll in polls:
+            for words in ([], ["--to", ADDRESS, "--until", "<i>", "--no-roll"]):
+                shutil.rmtree(self.folder / "call", ignore_errors=True)
+                self.write("poll.toml", poll)
+                self.page(*words)
+                ended = self.run_program("tidy", "-q", "-e", "call/index.html")
+                self.assertEqual((ended.output, ended.faults, ended.status), ("", "", 0))
+
+    def test_policy(self) -> None:
+        page = self.page("--to", ADDRESS)
+        policy = re.search(r'<meta http-equiv="Content-Security-Policy" content="([^"]*)">', page)[1]
+        self.assertRegex(
+            policy,
+            r"^default-src 'none'; script-src 'sha256-[^' ]*'; style-src 'sha256-[^' ]*'; base-uri 'none'; form-action 'none'$",
+        )
+        self.assertEqual(page.count("<script"), 1)
+        self.assertNotRegex(page, r"https?://|@import|url\(| style=| on[a-z]+=")
+
+    def test_the_script_can_stand_in_a_page(self) -> None:
+        script = (support.ROOT / "python/debvote_tools/election/ballot.js").read_text()
+        self.assertNotRegex(script.lower(), r"</script|<!--|<script")
+        self.assertNotRegex(script, r"innerHTML|outerHTML|insertAdjacentHTML|document\.write|eval\(|fetch\(|XMLHttpRequest")
+
+    @unittest.skipUnless(shutil.which("node"), "node is not installed")
+    def test_the_script_is_in_order(self) -> None:
+        script = support.ROOT / "python/debvote_tools/election/ballot.js"
+        self.assertEqual(self.run_program("node", "--check", script).status, 0)
