@@ -110,6 +110,12 @@ def last(entries: list[Entry], act: str) -> Entry | None:
     return next((entry for entry in reversed(done(entries)) if entry.act == act), None)
 
 
+def acts_done(file: pathlib.Path, now: Sums) -> list[Entry]:
+    """The acts that were done, where the files have these sums: also one that is done, and was killed before it was ended."""
+    last_begun = begun(file)
+    return done(entries_in(file)) + ([last_begun] if last_begun is not None and last_begun.sums == now else [])
+
+
 def note(file: pathlib.Path, act: str, envelopes: str, sums: Sums) -> None:
     """Notes an act that needs nothing more to be done. Raises OSError, and then nothing is noted."""
     append_whole(file, line_now(act, envelopes, sums) + b"\n", has_lines=True)
