@@ -133,7 +133,8 @@ class WithoutLastEnvelope(unittest.TestCase):
             self.assertEqual(poll_file.without_last_envelope(poll), grep, poll)
 
     def test_a_last_envelope_that_is_added_is_all_that_differs(self) -> None:
-        for poll in (b"a = 1\n[t]\nb = 2\n", b"a = 1", b"a = 1\r\n", b"# x\n", b"[t]\nb = 1", b"\xef\xbb\xbfa = 1\n"):
+        windows = (b"a = 1\r\n", b"a = 1\r\nb = 2", b"\xef\xbb\xbfa = 1\n")
+        for poll in (b"a = 1\n[t]\nb = 2\n", b"a = 1", b"# x\n", b"[t]\nb = 1", *windows):
             closed = poll_file.with_key(poll, "last_envelope", "12")
             self.assertNotEqual(closed, poll)
             self.assertEqual(poll_file.without_last_envelope(closed), poll_file.without_last_envelope(poll))

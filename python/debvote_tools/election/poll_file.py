@@ -112,7 +112,9 @@ def with_line(text: str, key: str, value: str) -> str:
         place = above[-1].end if found[len(above) :] else len(text)
     else:
         place = found[0].start
-    return text[:place] + (feed if text[:place] and not text[:place].endswith("\n") else "") + line + text[place:]
+    # a last line that has no line feed gets one alone, as grep ends it, so that the sum without the last envelope stays
+    end = "\n" if text[:place] and not text[:place].endswith("\n") else ""
+    return text[:place] + end + line + text[place:]
 
 
 def says(data: bytes, wanted: dict[str, object]) -> bool:
