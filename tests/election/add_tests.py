@@ -78,7 +78,7 @@ class Good(AddTest):
         for name in ("ä" * 127, "x" * 255, "-n", "a b\nc"):
             self.write(name, "ada 1,2,4,3\n")
             self.assertEqual(self.election("add", "--", name).status, 0)
-        self.write("odd", "ada 1,2,4,3\n").rename(os.fsencode(self.folder) + b"/\xff")
+        os.rename(os.fsencode(self.write("odd", "ada 1,2,4,3\n")), os.fsencode(self.folder) + b"/\xff")
         words = [sys.executable, str(support.ELECTION), "add", b"\xff"]
         ended = subprocess.run(words, cwd=self.folder, env=support.environment(), capture_output=True)
         self.assertEqual((ended.returncode, ended.stderr), (0, b""))
