@@ -27,8 +27,9 @@ pub trait Gate {
     /// Takes note that this desk has cast an envelope, with the slip that the cast gave.
     fn after(&self, desk: u8, slip: &Slip);
 
-    /// Whether a call may wait for what another desk does. If so, a worker takes an envelope from the tray only when it has cast
-    /// the one before. If not, it may take some at once, and asks for each right before its cast.
+    /// Whether a call may wait for what another desk does; it is asked once, before the workers start. If so, a worker takes an
+    /// envelope from the tray only when it has cast the one before. If not, it may take some at once, and asks for each right
+    /// before its cast.
     fn may_wait(&self) -> bool {
         true
     }

@@ -1,7 +1,5 @@
-use Rattle.std.proofs.Common.{◌≡◌, [], IfOk, IfErr, length, map, sym, ap, ◌∙◌, subst, arith}
-use Rattle.std.specs.List.{range_with_len}
-use Rattle.vote_steps.specs.Boxes.{box_of}
-use Rattle.vote_shared.specs.Desks.{SharedState, fresh_desk}
+use Rattle.std.proofs.Common.{◌≡◌, IfOk, IfErr, length, ap, subst}
+use Rattle.vote_shared.specs.Desks.{SharedState}
 use Rattle.vote_desks.specs.Faults.{IsOfDesk}
 use Rattle.vote_desks.proofs.votes.serve.Goals as goal
 
