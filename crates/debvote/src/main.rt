@@ -11,10 +11,11 @@
 //! that were read and says how the run ended.
 #![tactic(auto)]
 
-ghost use Rattle.std.specs.Prelude.{◌≡◌, ◌⊎◌, Err};
+ghost use Rattle.std.specs.Prelude.{◌≡◌, ◌<◌, IfErr, IfOk, length, map};
 ghost use Rattle.vote_command.specs.Order.{DesksFit};
-ghost use Rattle.vote_runs.specs.Status.{status};
-ghost use Rattle.vote_tasks.specs.WordStatus.{order_status};
+ghost use Rattle.vote_tasks.specs.Doing.{EndsJoined, EndsTask, IsDone};
+ghost use Rattle.vote_tasks.specs.WordStatus.{AnswersWords};
+ghost use Rattle.debvote.specs.Program.{Answers, AnswersJoined, AnswersWorded};
 
 use std::io::{ErrorKind, IsTerminal};
 use std::process::ExitCode;
@@ -36,6 +37,7 @@ fn do_job<R: Print + AllocGlobal + Threads + Wait + Sync>(
     inputs: &Inputs,
 ) -> Result<Ended, RunFault>
     requires { DesksFit task.now }
+    ensures { IsDone task.now (record { poll = inputs.now.poll.items; ballots = inputs.now.ballots.items; sheet = inputs.now.sheet.items }) result }
 {
     let job = job_of(
         task,
@@ -53,16 +55,25 @@ fn carry_out<R: Files + Print + AllocGlobal + Threads + Wait + Sync>(
     task: &Task<'_>,
 ) -> Result<Ended, RunFault>
     requires { DesksFit task.now }
+    ensures { EndsTask task.now result }
 {
-    let inputs = read_inputs(rt, task)?;
+    let inputs = match read_inputs(rt, task) {
+        Ok(inputs) => inputs,
+        Err(fault) => return Err(fault),
+    };
     do_job(rt, task, &inputs)
 }
 
 /// Writes the reply to each ballot of standard input, a poll and its ballots joined by a line `%%`.
 fn print_joined<R: Input + Print + AllocGlobal + Threads + Wait + Sync>(
     rt: &R,
-) -> Result<Ended, RunFault> {
-    let input = read_joined(rt)?;
+) -> Result<Ended, RunFault>
+    ensures { EndsJoined result }
+{
+    let input = match read_joined(rt) {
+        Ok(input) => input,
+        Err(fault) => return Err(fault),
+    };
     let job = Job::Joined {
         input: input.as_slice(),
     };
@@ -72,7 +83,7 @@ fn print_joined<R: Input + Print + AllocGlobal + Threads + Wait + Sync>(
 
 /// Prints the text for words that are no task, help on standard output and a refusal on standard error, and gives the exit status.
 fn explain<R: Print + Eprint>(rt: &R, fault: &OrderFault) -> u8
-    ensures { (result ≡ order_status fault.now) ⊎ (result ≡ status (Err RunFault.Output)) }
+    ensures { AnswersWords fault.now result }
 {
     match fault {
         OrderFault::Help(text) => {
@@ -91,29 +102,45 @@ fn explain<R: Print + Eprint>(rt: &R, fault: &OrderFault) -> u8
     order_status(fault)
 }
 
-/// Acts on the words, or without any on standard input, and gives the exit status.
-fn act<R: Files + Input + Print + Eprint + AllocGlobal + Threads + Wait + Sync>(
+/// Acts on words: does the task that they ask for, or says why they are none; and gives the exit status.
+fn act_on_words<R: Files + Print + Eprint + AllocGlobal + Threads + Wait + Sync>(
     rt: &R,
     words: &[&str],
-    at_terminal: bool,
-) -> u8 {
-    if words.is_empty() {
-        if at_terminal {
-            let _ = eprintln!(rt; "debvote: {TERMINAL_HINT}");
-        }
-        return report(rt, &print_joined(rt));
-    }
+) -> u8
+    ensures { AnswersWorded (map (λ word. word.now) words.now) result }
+{
     match order(rt.alloc(), words) {
         Ok(task) => report(rt, &carry_out(rt, &task)),
         Err(fault) => explain(rt, &fault),
     }
 }
 
+/// Acts on the words, or without any on standard input, and gives the exit status.
+fn act<R: Files + Input + Print + Eprint + AllocGlobal + Threads + Wait + Sync>(
+    rt: &R,
+    words: &[&str],
+    at_terminal: bool,
+) -> u8
+    ensures alone { length words.now ≡ 0 → AnswersJoined result }
+    ensures worded { 0 < length words.now → AnswersWorded (map (λ word. word.now) words.now) result }
+{
+    if !words.is_empty() {
+        return act_on_words(rt, words);
+    }
+    if at_terminal {
+        let _ = eprintln!(rt; "debvote: {TERMINAL_HINT}");
+    }
+    report(rt, &print_joined(rt))
+}
+
 /// Acts on the words after the program's name, and gives the exit status.
 fn run_program<R: Files + Input + Print + Eprint + Env + AllocGlobal + Threads + Wait + Sync>(
     rt: &R,
     at_terminal: bool,
-) -> Result<u8, RunFault> {
+) -> Result<u8, RunFault>
+    ensures answers { IfOk result Answers }
+    ensures fault { IfErr result (λ fault. fault ≡ RunFault.Memory) }
+{
     let args = match env::args(rt) {
         Ok(args) => args,
         Err(error) if error.kind() == ErrorKind::InvalidData => {

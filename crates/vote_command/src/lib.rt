@@ -12,6 +12,7 @@
 #![tactic(auto)]
 
 mod command_line;
+pub mod laws;
 
 pub use command_line::{OrderFault, Task, order};
 

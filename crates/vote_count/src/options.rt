@@ -76,6 +76,7 @@ impl OptionSet {
     }
 
     /// Whether the set has no options.
+    /// For callers of the library; the program does not call it.
     pub fn is_empty(&self) -> bool
         ensures { IsTrue result ↔ (size self.now ≡ 0) }
     {

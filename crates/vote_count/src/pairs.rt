@@ -76,6 +76,7 @@ impl Defeats {
 
     /// The options that `a` defeats, as a word in which option `c` has bit `c - 1`. `a` is from 1 to
     /// `MAX_OPTIONS`.
+    /// For callers of the library; the program does not call it.
     pub fn row(&self, a: u8) -> Word
         requires { IsOption MAX_OPTIONS a }
         ensures { (c : ℕ) → 1 ≤ c → (bit_at result (c - 1) ≡ 1) ↔ Pairs self.now a c }
@@ -178,6 +179,7 @@ impl Chains {
 
     /// The options that `a` transitively defeats, as a word in which option `c` has bit `c - 1`. `a`
     /// is from 1 to `MAX_OPTIONS`.
+    /// For callers of the library; the program does not call it.
     pub fn row(&self, a: u8) -> Word
         requires { IsOption MAX_OPTIONS a }
         ensures { (c : ℕ) → 1 ≤ c → (bit_at result (c - 1) ≡ 1) ↔ Pairs self.now a c }

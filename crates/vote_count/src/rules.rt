@@ -27,6 +27,7 @@ pub fn quorum_votes(poll: &Poll) -> u64
 
 /// Whether the votes of an option over the default option meet the quorum (section 4.2; Appendix A,
 /// Vote Counting). The option is another than the default.
+/// For callers of the library; the program does not call it.
 pub fn meets_quorum(poll: &Poll, matrix: &Matrix, option: u8) -> bool
     requires options { matrix.now.options ≡ option_count poll.now }
     requires first { 1 ≤ option }
@@ -69,6 +70,7 @@ pub fn meets_majority(poll: &Poll, matrix: &Matrix, option: u8) -> bool
 
 /// The options that are not dropped (Appendix A, Vote Counting): each that meets the quorum and
 /// defeats the default option by its majority ratio, and the default option, which is never dropped.
+/// For callers of the library; the program does not call it.
 pub fn standing_options(poll: &Poll, matrix: &Matrix) -> OptionSet
     requires { matrix.now.options ≡ option_count poll.now }
     ensures { (o : ℕ) → In result o ↔ IsKept poll.now matrix.now o }

@@ -77,6 +77,7 @@ impl Matrix {
     }
 
     /// Takes a ballot out that was counted: the votes that it added are taken back.
+    /// For callers of the library; the program does not call it.
     pub fn take_out(&mut self, ranks: &Ranks)
         requires options { length ranks.now ≡ self.old.options }
         requires counted { (a b : ℕ) → IsOption self.old.options a → IsOption self.old.options b → IsTrue (prefers ranks.now a b) → 0 < votes self.old a b }
@@ -257,6 +258,7 @@ fn move_row(row: &mut [u32], moves: u8x16, first: usize)
 
 /// The matrix of a list of ballots of so many options, with one entry for each voter: `None` where a
 /// voter has none. There are at most `MAX_ELECTORS` entries.
+/// For callers of the library; the program does not call it.
 pub fn recount(options: u8, ballots: &[Option<Ranks>]) -> Matrix
     requires options { options ≤ MAX_OPTIONS }
     requires few { length ballots.now ≤ MAX_ELECTORS }

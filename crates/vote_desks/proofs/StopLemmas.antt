@@ -1,14 +1,21 @@
--- The least desk that stopped early.
+-- The least desk that stopped early, and what an audit may find.
 use Rattle.std.proofs.Common.{◌≡◌, ℕ, ◌+◌, ◌<◌, ◌≤◌, List, Option, Some, None, length, get_or, map, refl, sym, ap, ◌∙◌, ⊎_elim, arith}
-use Rattle.std.specs.List.{range_with_len}
+use Rattle.std.specs.List.{range_with_len, count_by}
 use Rattle.std.proofs.lemmas.Bool.{cases_lt}
 use Rattle.std.proofs.lemmas.List.{get_or-map, length-map}
+use Rattle.vote_poll.specs.PollContent.{PollContent}
+use Rattle.vote_steps.specs.History.{is_cast}
+use Rattle.vote_steps.specs.Boxes.{BoxState}
+use Rattle.vote_steps.specs.Casting.{HasSizes}
+use Rattle.vote_shared.specs.declared.Slip.{Slip}
+use Rattle.vote_desks.specs.declared.fault.AuditFault.TheVariants.{SizeDiffers, CountDiffers, StepDiffers, SlipDiffers, ClosedEarly}
 use Rattle.vote_desks.specs.declared.fault.VoteFault.{VoteFault}
+use Rattle.vote_desks.specs.declared.fault.VoteFault.TheVariants.{Memory, Thread, Gate, Enter, Desk, Audit}
 use Rattle.vote_desks.specs.declared.worked.Stop.{Stop}
 use Rattle.vote_desks.specs.declared.worked.Stop.TheVariants.{Barred, Refused}
 use Rattle.vote_shared.specs.declared.EnterFault.{EnterFault}
 use Rattle.vote_shared.specs.declared.EnterFault.TheVariants.{StampUsed}
-use Rattle.vote_desks.specs.Faults.{CanStopVotes, IsOfDesk}
+use Rattle.vote_desks.specs.Faults.{CanStopVotes, IsOfDesk, IsAuditFaultOf}
 use Rattle.vote_desks.specs.Stops.{stop_fault, IsLeastStop}
 use Rattle.vote_shared.proofs.Ranges.{at_range}
 
@@ -47,3 +54,27 @@ can_stop desk (Refused fault) h = h fault refl
 pub of_desk : (desks desk : ℕ) (stop : Stop) → 1 ≤ desk → desk ≤ desks → IsOfDesk desks (stop_fault desk stop)
 of_desk desks desk Barred low high = (low, high)
 of_desk desks desk (Refused fault) low high = (low, high)
+
+-- an audit finds neither of these two in a box with the sizes of the poll and a cast for each line
+pub can_stop_audit : (poll : PollContent) (lines : List (List ℕ)) (b : BoxState) (sheets : List (List Slip)) (fault : VoteFault)
+    → HasSizes poll lines b → count_by is_cast b.steps ≡ length lines → IsAuditFaultOf poll lines b sheets fault → CanStopVotes fault
+can_stop_audit poll lines b sheets Memory sizes casts found = tt
+can_stop_audit poll lines b sheets Thread sizes casts found = tt
+can_stop_audit poll lines b sheets (Gate desk) sizes casts found = tt
+can_stop_audit poll lines b sheets (Enter desk fault) sizes casts found = absurd found
+can_stop_audit poll lines b sheets (Desk fault) sizes casts found = found
+can_stop_audit poll lines b sheets (Audit SizeDiffers) sizes casts found = absurd (found sizes)
+can_stop_audit poll lines b sheets (Audit CountDiffers) sizes casts found = absurd (found.1 casts)
+can_stop_audit poll lines b sheets (Audit (StepDiffers number)) sizes casts found = (λ e. cc, λ e. cc)
+can_stop_audit poll lines b sheets (Audit (SlipDiffers desk place)) sizes casts found = (λ e. cc, λ e. cc)
+can_stop_audit poll lines b sheets (Audit (ClosedEarly number)) sizes casts found = (λ e. cc, λ e. cc)
+
+-- what an audit finds is of no one desk
+pub audit_of_desk : (desks : ℕ) (poll : PollContent) (lines : List (List ℕ)) (b : BoxState) (sheets : List (List Slip)) (fault : VoteFault)
+    → IsAuditFaultOf poll lines b sheets fault → IsOfDesk desks fault
+audit_of_desk desks poll lines b sheets Memory found = tt
+audit_of_desk desks poll lines b sheets Thread found = tt
+audit_of_desk desks poll lines b sheets (Gate desk) found = absurd found
+audit_of_desk desks poll lines b sheets (Enter desk fault) found = absurd found
+audit_of_desk desks poll lines b sheets (Desk fault) found = tt
+audit_of_desk desks poll lines b sheets (Audit fault) found = tt

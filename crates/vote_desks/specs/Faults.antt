@@ -1,9 +1,13 @@
 -- Which faults can come where.
-use Rattle.std.specs.Prelude.{◌≡◌, ◌≢◌, ◌≤◌, ◌⊎◌, ℕ}
+use Rattle.std.specs.Prelude.{◌≡◌, ◌≢◌, ◌≤◌, ◌⊎◌, ℕ, List}
+use Rattle.vote_poll.specs.PollContent.{PollContent}
+use Rattle.vote_steps.specs.Boxes.{BoxState}
+use Rattle.vote_shared.specs.declared.Slip.{Slip}
 use Rattle.vote_shared.specs.declared.EnterFault.TheVariants.{StampUsed}
 use Rattle.vote_desks.specs.declared.fault.AuditFault.TheVariants.{SizeDiffers, CountDiffers}
 use Rattle.vote_desks.specs.declared.fault.VoteFault.{VoteFault}
 use Rattle.vote_desks.specs.declared.fault.VoteFault.TheVariants.{Memory, Thread, Gate, Enter, Desk, Audit}
+use Rattle.vote_desks.specs.Audit.{IsFaultOf}
 
 -- the box and the sheets have a place for each line, and each line was taken once. So a cast is refused only because its stamp
 -- was used, no desk was missing, and the box has the sizes of the poll and as many casts as lines
@@ -27,3 +31,12 @@ IsOfDesk desks (Audit fault) = Unit {0}
 -- no memory, or no thread
 abbrev pub IsStartFault : VoteFault → Type 0
 IsStartFault fault = (fault ≡ Memory) ⊎ (fault ≡ Thread)
+
+-- the audit of a box and its sheets finds this, and nothing else is answered
+abbrev pub IsAuditFaultOf : PollContent → List (List ℕ) → BoxState → List (List Slip) → VoteFault → Type 0
+IsAuditFaultOf poll lines b sheets Memory = ⊥
+IsAuditFaultOf poll lines b sheets Thread = ⊥
+IsAuditFaultOf poll lines b sheets (Gate desk) = ⊥
+IsAuditFaultOf poll lines b sheets (Enter desk fault) = ⊥
+IsAuditFaultOf poll lines b sheets (Desk fault) = ⊥
+IsAuditFaultOf poll lines b sheets (Audit fault) = IsFaultOf poll lines b sheets fault

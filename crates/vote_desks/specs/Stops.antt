@@ -1,9 +1,9 @@
 -- Which desk's early stop is answered.
-use Rattle.std.specs.Prelude.{◌≡◌, ℕ, ◌≤◌, List, Option, Some, Contains}
+use Rattle.std.specs.Prelude.{◌≡◌, ℕ, ◌≤◌, ◌⊎◌, List, Option, Some, None, All, Contains}
 use Rattle.vote_desks.specs.declared.worked.Stop.{Stop}
 use Rattle.vote_desks.specs.declared.worked.Stop.TheVariants.{Barred, Refused}
 use Rattle.vote_desks.specs.declared.fault.VoteFault.{VoteFault}
-use Rattle.vote_desks.specs.declared.fault.VoteFault.TheVariants.{Gate, Enter}
+use Rattle.vote_desks.specs.declared.fault.VoteFault.TheVariants.{Memory, Gate, Enter}
 
 -- the fault that a desk's early stop is answered by
 abbrev pub stop_fault : ℕ → Stop → VoteFault
@@ -17,3 +17,7 @@ pub record IsLeastStop (workers : List (ℕ × Option Stop)) (fault : VoteFault)
   pub stopped : Contains workers (desk, Some stop)
   pub fault_is : fault ≡ stop_fault desk stop
   pub least : (other : ℕ) (why : Stop) → Contains workers (other, Some why) → desk ≤ other
+
+-- why the desks are not taken back: the least that stopped early has this fault; or none did, and no memory was left
+abbrev pub StopsWorkers : List (ℕ × Option Stop) → VoteFault → Type 0
+StopsWorkers workers fault = IsLeastStop workers fault ⊎ (All (λ worker. worker.1 ≡ None) workers × (fault ≡ Memory))

@@ -172,6 +172,8 @@ impl Audited {
     }
 
     /// How many desks there were.
+    ///
+    /// For callers of the library; the program does not call it.
     pub fn desks(&self) -> u8
         ensures { result ≡ length self.now.sheets }
     {
@@ -179,6 +181,8 @@ impl Audited {
     }
 
     /// The sheet of a desk, by its number from 1.
+    ///
+    /// For callers of the library; the program does not call it.
     pub fn sheet_of(&self, desk: u8) -> &[Slip]
         requires { (1 ≤ desk) × (desk ≤ length self.now.sheets) }
         ensures { result.now ≡ sheet_at self.now.sheets desk }

@@ -39,18 +39,18 @@ pub enum VoteFault {
     Audit(AuditFault),
 }
 
-/// Says how a desk stopped the votes.
-fn write_stop<W: fmt::Write>(f: &mut fmt::Formatter<W>, desk: u8, stop: &str) -> fmt::Result {
-    write!(f, "desk {desk} {stop}")
-}
-
 impl fmt::Display for VoteFault {
+    ghost use Rattle.std.specs.Prelude.{Some};
+    ghost use Rattle.vote_desks.specs.Words.{fault_words};
+
+    ghost output = { λ fault. Some (fault_words fault) };
+
     fn fmt<W: fmt::Write>(&self, f: &mut fmt::Formatter<W>) -> fmt::Result {
         match self {
             VoteFault::Memory | VoteFault::Desk(DeskFault::Memory) => f.write_str("out of memory"),
             VoteFault::Thread => f.write_str("a desk could not be started"),
-            VoteFault::Gate(desk) => write_stop(f, *desk, "stopped at its gate"),
-            VoteFault::Enter(desk, _) => write_stop(f, *desk, "was refused by the box"),
+            VoteFault::Gate(desk) => write!(f, "desk {desk} stopped at its gate"),
+            VoteFault::Enter(desk, _) => write!(f, "desk {desk} was refused by the box"),
             VoteFault::Desk(DeskFault::MissingDesk) => {
                 f.write_str("the desks could not be gathered")
             }

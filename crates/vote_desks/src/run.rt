@@ -1,5 +1,5 @@
 //! Runs of envelopes, which a worker takes at once.
-ghost use Rattle.std.specs.Prelude.{◌≡◌, ◌+◌, ◌<◌, ◌≤◌, ◌^◌, ◌++◌, All, length, map, take};
+ghost use Rattle.std.specs.Prelude.{◌≡◌, ◌+◌, ◌<◌, ◌≤◌, ◌^◌, ◌++◌, All, IsTrue, length, map, take};
 ghost use Rattle.vote_poll.specs.PollContent.{elector_count, option_count};
 ghost use Rattle.vote_poll.specs.Readings.{ReadingFits};
 ghost use Rattle.vote_desks.specs.Work.{IsRising, IsStampOf};
@@ -16,7 +16,8 @@ const LEFT_FOR_EACH: usize = 128;
 /// How many envelopes a worker takes at once where this many are left: one, where its gate may wait for another desk. Towards the
 /// end runs get shorter, so that no desk has many to cast while others have none.
 pub(crate) fn run_length(may_wait: bool, left: usize) -> usize
-    ensures { (1 ≤ result) × (result ≤ RUN) }
+    ensures range { (1 ≤ result) × (result ≤ RUN) }
+    ensures one { IsTrue may_wait → result ≡ 1 }
 {
     if may_wait {
         1

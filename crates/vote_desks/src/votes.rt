@@ -7,8 +7,9 @@ ghost use Rattle.vote_shared.specs.Slips.{Rises};
 ghost use Rattle.vote_shared.specs.Desks.{fresh_desk};
 ghost use Rattle.vote_desks.specs.Audit.{IsAudited};
 ghost use Rattle.vote_desks.specs.Back.{AreBackFrom, AreHandedIn};
-ghost use Rattle.vote_desks.specs.Stops.{stop_fault, IsLeastStop};
-ghost use Rattle.vote_desks.specs.Faults.{CanStopVotes, IsOfDesk};
+ghost use Rattle.vote_desks.specs.Stops.{stop_fault, IsLeastStop, StopsWorkers};
+ghost use Rattle.vote_desks.specs.Faults.{CanStopVotes, IsOfDesk, IsAuditFaultOf};
+ghost use Rattle.vote_desks.specs.Work.{tray_and_parts};
 
 use crate::auditing::{Audited, audit};
 use crate::fault::VoteFault;
@@ -20,7 +21,7 @@ use std::sync::ledger::Blank;
 use std::sync::{Mutex, Wait};
 use std::thread::Threads;
 use vote_poll::{Lines, Poll};
-use vote_shared::{Desk, DeskFault, SharedBox, Tally, gather, open_desks};
+use vote_shared::{Desk, DeskFault, Sealed, SharedBox, Tally, gather, open_desks};
 use vote_steps::MAX_DESKS;
 use vote_tray::{Pass, Tray, TrayFault};
 
@@ -75,6 +76,26 @@ fn hand_in<VL: Tally, RL: Tally>(
     Ok((desks, joined))
 }
 
+/// Takes the desks back from their workers, with one pass that all passes were joined into, unless a desk stopped early.
+fn take_back<VL: Tally, RL: Tally>(
+    alloc: Global,
+    tray: &Tray,
+    all: Vec<WorkerResult<VL, RL>>,
+) -> Result<(Vec<Desk<VL, RL>>, Pass), VoteFault>
+    requires some { 0 < tray.now.passes }
+    requires numbers { map (λ worked. worked.desk.number) all.items ≡ range_with_len 1 tray.now.passes }
+    requires passes { map (λ worked. tray_and_parts worked.pass) all.items ≡ map tray_and_parts (map (new_pass tray.now) (range_with_len 0 tray.now.passes)) }
+    ensures handed { IfOk result (λ handed. AreHandedIn tray.now tray.now.passes handed.0.items handed.1) }
+    ensures stops { IfErr result (StopsWorkers (map (λ worked. (worked.desk.number, worked.stopped)) all.items)) }
+    ensures fault { IfErr result CanStopVotes }
+    ensures desk { IfErr result (IsOfDesk tray.now.passes) }
+{
+    if let Some(fault) = first_stop(&all) {
+        return Err(fault);
+    }
+    hand_in(alloc, tray, all)
+}
+
 /// Has the desks cast all envelopes of the tray, and takes them back with one pass that all passes were joined into.
 fn cast_all<
     VL: Tally + Send + Sync,
@@ -96,10 +117,7 @@ fn cast_all<
     ensures desk { IfErr result (IsOfDesk workplace.now.tray.now.passes) }
 {
     let all = work_all(rt, alloc, workplace, desks, passes)?;
-    if let Some(fault) = first_stop(&all) {
-        return Err(fault);
-    }
-    hand_in(alloc, workplace.tray, all)
+    take_back(alloc, workplace.tray, all)
 }
 
 /// Has this many desks, which have cast nothing, cast all lines, and takes them back.
@@ -139,6 +157,7 @@ fn cast_lines<
             lines,
             shared,
             gate,
+            may_wait: gate.may_wait(),
             tray: &tray,
             turn: &turn,
         };
@@ -146,6 +165,23 @@ fn cast_lines<
     };
     tray.finish(joined);
     Ok(back)
+}
+
+/// Audits a sealed box. What the audit finds is why the votes are not taken.
+fn audit_votes<R: Threads + Sync>(
+    rt: &R,
+    poll: &Poll,
+    lines: &Lines<'_>,
+    sealed: Sealed,
+) -> Result<Audited, VoteFault>
+    ensures same { IfOk result (λ audited. audited ≡ sealed) }
+    ensures audited { IfOk result (λ audited. IsAudited poll.now lines.now audited.ballot_box audited.sheets) }
+    ensures fault { IfErr result (IsAuditFaultOf poll.now lines.now sealed.ballot_box sealed.sheets) }
+{
+    match audit(rt, poll, lines, sealed) {
+        Ok(audited) => Ok(audited),
+        Err(fault) => Err(VoteFault::Audit(fault)),
+    }
 }
 
 /// Gathers the desks, which have cast all envelopes, and compares what they did with the lines.
@@ -174,10 +210,7 @@ fn gather_and_audit<VL: Tally, RL: Tally, R: Threads + Sync>(
         Err(DeskFault::MissingDesk) => unreachable!(),
         Err(DeskFault::Memory) => return Err(VoteFault::Memory),
     };
-    match audit(rt, poll, lines, sealed) {
-        Ok(audited) => Ok(audited),
-        Err(fault) => Err(VoteFault::Audit(fault)),
-    }
+    audit_votes(rt, poll, lines, sealed)
 }
 
 /// Takes the votes at desks of one box. Its ledgers are named by the caller.

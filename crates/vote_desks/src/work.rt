@@ -1,5 +1,5 @@
 //! Workers, each of which serves a desk in a thread of its own.
-ghost use Rattle.std.specs.Prelude.{◌≡◌, ◌+◌, ◌<◌, ◌≤◌, ◌^◌, ◌++◌, [], None, Ok, Some, All, IsNone, IfOk, IfErr, map, length, vec_len};
+ghost use Rattle.std.specs.Prelude.{◌≡◌, ◌+◌, ◌<◌, ◌≤◌, ◌^◌, ◌++◌, [], None, Ok, Some, All, IsNone, IsTrue, IfOk, IfErr, map, length, vec_len};
 ghost use Rattle.std.specs.List.{AllByRecursion};
 ghost use Rattle.vote_steps.specs.Boxes.{box_of};
 ghost use Rattle.vote_shared.specs.Slips.{stamps_of};
@@ -34,14 +34,15 @@ pub trait Gate {
     }
 }
 
-/// What all workers share: the poll and its lines, the box, the gate, the tray, whose places are the lines from 0, and a lock of
-/// nothing, by which a desk keeps the others away from the box while it casts a run.
+/// What all workers share: the poll and its lines, the box, the gate and whether it may wait, the tray, whose places are the lines
+/// from 0, and a lock of nothing, by which a desk keeps the others away from the box while it casts a run.
 #[derive(Drop)]
 pub(crate) struct Workplace<'h, 't, VL: Tally, RL: Tally, G> {
     pub poll: &'h Poll,
     pub lines: &'h Lines<'t>,
     pub shared: &'h SharedBox<VL, RL>,
     pub gate: &'h G,
+    pub may_wait: bool,
     pub tray: &'h Tray,
     pub turn: &'h Mutex<()>,
     ghost stamps: { length lines.now < 2 ^ 32 },
@@ -88,7 +89,8 @@ fn cast_each<VL: Tally, RL: Tally, G: Gate, R: Wait>(
     None
 }
 
-/// Casts the envelopes of a run, each as one step, until the gate or the box stops the desk.
+/// Casts the envelopes of a run, each as one step, until the gate or the box stops the desk. Where the gate may wait for another
+/// desk, a run has one envelope: the gate would wait for ever for another of the same run.
 ///
 /// Each cast takes the lock of the box anew. Around a longer run the desk takes its turn, so that the others wait once for
 /// the run and not for each cast: what they wait for is the costly part, and the matrix stays with one processor meanwhile.
@@ -100,6 +102,7 @@ fn cast_run<VL: Tally, RL: Tally, G: Gate, R: Wait>(
     readings: &[Reading],
 ) -> Option<Stop>
     requires stamps { All (IsStampOf (length workplace.now.lines.now)) stamps.now }
+    requires alone { IsTrue workplace.now.may_wait → length stamps.now ≤ 1 }
     requires readings { (length stamps.now ≤ length readings.now) × All (FitsBox workplace.now.shared.now.opened) readings.now }
     requires room { length desk.old.slips + length stamps.now ≤ desk.old.limit }
     ensures same { (desk.new.number ≡ desk.old.number) × (desk.new.limit ≡ desk.old.limit) }
@@ -134,8 +137,7 @@ fn cast_runs<VL: Tally, RL: Tally, G: Gate, R: Wait>(
     let lines = workplace.lines.len();
     let mut stamps = [0; RUN];
     let mut readings = [Reading::Bad(LineFault::Shape); RUN];
-    let may_wait = workplace.gate.may_wait();
-    let mut most = run_length(may_wait, lines);
+    let mut most = run_length(workplace.may_wait, lines);
     loop {
         let count = take_run(workplace.tray, pass, most, &mut stamps);
         if count == 0 {
@@ -147,7 +149,10 @@ fn cast_runs<VL: Tally, RL: Tally, G: Gate, R: Wait>(
         if stopped.is_some() {
             return stopped;
         }
-        most = run_length(may_wait, lines.saturating_sub(stamps[count - 1] as usize));
+        most = run_length(
+            workplace.may_wait,
+            lines.saturating_sub(stamps[count - 1] as usize),
+        );
     }
 }
 
@@ -284,7 +289,7 @@ fn join_all<VL: Tally, RL: Tally, R: Threads>(
 ) -> Result<Vec<WorkerResult<VL, RL>>, VoteFault>
     ensures desks { IfOk result (λ all. map (λ worked. worked.desk.number) all.items ≡ map (λ handle. handle.promise.number) handles.items) }
     ensures passes { IfOk result (λ all. map (λ worked. tray_and_parts worked.pass) all.items ≡ map (λ handle. tray_and_parts handle.promise.pass.value) handles.items) }
-    ensures err { IfErr result IsStartFault }
+    ensures err { IfErr result (λ fault. fault ≡ VoteFault.Memory) }
 {
     match thread::join_promised(rt, handles) {
         Ok(all) => Ok(all),

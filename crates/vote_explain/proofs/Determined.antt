@@ -11,6 +11,7 @@ use Rattle.vote_explain.specs.Column.{IsColumnHint, column_words}
 use Rattle.vote_explain.specs.Explained.{AreFindings, IsExplained, IsHint, IsSuggestion, Refusal, closing_text, finding_line, is_from_windows, left_behind, name_of, not_on_roll_words, refusals, suggestion_text, windows_line}
 use Rattle.vote_explain.specs.Nearest.{IsFound, IsNearest}
 use Rattle.vote_explain.proofs.LineFronts.{columns_are_one}
+use Rattle.vote_explain.specs.declared.TheConstants.{MOST_SEARCHES}
 
 -- ---- the nearest name
 not_before : (name : List ℕ) (roll : List (List ℕ)) (p q : ℕ) (near other : List ℕ) → IsNearest name roll p near → IsNearest name roll q other → p < q → ⊥
@@ -62,4 +63,4 @@ findings_are_one poll left (refusal ∷ refusals) a b (hint, others, is, are, te
 
 pub explained_is_one : (poll : PollContent) (lines : List Text) (a b : Text) → IsExplained poll lines a → IsExplained poll lines b → a ≡ b
 explained_is_one poll lines a b (findings, are, text) (findings', are', text') =
-    text ∙ ap (λ t. t ++ (windows_line (is_from_windows (refusals poll lines)) ++ (closing_text poll lines ++ []))) (findings_are_one poll 100 (refusals poll lines) findings findings' are are') ∙ sym text'
+    text ∙ ap (λ t. t ++ (windows_line (is_from_windows (refusals poll lines)) ++ (closing_text poll lines ++ []))) (findings_are_one poll MOST_SEARCHES (refusals poll lines) findings findings' are are') ∙ sym text'

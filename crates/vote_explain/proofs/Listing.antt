@@ -8,6 +8,7 @@ use Rattle.vote_steps.specs.declared.Reply.{Reply}
 use Rattle.vote_sheet.specs.Texts.{Text}
 use Rattle.vote_explain.specs.Explained.{AreFindings, Refusal, ends_with_return, finding_line, left_behind, refusals, refusals_from, refusing_reply}
 use Rattle.vote_explain.specs.Answers.{AddsFindings, finding_head, if_refusing, left_after, refused_by}
+use Rattle.vote_explain.specs.declared.TheConstants.{MOST_SEARCHES}
 
 -- ---- a finding
 pub finding_by : (refusal : Refusal) (hint t0 t1 t2 t3 : Text) → t1 ≡ t0 ++ finding_head refusal.number refusal.reply → t2 ≡ t1 ++ hint → t3 ≡ t2 ++ codes "\n" → t3 ≡ t0 ++ finding_line refusal hint
@@ -47,7 +48,7 @@ refusals_at poll lines place bytes reply at same =
 -- the text and the findings of the lines that are left, with the searches that are left, make up the whole
 abbrev pub GoesWith : PollContent → List Text → ℕ → ℕ → Text → Type 0
 GoesWith poll lines place left text =
-    (rest : Text) → AreFindings poll left (refusals_from poll (place + 1) (drop place lines)) rest → AreFindings poll 100 (refusals poll lines) (text ++ rest)
+    (rest : Text) → AreFindings poll left (refusals_from poll (place + 1) (drop place lines)) rest → AreFindings poll MOST_SEARCHES (refusals poll lines) (text ++ rest)
 
 pub goes_on : (poll : PollContent) (lines : List Text) (place left next : ℕ) (bytes : Text) (reply : Reply) (before after : Text) → slice_get lines place ≡ Some bytes
     → if_refusing reply ≡ refusing_reply (last_in_time poll) (place + 1) (reading poll bytes) → next ≡ left_after (refused_by (place + 1) bytes reply) left
@@ -57,12 +58,12 @@ goes_on poll lines place left next bytes reply before after at same count (findi
     let later = refusals_from poll (place + 1 + 1) (drop (place + 1) lines) in
     let whole = findings_append poll left here later findings rest are (subst (λ n. AreFindings poll n later rest) count others) in
     let both = goes (findings ++ rest) (subst (λ list. AreFindings poll left list (findings ++ rest)) (sym (refusals_at poll lines place bytes reply at same)) whole) in
-    subst (AreFindings poll 100 (refusals poll lines)) (sym (append_assoc before findings rest) ∙ ap (λ t. t ++ rest) (sym text)) both
+    subst (AreFindings poll MOST_SEARCHES (refusals poll lines)) (sym (append_assoc before findings rest) ∙ ap (λ t. t ++ rest) (sym text)) both
 
-pub ends : (poll : PollContent) (lines : List Text) (place left : ℕ) (text : Text) → length lines ≤ place → GoesWith poll lines place left text → AreFindings poll 100 (refusals poll lines) text
+pub ends : (poll : PollContent) (lines : List Text) (place left : ℕ) (text : Text) → length lines ≤ place → GoesWith poll lines place left text → AreFindings poll MOST_SEARCHES (refusals poll lines) text
 ends poll lines place left text all goes =
     let none : drop place lines ≡ [] = drop_all place lines all in
-    subst (AreFindings poll 100 (refusals poll lines)) (append-nil text) (goes [] (subst (λ lines. AreFindings poll left (refusals_from poll (place + 1) lines) []) (sym none) refl))
+    subst (AreFindings poll MOST_SEARCHES (refusals poll lines)) (append-nil text) (goes [] (subst (λ lines. AreFindings poll left (refusals_from poll (place + 1) lines) []) (sym none) refl))
 
 -- whether all so far and all that are left end with a carriage return
 abbrev pub TellsWith : PollContent → List Text → ℕ → Bool → Type 0

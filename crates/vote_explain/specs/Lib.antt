@@ -1,4 +1,5 @@
 -- what the contracts of public calls say
+pub mod Limits
 pub mod Column
 pub mod Nearest
 pub mod Explained

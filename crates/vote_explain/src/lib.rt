@@ -24,6 +24,8 @@
 //! `nearest` the near name.
 #![tactic(auto)]
 
+ghost use Rattle.vote_explain.specs.Limits.{LimitsAreAsWritten};
+
 mod explain;
 mod fronts;
 mod hints;
@@ -44,3 +46,8 @@ pub const MOST_EDITS: usize = 2;
 
 /// For how many names a near one is searched: each search reads the whole roll.
 pub const MOST_SEARCHES: u8 = 100;
+
+/// A law: the limits of what is said of a line are those that `docs/FORMATS.md` writes.
+pub fn limits_are_as_written()
+    ensures { LimitsAreAsWritten }
+{}

@@ -1,13 +1,20 @@
 -- Texts of findings, one after another.
-use Rattle.std.proofs.Common.{◌≡◌, ◌≢◌, ◌+◌, ◌/◌, ◌%◌, ◌∷◌, ◌++◌, [], ℕ, zero, suc, List, Bool, true, false, map, take, length, filter, Ok, Err, Result, refl, ap, sym, subst, ◌∙◌, arith, append_assoc, append-nil, nat_lt, codes, OnOk, inl, inr, Bor}
+use Rattle.std.proofs.Common.{◌≡◌, ◌≢◌, ◌+◌, ◌/◌, ◌%◌, ◌∷◌, ◌++◌, [], ℕ, zero, suc, List, Bool, true, false, map, take, length, filter, Ok, Err, Result, refl, ap, sym, subst, ◌∙◌, arith, append_assoc, append-nil, nat_lt, codes, OnOk, inl, inr, Bor, Option, Some, None, option_map, unwrap_or, get_or, ◌<◌}
 use Rattle.std.specs.List.{concat, flat_map, range_with_len}
 use Rattle.std.specs.Prelude.{not}
 use Rattle.std.proofs.lemmas.Bool.{cases_Bool}
 use Rattle.std.proofs.lemmas.Bool.Decides.{nat_tests}
 use Rattle.std.proofs.lemmas.List.Elements.{All-nil, All-cons, All-append, filter-append}
-use Rattle.std.proofs.lemmas.List.{map-append}
+use Rattle.std.proofs.lemmas.List.{map-append, take_more}
 use Rattle.std.proofs.lemmas.List.Concat.{concat_is, flat_map-append}
-use Rattle.vote_findings.specs.Findings.{AddsFindings, AddsKeyLine, AddsKeyLines, AreFindings, EndsFinding, IsKeyLine, fault_words, finding}
+use Rattle.vote_findings.specs.Findings.{AddsFindings, AddsKeyLine, AddsKeyLines, AreFindings, AreKeyLines, EndsFinding, IsKeyLine, finding}
+use Rattle.vote_findings.specs.UnreadKeys.{IsRemark, IsRemarkWhere, Place, below_words, key_named, lacks, path_behind, path_of, unread_keys}
+use Rattle.vote_findings.specs.UnreadView.{cut, place_of}
+use Rattle.vote_findings.specs.declared.path.UnreadKey.{UnreadKey}
+use Rattle.vote_findings.specs.declared.TheConstants.{MAX_SHOWN}
+use Rattle.vote_findings.proofs.PathLaws.{cut_behind, cut_cut}
+use Rattle.toml.specs.Data.{Members}
+use Rattle.vote_keys.specs.FaultWords.{fault_words}
 use Rattle.vote_text.specs.Lines.{IsUnbroken, line_feed}
 use Rattle.vote_text.specs.Names.{is_printable}
 use Rattle.vote_poll.specs.PollFaults.{fault_unless}
@@ -121,36 +128,84 @@ places_more p naming n =
     one false e = rw e refl
 
 -- ---- lines of keys
-pub on_key_line : {X E : Type 0} (r : Result X E) (path remark before after : List ℕ) (most n : ℕ)
-    → OnOk r (after ≡ before ++ codes "poll: key " ++ shown most path ++ codes " is not read" ++ shown n remark ++ line_feed) → OnOk r (AddsKeyLine before after)
-on_key_line (Err x) path remark before after most n added = tt
-on_key_line (Ok x) path remark before after most n added =
-    let line : List ℕ = codes "poll: key " ++ shown most path ++ codes " is not read" ++ shown n remark ++ line_feed in
-    let is : IsKeyLine line = record { path = shown most path; remark = shown n remark; path_unbroken = shown_unbroken most path; remark_unbroken = shown_unbroken n remark; is_text = refl } in
-    (line, is, added ∙ five_behind before (codes "poll: key ") (shown most path) (codes " is not read") (shown n remark) line_feed)
+-- the line of a key of which the path is noted as far as it is shown
+pub on_key_line : {X E : Type 0} (r : Result X E) (file : Members) (place : Place) (path remark before after : List ℕ) → path ≡ take MAX_SHOWN (path_of place) → IsRemark file place remark
+    → OnOk r (after ≡ before ++ codes "poll: key " ++ shown MAX_SHOWN path ++ codes " is not read" ++ remark ++ line_feed) → OnOk r (AddsKeyLine file place before after)
+on_key_line (Err x) file place path remark before after cut is added = tt
+on_key_line (Ok x) file place path remark before after cut is added =
+    let same : shown MAX_SHOWN path ≡ shown MAX_SHOWN (path_of place) = ap (flat_map shown_byte) (ap (take MAX_SHOWN) cut ∙ cut_cut MAX_SHOWN (path_of place)) in
+    let line : List ℕ = codes "poll: key " ++ shown MAX_SHOWN path ++ codes " is not read" ++ remark ++ line_feed in
+    let is_line : IsKeyLine file place line = record { remark = remark; is_remark = is; is_text = ap (λ t. codes "poll: key " ++ t ++ codes " is not read" ++ remark ++ line_feed) same } in
+    (line, is_line, added ∙ five_behind before (codes "poll: key ") (shown MAX_SHOWN path) (codes " is not read") remark line_feed)
 
-pub one_key_line : (before between after : List ℕ) → AddsKeyLines before between → AddsKeyLine between after → AddsKeyLines before after
-one_key_line before between after first more =
-    let line : List ℕ = more.0 in
-    let joined : concat (first.0 ++ line ∷ []) ≡ concat first.0 ++ line =
-    concat_is (first.0 ++ line ∷ []) ∙ flat_map-append (λ x. x) first.0 (line ∷ []) ∙ ap (λ t. t ++ (line ++ [])) (sym (concat_is first.0)) ∙ ap (λ t. concat first.0 ++ t) (append-nil line) in (
-      first.0 ++ line ∷ [],
-      All-append IsKeyLine first.0 (line ∷ []) first.1 (All-cons IsKeyLine line [] more.1 (All-nil IsKeyLine)),
-      more.2 ∙ ap (λ t. t ++ line) first.2 ∙ append_assoc before (concat first.0) line ∙ ap (λ t. before ++ t) (sym joined),
-    )
+key_lines_append : (file : Members) (xs ys : List Place) (s t : List ℕ) → AreKeyLines file xs s → AreKeyLines file ys t → AreKeyLines file (xs ++ ys) (s ++ t)
+key_lines_append file [] ys s t none more = subst (λ (u : List ℕ). AreKeyLines file ys (u ++ t)) (sym none) more
+key_lines_append file (x ∷ xs) ys s t first more =
+    (first.0, first.1 ++ t, first.2, key_lines_append file xs ys first.1 t first.3 more, ap (λ u. u ++ t) first.4 ∙ append_assoc first.0 first.1 t)
+
+pub one_key_line : (file : Members) (places : List Place) (place : Place) (before between after : List ℕ) → AddsKeyLines file places before between → AddsKeyLine file place between after
+    → AddsKeyLines file (places ++ place ∷ []) before after
+one_key_line file places place before between after first more =
+    let one : AreKeyLines file (place ∷ []) more.0 = (more.0, [], more.1, refl, sym (append-nil more.0)) in
+    (first.0 ++ more.0, key_lines_append file places (place ∷ []) first.0 more.0 first.1 one, more.2 ∙ ap (λ t. t ++ more.0) first.2 ∙ append_assoc before first.0 more.0)
+
+-- the lines of one key more of those that were noted
+pub noted_next : (file : Members) (keys : List UnreadKey) (i : ℕ) (key : UnreadKey) (before between after : List ℕ) → i < length keys → get_or keys i key ≡ key
+    → AddsKeyLines file (map place_of (take i keys)) before between → AddsKeyLine file (place_of key) between after → AddsKeyLines file (map place_of (take (i + 1) keys)) before after
+noted_next file keys i key before between after within is first more =
+    let longer : map place_of (take (i + 1) keys) ≡ map place_of (take i keys) ++ place_of key ∷ [] =
+    ap (map place_of) (take_more keys i key within) ∙ map-append place_of (take i keys) (get_or keys i key ∷ []) ∙ ap (λ k. map place_of (take i keys) ++ place_of k ∷ []) is in
+    subst (λ ps. AddsKeyLines file ps before after) (sym longer) (one_key_line file (map place_of (take i keys)) (place_of key) before between after first more)
+
+-- lines of keys whose paths are cut
+shown_cut : (t : List ℕ) → shown MAX_SHOWN (take MAX_SHOWN t) ≡ shown MAX_SHOWN t
+shown_cut t = ap (flat_map shown_byte) (cut_cut MAX_SHOWN t)
+
+shown_path : (table : Option (List ℕ)) (name : List ℕ) → shown MAX_SHOWN (path_behind (option_map (take MAX_SHOWN) table) name) ≡ shown MAX_SHOWN (path_behind table name)
+shown_path None name = refl
+shown_path (Some table) name =
+    ap (flat_map shown_byte) (cut_behind (take MAX_SHOWN table ++ codes ".") (table ++ codes ".") name (cut_behind (take MAX_SHOWN table) table (codes ".") (cut_cut MAX_SHOWN table)))
+
+below_cut : (table : Option (List ℕ)) → below_words (unwrap_or (option_map (take MAX_SHOWN) table) []) ≡ below_words (unwrap_or table [])
+below_cut None = refl
+below_cut (Some table) = ap (λ t. codes "; it stands below [" ++ t ++ codes "], and is read above all tables only") (shown_cut table)
+
+remark_uncut : (b : Bool) (file : Members) (place : Place) (words : List ℕ) → IsRemarkWhere b file (cut place) words → IsRemarkWhere b file place words
+remark_uncut true file place words is = is ∙ below_cut place.table
+remark_uncut false file place words is = is
+
+line_uncut : (file : Members) (place : Place) (line : List ℕ) → IsKeyLine file (cut place) line → IsKeyLine file place line
+line_uncut file place line is = record {
+  remark = is.remark;
+  is_remark = remark_uncut (lacks file (key_named place.name)) file place is.remark is.is_remark;
+  is_text = is.is_text ∙ ap (λ t. codes "poll: key " ++ t ++ codes " is not read" ++ is.remark ++ line_feed) (shown_path place.table place.name);
+}
+
+pub lines_uncut : (file : Members) (places : List Place) (lines : List ℕ) → AreKeyLines file (map cut places) lines → AreKeyLines file places lines
+lines_uncut file [] lines are = are
+lines_uncut file (place ∷ places) lines are = (are.0, are.1, line_uncut file place are.0 are.2, lines_uncut file places are.1 are.3, are.4)
+
+-- the keys that were noted are those that are not read
+pub on_all_keys : {X E : Type 0} (r : Result X E) (noted file : Members) (places : List Place) (before after : List ℕ) → noted ≡ file → places ≡ map cut (unread_keys file)
+    → OnOk r (AddsKeyLines noted places before after) → OnOk r (AddsKeyLines file (unread_keys file) before after)
+on_all_keys (Err x) noted file places before after of_file are added = tt
+on_all_keys (Ok x) noted file places before after of_file are added =
+    let lines : AreKeyLines file (map cut (unread_keys file)) added.0 =
+    subst (λ ps. AreKeyLines file ps added.0) are (subst (λ f. AreKeyLines f places added.0) of_file added.1) in
+    (added.0, lines_uncut file (unread_keys file) added.0 lines, added.2)
 
 -- ---- all findings
-pub all_findings : (faults : List PollFault) (before between after : List ℕ) → before ≡ [] → AddsFindings faults before between → AddsKeyLines between after
-    → (lines : List ℕ) × AreFindings faults lines × AddsKeyLines lines after
-all_findings faults before between after none first keys =
+pub all_findings : (faults : List PollFault) (file : Members) (places : List Place) (before between after : List ℕ) → before ≡ [] → AddsFindings faults before between → AddsKeyLines file places between after
+    → (lines : List ℕ) × AreFindings faults lines × AddsKeyLines file places lines after
+all_findings faults file places before between after none first keys =
     let is : between ≡ first.0 = first.2 ∙ ap (λ t. t ++ first.0) none in
     (between, subst (λ (t : List ℕ). AreFindings faults t) (sym is) first.1, keys)
 
 -- the findings, and then the lines of keys
-pub on_keys : {X E : Type 0} (r : Result X E) (faults : List PollFault) (before between after : List ℕ) → AddsFindings faults before between → OnOk r (AddsKeyLines between after)
-    → OnOk r ((middle : List ℕ) × AddsFindings faults before middle × AddsKeyLines middle after)
-on_keys (Ok x) faults before between after first keys = (between, first, keys)
-on_keys (Err x) faults before between after first keys = tt
+pub on_keys : {X E : Type 0} (r : Result X E) (faults : List PollFault) (file : Members) (places : List Place) (before between after : List ℕ) → AddsFindings faults before between → OnOk r (AddsKeyLines file places between after)
+    → OnOk r ((middle : List ℕ) × AddsFindings faults before middle × AddsKeyLines file places middle after)
+on_keys (Ok x) faults file places before between after first keys = (between, first, keys)
+on_keys (Err x) faults file places before between after first keys = tt
 
 -- ---- texts that are lent
 abbrev pub now : Bor (List ℕ) → List ℕ

@@ -2,3 +2,6 @@ mod FindingLaws
 mod FoundLaws
 mod KeyLaws
 mod SeenLaws
+mod PathLaws
+mod UnreadLaws
+mod EditLaws

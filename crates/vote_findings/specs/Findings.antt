@@ -1,29 +1,15 @@
--- The text of all that is wrong with a poll file: a line for each fault and each key that is not read. What a hint says, and what
--- is remarked of a key, is open; but it does not break the line.
+-- The text of all that is wrong with a poll file: a line for each fault, and then one for each key that is not read. What the hint
+-- on a fault says is open; but it does not break the line.
 use Rattle.std.specs.Prelude.{◌≡◌, ℕ, List, [], ◌∷◌, ◌++◌, Result, Ok, Err, codes}
-use Rattle.std.specs.List.{All, concat}
 use Rattle.std.specs.Fmt.{decimal}
 use Rattle.toml.specs.Data.{Members}
 use Rattle.vote_text.specs.Lines.{IsUnbroken, line_feed}
+use Rattle.vote_text.specs.Shown.{shown}
 use Rattle.vote_poll.specs.PollFaults.{faults_in}
-use Rattle.vote_keys.specs.Keys.{key_name}
+use Rattle.vote_keys.specs.FaultWords.{fault_words}
 use Rattle.vote_keys.specs.declared.fault.PollFault.{PollFault}
-use Rattle.vote_keys.specs.declared.fault.PollFault.TheVariants as fault
-
--- what the fault line of a fault says behind `poll refused: `
-abbrev pub fault_words : PollFault → List ℕ
-fault_words fault.Syntax = codes "syntax"
-fault_words (fault.Key name) = codes "key " ++ key_name name
-fault_words fault.Title = codes "title"
-fault_words fault.OptionCount = codes "number of options"
-fault_words (fault.OptionName option) = codes "name of option " ++ decimal option
-fault_words fault.Ratio = codes "ratios"
-fault_words fault.Quorum = codes "quorum"
-fault_words fault.RollSize = codes "size of roll"
-fault_words (fault.VoterName place) = codes "voter at position " ++ decimal place
-fault_words fault.LastEnvelope = codes "last envelope"
-fault_words fault.Wording = codes "wording"
-fault_words fault.Memory = codes "out of memory"
+use Rattle.vote_findings.specs.UnreadKeys.{IsRemark, Place, path_of, unread_keys}
+use Rattle.vote_findings.specs.declared.TheConstants.{MAX_SHOWN}
 
 -- the line of a fault
 abbrev pub finding : PollFault → List ℕ → List ℕ
@@ -35,12 +21,15 @@ AreFindings [] text = text ≡ []
 AreFindings (e ∷ es) text = (hint : List ℕ) × (rest : List ℕ) × IsUnbroken hint × AreFindings es rest × (text ≡ finding e hint ++ rest)
 
 -- the line of a key that is not read
-pub record IsKeyLine (text : List ℕ) : Type 0 where
-  pub path : List ℕ
+pub record IsKeyLine (file : Members) (place : Place) (text : List ℕ) : Type 0 where
   pub remark : List ℕ
-  pub path_unbroken : IsUnbroken path
-  pub remark_unbroken : IsUnbroken remark
-  pub is_text : text ≡ codes "poll: key " ++ path ++ codes " is not read" ++ remark ++ line_feed
+  pub is_remark : IsRemark file place remark
+  pub is_text : text ≡ codes "poll: key " ++ shown MAX_SHOWN (path_of place) ++ codes " is not read" ++ remark ++ line_feed
+
+-- a line for each of the keys, in their order
+abbrev pub AreKeyLines : Members → List Place → List ℕ → Type 0
+AreKeyLines file [] text = text ≡ []
+AreKeyLines file (place ∷ places) text = (line : List ℕ) × (rest : List ℕ) × IsKeyLine file place line × AreKeyLines file places rest × (text ≡ line ++ rest)
 
 -- the line of a text that is no TOML
 pub record IsSyntaxFinding (text : List ℕ) : Type 0 where
@@ -58,15 +47,15 @@ AddsFindings faults before after = (lines : List ℕ) × AreFindings faults line
 abbrev pub EndsFinding : List ℕ → List ℕ → Type 0
 EndsFinding before after = (hint : List ℕ) × IsUnbroken hint × (after ≡ before ++ codes ": " ++ hint ++ line_feed)
 
--- the line of a key was added to a text
-abbrev pub AddsKeyLine : List ℕ → List ℕ → Type 0
-AddsKeyLine before after = (line : List ℕ) × IsKeyLine line × (after ≡ before ++ line)
+-- the line of a key of a file was added to a text
+abbrev pub AddsKeyLine : Members → Place → List ℕ → List ℕ → Type 0
+AddsKeyLine file place before after = (line : List ℕ) × IsKeyLine file place line × (after ≡ before ++ line)
 
--- lines of keys were added to a text
-abbrev pub AddsKeyLines : List ℕ → List ℕ → Type 0
-AddsKeyLines before after = (lines : List (List ℕ)) × All IsKeyLine lines × (after ≡ before ++ concat lines)
+-- the lines of these keys were added to a text
+abbrev pub AddsKeyLines : Members → List Place → List ℕ → List ℕ → Type 0
+AddsKeyLines file places before after = (lines : List ℕ) × AreKeyLines file places lines × (after ≡ before ++ lines)
 
 -- the findings of a text whose table, or whose only fault, is this
 abbrev pub AreFindingsOf : Result Members PollFault → List ℕ → Type 0
-AreFindingsOf (Ok table) text = (faults : List ℕ) × AreFindings (faults_in (Ok table)) faults × AddsKeyLines faults text
+AreFindingsOf (Ok table) text = (faults : List ℕ) × AreFindings (faults_in (Ok table)) faults × AddsKeyLines table (unread_keys table) faults text
 AreFindingsOf (Err e) text = IsSyntaxFinding text

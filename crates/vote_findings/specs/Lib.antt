@@ -1,6 +1,10 @@
--- what the contract of the public call says
+-- what the contracts of public calls say
+pub mod Limits
+pub mod UnreadKeys
 pub mod Findings
 -- what types stand for, and what private functions say of their parts
 pub mod FoundView
+pub mod UnreadView
+pub mod HintView
 pub mod KeyFindings
 pub mod NameFindings

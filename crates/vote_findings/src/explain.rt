@@ -3,6 +3,7 @@ ghost use Rattle.std.specs.Prelude.{◌≡◌, ◌≢◌, ℕ, ◌++◌, List, O
 ghost use Rattle.toml.specs.View.{table_view};
 ghost use Rattle.vote_findings.specs.Findings.{AddsFindings, AddsKeyLines, AreFindingsOf, IsSyntaxFinding};
 ghost use Rattle.vote_findings.specs.FoundView.{found_view};
+ghost use Rattle.vote_findings.specs.UnreadKeys.{unread_keys};
 ghost use Rattle.vote_poll.specs.PollFaults.{faults_in, of_contents, of_keys};
 ghost use Rattle.vote_keys.specs.Keys.{Gives, document};
 ghost use Rattle.vote_poll.specs.PollFile.{poll_in, poll_in_table};
@@ -94,7 +95,7 @@ fn push_faults(
 
 /// Adds the findings of a table: its faults, and the keys that are not read.
 fn push_findings(alloc: Global, text: &mut String, table: &Table) -> Result<(), AllocError>
-    ensures { OnOk result ((between : List ℕ) × AddsFindings (faults_in (Ok (table_view table.now))) (string_bytes text.old) between × AddsKeyLines between (string_bytes text.new)) }
+    ensures { OnOk result ((between : List ℕ) × AddsFindings (faults_in (Ok (table_view table.now))) (string_bytes text.old) between × AddsKeyLines (table_view table.now) (unread_keys (table_view table.now)) between (string_bytes text.new)) }
 {
     let unread = UnreadKeys::of_table(alloc, table)?;
     push_faults(alloc, text, table, &unread)?;

@@ -2,13 +2,14 @@
 ghost use Rattle.std.specs.Prelude.{◌≡◌, ◌+◌, ◌++◌, ◌&&◌, ◌||◌, ◌==◌, IfOk, OnOk, codes, is_none, length, map, option_copied, option_to_list, string_bytes};
 ghost use Rattle.std.specs.List.{list_all};
 ghost use Rattle.std.specs.Str.{bytes_eq};
-ghost use Rattle.vote_findings.specs.Findings.{AddsFindings, EndsFinding, fault_words};
+ghost use Rattle.vote_findings.specs.Findings.{AddsFindings, EndsFinding};
 ghost use Rattle.vote_findings.specs.FoundView.{found_view};
 ghost use Rattle.vote_text.specs.Lines.{line_feed};
 ghost use Rattle.vote_text.specs.Names.{is_within};
 ghost use Rattle.vote_poll.specs.PollFaults.{fault_unless, of_contents, of_last_envelope, of_option_count, of_option_names, of_quorum, of_ratios, of_roll_size, of_title, of_voter_names, of_wording};
 ghost use Rattle.vote_poll.specs.PollFile.{is_integer_within};
 ghost use Rattle.vote_text.specs.Shown.{shown};
+ghost use Rattle.vote_keys.specs.FaultWords.{fault_words};
 ghost use Rattle.vote_keys.specs.declared.fault.PollFault.{PollFault};
 ghost use Rattle.vote_keys.specs.declared.fault.PollFault.TheVariants as fault;
 ghost use Rattle.vote_poll.specs.declared.TheConstants.{MAX_ELECTORS, MAX_OPTIONS, MAX_RATIO};
@@ -25,7 +26,7 @@ use vote_poll::{
 };
 
 /// Adds words as they are shown, and ends the line.
-pub(crate) fn end_line(text: &mut String, words: &str) -> Result<(), AllocError>
+fn end_line(text: &mut String, words: &str) -> Result<(), AllocError>
     ensures { OnOk result (string_bytes text.new ≡ string_bytes text.old ++ shown (length words.now) words.now ++ line_feed) }
 {
     push_shown(text, words.as_bytes(), words.len())?;

@@ -1,12 +1,17 @@
-//! What was found where a poll file has a fault, in words. No contract says what a hint says; whoever adds one to a text takes
-//! care that it breaks no line.
+//! What was found where a poll file has a fault, in words, and what is remarked of a key that is not read. No contract says what
+//! the hint on a fault says; whoever adds one to a text takes care that it breaks no line.
+ghost use Rattle.std.specs.Prelude.{◌≡◌, ◌++◌, ◌∷◌, [], ◌/◌, ◌%◌, IfOk, OnOk, codes, string_bytes};
+ghost use Rattle.vote_findings.specs.HintView.{hint_words, part_words};
+ghost use Rattle.vote_findings.specs.UnreadKeys.{below_words, meant_words};
+ghost use Rattle.vote_findings.specs.declared.TheConstants.{MAX_SHOWN};
+ghost use Rattle.vote_text.specs.Shown.{hex_digit, shown};
 
 use crate::MAX_SHOWN;
 use std::alloc::{AllocError, Global};
 use toml::Value;
 use vote_poll::{
-    MAX_ELECTORS, MAX_OPTION_NAME, MAX_OPTIONS, MAX_TITLE, MAX_VOTER_NAME, PollKey, is_printable,
-    is_voter_byte, push_shown,
+    MAX_ELECTORS, MAX_OPTION_NAME, MAX_OPTIONS, MAX_TITLE, MAX_VOTER_NAME, PollKey, hex_digit,
+    is_printable, is_voter_byte, push_shown,
 };
 
 /// What a name is the name of.
@@ -70,7 +75,9 @@ fn of_six<'t>(parts: [Part<'t>; 6]) -> Hint<'t> {
 }
 
 /// A hint of up to four parts.
-fn of_four<'t>(first: Part<'t>, second: Part<'t>, third: Part<'t>, fourth: Part<'t>) -> Hint<'t> {
+fn of_four<'t>(first: Part<'t>, second: Part<'t>, third: Part<'t>, fourth: Part<'t>) -> Hint<'t>
+    ensures { hint_words result ≡ part_words first.entry ++ part_words second.entry ++ part_words third.entry ++ part_words fourth.entry }
+{
     let none = Part::Words("");
     Hint {
         parts: [first, second, third, fourth, none, none],
@@ -78,13 +85,17 @@ fn of_four<'t>(first: Part<'t>, second: Part<'t>, third: Part<'t>, fourth: Part<
 }
 
 /// A hint of two parts.
-fn of_two<'t>(first: Part<'t>, second: Part<'t>) -> Hint<'t> {
+fn of_two<'t>(first: Part<'t>, second: Part<'t>) -> Hint<'t>
+    ensures { hint_words result ≡ part_words first.entry ++ part_words second.entry }
+{
     let none = Part::Words("");
     of_four(first, second, none, none)
 }
 
 /// A hint of these words.
-fn of_words<'t>(words: &'t str) -> Hint<'t> {
+fn of_words<'t>(words: &'t str) -> Hint<'t>
+    ensures { hint_words result ≡ words.now }
+{
     of_two(Part::Words(words), Part::Words(""))
 }
 
@@ -305,7 +316,9 @@ pub(crate) fn missing_hint<'t>(table: Option<&'t [u8]>) -> Hint<'t> {
 }
 
 /// What is remarked of a key that stands below a table, and is read above all tables.
-pub(crate) fn below_remark<'t>(table: &'t [u8]) -> Hint<'t> {
+pub(crate) fn below_remark<'t>(table: &'t [u8]) -> Hint<'t>
+    ensures { hint_words result ≡ below_words table.now }
+{
     of_four(
         Part::Words("; it stands below ["),
         Part::Shown(table),
@@ -315,7 +328,9 @@ pub(crate) fn below_remark<'t>(table: &'t [u8]) -> Hint<'t> {
 }
 
 /// What is remarked of a key that is not read: which missing key may be meant, where one is near.
-pub(crate) fn meant_remark<'t>(near: Option<PollKey>) -> Hint<'t> {
+pub(crate) fn meant_remark<'t>(near: Option<PollKey>) -> Hint<'t>
+    ensures { hint_words result ≡ meant_words near }
+{
     match near {
         Some(key) => of_four(
             Part::Words("; did you mean "),
@@ -328,14 +343,26 @@ pub(crate) fn meant_remark<'t>(near: Option<PollKey>) -> Hint<'t> {
 }
 
 /// Adds a text in quotes, at most so many of its bytes as are shown.
-fn push_quoted(words: &mut String, text: &str) -> Result<(), AllocError> {
-    words.push('"')?;
+fn push_quoted(words: &mut String, text: &str) -> Result<(), AllocError>
+    ensures { OnOk result (string_bytes words.new ≡ string_bytes words.old ++ codes "\"" ++ shown MAX_SHOWN text.now ++ codes "\"") }
+{
+    words.push_str("\"")?;
     push_shown(words, text.as_bytes(), MAX_SHOWN)?;
-    words.push('"')
+    words.push_str("\"")
+}
+
+/// Adds a byte in two digits of base 16.
+fn push_digits(words: &mut String, byte: u8) -> Result<(), AllocError>
+    ensures { OnOk result (string_bytes words.new ≡ string_bytes words.old ++ hex_digit (byte / 16) ∷ hex_digit (byte % 16) ∷ []) }
+{
+    words.push(hex_digit(byte / 16) as char)?;
+    words.push(hex_digit(byte % 16) as char)
 }
 
 /// Adds a part of a hint.
-fn push_part(words: &mut String, part: Part<'_>) -> Result<(), AllocError> {
+fn push_part(words: &mut String, part: Part<'_>) -> Result<(), AllocError>
+    ensures { OnOk result (string_bytes words.new ≡ string_bytes words.old ++ part_words part.entry) }
+{
     match part {
         Part::Words(text) => words.push_str(text),
         Part::Quoted(text) => push_quoted(words, text),
@@ -343,12 +370,14 @@ fn push_part(words: &mut String, part: Part<'_>) -> Result<(), AllocError> {
         Part::Count(number) => write!(words, "{number}"),
         Part::Number(number) => write!(words, "{number}"),
         Part::Character(byte) => words.push(byte as char),
-        Part::Digits(byte) => write!(words, "{byte:02X}"),
+        Part::Digits(byte) => push_digits(words, byte),
     }
 }
 
 /// Adds the parts of a hint.
-fn push_parts(words: &mut String, hint: Hint<'_>) -> Result<(), AllocError> {
+fn push_parts(words: &mut String, hint: Hint<'_>) -> Result<(), AllocError>
+    ensures { OnOk result (string_bytes words.new ≡ string_bytes words.old ++ hint_words hint.entry) }
+{
     for part in hint.parts {
         push_part(words, part)?;
     }
@@ -356,7 +385,9 @@ fn push_parts(words: &mut String, hint: Hint<'_>) -> Result<(), AllocError> {
 }
 
 /// The words of a hint.
-pub(crate) fn words_of(alloc: Global, hint: Hint<'_>) -> Result<String, AllocError> {
+pub(crate) fn words_of(alloc: Global, hint: Hint<'_>) -> Result<String, AllocError>
+    ensures { IfOk result (λ words. string_bytes words ≡ hint_words hint.entry) }
+{
     let mut words = String::new(alloc);
     push_parts(&mut words, hint)?;
     Ok(words)

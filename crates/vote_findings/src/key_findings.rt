@@ -1,9 +1,10 @@
 //! The keys of a poll file that are missing, of the wrong kind, or not read.
-ghost use Rattle.std.specs.Prelude.{◌≡◌, ◌++◌, ◌∷◌, [], OnOk, codes, length, string_bytes};
+ghost use Rattle.std.specs.Prelude.{◌≡◌, ◌++◌, ◌∷◌, [], OnOk, codes, map, string_bytes};
 ghost use Rattle.toml.specs.View.{table_view};
 ghost use Rattle.vote_findings.specs.Findings.{AddsFindings, AddsKeyLine, AddsKeyLines};
 ghost use Rattle.vote_findings.specs.FoundView.{found_view};
 ghost use Rattle.vote_findings.specs.KeyFindings.{is_right, may_be_missing, of_key};
+ghost use Rattle.vote_findings.specs.UnreadView.{place_of};
 ghost use Rattle.vote_text.specs.Lines.{line_feed};
 ghost use Rattle.vote_poll.specs.PollFaults.{of_keys};
 ghost use Rattle.vote_keys.specs.Keys.{key_name};
@@ -12,10 +13,11 @@ ghost use Rattle.vote_findings.specs.declared.TheConstants.{MAX_SHOWN};
 ghost use Rattle.vote_keys.specs.declared.fault.PollFault.TheVariants as fault;
 
 use crate::MAX_SHOWN;
-use crate::findings::{end_finding, end_line};
+use crate::findings::end_finding;
 use crate::found::Found;
 use crate::hints::{Hint, words_of};
-use crate::unread::{UnreadKey, UnreadKeys};
+use crate::path::UnreadKey;
+use crate::unread::UnreadKeys;
 use std::alloc::{AllocError, Global};
 use toml::Table;
 use vote_keys::{PollKey, value_at};
@@ -94,12 +96,13 @@ pub(crate) fn push_keys(
 
 /// Adds that the key with this path is not read, and what is remarked of it.
 fn push_key_line(text: &mut String, path: &[u8], remark: &str) -> Result<(), AllocError>
-    ensures { OnOk result (string_bytes text.new ≡ string_bytes text.old ++ codes "poll: key " ++ shown MAX_SHOWN path.now ++ codes " is not read" ++ shown (length remark.now) remark.now ++ line_feed) }
+    ensures { OnOk result (string_bytes text.new ≡ string_bytes text.old ++ codes "poll: key " ++ shown MAX_SHOWN path.now ++ codes " is not read" ++ remark.now ++ line_feed) }
 {
     text.push_str("poll: key ")?;
     push_shown(text, path, MAX_SHOWN)?;
     text.push_str(" is not read")?;
-    end_line(text, remark)
+    text.push_str(remark)?;
+    text.push_str("\n")
 }
 
 /// Adds that a key is not read.
@@ -109,7 +112,7 @@ fn push_unread_key(
     unread: &UnreadKeys<'_>,
     key: &UnreadKey<'_>,
 ) -> Result<(), AllocError>
-    ensures { OnOk result (AddsKeyLine (string_bytes text.old) (string_bytes text.new)) }
+    ensures { OnOk result (AddsKeyLine (table_view unread.now.file.now) (place_of key.now) (string_bytes text.old) (string_bytes text.new)) }
 {
     let remark = words_of(alloc, unread.remark(alloc, key)?)?;
     push_key_line(text, key.path().as_bytes(), &remark)
@@ -121,7 +124,7 @@ pub(crate) fn push_unread_keys(
     text: &mut String,
     unread: &UnreadKeys<'_>,
 ) -> Result<(), AllocError>
-    ensures { OnOk result (AddsKeyLines (string_bytes text.old) (string_bytes text.new)) }
+    ensures { OnOk result (AddsKeyLines (table_view unread.now.file.now) (map place_of unread.now.keys.items) (string_bytes text.old) (string_bytes text.new)) }
 {
     for key in unread.keys() {
         push_unread_key(alloc, text, unread, key)?;

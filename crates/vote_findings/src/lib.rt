@@ -21,15 +21,27 @@
 //! said of a fault behind its words.
 #![tactic(auto)]
 
+ghost use Rattle.vote_findings.specs.Limits.{LimitsAreAsWritten};
+
 mod explain;
 mod findings;
 mod found;
 mod hints;
 mod key_findings;
 mod name_findings;
+mod path;
 mod unread;
 
 pub use explain::{ExplainedPoll, explain_poll};
 
 /// The most bytes of a name or text of a file that a finding shows.
 pub const MAX_SHOWN: usize = 60;
+
+/// The most edits between the name of a key that is not read and the key that may be meant. An edit adds, drops or changes a
+/// character.
+pub const MAX_EDITS: usize = 2;
+
+/// A law: the limits of what a finding shows and of what is near are those that `docs/FORMATS.md` writes.
+pub fn limits_are_as_written()
+    ensures { LimitsAreAsWritten }
+{}

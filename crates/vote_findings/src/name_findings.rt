@@ -2,8 +2,9 @@
 ghost use Rattle.std.specs.Prelude.{◌≡◌, ◌<◌, ◌^◌, ◌++◌, ◌∷◌, [], ℕ, List, IfOk, OnOk, codes, map, not, string_bytes, ◌+◌, ◌||◌};
 ghost use Rattle.std.specs.List.{list_any};
 ghost use Rattle.std.specs.Str.{bytes_eq};
-ghost use Rattle.vote_findings.specs.Findings.{AddsFindings, fault_words};
+ghost use Rattle.vote_findings.specs.Findings.{AddsFindings};
 ghost use Rattle.vote_findings.specs.NameFindings.{bad_name, has_shape};
+ghost use Rattle.vote_keys.specs.FaultWords.{fault_words};
 ghost use Rattle.vote_poll.specs.PollFaults.{bad_places, fault_unless};
 
 use crate::findings::end_finding;

@@ -1,11 +1,12 @@
 //! Why a poll file is refused, and the words for it.
-ghost use Rattle.std.specs.Prelude.{◌≡◌};
+ghost use Rattle.std.specs.Prelude.{◌≡◌, Some};
+ghost use Rattle.vote_keys.specs.FaultWords.{fault_line};
 ghost use Rattle.vote_keys.specs.Keys.{key_name};
 ghost use Rattle.vote_keys.specs.declared.fault.PollFault.TheVariants.{Memory};
 
 use std::alloc::{AllocError, AllocFailed};
+use std::error::Error;
 use std::fmt;
-use thiserror::Error;
 
 /// A key of a poll file, in the order in which they are looked for. It is displayed as it stands in the file.
 #[derive(Clone, Copy, Debug, PartialEq, Eq)]
@@ -59,56 +60,69 @@ impl PollKey {
 }
 
 impl fmt::Display for PollKey {
+    ghost output = { λ key. Some (key_name key) };
+
     fn fmt<W: fmt::Write>(&self, f: &mut fmt::Formatter<W>) -> fmt::Result {
         f.write_str(self.name())
     }
 }
 
 /// Why a poll file is refused. Where several of these hold, the first in this order is answered; memory alone can
-/// take the place of another. The limits that are named are those of vote_poll.
-#[derive(Clone, Copy, Debug, PartialEq, Eq, Error)]
+/// take the place of another. The limits that are named are those of vote_poll. It is displayed as its fault line.
+#[derive(Clone, Copy, Debug, PartialEq, Eq)]
 pub enum PollFault {
     /// The text is no UTF-8, or no TOML document.
-    #[error("poll refused: syntax")]
     Syntax,
     /// The key is missing, where it has to be there, or of the wrong kind, or an entry of its list is; each key before
     /// it is right.
-    #[error("poll refused: key {0}")]
     Key(PollKey),
     /// The title has no byte or more than `MAX_TITLE`, or one outside 0x20 to 0x7E.
-    #[error("poll refused: title")]
     Title,
     /// With the default there are fewer than 2 options, or more than `MAX_OPTIONS`.
-    #[error("poll refused: number of options")]
     OptionCount,
     /// The option with this number (from 1) is the first whose name is misshapen, or is that of an option before it.
     /// A name has 1 to `MAX_OPTION_NAME` bytes from 0x20 to 0x7E, no space first or last.
-    #[error("poll refused: name of option {0}")]
     OptionName(u8),
     /// There is not one ratio for each option but the default, or a ratio is not from 1 to
     /// `MAX_RATIO`.
-    #[error("poll refused: ratios")]
     Ratio,
     /// The multiple of Q is not from 0 to `MAX_QUORUM_MULTIPLE`.
-    #[error("poll refused: quorum")]
     Quorum,
     /// The roll has no name, or more than `MAX_ELECTORS`.
-    #[error("poll refused: size of roll")]
     RollSize,
     /// The voter at this place of the roll (from 0) is the first whose name is misshapen, or is that of a voter before.
     /// A name has 1 to `MAX_VOTER_NAME` bytes of `a` to `z`, `0` to `9`, `.` and `-`.
-    #[error("poll refused: voter at position {0}")]
     VoterName(usize),
     /// The last envelope is not from 0 to `MAX_LINES`.
-    #[error("poll refused: last envelope")]
     LastEnvelope,
     /// The wording is neither `at_least` nor `more_than`.
-    #[error("poll refused: wording")]
     Wording,
     /// Memory was asked for and refused. It can come in place of any other answer.
-    #[error("out of memory")]
     Memory,
 }
+
+impl fmt::Display for PollFault {
+    ghost output = { λ fault. Some (fault_line fault) };
+
+    fn fmt<W: fmt::Write>(&self, f: &mut fmt::Formatter<W>) -> fmt::Result {
+        match *self {
+            PollFault::Syntax => f.write_str("poll refused: syntax"),
+            PollFault::Key(key) => write!(f, "poll refused: key {key}"),
+            PollFault::Title => f.write_str("poll refused: title"),
+            PollFault::OptionCount => f.write_str("poll refused: number of options"),
+            PollFault::OptionName(option) => write!(f, "poll refused: name of option {option}"),
+            PollFault::Ratio => f.write_str("poll refused: ratios"),
+            PollFault::Quorum => f.write_str("poll refused: quorum"),
+            PollFault::RollSize => f.write_str("poll refused: size of roll"),
+            PollFault::VoterName(place) => write!(f, "poll refused: voter at position {place}"),
+            PollFault::LastEnvelope => f.write_str("poll refused: last envelope"),
+            PollFault::Wording => f.write_str("poll refused: wording"),
+            PollFault::Memory => f.write_str("out of memory"),
+        }
+    }
+}
+
+impl Error for PollFault {}
 
 impl From<AllocError> for PollFault {
     ghost from_gives = { λ _ e. e ≡ Memory };

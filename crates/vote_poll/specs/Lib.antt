@@ -1,4 +1,5 @@
 -- what the contracts of public calls say
+pub mod Limits
 pub mod Options
 pub mod Ranks
 pub mod Names

@@ -32,6 +32,8 @@
 //! so are that envelopes can be late and that a majority can be worded as more than its ratio.
 #![tactic(auto)]
 
+ghost use Rattle.vote_poll.specs.Limits.{LimitsAreAsWritten};
+
 mod names;
 mod poll;
 mod poll_file;
@@ -74,3 +76,8 @@ pub const UNRANKED: u8 = 255;
 
 /// The most bytes that a ballot line can have, its line feed not counted.
 pub const MAX_LINE: usize = 200;
+
+/// A law: the limits of a poll and of a ballot line are those that `docs/FORMATS.md` writes.
+pub fn limits_are_as_written()
+    ensures { LimitsAreAsWritten }
+{}

@@ -87,6 +87,7 @@ impl Ranks {
     /// Whether the ballot prefers option `a` to option `b`: it ranks `a`, and leaves `b` unranked or gives it a greater
     /// rank. Of two unranked options, or two of equal rank, neither is preferred (A.5 of the Constitution's Appendix A;
     /// that ranks are numbers of which the smaller is preferred is this project's own).
+    /// For callers of the library; the program does not call it.
     pub fn prefers(&self, a: u8, b: u8) -> bool
         requires a { IsOption (length self.now) a }
         requires b { IsOption (length self.now) b }

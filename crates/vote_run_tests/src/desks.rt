@@ -15,7 +15,7 @@ use vote_desks::{
     AuditFault, Desk, DeskFault, EnterFault, NoVoter, Sealed, SharedBox, Slip, Tally, audit,
     compare, gather, open_desks,
 };
-use vote_poll::{Lines, Poll, Reading, read_line};
+use vote_poll::{Lines, Poll, Ranks, Reading, read_line};
 use vote_steps::{AlreadyClosed, MAX_DESKS, Reply};
 
 const TWO_ELECTORS: &str =
@@ -38,8 +38,8 @@ enum Deed {
     /// A cast at the desk at this index, of a stamp and a ballot of a voter whom the box does not have.
     Stranger(usize, u32),
     Close(Result<(), AlreadyClosed>),
-    /// Whether a ballot of this voter stands.
-    Standing(usize, Result<bool, NoVoter>),
+    /// The ranks of the three options in the ballot of this voter that stands.
+    Standing(usize, Result<Option<[u8; 3]>, NoVoter>),
 }
 
 /// What a cast replied.
@@ -73,14 +73,21 @@ fn assert_cast<VL: Tally, RL: Tally, R: Wait + Abort>(
     assert_same(rt, (stamp, reply), (stamp, answer));
 }
 
-/// Whether a ballot of this voter stands.
-fn stands<VL: Tally, RL: Tally, R: Wait>(
+/// The ranks that a ballot gives three options.
+fn three_ranks(ranks: &Ranks) -> [u8; 3] {
+    let keys = ranks.sort_keys();
+    [keys[0], keys[1], keys[2]]
+}
+
+/// The ranks in the ballot of this voter that stands.
+fn standing<VL: Tally, RL: Tally, R: Wait>(
     rt: &R,
     shared: &SharedBox<VL, RL>,
     voter: usize,
-) -> Result<bool, NoVoter> {
+) -> Result<Option<[u8; 3]>, NoVoter> {
     match shared.standing(rt, voter) {
-        Ok(ranks) => Ok(ranks.is_some()),
+        Ok(Some(ranks)) => Ok(Some(three_ranks(&ranks))),
+        Ok(None) => Ok(None),
         Err(NoVoter) => Err(NoVoter),
     }
 }
@@ -111,7 +118,7 @@ fn assert_done<VL: Tally, RL: Tally, R: Wait + Abort>(
             );
         }
         Deed::Close(answer) => assert_same(rt, shared.close(rt), answer),
-        Deed::Standing(voter, answer) => assert_same(rt, stands(rt, shared, voter), answer),
+        Deed::Standing(voter, answer) => assert_same(rt, standing(rt, shared, voter), answer),
     }
 }
 
@@ -220,21 +227,51 @@ fn refused_casts_change_nothing(rt: HostRuntime) -> Result<(), Fail> {
     Ok(())
 }
 
+const ANNS: Option<[u8; 3]> = Some([1, 2, 3]);
+
+const BOBS: Option<[u8; 3]> = Some([2, 1, 3]);
+
 const CLOSED: [Deed; 8] = [
     Deed::Standing(2, Err(NoVoter)),
-    Deed::Standing(0, Ok(false)),
+    Deed::Standing(0, Ok(None)),
     Deed::Cast(0, 1, ANN, Ok(Reply::Counted)),
-    Deed::Standing(0, Ok(true)),
+    Deed::Standing(0, Ok(ANNS)),
     Deed::Close(Ok(())),
     Deed::Close(Err(AlreadyClosed)),
     Deed::Cast(0, 2, BOB, Ok(Reply::BoxClosed)),
-    Deed::Standing(1, Ok(false)),
+    Deed::Standing(1, Ok(None)),
 ];
+
+/// Does these deeds at so many desks, and asserts what the box counts.
+fn assert_closed<R: Wait + Abort>(rt: &R, alloc: Global, desks: u8) -> Result<(), DeskFault>
+    requires { (1 ≤ desks) × (desks ≤ MAX_DESKS) }
+{
+    let counts = counts_after(rt, alloc, desks, &CLOSED)?;
+    assert_same(rt, counts, (3, 1, 1, desks));
+    Ok(())
+}
 
 #[test]
 fn a_closed_box_refuses(rt: HostRuntime) -> Result<(), Fail> {
-    let counts = counts_after(&rt, rt.alloc(), 1, &CLOSED)?;
-    assert_same(&rt, counts, (3, 1, 1, 1));
+    assert_closed(&rt, rt.alloc(), 1)?;
+    assert_closed(&rt, rt.alloc(), 2)?;
+    assert_closed(&rt, rt.alloc(), MAX_DESKS)?;
+    Ok(())
+}
+
+const STANDING: [Deed; 6] = [
+    Deed::Cast(1, 2, BOB, Ok(Reply::Counted)),
+    Deed::Standing(1, Ok(BOBS)),
+    Deed::Standing(0, Ok(None)),
+    Deed::Cast(0, 1, ANN, Ok(Reply::Counted)),
+    Deed::Standing(0, Ok(ANNS)),
+    Deed::Standing(1, Ok(BOBS)),
+];
+
+#[test]
+fn each_voter_has_the_own_ballot(rt: HostRuntime) -> Result<(), Fail> {
+    let counts = counts_after(&rt, rt.alloc(), 2, &STANDING)?;
+    assert_same(&rt, counts, (3, 2, 0, 2));
     Ok(())
 }
 

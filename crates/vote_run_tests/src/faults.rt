@@ -1,4 +1,4 @@
-//! Exit statuses, and the words of faults, which no clause says.
+//! Exit statuses, and the words of fault lines as the program says them.
 
 use crate::inputs::assert_same;
 use std::alloc::{AllocError, Global};

@@ -3,7 +3,7 @@
 //!
 //! Those of the calls up to the box are in `vote_tests`. A module has the tests of one crate and is named by it, as `sheet` by
 //! `vote_sheet`; `desks` has those of `vote_shared` and of the audit, `votes` the others of `vote_desks`, `faults` more of
-//! `vote_runs`, and `inputs` what several of them read. It names public calls alone.
+//! `vote_runs`, `reports` those of `vote_tasks`, and `inputs` what several of them read. It names public calls alone.
 
 #![tactic(auto)]
 
@@ -15,6 +15,8 @@ mod explain;
 mod faults;
 #[cfg(test)]
 mod inputs;
+#[cfg(test)]
+mod reports;
 #[cfg(test)]
 mod runs;
 #[cfg(test)]

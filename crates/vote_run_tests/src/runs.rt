@@ -1,7 +1,7 @@
 //! What no clause says: that runs succeed. And writers that fail, gates that stop a desk, and memory and threads that may be
 //! refused.
 //!
-//! Each test `memory_of_..` and `threads_of_..` makes its call once, on a writer with room. It ends well where the call gave its
+//! Each test `memory_of_perform_on_..` and `threads_of_perform_on_..` has `perform_on` do one job, on a writer with room. It ends well where the call gave its
 //! whole right answer, and says `refused` where the call answered its want of memory or of a thread, with nothing written. So
 //! whoever runs it with one growth or one start refused after another sees whether any other answer comes.
 
@@ -258,17 +258,17 @@ fn walk_count<R: Threads + Wait + Abort + Sync>(rt: &R, alloc: Global) -> Result
 }
 
 #[test]
-fn memory_of_run(rt: HostRuntime) -> Result<(), Fail> {
+fn memory_of_perform_on_count(rt: HostRuntime) -> Result<(), Fail> {
     walk_count(&rt, rt.alloc())
 }
 
 #[test]
-fn threads_of_run(rt: HostRuntime) -> Result<(), Fail> {
+fn threads_of_perform_on_count(rt: HostRuntime) -> Result<(), Fail> {
     walk_count(&rt, rt.alloc())
 }
 
 #[test]
-fn memory_of_print_steps(rt: HostRuntime) -> Result<(), Fail> {
+fn memory_of_perform_on_steps(rt: HostRuntime) -> Result<(), Fail> {
     let job = Job::Steps {
         poll: CYCLE.as_bytes(),
         ballots: b"v0 1,2\nv1 1,2,3,4\nv1 4,3,2,1",
@@ -278,7 +278,7 @@ fn memory_of_print_steps(rt: HostRuntime) -> Result<(), Fail> {
 }
 
 #[test]
-fn memory_of_print_listing(rt: HostRuntime) -> Result<(), Fail> {
+fn memory_of_perform_on_standing(rt: HostRuntime) -> Result<(), Fail> {
     let job = Job::Standing {
         poll: CYCLE.as_bytes(),
         ballots: b"v1 1,2,3,4\nv0 -,2,99,1\nv1 4,3,2,1",
@@ -300,13 +300,13 @@ fn verify(sheet: &'static [u8]) -> Job<'static>
 }
 
 #[test]
-fn memory_of_count_for(rt: HostRuntime) -> Result<(), Fail> {
+fn memory_of_perform_on_verify(rt: HostRuntime) -> Result<(), Fail> {
     let words = "differs at line 1\nsheet: A sheet\ncount: Poll: A cycle\n";
     walk(&rt, rt.alloc(), &verify(b"A sheet"), words, Ended::Differs)
 }
 
 #[test]
-fn memory_of_explain(rt: HostRuntime) -> Result<(), Fail> {
+fn memory_of_perform_on_explain(rt: HostRuntime) -> Result<(), Fail> {
     let job = Job::Explain {
         poll: CYCLE.as_bytes(),
         ballots: Some(b"v0 1,2\nv1 1,2,3,4\n"),
@@ -317,7 +317,7 @@ fn memory_of_explain(rt: HostRuntime) -> Result<(), Fail> {
 }
 
 #[test]
-fn memory_of_check_poll(rt: HostRuntime) -> Result<(), Fail> {
+fn memory_of_perform_on_check(rt: HostRuntime) -> Result<(), Fail> {
     let job = Job::Check {
         poll: CYCLE.as_bytes(),
     };
@@ -330,7 +330,7 @@ const JOINED: &[u8] =
     b"title = \"Two electors\"\noptions = [\"A\", \"B\"]\nratios = [1, 1]\ndefault = \"None\"\nquorum = 0\nroll = [\"ann\", \"bob\"]\n%%\nann 1,2,3\nbob 2,1,3\nann 3,2,1\n";
 
 #[test]
-fn memory_of_steps_joined(rt: HostRuntime) -> Result<(), Fail> {
+fn memory_of_perform_on_joined(rt: HostRuntime) -> Result<(), Fail> {
     let job = Job::Joined { input: JOINED };
     let replies = "1 counted\n2 counted\n3 replaced\n";
     walk(&rt, rt.alloc(), &job, replies, Ended::Done)

@@ -1,11 +1,14 @@
 -- What a count writes, and how it ends.
-use Rattle.std.specs.Prelude.{◌≡◌, ◌+◌, ℕ, List, Option, Some, None, option_map, Result, Ok, IfOk}
+use Rattle.std.specs.Prelude.{◌≡◌, ◌+◌, ℕ, List, length, Option, Some, None, option_map, Result, Ok, IfOk}
 use Rattle.vote_count.specs.declared.Decision.{Decision}
 use Rattle.vote_count.specs.declared.Decision.TheVariants as decision
 use Rattle.vote_text.specs.Lines.{lines_of}
 use Rattle.vote_poll.specs.Names.{place_of}
 use Rattle.vote_poll.specs.PollContent.{PollContent}
 use Rattle.vote_poll.specs.PollFile.{poll_in}
+use Rattle.vote_steps.specs.Boxes.{BoxState}
+use Rattle.vote_shared.specs.declared.Slip.{Slip}
+use Rattle.vote_desks.specs.Audit.{IsAudited}
 use Rattle.vote_sheet.specs.Picture.{IsPictureAndDecision}
 use Rattle.vote_sheet.specs.SheetOf.{IsSheetAndDecision}
 use Rattle.vote_sheet.specs.Texts.{Text}
@@ -45,6 +48,11 @@ abbrev pub ended_by : Verification → Ended
 ended_by found.Differs = ended.Differs
 ended_by found.Matches = ended.Done
 ended_by (found.MatchesCasting option) = ended.Done
+
+-- the votes of the lines of these files are audited, with a sheet for each of so many desks
+abbrev pub IsCountedAt : Text → Text → ℕ → Type 0
+IsCountedAt poll_text ballots desks =
+    (poll : PollContent) × (b : BoxState) × (sheets : List (List Slip)) × (poll_in poll_text ≡ Ok poll) × IsAudited poll (lines_of ballots) b sheets × (length sheets ≡ desks)
 
 -- what a count is made for: the text of the poll, the lines and the casting vote, and how the run ends by it
 abbrev pub IsMade : Purpose → PollContent → List Text → Option ℕ → Text → Ended → Type 0

@@ -7,6 +7,7 @@ use Rattle.vote_poll.specs.PollContent.{PollContent}
 use Rattle.vote_keys.specs.Keys.{document}
 use Rattle.vote_poll.specs.PollFile.{poll_in}
 use Rattle.vote_poll.specs.declared.PollFault.{PollFault}
+use Rattle.vote_poll.specs.declared.PollFault.TheVariants as poll_fault
 use Rattle.vote_text.specs.declared.lines.TheConstants.{MAX_LINES}
 use Rattle.vote_desks.specs.declared.VoteFault.{VoteFault}
 use Rattle.vote_explain.specs.Explained.{IsExplained}
@@ -40,22 +41,29 @@ abbrev pub lines_read : Result PollContent PollFault → Option Text → List Te
 lines_read (Ok poll) (Some ballots) = lines_of ballots
 lines_read meaning ballots = []
 
--- lines are refused only where they are read, and just where there are too many, memory aside
+-- where the poll is read, the lines are refused exactly where they are read and there are too many, memory aside
 abbrev pub AnswersGiven : Result PollContent PollFault → Option Text → Option RunFault → Type 0
+AnswersGiven meaning ballots (Some (run.Poll fault)) = Unit {0}
 AnswersGiven meaning ballots (Some (run.Lines fault)) = (poll : PollContent) × (text : Text) × (meaning ≡ Ok poll) × (ballots ≡ Some text) × RefusesLines (lines_of text) fault
-AnswersGiven meaning ballots (Some fault) = Unit {0}
-AnswersGiven meaning ballots None = length (lines_read meaning ballots) ≤ MAX_LINES
+AnswersGiven meaning ballots stop = length (lines_read meaning ballots) ≤ MAX_LINES
 
--- what can stop it before it writes
+-- what can stop it before it writes, once the poll is read
 abbrev pub IsGivenFault : RunFault → Type 0
 IsGivenFault (run.Lines fault) = Unit {0}
 IsGivenFault run.Memory = Unit {0}
 IsGivenFault fault = ⊥
 
+-- the same, memory for the poll among it
+abbrev pub IsExplainFault : RunFault → Type 0
+IsExplainFault (run.Poll fault) = fault ≡ poll_fault.Memory
+IsExplainFault (run.Lines fault) = Unit {0}
+IsExplainFault run.Memory = Unit {0}
+IsExplainFault fault = ⊥
+
 -- the explanation of these bytes is written, and the run ends by it
 pub record Explains (poll_text : Text) (ballots : Option Text) (old new : Option Text) (result : Result Ended RunFault) : Type 0 where
   pub lines : AnswersGiven (poll_in poll_text) ballots (result_err result)
-  pub poll : (fault : PollFault) → result_err result ≢ Some (run.Poll fault)
+  pub poll : (fault : PollFault) → result_err result ≡ Some (run.Poll fault) → fault ≡ poll_fault.Memory
   pub option : result_err result ≢ Some run.NoSuchOption
   pub votes : (fault : VoteFault) → result_err result ≢ Some (run.Vote fault)
   pub writes : Writes (λ text. (end : Ended) × IsExplanation poll_text ballots text end × IfOk result (λ ended. ended ≡ end)) old new (result_err result)

@@ -6,3 +6,4 @@ pub mod Taking
 pub mod Explaining
 pub mod Performing
 pub mod Status
+pub mod Words

@@ -1,5 +1,5 @@
 -- What the program does with the bytes of its inputs, job by job.
-use Rattle.std.specs.Prelude.{◌≡◌, ◌≢◌, ◌≤◌, ℕ, Option, Some, None, option_map, Result, IfOk}
+use Rattle.std.specs.Prelude.{◌≡◌, ◌≢◌, ◌≤◌, ℕ, Option, Some, None, option_map, Result, IfOk, OnOk}
 use Rattle.std.specs.Result.{result_err}
 use Rattle.vote_text.specs.Lines.{lines_of}
 use Rattle.vote_text.specs.declared.lines.LinesFault.{LinesFault}
@@ -7,7 +7,7 @@ use Rattle.vote_steps.specs.declared.TheConstants.{MAX_DESKS}
 use Rattle.vote_desks.specs.Faults.{CanStopVotes, IsOfDesk}
 use Rattle.vote_desks.specs.declared.VoteFault.{VoteFault}
 use Rattle.vote_sheet.specs.Texts.{Text}
-use Rattle.vote_runs.specs.Counting.{AnswersCasting, IsCount}
+use Rattle.vote_runs.specs.Counting.{AnswersCasting, IsCount, IsCountedAt}
 use Rattle.vote_runs.specs.Explaining.{Explains}
 use Rattle.vote_runs.specs.Joined.{joined_parts}
 use Rattle.vote_runs.specs.Runs.{AnswersLines, AnswersPoll, IsCheck, IsListing, Writes}
@@ -33,13 +33,14 @@ HasDesks (Verify poll ballots sheet desks) = (1 ≤ desks) × (desks ≤ MAX_DES
 HasDesks (Explain poll ballots) = Unit {0}
 HasDesks (Picture poll ballots desks casting) = (1 ≤ desks) × (desks ≤ MAX_DESKS)
 
--- what the count of these bytes and this casting vote is made for is written, and the run ends by it; the votes stop it only by a fault
--- that they can have at so many desks
+-- what the count of these bytes and this casting vote is made for is written, and the run ends by it; the votes are taken at so many
+-- desks, and stop it only by a fault that they can have there
 pub record Counts (made_for : Purpose) (poll_text ballots : Text) (desks : ℕ) (named : Option Text) (old new : Option Text) (result : Result Ended RunFault) : Type 0 where
   pub poll : AnswersPoll poll_text (result_err result)
   pub casting : AnswersCasting poll_text named (result_err result)
   pub lines : AnswersLines (lines_of ballots) (result_err result)
   pub votes : (fault : VoteFault) → result_err result ≡ Some (run.Vote fault) → CanStopVotes fault × IsOfDesk desks fault
+  pub at : OnOk result (IsCountedAt poll_text ballots desks)
   pub writes : Writes (IsCount made_for poll_text ballots named result) old new (result_err result)
 
 -- what is to be listed of these bytes is written

@@ -17,8 +17,9 @@ use Rattle.vote_runs.specs.declared.fault.InputFault.{InputFault}
 use Rattle.vote_runs.specs.declared.fault.RunFault.{RunFault}
 use Rattle.vote_runs.specs.declared.fault.RunFault.TheVariants as run
 
--- these are the poll and the lines of the files, the option that is named, and an audited box of them
-pub record AreTaken (poll_text ballots : Text) (named : Option Text) (poll : PollContent) (lines : List Text) (casting : Option ℕ) (b : BoxState) (sheets : List (List Slip)) : Type 0 where
+-- these are the poll and the lines of the files, the option that is named, and an audited box of them with a sheet for each of so many
+-- desks
+pub record AreTaken (poll_text ballots : Text) (named : Option Text) (desks : ℕ) (poll : PollContent) (lines : List Text) (casting : Option ℕ) (b : BoxState) (sheets : List (List Slip)) : Type 0 where
   pub poll_is : poll_in poll_text ≡ Ok poll
   pub lines_are : lines ≡ lines_of ballots
   pub few : length (lines_of ballots) ≤ MAX_LINES
@@ -26,6 +27,7 @@ pub record AreTaken (poll_text ballots : Text) (named : Option Text) (poll : Pol
   pub casting_is : casting ≡ casting_option poll named
   pub range : IfSome casting (IsOption (option_count poll))
   pub audited : IsAudited poll lines b sheets
+  pub at : length sheets ≡ desks
 
 -- the votes of the files are not taken, for this fault
 pub record StopsTaking (poll_text ballots : Text) (named : Option Text) (desks : ℕ) (fault : RunFault) : Type 0 where

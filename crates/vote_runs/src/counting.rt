@@ -8,7 +8,7 @@ ghost use Rattle.vote_poll.specs.PollContent.{option_count};
 ghost use Rattle.vote_text.specs.declared.lines.TheConstants.{MAX_LINES};
 ghost use Rattle.vote_desks.specs.Audit.{IsAudited};
 ghost use Rattle.vote_desks.specs.Faults.{CanStopVotes, IsOfDesk};
-ghost use Rattle.vote_runs.specs.Counting.{AnswersCasting, IsCount, IsCountFor, IsMade, ended_by, ended_of};
+ghost use Rattle.vote_runs.specs.Counting.{AnswersCasting, IsCount, IsCountFor, IsCountedAt, IsMade, ended_by, ended_of};
 ghost use Rattle.vote_runs.specs.Runs.{AnswersLines, AnswersPoll, Writes};
 ghost use Rattle.vote_runs.specs.Taking.{StopsTaking};
 ghost use Rattle.vote_runs.specs.declared.fault.InputFault.{InputFault};
@@ -100,6 +100,7 @@ fn count<G: Gate + Sync, R: Threads + Wait + Sync>(
 ) -> Result<(String, Ended), RunFault>
     requires { (1 ≤ desks) × (desks ≤ MAX_DESKS) }
     ensures counted { IfOk result (λ counted. IsCountFor purpose.entry poll_text.now ballots.now (option_map (λ name. name.now) casting.entry) (string_bytes counted.0) counted.1) }
+    ensures desks { OnOk result (IsCountedAt poll_text.now ballots.now desks) }
     ensures named { OnOk result (AnswersCasting poll_text.now (option_map (λ name. name.now) casting.entry) None) }
     ensures few { OnOk result (length (lines_of ballots.now) ≤ MAX_LINES) }
     ensures stopped { IfErr result (StopsTaking poll_text.now ballots.now (option_map (λ name. name.now) casting.entry) desks) }
@@ -130,6 +131,7 @@ pub fn count_for<G: Gate + Sync, W: Sink, R: Threads + Wait + Sync>(
     ensures casting { AnswersCasting poll_text.now (option_map (λ name. name.now) casting.entry) (result_err result) }
     ensures lines { AnswersLines (lines_of ballots.now) (result_err result) }
     ensures writes { Writes (IsCount purpose.entry poll_text.now ballots.now (option_map (λ name. name.now) casting.entry) result) (W.contents sink.old) (W.contents sink.new) (result_err result) }
+    ensures desks { OnOk result (IsCountedAt poll_text.now ballots.now desks) }
     ensures votes { (fault : VoteFault) → result ≡ Err (RunFault.Vote fault) → CanStopVotes fault × IsOfDesk desks fault }
     ensures output { IsErrOf result RunFault.Output ↔ (W.faults sink.old < W.faults sink.new) }
     ensures flushed { OnOk result (W.flushed sink.new ≡ true) }
@@ -162,6 +164,7 @@ pub fn run<G: Gate + Sync, W: Sink, R: Threads + Wait + Sync>(
     ensures casting { AnswersCasting poll_text.now (option_map (λ name. name.now) casting.entry) (result_err result) }
     ensures lines { AnswersLines (lines_of ballots.now) (result_err result) }
     ensures writes { Writes (IsCount Purpose.Sheet poll_text.now ballots.now (option_map (λ name. name.now) casting.entry) result) (W.contents sink.old) (W.contents sink.new) (result_err result) }
+    ensures desks { OnOk result (IsCountedAt poll_text.now ballots.now desks) }
     ensures votes { (fault : VoteFault) → result ≡ Err (RunFault.Vote fault) → CanStopVotes fault × IsOfDesk desks fault }
     ensures output { IsErrOf result RunFault.Output ↔ (W.faults sink.old < W.faults sink.new) }
     ensures flushed { OnOk result (W.flushed sink.new ≡ true) }

@@ -7,7 +7,7 @@ ghost use Rattle.vote_explain.specs.Explained.{IsExplained};
 ghost use Rattle.vote_sheet.specs.LastBallots.{refused_count};
 ghost use Rattle.vote_sheet.specs.Steps.{check_text};
 ghost use Rattle.vote_sheet.specs.Texts.{Text};
-ghost use Rattle.vote_runs.specs.Explaining.{AnswersGiven, Explains, IsExplanation, IsGivenFault, IsRest, ended_by};
+ghost use Rattle.vote_runs.specs.Explaining.{AnswersGiven, Explains, IsExplainFault, IsExplanation, IsGivenFault, IsRest, ended_by};
 ghost use Rattle.vote_runs.specs.declared.fault.InputFault.{InputFault};
 
 use crate::fault::{Ended, RunFault};
@@ -16,7 +16,7 @@ use std::alloc::{AllocError, Global};
 use vote_explain::{Explained, explain_ballots};
 use vote_files::Sink;
 use vote_findings::{ExplainedPoll, explain_poll};
-use vote_poll::{Lines, Poll};
+use vote_poll::{Lines, Poll, PollFault};
 use vote_sheet::check_text;
 
 /// How a run ends by its findings.
@@ -95,9 +95,12 @@ fn explanation(
 ) -> Result<(String, Ended), RunFault>
     ensures text { IfOk result (λ explained. IsExplanation poll_text.now (option_map (λ bytes. bytes.now) ballots.entry) (string_bytes explained.0) explained.1) }
     ensures lines { AnswersGiven (poll_in poll_text.now) (option_map (λ bytes. bytes.now) ballots.entry) (result_err result) }
-    ensures fault { IfErr result IsGivenFault }
+    ensures fault { IfErr result IsExplainFault }
 {
-    let ExplainedPoll { findings, outcome } = explain_poll(alloc, poll_text)?;
+    let ExplainedPoll { findings, outcome } = match explain_poll(alloc, poll_text) {
+        Ok(explained) => explained,
+        Err(AllocError) => return Err(RunFault::Poll(PollFault::Memory)),
+    };
     match outcome {
         Ok(poll) => with_rest(alloc, &poll, ballots, findings),
         Err(_) => Ok((findings, Ended::PollRefused)),

@@ -4,7 +4,8 @@ ghost use Rattle.std.specs.Prelude.{◌≡◌};
 ghost use Rattle.vote_runs.specs.Status.{ballots_unread, fault_status, input_status, poll_unread, sheet_unread, status, vote_status};
 
 use std::alloc::AllocError;
-use thiserror::Error;
+use std::error::Error;
+use std::fmt;
 use vote_desks::{DeskFault, VoteFault};
 use vote_files::{DeviceFault, ReadFault};
 use vote_poll::{LinesFault, PollFault};
@@ -29,54 +30,81 @@ pub enum Ended {
 }
 
 /// Why an input was not read. The ballots stand for a joined input too.
-#[derive(Clone, Copy, Debug, PartialEq, Eq, Error)]
+#[derive(Clone, Copy, Debug, PartialEq, Eq)]
 pub enum InputFault {
     /// The poll file can't be opened, or its device failed.
-    #[error("poll unreadable")]
     PollUnreadable,
     /// The poll file has more bytes than its limit.
-    #[error("poll too long")]
     PollTooLong,
     /// The ballot file can't be opened, or its device or that of the joined input failed.
-    #[error("ballots unreadable")]
     BallotsUnreadable,
     /// The ballot file or the joined input has more bytes than its limit.
-    #[error("ballots too long")]
     BallotsTooLong,
     /// The published sheet can't be opened, or its device failed.
-    #[error("sheet unreadable")]
     SheetUnreadable,
     /// The published sheet has more bytes than its limit.
-    #[error("sheet too long")]
     SheetTooLong,
 }
 
 /// Why a run did not come to its end: the first of these that holds, where `Memory` can take the place of any that would come
 /// later. Its `Display` is the program's fault line.
-#[derive(Clone, Copy, Debug, PartialEq, Eq, Error)]
+#[derive(Clone, Copy, Debug, PartialEq, Eq)]
 pub enum RunFault {
     /// An input was not read. Nothing was written.
-    #[error(transparent)]
     Input(InputFault),
     /// The poll file is refused, or memory ran out while it was read. Nothing was written.
-    #[error(transparent)]
     Poll(PollFault),
     /// The casting vote names no option of the poll. Nothing was written.
-    #[error("casting option is not in the poll")]
     NoSuchOption,
     /// The ballot file is refused, or memory ran out while it was split. Nothing was written.
-    #[error(transparent)]
     Lines(LinesFault),
     /// The votes were not taken, or memory ran out meanwhile. Nothing was written.
-    #[error(transparent)]
     Vote(VoteFault),
     /// Memory ran out. Nothing was written.
-    #[error("out of memory")]
     Memory,
     /// The output failed or took no bytes. What was written is a front of the text.
-    #[error("output failed")]
     Output,
 }
+
+impl fmt::Display for InputFault {
+    ghost use Rattle.std.specs.Prelude.{Some};
+    ghost use Rattle.vote_runs.specs.Words.{input_words};
+
+    ghost output = { λ fault. Some (input_words fault) };
+
+    fn fmt<W: fmt::Write>(&self, f: &mut fmt::Formatter<W>) -> fmt::Result {
+        f.write_str(match self {
+            InputFault::PollUnreadable => "poll unreadable",
+            InputFault::PollTooLong => "poll too long",
+            InputFault::BallotsUnreadable => "ballots unreadable",
+            InputFault::BallotsTooLong => "ballots too long",
+            InputFault::SheetUnreadable => "sheet unreadable",
+            InputFault::SheetTooLong => "sheet too long",
+        })
+    }
+}
+
+impl Error for InputFault {}
+
+impl fmt::Display for RunFault {
+    ghost use Rattle.vote_runs.specs.Words.{fault_words};
+
+    ghost output = { fault_words };
+
+    fn fmt<W: fmt::Write>(&self, f: &mut fmt::Formatter<W>) -> fmt::Result {
+        match self {
+            RunFault::Input(fault) => fault.fmt(f),
+            RunFault::Poll(fault) => fault.fmt(f),
+            RunFault::NoSuchOption => f.write_str("casting option is not in the poll"),
+            RunFault::Lines(fault) => fault.fmt(f),
+            RunFault::Vote(fault) => fault.fmt(f),
+            RunFault::Memory => f.write_str("out of memory"),
+            RunFault::Output => f.write_str("output failed"),
+        }
+    }
+}
+
+impl Error for RunFault {}
 
 impl From<DeviceFault> for RunFault {
     ghost use Rattle.std.specs.Prelude.{◌≡◌};

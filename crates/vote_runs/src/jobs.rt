@@ -6,10 +6,10 @@ ghost use Rattle.vote_runs.specs.Performing.{HasDesks, Performs};
 ghost use Rattle.vote_runs.specs.declared.fault.InputFault.{InputFault};
 
 use crate::checking::check_poll;
-use crate::counting::{Purpose, count_for};
+use crate::counting::{Purpose, count_for, run};
 use crate::explaining::explain;
 use crate::fault::{Ended, RunFault};
-use crate::listing::{Listing, print_listing, steps_joined};
+use crate::listing::{Listing, print_listing, print_steps, steps_joined};
 use std::alloc::Global;
 use std::io::Write;
 use std::marker::Brand;
@@ -104,24 +104,8 @@ pub fn perform<G: Gate + Sync, W: Sink, R: Threads + Wait + Sync>(
             ballots,
             desks,
             casting,
-        } => count_for(
-            rt,
-            alloc,
-            poll,
-            ballots,
-            *desks,
-            *casting,
-            Purpose::Sheet,
-            gate,
-            sink,
-        ),
-        Job::Steps { poll, ballots } => done(print_listing(
-            alloc,
-            poll,
-            ballots,
-            Listing::Steps,
-            sink,
-        )),
+        } => run(rt, alloc, poll, ballots, *desks, *casting, gate, sink),
+        Job::Steps { poll, ballots } => done(print_steps(alloc, poll, ballots, sink)),
         Job::Standing { poll, ballots } => done(print_listing(
             alloc,
             poll,

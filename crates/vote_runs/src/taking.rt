@@ -79,6 +79,7 @@ fn take_ballots<'t, G: Gate + Sync, R: Threads + Wait + Sync>(
     ensures lines { IfOk result (λ taken. taken.0 ≡ lines_of ballots.now) }
     ensures few { OnOk result (length (lines_of ballots.now) ≤ MAX_LINES) }
     ensures audited { IfOk result (λ taken. IsAudited poll.now taken.0 taken.1.ballot_box taken.1.sheets) }
+    ensures desks { IfOk result (λ taken. length taken.1.sheets ≡ desks) }
     ensures stopped { IfErr result (λ fault. (poll_text : Text) (named : Option Text) → poll_in poll_text ≡ Ok poll.now → ¬ NamesNoOption poll.now named → StopsTaking poll_text ballots.now named desks fault) }
 {
     let lines = match Lines::split(alloc, ballots) {
@@ -103,7 +104,7 @@ pub(crate) fn take<'t, G: Gate + Sync, R: Threads + Wait + Sync>(
     gate: &G,
 ) -> Result<Taken<'t>, RunFault>
     requires { (1 ≤ desks) × (desks ≤ MAX_DESKS) }
-    ensures taken { IfOk result (λ taken. AreTaken poll_text.now ballots.now (option_map (λ name. name.now) casting.entry) taken.poll taken.lines taken.casting taken.audited.ballot_box taken.audited.sheets) }
+    ensures taken { IfOk result (λ taken. AreTaken poll_text.now ballots.now (option_map (λ name. name.now) casting.entry) desks taken.poll taken.lines taken.casting taken.audited.ballot_box taken.audited.sheets) }
     ensures stopped { IfErr result (StopsTaking poll_text.now ballots.now (option_map (λ name. name.now) casting.entry) desks) }
 {
     let (poll, casting) = match read_poll(alloc, poll_text, casting) {

@@ -25,7 +25,8 @@ impl Tally for Brand {
     ghost opened = { record { options = 0; electors = 0; limit = 0; last_in_time = 0; steps = [] } };
 }
 
-/// A box, with the books of what was valid and what was refused.
+/// A box, with the books of what was valid and what was refused. It stands behind the lock of a shared box, and no call hands one
+/// out: it is public for the contract of `enter`.
 #[derive(Drop)]
 pub struct Held<VL: Tally, RL: Tally> {
     pub(crate) ballot_box: BallotBox,
@@ -97,6 +98,8 @@ impl<VL: Tally, RL: Tally> Desk<VL, RL> {
     }
 
     /// Its slips, in the order of its casts.
+    ///
+    /// For callers of the library; the program does not call it.
     pub fn slips(&self) -> &[Slip]
         ensures slips { result.now ≡ self.now.slips }
         ensures valid { self.now.valid_share ≡ valid_slips result.now }

@@ -55,6 +55,8 @@ impl Sealed {
     }
 
     /// How many desks there were.
+    ///
+    /// For callers of the library; the program does not call it.
     pub fn desks(&self) -> u8
         ensures { result ≡ length self.now.sheets }
     {
@@ -62,6 +64,8 @@ impl Sealed {
     }
 
     /// The sheet of a desk, by its number from 1.
+    ///
+    /// For callers of the library; the program does not call it.
     pub fn sheet_of(&self, desk: u8) -> &[Slip]
         requires { (1 ≤ desk) × (desk ≤ length self.now.sheets) }
         ensures { result.now ≡ sheet_at self.now.sheets desk }

@@ -144,11 +144,15 @@ impl<VL: Tally, RL: Tally> SharedBox<VL, RL> {
     }
 
     /// Closes the box. Casts that come later are answered `BoxClosed`.
+    ///
+    /// For callers of the library; the program does not call it.
     pub fn close(&self, rt: &impl Wait) -> Result<(), AlreadyClosed> {
         close(&mut *self.held.lock(rt))
     }
 
     /// The ranks of the ballot of a voter that stands, by the voter's number from 0.
+    ///
+    /// For callers of the library; the program does not call it.
     pub fn standing(&self, rt: &impl Wait, voter: usize) -> Result<Option<Ranks>, NoVoter>
         ensures none { (result ≡ Err record {}) ↔ (self.now.opened.electors ≤ voter) }
     {

@@ -9,3 +9,7 @@ pub mod FileLines
 pub mod Verifying
 pub mod Differences
 pub mod StandingLemmas
+pub mod ElectorSums
+pub mod SameSheets
+pub mod ElectorLaws
+pub mod Renaming

@@ -28,16 +28,16 @@ use Rattle.vote_sheet.specs.Sheet.{Sheet, Text, count_text, head_text, last_text
 use Rattle.vote_sheet.specs.SheetOf.{IsSheetOf, SheetIsUnique}
 use Rattle.vote_sheet.specs.Standing.{SaysTheSame, StandingHasTheSameSheet, StandingSaysTheSame, ballot_line, ballot_lines, standing_lines, standing_text}
 
-abbrev EachLineIsRead : Type 0
+abbrev pub EachLineIsRead : Type 0
 EachLineIsRead = (poll : PollContent) (line : List ℕ) → IsReading poll line (reading poll line)
 
-abbrev Entry : Type 0
+abbrev pub Entry : Type 0
 Entry = Option (List (Option ℕ))
 
-abbrev one : Bool → ℕ
+abbrev pub one : Bool → ℕ
 one t = cond {A = ℕ} t 1 0
 
-count-cons : {X : Type 0} (p : X → Bool) (x : X) (xs : List X) → count_by p (x ∷ xs) ≡ one (p x) + count_by p xs
+pub count-cons : {X : Type 0} (p : X → Bool) (x : X) (xs : List X) → count_by p (x ∷ xs) ≡ one (p x) + count_by p xs
 count-cons p x xs = sum_by-cons (λ y. one (p y)) x xs
 
 -- ---- what a list of ballots reads as, the first being that of the elector at this place
@@ -88,14 +88,14 @@ read_others a (Some ranks ∷ entries) =
     omega (arith, count-cons (λ r. not (is_ballot r)) (Ballot a ranks) (read_from (a + 1) entries), read_others (a + 1) entries)
 
 -- ---- there are no more last ballots than lines
-abbrev ballots_of : List Reading → ℕ → ℕ → ℕ
+abbrev pub ballots_of : List Reading → ℕ → ℕ → ℕ
 ballots_of rs a n = count_by is_some (map (last_ballot rs) (range_with_len a n))
 
 -- how many of the electors from this place a reading is a ballot of
-abbrev hits : Reading → ℕ → ℕ → ℕ
+abbrev pub hits : Reading → ℕ → ℕ → ℕ
 hits r a n = count_by (λ v. is_some (ranks_read v r)) (range_with_len a n)
 
-bad_hits : (fault : _) (a n : ℕ) → hits (Bad fault) a n ≡ 0
+pub bad_hits : (fault : _) (a n : ℕ) → hits (Bad fault) a n ≡ 0
 bad_hits fault a zero = refl
 bad_hits fault a (suc n) = omega (arith, count-cons (λ v. is_some (ranks_read v (Bad fault))) a (range_with_len (a + 1) n), bad_hits fault (a + 1) n)
 
@@ -109,7 +109,7 @@ hits_past u ranks a (suc n) below =
     let here : is_some (ranks_read a (Ballot u ranks)) ≡ false = some_where (eqb u a) ranks ∙ ne_eqb u a (omega arith) in
     omega (arith, count-cons (λ v. is_some (ranks_read v (Ballot u ranks))) a (range_with_len (a + 1) n), hits_past u ranks (a + 1) n (omega arith), ap one here)
 
-hits_once : (u : ℕ) (ranks : List (Option ℕ)) (a n : ℕ) → hits (Ballot u ranks) a n ≤ 1
+pub hits_once : (u : ℕ) (ranks : List (Option ℕ)) (a n : ℕ) → hits (Ballot u ranks) a n ≤ 1
 hits_once u ranks a zero = omega arith
 hits_once u ranks a (suc n) =
     let more = count-cons (λ v. is_some (ranks_read v (Ballot u ranks))) a (range_with_len (a + 1) n) in
@@ -130,7 +130,7 @@ one_or : (o p : Entry) → one (is_some (option_or o p)) ≤ one (is_some o) + o
 one_or None p = omega arith
 one_or (Some ranks) p = omega arith
 
-one_line_more : (r : Reading) (rs : List Reading) (a n : ℕ) → ballots_of (r ∷ rs) a n ≤ ballots_of rs a n + hits r a n
+pub one_line_more : (r : Reading) (rs : List Reading) (a n : ℕ) → ballots_of (r ∷ rs) a n ≤ ballots_of rs a n + hits r a n
 one_line_more r rs a zero = omega arith
 one_line_more r rs a (suc n) =
     let range = range_with_len (a + 1) n in
@@ -143,7 +143,7 @@ one_line_more r rs a (suc n) =
       one_line_more r rs (a + 1) n,
     )
 
-no_lines : (a n : ℕ) → ballots_of [] a n ≡ 0
+pub no_lines : (a n : ℕ) → ballots_of [] a n ≡ 0
 no_lines a zero = refl
 no_lines a (suc n) = omega (arith, count-cons is_some (last_ballot [] a) (map (last_ballot []) (range_with_len (a + 1) n)), no_lines (a + 1) n)
 

@@ -4,6 +4,8 @@ pub mod Steps
 pub mod Sheet
 pub mod SheetOf
 pub mod SheetLaws
+pub mod ElectorLaws
 pub mod Standing
 pub mod Picture
 pub mod Verify
+pub mod Limits

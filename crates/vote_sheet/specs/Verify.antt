@@ -10,6 +10,7 @@ use Rattle.vote_count.specs.declared.Decision.{Decision}
 use Rattle.vote_sheet.specs.Sheet.{decision_text, name_of}
 use Rattle.vote_sheet.specs.SheetOf.{IsSheet}
 use Rattle.vote_sheet.specs.Texts.{Text, line}
+use Rattle.vote_sheet.specs.declared.TheConstants.{MOST_SHOWN}
 use Rattle.vote_sheet.specs.declared.verify.Verification.{Verification}
 use Rattle.vote_sheet.specs.declared.verify.Verification.TheVariants.{Matches, MatchesCasting, Differs}
 
@@ -62,10 +63,10 @@ unfoldable pub verified_text : List Text → ℕ → Text
 verified_text names zero = codes "verified\n"
 verified_text names (suc o) = line (codes "verified, casting vote " ∷ decimal (suc o) ∷ codes " " ∷ name_of names (suc o) ∷ [])
 
--- a line, of which 120 bytes are shown at most, or that the text has ended
+-- the first bytes of a line, or that the text has ended
 abbrev pub shown_line : Option Text → Text
 shown_line None = codes "(end)"
-shown_line (Some text) = shown 120 text
+shown_line (Some text) = shown MOST_SHOWN text
 
 -- the first line, from 1, in which the text leaves the sheet, and this line of both; a last line that lacks its line feed is another
 unfoldable pub difference_text : Text → Text → Text

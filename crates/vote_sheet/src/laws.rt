@@ -1,5 +1,7 @@
 //! Laws of the count on what people see, from the lines of a ballot file to the sheet. Each function does nothing but call the laws
 //! of the count that it stands on: its contract is the law, and that is proved.
+ghost use Rattle.vote_sheet.specs.ElectorLaws.{NamesDoNotMatter, NobodyCountsTwice, OneBallotMovesEachCountByOne, OnlyTheLastBallotCounts, RefusedLinesAreOnlyCounted, RefusedLinesHaveNoInfluence};
+ghost use Rattle.vote_sheet.specs.Limits.{LimitsAreAsWritten};
 ghost use Rattle.vote_sheet.specs.SheetLaws.{CondorcetWinnersAreNamed, LikedOptionsStay, LikedWinnersStay, UnanimityRules};
 ghost use Rattle.vote_sheet.specs.Standing.{StandingHasTheSameSheet, StandingSaysTheSame};
 ghost use Rattle.vote_sheet.specs.Verify.{NamesTheFirstLine};
@@ -65,4 +67,42 @@ pub fn standing_has_the_same_sheet()
 #[tactic(auto, using(crate::proofs::Differences::names_the_first_line))]
 pub fn the_first_line_is_named()
     ensures { NamesTheFirstLine }
+{}
+
+/// The sums of a sheet show that nobody counts twice: of two options a voter is for one at most, each voter is an elector and has a
+/// valid line, and each line is valid or refused.
+pub fn nobody_counts_twice()
+    ensures { NobodyCountsTwice }
+{}
+
+/// Ballot files that differ only in lines that are refused have the same sheets; and a refused line at the end of a file changes
+/// nothing on the sheet but the numbers of lines and of refused lines.
+pub fn refused_lines_have_no_influence()
+    ensures changed { RefusedLinesHaveNoInfluence }
+    ensures added { RefusedLinesAreOnlyCounted }
+{}
+
+/// Of an elector with several valid ballots only the last one counts: where another ballot of this elector stands in the place of
+/// an earlier one, the sheet is the same, byte for byte.
+pub fn only_the_last_ballot_counts()
+    ensures { OnlyTheLastBallotCounts }
+{}
+
+/// Ballot files that differ in the last valid ballot of one elector, or in whether there is one: the votes for each option over each
+/// other differ by one at most, and so does the number of voters.
+pub fn one_ballot_moves_each_count_by_one()
+    ensures { OneBallotMovesEachCountByOne }
+{}
+
+/// The sheet knows no names: where the electors of a poll have other names, or stand in another order on its roll, and the lines say
+/// the same of them, the sheet is the same, byte for byte, for each casting vote.
+pub fn names_do_not_matter()
+    ensures { NamesDoNotMatter }
+{
+    each_line_is_read();
+}
+
+/// The limit of what is shown of a line is the one that `docs/FORMATS.md` writes.
+pub fn limits_are_as_written()
+    ensures { LimitsAreAsWritten }
 {}

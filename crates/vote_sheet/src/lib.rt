@@ -11,7 +11,9 @@
 //! - [`standing_text`] gives the ballots that stand, as a ballot file.
 //! - [`picture_of_box`] gives what the sheet of the same box says as a graph in the language of Graphviz.
 //! - [`check_text`] gives the line of a poll that is in order, and [`reply_words`] the words of a reply.
-//! - The functions of [`laws`] bring laws of the count to what people see: ballot files, and the winner that a sheet names.
+//! - The functions of [`laws`] bring laws of the count to what people see: ballot files, and the winner that a sheet names. They
+//!   also have what an elector can rely on: the sheet knows no names and counts nobody twice, and refused and outdated lines have
+//!   no influence on it.
 //!
 //! Nothing here knows a file, a thread or a device: what is made is a text in memory, or a want of memory. The modules: `sheet`,
 //! `verify`, `picture`, `steps` and `standing` have the public calls, and `sheet_text` the parts of a sheet.
@@ -30,3 +32,6 @@ pub use sheet::{sheet_is_unique, sheet_of_box};
 pub use standing::standing_text;
 pub use steps::{check_text, reply_words, steps_are_determined, steps_text};
 pub use verify::{Verification, verify_sheet};
+
+/// The most bytes of a line that [`verify_sheet`] shows.
+pub const MOST_SHOWN: usize = 120;

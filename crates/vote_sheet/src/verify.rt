@@ -12,15 +12,13 @@ ghost use Rattle.vote_steps.specs.Casting.{HoldsLines};
 ghost use Rattle.vote_sheet.specs.Sheet.{Text, decision_text};
 ghost use Rattle.vote_sheet.specs.Verify.{AreSheets, AreVerificationWords, IsComparison, IsVerification, agreement, casting_vote, common_lines, difference_text, shown_line, verified_text};
 
+use crate::MOST_SHOWN;
 use crate::sheet::{Count, count_of_box, push_shared, sheet_is_unique};
 use crate::sheet_text::{option_name, push_decision};
 use std::alloc::{AllocError, Global};
 use vote_count::{Decision, decide};
 use vote_poll::{Lines, Poll, push_shown};
 use vote_steps::BallotBox;
-
-/// The most bytes of a line that are shown.
-const MOST_SHOWN: usize = 120;
 
 /// Whether a text is one of the sheets of a poll and its lines, and of which casting vote.
 #[derive(Clone, Copy, Debug, PartialEq, Eq)]

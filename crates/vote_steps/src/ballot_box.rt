@@ -238,6 +238,7 @@ impl BallotBox {
     }
 
     /// Whether the box has not been closed.
+    /// For callers of the library; the program does not call it.
     pub fn is_open(&self) -> bool
         ensures { IsTrue result ↔ ¬ IsTrue (is_closed self.now.steps) }
     {

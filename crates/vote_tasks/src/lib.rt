@@ -6,12 +6,14 @@
 //!   words that are no task.
 //!
 //! **What is promised.** A job asks for what its task asks for, with the bytes of its own files. An input that was not read is
-//! told by the fault of that input. The exit status of a run is that of the table in `vote_runs`. What a file holds no contract
-//! can say.
+//! told by the fault of that input, and of the files of a task only one that the task names; an input has no more bytes than its
+//! limit, which [`laws`] has in numbers. The exit status of a run is that of the table in `vote_runs`. What a file holds no
+//! contract can say.
 #![tactic(auto)]
 
 mod ending;
 mod inputs;
+pub mod laws;
 mod tasks;
 
 pub use ending::{order_status, report};

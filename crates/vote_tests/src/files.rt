@@ -8,11 +8,12 @@ ghost use Rattle.std.specs.Prelude.{◌≡◌};
 
 use crate::same::assert_same;
 use std::alloc::{AllocError, Global};
+use std::io::{self, ErrorKind, Read};
 use std::marker::Brand;
 use std::snapshot::Snapshot;
 use std::sync::ledger::{Blank, Ledger};
 use std::test::Fail;
-use vote_files::{DeviceFault, Meter, ReadFault, Sink, Source, read_limited, write_text};
+use vote_files::{DeviceFault, Meter, ReadFault, Sink, Source, read_all, read_limited, write_text};
 
 /// A sink in memory that takes so many bytes at once, and fails once it holds as many as its limit.
 #[derive(Drop)]
@@ -245,6 +246,56 @@ fn an_input_is_read_to_its_end_or_refused(rt: HostRuntime) {
     for line in FIVE_BYTES {
         let (reads, limit, whole, fault) = *line;
         let found = read_whole(rt.alloc(), b"hello", 3, reads, limit);
+        assert_same(&rt, found, (whole, fault));
+    }
+}
+
+/// A reader of std over bytes, which gives so many at once and fails after some reads.
+#[derive(Drop)]
+struct Reel<'a> {
+    rest: &'a [u8],
+    at_once: usize,
+    reads: u32,
+}
+
+impl Read for Reel<'_> {
+    fn read(&mut self, buffer: &mut [u8]) -> io::Result<usize> {
+        if self.reads == 0 {
+            return Err(io::Error::from(ErrorKind::Other));
+        }
+        self.reads -= 1;
+        let count = buffer.len().min(self.rest.len().min(self.at_once));
+        buffer[..count].copy_from_slice(&self.rest[..count]);
+        self.rest = &self.rest[count..];
+        Ok(count)
+    }
+}
+
+/// The same as `read_whole`, of a reader of std.
+fn read_reel(
+    alloc: Global,
+    bytes: &[u8],
+    at_once: usize,
+    reads: u32,
+    limit: usize,
+) -> (bool, Option<ReadFault>) {
+    let reel = Reel {
+        rest: bytes,
+        at_once,
+        reads,
+    };
+    match read_all(alloc, reel, limit) {
+        Ok(all) => (all.as_slice() == bytes, None),
+        Err(fault) => (false, Some(fault)),
+    }
+}
+
+/// No clause of std says when a reader fails, so none says when `read_all` answers that its device failed.
+#[test]
+fn a_reader_is_read_to_its_end_or_refused(rt: HostRuntime) {
+    for line in FIVE_BYTES {
+        let (reads, limit, whole, fault) = *line;
+        let found = read_reel(rt.alloc(), b"hello", 3, reads, limit);
         assert_same(&rt, found, (whole, fault));
     }
 }

@@ -39,3 +39,31 @@ fn memory_of_explain_poll(rt: HostRuntime) -> Result<(), Fail> {
         Err(AllocError) => Err(Fail::from("refused")),
     }
 }
+
+/// A poll whose roll has one name too many.
+fn crowded(alloc: Global) -> Result<String, AllocError> {
+    let mut text = String::from_str(
+        alloc,
+        "title = \"T\"\noptions = [\"A\"]\nratios = [1]\ndefault = \"None\"\nquorum = 0\nroll = [",
+    )?;
+    for voter in 0..10_001 {
+        write!(text, "\"v{voter}\",")?;
+    }
+    text.push_str("]\n")?;
+    Ok(text)
+}
+
+/// What is wrong with it.
+fn crowd(alloc: Global) -> Result<(String, Option<PollFault>), AllocError> {
+    let text = crowded(alloc)?;
+    explained(alloc, text.as_bytes())
+}
+
+#[test]
+fn a_roll_with_one_name_too_many(rt: HostRuntime) -> Result<(), Fail> {
+    let (findings, fault) = crowd(rt.alloc())?;
+    assert_same(&rt, fault, Some(PollFault::RollSize));
+    let most = "poll: size of roll: 10001 names, 10000 are the most\n";
+    assert_same(&rt, findings.as_str(), most);
+    Ok(())
+}

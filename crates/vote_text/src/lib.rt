@@ -19,6 +19,8 @@
 //! The formats of the two files are this project's own.
 #![tactic(auto)]
 
+ghost use Rattle.vote_text.specs.Limits.{LimitsAreAsWritten};
+
 mod lines;
 mod names;
 mod shown;
@@ -35,3 +37,8 @@ pub const MAX_TITLE: usize = 80;
 
 /// The most bytes that the name of an option can have.
 pub const MAX_OPTION_NAME: usize = 40;
+
+/// A law: the limits of texts are those that `docs/FORMATS.md` writes.
+pub fn limits_are_as_written()
+    ensures { LimitsAreAsWritten }
+{}

@@ -1,13 +1,15 @@
 //! The lines of the ballot file.
 ghost use Rattle.std.specs.Prelude.{◌≡◌, List, ℕ, ◌<◌, ◌≤◌, ◌↔◌, ◌==◌, Some, length, map, count_by, slice_get, [], ◌∷◌, IfSome, IfNone, IfOk, IsErrOf};
 ghost use Rattle.std.specs.List.{slice_split};
+ghost use Rattle.vote_text.specs.FaultWords.{fault_line};
 ghost use Rattle.vote_text.specs.Lines.{AreLines, lines_of, without_last_feed};
 ghost use Rattle.vote_text.specs.declared.lines.LinesFault.TheVariants.{Memory};
 
 use memchr::memchr;
 use std::alloc::{AllocError, Global};
+use std::error::Error;
+use std::fmt;
 use std::marker::Model;
-use thiserror::Error;
 
 /// The most lines that a ballot file can have. It may have none.
 pub const MAX_LINES: usize = 100_000;
@@ -30,16 +32,27 @@ impl<'t> Model for Lines<'t> {
     ghost invariant = { λ l. length l.lines.items ≤ MAX_LINES };
 }
 
-/// Why a text has no [`Lines`], in the order tested.
-#[derive(Clone, Copy, Debug, PartialEq, Eq, Error)]
+/// Why a text has no [`Lines`], in the order tested. It is displayed as its fault line.
+#[derive(Clone, Copy, Debug, PartialEq, Eq)]
 pub enum LinesFault {
     /// The text has more than [`MAX_LINES`] lines. They are counted before any memory is asked for.
-    #[error("ballots refused: too many lines")]
     TooMany,
     /// Memory was asked for and refused.
-    #[error("out of memory")]
     Memory,
 }
+
+impl fmt::Display for LinesFault {
+    ghost output = { λ fault. Some (fault_line fault) };
+
+    fn fmt<W: fmt::Write>(&self, f: &mut fmt::Formatter<W>) -> fmt::Result {
+        match *self {
+            LinesFault::TooMany => f.write_str("ballots refused: too many lines"),
+            LinesFault::Memory => f.write_str("out of memory"),
+        }
+    }
+}
+
+impl Error for LinesFault {}
 
 impl From<AllocError> for LinesFault {
     ghost from_gives = { λ _ e. e ≡ Memory };
@@ -132,6 +145,7 @@ impl<'t> Lines<'t> {
     }
 
     /// Whether there is no line.
+    /// For callers of the library; the program does not call it.
     pub fn is_empty(&self) -> bool
         ensures { result ≡ (length self.now == 0) }
     {

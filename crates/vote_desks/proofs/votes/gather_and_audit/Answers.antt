@@ -1,22 +1,29 @@
-use Rattle.std.proofs.Common.{Err, length, refl, sym, ap, subst, arith}
+use Rattle.std.proofs.Common.{◌≡◌, length, refl, sym, subst, arith}
 use Rattle.std.specs.List.{All}
-use Rattle.vote_desks.specs.declared.fault.AuditFault.TheVariants.{SizeDiffers, CountDiffers}
+use Rattle.std.proofs.lemmas.Result.{IfOk-weaker, IfErr-weaker}
 use Rattle.vote_shared.specs.Slips.{Rises}
 use Rattle.vote_shared.specs.Desks.{SealedState}
 use Rattle.vote_desks.proofs.BackLemmas.{gathered_count, gathered_rise, has_sizes}
+use Rattle.vote_desks.proofs.StopLemmas.{can_stop_audit, audit_of_desk}
 use Rattle.vote_desks.proofs.votes.gather_and_audit.Goals as goal
 
-pub returns-in-Ok-audit-clause-rising : goal.returns-in-Ok-audit-clause-rising
-returns-in-Ok-audit-clause-rising g c =
-    let P : SealedState → Type 0 = λ s. All Rises s.sheets in
-    subst P (sym c.in-Ok-audit.ensures.same) (gathered_rise c.args.desks.items c.in-Ok.sealed.sheets c.in-Ok.ensures.sheets c.requires.rising)
+pub returns-clause-desks : goal.returns-clause-desks
+returns-clause-desks g c =
+    IfOk-weaker c.audit_votes.result _ _ (λ audited same. subst (λ (s : SealedState). length s.sheets ≡ c.args.shared.desks) (sym same) c.in-Ok.ensures.desks) c.audit_votes.ensures.same
 
-pub returns-in-Err-clause-fault : goal.returns-in-Err-clause-fault
-returns-in-Err-clause-fault g c =
+pub returns-clause-rising : goal.returns-clause-rising
+returns-clause-rising g c =
+    let rise = gathered_rise c.args.desks.items c.in-Ok.sealed.sheets c.in-Ok.ensures.sheets c.requires.rising in
+    IfOk-weaker c.audit_votes.result _ _ (λ audited same. subst (λ (s : SealedState). All Rises s.sheets) (sym same) rise) c.audit_votes.ensures.same
+
+pub returns-clause-fault : goal.returns-clause-fault
+returns-clause-fault g c =
     let cast = c.requires.cast in
     let casts = c.in-Ok.ensures.casts in
     let all = gathered_count c.args.desks.items c.in-Ok.sealed.sheets c.in-Ok.ensures.sheets in
-    let sizes = has_sizes c.args.poll.now c.args.lines.now c.args.shared.opened c.in-Ok.sealed.ballot_box (length c.args.lines.now) refl c.requires.opened c.in-Ok.ensures.opened in (
-      λ e. (c.in-Err.ensures.fault SizeDiffers).0 (ap Err e) sizes,
-      λ e. ((c.in-Err.ensures.fault CountDiffers).0 (ap Err e)).1 (omega arith),
-    )
+    let sizes = has_sizes c.args.poll.now c.args.lines.now c.args.shared.opened c.in-Ok.sealed.ballot_box (length c.args.lines.now) refl c.requires.opened c.in-Ok.ensures.opened in
+    IfErr-weaker c.audit_votes.result _ _ (λ fault. can_stop_audit c.args.poll.now c.args.lines.now c.in-Ok.sealed.ballot_box c.in-Ok.sealed.sheets fault sizes (omega arith)) c.audit_votes.ensures.fault
+
+pub returns-clause-desk : goal.returns-clause-desk
+returns-clause-desk g c =
+    IfErr-weaker c.audit_votes.result _ _ (audit_of_desk c.args.shared.desks c.args.poll.now c.args.lines.now c.in-Ok.sealed.ballot_box c.in-Ok.sealed.sheets) c.audit_votes.ensures.fault

@@ -1,4 +1,4 @@
-use Rattle.std.proofs.Common.{◌≡◌, ◌-◌, ◌≤◌, length}
+use Rattle.std.proofs.Common.{◌≡◌, ◌-◌, ◌≤◌, IsTrue, length}
 use Rattle.std.specs.List.{All}
 use Rattle.vote_desks.specs.declared.run.TheConstants.{RUN}
 use Rattle.vote_shared.specs.Slips.{stamps_of}
@@ -16,6 +16,7 @@ invariant-loop-stamps g l = record {
   cast : stamps_of l.desk.slips ≡ stamps_taken l.pass;
   rising : IsRising l.pass;
   most : (1 ≤ l.most) × (l.most ≤ RUN);
+  alone : IsTrue l.workplace.may_wait → l.most ≡ 1;
   stamps : length l.stamps ≡ RUN;
   readings : length l.readings ≡ RUN;
   fit : All (FitsBox l.workplace.shared.now.opened) l.readings;

@@ -1,5 +1,5 @@
 use Rattle.std.proofs.Common.{refl}
-use Rattle.vote_findings.specs.Findings.{fault_words}
+use Rattle.vote_keys.specs.FaultWords.{fault_words}
 use Rattle.vote_keys.specs.declared.fault.PollFault.TheVariants as fault
 use Rattle.vote_findings.proofs.FindingLaws.{on_one}
 use Rattle.vote_findings.proofs.key_findings.push_bad_key.Goals as goal

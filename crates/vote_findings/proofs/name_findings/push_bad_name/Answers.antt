@@ -1,5 +1,5 @@
 use Rattle.std.proofs.Common.{refl}
-use Rattle.vote_findings.specs.Findings.{fault_words}
+use Rattle.vote_keys.specs.FaultWords.{fault_words}
 use Rattle.vote_findings.specs.NameFindings.{bad_name}
 use Rattle.vote_findings.proofs.FindingLaws.{on_one}
 use Rattle.vote_findings.proofs.name_findings.push_bad_name.Goals as goal

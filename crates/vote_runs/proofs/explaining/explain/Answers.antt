@@ -10,4 +10,4 @@ returns-clause-explains g c =
     let ballots = option_map {T = Bor (List ℕ)} {U = List ℕ} (λ bytes. bytes.now) c.args.ballots in
     let P : Text → Type 0 = λ text. IsExplanation c.args.poll_text.now ballots text c.in-Ok.explained.1 in
     explains_front c.args.poll_text.now ballots (g.W.Sink.contents c.args.sink.now) (g.W.Sink.contents c.write_run.new.sink) c.as_bytes.result.now
-    c.in-Ok.explained.1 c.in-Err-write_run.fault c.in-Err-write_run.ensures.only (subst P (sym c.as_bytes.ensures.value) c.in-Ok.ensures.text) c.in-Err-write_run.ensures.writes
+    c.in-Ok.explained.1 c.in-Err-write_run.fault c.in-Err-write_run.ensures.only c.in-Ok.ensures.lines (subst P (sym c.as_bytes.ensures.value) c.in-Ok.ensures.text) c.in-Err-write_run.ensures.writes

@@ -3,43 +3,45 @@ use Rattle.vote_runs.proofs.jobs.perform.Goals as goal
 
 pub returns-in-Count-clause-performs : goal.returns-in-Count-clause-performs
 returns-in-Count-clause-performs g c =
-    let counted = c.count_for.ensures in
+    let counted = c.run.ensures in
     rw c.in-Count.is (record {
       poll = counted.poll;
       casting = counted.casting;
       lines = counted.lines;
       votes = search rules;
+      at = counted.desks;
       writes = counted.writes;
     })
 
 pub returns-in-Count-clause-input : goal.returns-in-Count-clause-input
-returns-in-Count-clause-input g c = c.count_for.ensures.input
+returns-in-Count-clause-input g c = c.run.ensures.input
 
 pub returns-in-Count-clause-output : goal.returns-in-Count-clause-output
-returns-in-Count-clause-output g c = c.count_for.ensures.output
+returns-in-Count-clause-output g c = c.run.ensures.output
 
 pub returns-in-Count-clause-flushed : goal.returns-in-Count-clause-flushed
-returns-in-Count-clause-flushed g c = c.count_for.ensures.flushed
+returns-in-Count-clause-flushed g c = c.run.ensures.flushed
 
 pub returns-in-Verify-clause-performs : goal.returns-in-Verify-clause-performs
 returns-in-Verify-clause-performs g c =
-    let counted = c.count_for-in-Verify.ensures in
+    let counted = c.count_for.ensures in
     rw c.in-Verify.is (record {
       poll = counted.poll;
       casting = counted.casting;
       lines = counted.lines;
       votes = search rules;
+      at = counted.desks;
       writes = counted.writes;
     })
 
 pub returns-in-Verify-clause-input : goal.returns-in-Verify-clause-input
-returns-in-Verify-clause-input g c = c.count_for-in-Verify.ensures.input
+returns-in-Verify-clause-input g c = c.count_for.ensures.input
 
 pub returns-in-Verify-clause-output : goal.returns-in-Verify-clause-output
-returns-in-Verify-clause-output g c = c.count_for-in-Verify.ensures.output
+returns-in-Verify-clause-output g c = c.count_for.ensures.output
 
 pub returns-in-Verify-clause-flushed : goal.returns-in-Verify-clause-flushed
-returns-in-Verify-clause-flushed g c = c.count_for-in-Verify.ensures.flushed
+returns-in-Verify-clause-flushed g c = c.count_for.ensures.flushed
 
 pub returns-in-Picture-clause-performs : goal.returns-in-Picture-clause-performs
 returns-in-Picture-clause-performs g c =
@@ -49,6 +51,7 @@ returns-in-Picture-clause-performs g c =
       casting = counted.casting;
       lines = counted.lines;
       votes = search rules;
+      at = counted.desks;
       writes = counted.writes;
     })
 
@@ -63,7 +66,7 @@ returns-in-Picture-clause-flushed g c = c.count_for-in-Picture.ensures.flushed
 
 pub returns-in-Steps-clause-performs : goal.returns-in-Steps-clause-performs
 returns-in-Steps-clause-performs g c =
-    let listed = c.print_listing.ensures in
+    let listed = c.print_steps.ensures in
     let stop = c.done.ensures.stop in
     rw c.in-Steps.is (record {
       poll = rw stop listed.poll;
@@ -85,7 +88,7 @@ returns-in-Steps-clause-flushed g c = search rules
 
 pub returns-in-Standing-clause-performs : goal.returns-in-Standing-clause-performs
 returns-in-Standing-clause-performs g c =
-    let listed = c.print_listing-in-Standing.ensures in
+    let listed = c.print_listing.ensures in
     let stop = c.done-in-Standing.ensures.stop in
     rw c.in-Standing.is (record {
       poll = rw stop listed.poll;

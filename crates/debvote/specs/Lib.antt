@@ -1,0 +1,2 @@
+-- what the contracts of the program's functions say
+pub mod Program

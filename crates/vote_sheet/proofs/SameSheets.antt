@@ -1,0 +1,112 @@
+-- Two polls that differ in the names on their rolls alone, and files that count the same in them, have the same sheets.
+use Rattle.std.proofs.Common.{◌≡◌, ℕ, ◌*◌, ◌^◌, ◌<◌, ◌≤◌, ◌⊎◌, ◌↔◌, List, Option, None, Some, length, refl, sym, ap, ◌∙◌, subst, arith}
+use Rattle.std.specs.Prelude.{count_by, is_some}
+use Rattle.vote_poll.specs.PollContent.{PollContent, elector_count, option_count}
+use Rattle.vote_count.specs.Ballots.{entry_prefers}
+use Rattle.vote_count.specs.declared.Cause.{Cause}
+use Rattle.vote_count.specs.declared.Cause.TheVariants.{Quorum, Majority}
+use Rattle.vote_count.specs.Rounds.{AreRounds, HasCause, IsOutcome, VerdictState, cause_of}
+use Rattle.vote_count.specs.Rules.{MeetsMajority, PairwiseDefeats}
+use Rattle.vote_count.specs.Sets.{Pairs}
+use Rattle.vote_count.specs.Votes.{Votes, votes}
+use Rattle.vote_sheet.specs.ElectorLaws.{HaveSameSheets}
+use Rattle.vote_sheet.specs.LastBallots.{last_valid_ballots, valid_count, voter_count, votes_for}
+use Rattle.vote_sheet.specs.Sheet.{Sheet, Text}
+use Rattle.vote_sheet.specs.SheetOf.{IsSheetOf}
+use Rattle.vote_sheet.proofs.ElectorSums.{valid-refused}
+
+-- the poll with another roll
+abbrev pub with_roll : PollContent → List Text → PollContent
+with_roll poll roll = record poll { roll = roll }
+
+-- what a sheet counts of two files is the same
+pub record CountTheSame (poll : PollContent) (lines : List Text) (again : PollContent) (others : List Text) : Type 0 where
+  pub as_long : length others ≡ length lines
+  pub valid : valid_count again others ≡ valid_count poll lines
+  pub voters : voter_count again others ≡ voter_count poll lines
+  pub counts : (a b : ℕ) → votes_for again others a b ≡ votes_for poll lines a b
+
+pub count_the_same-back : (poll : PollContent) (lines : List Text) (again : PollContent) (others : List Text) → CountTheSame poll lines again others → CountTheSame again others poll lines
+count_the_same-back poll lines again others same = record {
+  as_long = sym same.as_long;
+  valid = sym same.valid;
+  voters = sym same.voters;
+  counts = λ a b. sym (same.counts a b);
+}
+
+-- files of one poll with the same last valid ballots, as many lines and as many valid ones count the same
+pub from_last_ballots : (poll : PollContent) (lines others : List Text) → length others ≡ length lines → valid_count poll others ≡ valid_count poll lines
+    → last_valid_ballots poll others ≡ last_valid_ballots poll lines → CountTheSame poll lines poll others
+from_last_ballots poll lines others long valid last = record {
+  as_long = long;
+  valid = valid;
+  voters = ap (count_by is_some) last;
+  counts = λ a b. ap (count_by (entry_prefers a b)) last;
+}
+
+-- ---- what a poll has to do with its roll: of how many electors it is
+module _ (poll : PollContent) (matrix : Votes) where
+  -- an option is kept where there are so many electors
+  abbrev kept_among : ℕ → ℕ → Type 0
+  kept_among electors o =
+      (o ≡ option_count poll)
+      ⊎ ((1 ≤ o) × (o < option_count poll) × (poll.quorum_multiple ^ 2 * electors ≤ (2 * votes matrix o (option_count poll)) ^ 2) × MeetsMajority poll matrix o)
+
+  module _ (roll : List Text) (electors : elector_count poll ≡ length roll) where
+    cause_there : (o : ℕ) (cause : Option Cause) → HasCause poll matrix o cause → HasCause (with_roll poll roll) matrix o cause
+    cause_there o None has = let P : ℕ → Type 0 = λ n. kept_among n o in subst P electors has
+    cause_there o (Some Quorum) has =
+        let P : ℕ → Type 0 = λ n. ¬ (poll.quorum_multiple ^ 2 * n ≤ (2 * votes matrix o (option_count poll)) ^ 2) in (has.0, subst P electors has.1)
+    cause_there o (Some Majority) has =
+        let P : ℕ → Type 0 = λ n. poll.quorum_multiple ^ 2 * n ≤ (2 * votes matrix o (option_count poll)) ^ 2 in (has.0, subst P electors has.1, has.2)
+
+    outcome_there : (outcome : VerdictState) → IsOutcome poll matrix outcome → IsOutcome (with_roll poll roll) matrix outcome
+    outcome_there outcome is =
+        let P : ℕ → Type 0 = λ n. (a b : ℕ) → Pairs outcome.defeats a b ↔ PairwiseDefeats (kept_among n) matrix a b in
+        let Q : ℕ → Type 0 = λ n. AreRounds (kept_among n) matrix (PairwiseDefeats (kept_among n) matrix) outcome.rounds in
+        record {
+          causes = λ o of. cause_there o (cause_of outcome o) (is.causes o of);
+          defeats = subst P electors is.defeats;
+          rounds = subst Q electors is.rounds;
+        }
+
+-- ---- the sheets
+sheet_there : (poll : PollContent) (roll : List Text) → elector_count poll ≡ length roll → (lines others : List Text) → CountTheSame poll lines (with_roll poll roll) others
+    → (casting : Option ℕ) (s : Sheet) → IsSheetOf poll lines casting s → IsSheetOf (with_roll poll roll) others casting s
+sheet_there poll roll electors lines others same casting s is =
+    let P : ℕ → Type 0 = λ n. poll.quorum_multiple ^ 2 * n ≤ (2 * s.quorum_votes) ^ 2 in
+    let Q : ℕ → Type 0 = λ k. (n : ℕ) → poll.quorum_multiple ^ 2 * k ≤ (2 * n) ^ 2 → s.quorum_votes ≤ n in
+    record {
+      title = is.title;
+      electors = is.electors ∙ electors;
+      names = is.names;
+      ratios = is.ratios;
+      quorum_multiple = is.quorum_multiple;
+      wording = is.wording;
+      last_envelope = is.last_envelope;
+      quorum_met = subst P electors is.quorum_met;
+      quorum_least = subst Q electors is.quorum_least;
+      line_count = is.line_count ∙ sym same.as_long;
+      valid = is.valid ∙ sym same.valid;
+      refused = omega (arith, is.refused, same.as_long, same.valid, valid-refused poll lines, valid-refused (with_roll poll roll) others);
+      voters = is.voters ∙ sym same.voters;
+      size = is.size;
+      counted = λ a b of_a of_b. is.counted a b of_a of_b ∙ sym (same.counts a b);
+      outcome = outcome_there poll s.matrix roll electors s.outcome is.outcome;
+      decision = is.decision;
+    }
+
+pub same_sheets_there : (poll : PollContent) (roll : List Text) → elector_count poll ≡ length roll → (lines others : List Text) → CountTheSame poll lines (with_roll poll roll) others
+    → HaveSameSheets poll lines (with_roll poll roll) others
+same_sheets_there poll roll electors lines others same casting text = (
+  λ h. (h.0, sheet_there poll roll electors lines others same casting h.0 h.1, h.2),
+  λ h. (
+    h.0,
+    sheet_there (with_roll poll roll) poll.roll (sym electors) others lines (count_the_same-back poll lines (with_roll poll roll) others same) casting h.0 h.1,
+    h.2,
+  ),
+)
+
+-- of one poll
+pub same_sheets_here : (poll : PollContent) (lines others : List Text) → CountTheSame poll lines poll others → HaveSameSheets poll lines poll others
+same_sheets_here poll lines others same = same_sheets_there poll poll.roll refl lines others same

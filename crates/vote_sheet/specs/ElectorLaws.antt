@@ -1,0 +1,118 @@
+-- What an elector can rely on: laws of the sheet that is printed. It counts nobody twice, knows no names, and shows nothing of a refused or an outdated line but that it is there; and one ballot moves each of its counts by one at most.
+use Rattle.std.specs.Prelude.{◌≡◌, ◌≢◌, ℕ, ◌+◌, ◌<◌, ◌≤◌, ◌⊎◌, ◌↔◌, false, List, [], ◌∷◌, ◌++◌, length, take, slice_get, Option}
+use Rattle.std.specs.List.{AllZip}
+use Rattle.vote_poll.specs.Options.{IsOption}
+use Rattle.vote_poll.specs.PollContent.{PollContent, elector_count, last_in_time, option_count}
+use Rattle.vote_poll.specs.Readings.{is_ballot, reading}
+use Rattle.vote_poll.specs.declared.Reading.{Reading}
+use Rattle.vote_poll.specs.declared.Reading.TheVariants.{Bad, Ballot}
+use Rattle.vote_count.specs.Votes.{votes}
+use Rattle.vote_sheet.specs.LastBallots.{last_valid_ballots, readings_in_time}
+use Rattle.vote_sheet.specs.Sheet.{Sheet, Text}
+use Rattle.vote_sheet.specs.SheetOf.{IsSheet, IsSheetOf}
+
+-- ---- the sums of a sheet
+
+-- Of each two options a voter is for one at most. Each voter is an elector and has a valid line, and each line is valid or refused.
+pub record CountsOnce (options : ℕ) (s : Sheet) : Type 0 where
+  pub of_two : (a b : ℕ) → IsOption options a → IsOption options b → votes s.matrix a b + votes s.matrix b a ≤ s.voters
+  pub on_roll : s.voters ≤ s.electors
+  pub by_lines : s.voters ≤ s.valid
+  pub each_line : s.valid + s.refused ≡ s.line_count
+
+-- Nobody counts twice, on any sheet.
+abbrev pub NobodyCountsTwice : Type 0
+NobodyCountsTwice = (poll : PollContent) (lines : List Text) (casting : Option ℕ) (s : Sheet) → IsSheetOf poll lines casting s → CountsOnce (option_count poll) s
+
+-- ---- files with the same sheets
+
+-- for each casting vote a text is a sheet of the first poll and file exactly where it is one of the second
+abbrev pub HaveSameSheets : PollContent → List Text → PollContent → List Text → Type 0
+HaveSameSheets poll lines again others = (casting : Option ℕ) (text : Text) → IsSheet poll lines casting text ↔ IsSheet again others casting text
+
+-- ---- refused lines
+
+-- two lines are the same, or neither is a ballot
+abbrev pub AreSameOrNoBallots : PollContent → Text → Text → Type 0
+AreSameOrNoBallots poll line other = (line ≡ other) ⊎ ((is_ballot (reading poll line) ≡ false) × (is_ballot (reading poll other) ≡ false))
+
+-- Two files are as long as each other, and of the lines that are not late those that differ are no ballots in either.
+pub record DifferInRefusedLines (poll : PollContent) (lines others : List Text) : Type 0 where
+  pub as_long : length others ≡ length lines
+  pub in_time : AllZip (AreSameOrNoBallots poll) (take (last_in_time poll) lines) (take (last_in_time poll) others)
+
+-- Refused lines have no influence: files that differ in them alone have the same sheets.
+abbrev pub RefusedLinesHaveNoInfluence : Type 0
+RefusedLinesHaveNoInfluence = (poll : PollContent) (lines others : List Text) → DifferInRefusedLines poll lines others → HaveSameSheets poll lines poll others
+
+-- the line is refused behind these: it is late there, or no ballot
+abbrev pub IsRefusedBehind : PollContent → List Text → Text → Type 0
+IsRefusedBehind poll lines line = (last_in_time poll ≤ length lines) ⊎ (is_ballot (reading poll line) ≡ false)
+
+-- the sheet with one line more, which is refused
+abbrev pub with_refused_line : Sheet → Sheet
+with_refused_line s = record s { line_count = s.line_count + 1; refused = s.refused + 1 }
+
+-- A refused line at the end of a file is counted as a line and as refused, and changes nothing else on the sheet.
+abbrev pub RefusedLinesAreOnlyCounted : Type 0
+RefusedLinesAreOnlyCounted =
+    (poll : PollContent) (lines : List Text) (line : Text) (casting : Option ℕ) (s : Sheet) →
+    IsRefusedBehind poll lines line → IsSheetOf poll lines casting s → IsSheetOf poll (lines ++ line ∷ []) casting (with_refused_line s)
+
+-- ---- outdated lines
+
+-- the line reads as a ballot of the elector at this place of the roll
+abbrev pub IsBallotFrom : PollContent → ℕ → Text → Type 0
+IsBallotFrom poll elector line = (ranks : List (Option ℕ)) × (reading poll line ≡ Ballot elector ranks)
+
+-- Only the last ballot counts: where an elector has a later one that is not late, another ballot of this elector in the place of the earlier one leaves the sheets the same.
+abbrev pub OnlyTheLastBallotCounts : Type 0
+OnlyTheLastBallotCounts =
+    (poll : PollContent) (elector : ℕ) (before between after : List Text) (line other later : Text) →
+    IsBallotFrom poll elector line → IsBallotFrom poll elector other → IsBallotFrom poll elector later → length (before ++ line ∷ between) < last_in_time poll →
+    HaveSameSheets poll (before ++ line ∷ between ++ later ∷ after) poll (before ++ other ∷ between ++ later ∷ after)
+
+-- ---- names
+
+-- two polls have the same number of electors, and are the same but for the names on their rolls
+pub record DifferInNames (poll again : PollContent) : Type 0 where
+  pub electors : elector_count again ≡ elector_count poll
+  pub all_else : again ≡ record poll { roll = again.roll }
+
+-- each place of a roll of so many electors is mapped to one of another such roll, and no two to the same
+pub record IsOneToOne (electors : ℕ) (mapped : ℕ → ℕ) : Type 0 where
+  pub on_roll : (v : ℕ) → v < electors → mapped v < electors
+  pub apart : (v w : ℕ) → v < electors → w < electors → mapped v ≡ mapped w → v ≡ w
+
+-- one line reads as a ballot of an elector and the other as one of the elector that this one is mapped to, with the same ranks, or both as no ballot
+abbrev pub ReadAlike : (ℕ → ℕ) → Reading → Reading → Type 0
+ReadAlike mapped (Ballot elector ranks) other = other ≡ Ballot (mapped elector) ranks
+ReadAlike mapped (Bad fault) other = is_ballot other ≡ false
+
+-- two files of two polls are as long as each other, and their lines that are not late read alike, line by line
+pub record AreAlike (mapped : ℕ → ℕ) (poll : PollContent) (lines : List Text) (again : PollContent) (others : List Text) : Type 0 where
+  pub as_long : length others ≡ length lines
+  pub alike : AllZip (ReadAlike mapped) (readings_in_time poll lines) (readings_in_time again others)
+
+-- Names do not matter: where the electors of a poll have other names, or stand in another order on the roll, and the lines say the same of them, the sheets are the same.
+abbrev pub NamesDoNotMatter : Type 0
+NamesDoNotMatter =
+    (poll again : PollContent) (lines others : List Text) (mapped : ℕ → ℕ) →
+    DifferInNames poll again → IsOneToOne (elector_count poll) mapped → AreAlike mapped poll lines again others → HaveSameSheets poll lines again others
+
+-- ---- one ballot
+
+-- the last valid ballots of two files are the same for each elector but this one
+abbrev pub DifferInOneBallot : PollContent → ℕ → List Text → List Text → Type 0
+DifferInOneBallot poll elector lines others =
+    (v : ℕ) → v ≢ elector → slice_get (last_valid_ballots poll others) v ≡ slice_get (last_valid_ballots poll lines) v
+
+abbrev pub IsWithinOne : ℕ → ℕ → Type 0
+IsWithinOne n m = (n ≤ m + 1) × (m ≤ n + 1)
+
+-- One ballot moves each count by one: where the last valid ballot of one elector is another, or is there in one file alone, the votes for each option over each other differ by one at most, and so does the number of voters.
+abbrev pub OneBallotMovesEachCountByOne : Type 0
+OneBallotMovesEachCountByOne =
+    (poll : PollContent) (elector : ℕ) (lines others : List Text) (casting other : Option ℕ) (s t : Sheet) →
+    DifferInOneBallot poll elector lines others → IsSheetOf poll lines casting s → IsSheetOf poll others other t →
+    IsWithinOne s.voters t.voters × ((a b : ℕ) → IsOption (option_count poll) a → IsOption (option_count poll) b → IsWithinOne (votes s.matrix a b) (votes t.matrix a b))
