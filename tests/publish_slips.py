@@ -65,7 +65,7 @@ class Slip:
         poll, ballots = (hashlib.sha256(text.encode()).hexdigest() for text in (self.poll, self.ballots))
         for number, act in enumerate(self.acts, start=1):
             is_lost = self.is_cut_off and number == len(self.acts)
-            yield f"2026-11-25T18:04:11Z\t{act}\t-\t{'0' * 64 if is_lost else poll}\t{ballots}\n"
+            yield f"2026-11-25T18:04:11Z\t{act}\t-\t{'0' * 64 if is_lost else poll}\t{ballots}" + ("" if is_lost else "\n")
 
 
 SLIPS = [

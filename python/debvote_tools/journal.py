@@ -2,9 +2,9 @@
 
     2026-11-25T18:04:11Z  add  13-15  <sum of poll.toml>  <sum of ballots>
 
-Its parts have a tab between them, and `-` stands for what there is not. A line is written before the act is done; so where a run
-is killed between the two, the files have the sums of the line before, and the next act notes that this one was not done. For this
-the line before must have the sums that the act finds: where it has not, a line `found` is written first.
+Its parts have a tab between them, and `-` stands for what there is not. A line is written before the act is done, and gets its line
+feed after that. So where a run is killed between the two, the next act finds a line that is not ended: either the files have its
+sums, and it is ended, or the act was not done, and this is noted.
 """
 
 import dataclasses
@@ -20,12 +20,15 @@ NAME = "journal"
 # the act by which the next run notes that the one before was cut off before it was done
 UNDONE = "undone"
 
-# how an act begins that finds the files otherwise than the one before has left them: somebody has edited them, or it is the first
+# what an act notes first that finds the files otherwise than the one before has left them: somebody has edited them
 FOUND = "found"
 
 NONE = "-"
 
 TIME = r"\d{4}-\d\d-\d\dT\d\d:\d\d:\d\dZ"
+
+# an entry whose last sum is whole: so much of it is shown by no line that was cut off
+WHOLE = re.compile(rb"[^\t\n]+\t[^\t\n]+\t[^\t\n]+\t(?:-|[0-9a-f]{64})\t(?:-|[0-9a-f]{64})")
 
 
 @dataclasses.dataclass(frozen=True)
@@ -54,7 +57,7 @@ class Entry:
 
 
 def entries_in(file: pathlib.Path, most: int | None = None) -> list[Entry]:
-    """The entries of a journal, first to last; none where there is no journal. A line that was cut off is no entry.
+    """The entries of a journal, first to last; none where there is no journal. A last line that is not ended is no entry.
 
     With a number, those alone that stand whole in so many last bytes.
     """
@@ -65,14 +68,30 @@ def entries_in(file: pathlib.Path, most: int | None = None) -> list[Entry]:
             text = source.read().decode("ascii", "replace")
     except FileNotFoundError:
         return []
-    rows = [line.split("\t") for line in text.split("\n")[:-1]]
-    return [Entry(row[0], row[1], row[2], Sums(row[3], row[4])) for row in rows if len(row) == 5 and re.fullmatch(TIME, row[0])]
+    return [entry for line in text.split("\n")[:-1] if (entry := entry_of(line))]
+
+
+def entry_of(line: str) -> Entry | None:
+    """The entry of a line."""
+    row = line.split("\t")
+    return Entry(row[0], row[1], row[2], Sums(row[3], row[4])) if len(row) == 5 and re.fullmatch(TIME, row[0]) else None
 
 
 def last_entries(file: pathlib.Path) -> list[Entry]:
-    """The last entries of a journal, as many as the last two acts that were done need, however long the journal is."""
+    """The last entries of a journal, with that of an act that was done, however long the journal is."""
     entries = entries_in(file, 4096)
-    return entries if len(done(entries)) > 1 else entries_in(file)
+    return entries if done(entries) else entries_in(file)
+
+
+def begun(file: pathlib.Path) -> Entry | None:
+    """The entry of an act that was begun, where it is not noted that it was done."""
+    try:
+        with open(file, "rb") as source:
+            source.seek(max(0, os.fstat(source.fileno()).st_size - 4096))
+            line = source.read().rpartition(b"\n")[2]
+    except FileNotFoundError:
+        return None
+    return entry_of(line.decode("ascii")) if WHOLE.fullmatch(line) else None
 
 
 def done(entries: list[Entry]) -> list[Entry]:
@@ -91,14 +110,33 @@ def last(entries: list[Entry], act: str) -> Entry | None:
     return next((entry for entry in reversed(done(entries)) if entry.act == act), None)
 
 
-def is_cut_off(entries: list[Entry], now: Sums) -> bool:
-    """Whether the last act was noted and not done: the files have the sums of the act before it, and not its own."""
-    acts = done(entries)
-    before = acts[-2].sums if len(acts) > 1 else Sums(NONE, NONE)
-    return bool(acts) and now != acts[-1].sums and now == before
+def acts_done(file: pathlib.Path, now: Sums) -> list[Entry]:
+    """The acts that were done, where the files have these sums: also one that is done, and was killed before it was ended."""
+    last_begun = begun(file)
+    return done(entries_in(file)) + ([last_begun] if last_begun is not None and last_begun.sums == now else [])
 
 
 def note(file: pathlib.Path, act: str, envelopes: str, sums: Sums) -> None:
-    """Appends an entry, and brings it to the disk. A line that was cut off before is taken away first. Raises OSError."""
+    """Notes an act that needs nothing more to be done. Raises OSError, and then nothing is noted."""
+    append_whole(file, line_now(act, envelopes, sums) + b"\n", has_lines=True)
+
+
+def begin(file: pathlib.Path, act: str, envelopes: str, sums: Sums) -> None:
+    """Notes that an act begins. Raises OSError, and then nothing is noted."""
+    append_whole(file, line_now(act, envelopes, sums), has_lines=True)
+
+
+def end(file: pathlib.Path) -> None:
+    """Notes that the act that was begun is done."""
+    append_whole(file, b"\n")
+
+
+def end_undone(file: pathlib.Path, sums: Sums) -> None:
+    """Notes that the act that was begun was not done."""
+    append_whole(file, b"\n" + line_now(UNDONE, NONE, sums) + b"\n")
+
+
+def line_now(act: str, envelopes: str, sums: Sums) -> bytes:
+    """The line of an act at this time, without its line feed."""
     time = datetime.datetime.now(datetime.UTC).strftime("%Y-%m-%dT%H:%M:%SZ")
-    append_whole(file, Entry(time, act, envelopes, sums).line().encode("ascii"), has_lines=True)
+    return Entry(time, act, envelopes, sums).line().removesuffix("\n").encode("ascii")

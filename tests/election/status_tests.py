@@ -186,7 +186,7 @@ class Edited(StatusTest):
         self.note("add", "1-1")
         sums = journal.Sums.of(self.read("poll.toml") + b"last_envelope = 1\n", self.read("ballots"))
         with open(self.folder / "journal", "a") as file:
-            file.write(journal.Entry("2026-11-25T19:00:00Z", "close", "1-1", sums).line())
+            file.write(journal.Entry("2026-11-25T19:00:00Z", "close", "1-1", sums).line().removesuffix("\n"))
         said = self.status()
         self.assertEqual(
             said[0], "Note: the last act (close, 2026-11-25 19:00:00 UTC) was cut off, and is not done; run it again."

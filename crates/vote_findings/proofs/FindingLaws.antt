@@ -1,12 +1,11 @@
 -- Texts of findings, one after another.
 use Rattle.std.proofs.Common.{◌≡◌, ◌≢◌, ◌+◌, ◌/◌, ◌%◌, ◌∷◌, ◌++◌, [], ℕ, zero, suc, List, Bool, true, false, map, take, length, filter, Ok, Err, Result, refl, ap, sym, subst, ◌∙◌, arith, append_assoc, append-nil, nat_lt, codes, OnOk, inl, inr, Bor, Option, Some, None, option_map, unwrap_or, get_or, ◌<◌}
-use Rattle.std.specs.List.{concat, flat_map, range_with_len}
+use Rattle.std.specs.List.{flat_map, range_with_len}
 use Rattle.std.specs.Prelude.{not}
 use Rattle.std.proofs.lemmas.Bool.{cases_Bool}
 use Rattle.std.proofs.lemmas.Bool.Decides.{nat_tests}
 use Rattle.std.proofs.lemmas.List.Elements.{All-nil, All-cons, All-append, filter-append}
 use Rattle.std.proofs.lemmas.List.{map-append, take_more}
-use Rattle.std.proofs.lemmas.List.Concat.{concat_is, flat_map-append}
 use Rattle.vote_findings.specs.Findings.{AddsFindings, AddsKeyLine, AddsKeyLines, AreFindings, AreKeyLines, EndsFinding, IsKeyLine, finding}
 use Rattle.vote_findings.specs.UnreadKeys.{IsRemark, IsRemarkWhere, Place, below_words, key_named, lacks, path_behind, path_of, unread_keys}
 use Rattle.vote_findings.specs.UnreadView.{cut, place_of}

@@ -6,14 +6,12 @@ use Rattle.std.proofs.lemmas.List.Concat.{flat_map-append}
 use Rattle.toml.specs.Data.{Members}
 use Rattle.vote_findings.specs.Findings.{AddsFindings}
 use Rattle.vote_findings.specs.KeyFindings.{of_key}
+use Rattle.vote_findings.specs.UnreadKeys.{all_keys}
 use Rattle.vote_poll.specs.PollFaults.{Found, of_keys}
 use Rattle.vote_keys.specs.declared.fault.PollFault.{PollFault}
 use Rattle.vote_keys.specs.declared.fault.PollKey.{PollKey}
 use Rattle.vote_keys.specs.declared.fault.PollKey.TheVariants as key
 use Rattle.vote_findings.proofs.FindingLaws.{adds_then}
-
-abbrev all_keys : List PollKey
-all_keys = key.Title ∷ key.Options ∷ key.Ratios ∷ key.DefaultOption ∷ key.Quorum ∷ key.Roll ∷ key.LastEnvelope ∷ key.Wording ∷ []
 
 -- the faults of the first keys
 abbrev pub of_first : Members → Found → List PollKey → ℕ → List PollFault

@@ -4,7 +4,7 @@
 //!   give the list at a key. [`document`] reads the table of a text.
 //! - [`fields_of`] gives all keys of a table at once, as [`Fields`], or the first [`PollFault`] of a key.
 //! - [`PollFault`] has all faults of a poll file, and their words: those of its keys, which this crate finds, and those of what
-//!   the keys say, which vote_poll finds.
+//!   the keys say, which vote_poll finds. The words are those of `specs/FaultWords.antt`, here and in what vote_findings says.
 //!
 //! What is promised, memory aside: each call answers what the definitions of `specs/Keys.antt` say of the text or the table, and
 //! a fault just where they have it.

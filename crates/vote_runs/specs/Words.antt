@@ -1,5 +1,8 @@
 -- The words of the faults of a run, as its fault line has them.
-use Rattle.std.specs.Prelude.{Option, Some, None, codes}
+use Rattle.std.specs.Prelude.{codes}
+use Rattle.vote_keys.specs.FaultWords as poll
+use Rattle.vote_text.specs.FaultWords as lines
+use Rattle.vote_desks.specs.Words as votes
 use Rattle.vote_sheet.specs.Texts.{Text}
 use Rattle.vote_runs.specs.declared.fault.InputFault.{InputFault}
 use Rattle.vote_runs.specs.declared.fault.InputFault.TheVariants as input
@@ -15,12 +18,12 @@ input_words input.BallotsTooLong = codes "ballots too long"
 input_words input.SheetUnreadable = codes "sheet unreadable"
 input_words input.SheetTooLong = codes "sheet too long"
 
--- a run that did not come to its end; the words for a poll, its lines and its votes are those of the crates that refuse them
-abbrev pub fault_words : RunFault → Option Text
-fault_words (run.Input fault) = Some (input_words fault)
-fault_words (run.Poll fault) = None
-fault_words run.NoSuchOption = Some (codes "casting option is not in the poll")
-fault_words (run.Lines fault) = None
-fault_words (run.Vote fault) = None
-fault_words run.Memory = Some (codes "out of memory")
-fault_words run.Output = Some (codes "output failed")
+-- a run that did not come to its end: the words for a poll, its lines and its votes are those of the crates that refuse them
+abbrev pub fault_words : RunFault → Text
+fault_words (run.Input fault) = input_words fault
+fault_words (run.Poll fault) = poll.fault_line fault
+fault_words run.NoSuchOption = codes "casting option is not in the poll"
+fault_words (run.Lines fault) = lines.fault_line fault
+fault_words (run.Vote fault) = votes.fault_words fault
+fault_words run.Memory = codes "out of memory"
+fault_words run.Output = codes "output failed"

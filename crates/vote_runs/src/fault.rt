@@ -87,9 +87,10 @@ impl fmt::Display for InputFault {
 impl Error for InputFault {}
 
 impl fmt::Display for RunFault {
+    ghost use Rattle.std.specs.Prelude.{Some};
     ghost use Rattle.vote_runs.specs.Words.{fault_words};
 
-    ghost output = { fault_words };
+    ghost output = { λ fault. Some (fault_words fault) };
 
     fn fmt<W: fmt::Write>(&self, f: &mut fmt::Formatter<W>) -> fmt::Result {
         match self {

@@ -146,7 +146,7 @@ def cast(election: Election, act: str, files: Files, lines: list[Line], keep: Ca
         try:
             tell(*report(election, batch))
         except Fault as fault:
-            words = f"the output failed; {election.ballots} has envelopes {envelopes} all the same: ask debvote-election status"
+            words = f"the output failed; {election.ballots} has what was to be told ({envelopes}) all the same: ask debvote-election status"
             raise Fault(words, fault.status) from None
     return batch
 

@@ -85,10 +85,13 @@ class Election:
         for folder in (self.received, self.backup):
             for file in folder.glob(".[0-9]*"):
                 file.unlink()
-        entries = journal.last_entries(self.journal)
-        self.cut_off = journal.done(entries)[-1] if journal.is_cut_off(entries, files.sums) else None
-        if self.cut_off is not None:
-            journal.note(self.journal, journal.UNDONE, journal.NONE, files.sums)
+        begun = journal.begun(self.journal)
+        is_undone = begun is not None and begun.sums != files.sums
+        self.cut_off = begun if is_undone else None
+        if is_undone:
+            journal.end_undone(self.journal, files.sums)
+        elif begun is not None:
+            journal.end(self.journal)
 
     # ------------------------------------------------------------ the files
     def files(self) -> Files:
@@ -102,8 +105,12 @@ class Election:
 
     def had_ballots(self) -> bool:
         """Whether ballots were there at the last act."""
-        acts = journal.done(journal.last_entries(self.journal))
+        acts = self.last_acts()
         return bool(acts) and acts[-1].sums.ballots != journal.NONE
+
+    def last_acts(self) -> list[Entry]:
+        """The last acts that were done."""
+        return journal.done(journal.last_entries(self.journal))
 
     def entries(self) -> list[Entry]:
         """All entries of the journal."""
@@ -115,8 +122,8 @@ class Election:
 
     def edited(self, files: Files) -> list[pathlib.Path]:
         """The files whose sum is not the one that the journal has last: somebody has edited them by hand."""
-        acts = journal.done(journal.last_entries(self.journal))
-        if not acts or journal.is_cut_off(acts, files.sums):
+        acts, begun = self.last_acts(), journal.begun(self.journal)
+        if not acts or (begun is not None and begun.sums == files.sums):
             return []
         noted = acts[-1].sums
         pairs = [(self.poll, files.sums.poll, noted.poll), (self.ballots, files.sums.ballots, noted.ballots)]
@@ -126,22 +133,23 @@ class Election:
     def act(
         self, name: str, files: Files, envelopes: str = journal.NONE, *, poll: bytes | None = None, ballots: bytes | None = None
     ) -> Files:
-        """Notes an act, then writes the new poll or the new ballots, whole, and returns the files as they are after it.
+        """Notes that an act begins, writes the new poll or the new ballots, whole, notes that it is done, and returns the files
+        as they are after it.
 
         The caller holds the lock alone. At most one of both is given, so that an act that is cut off is done or not done; with
         none of them the act is noted alone. Raises OSError, and then no file is changed.
         """
         after = Files(files.poll if poll is None else poll, files.ballots if ballots is None else ballots)
-        acts = journal.done(journal.last_entries(self.journal))
-        changes_files = poll is not None or ballots is not None
-        if changes_files and (not acts or acts[-1].sums != files.sums):
+        acts = self.last_acts()
+        if acts and acts[-1].sums != files.sums:
             journal.note(self.journal, journal.FOUND, journal.NONE, files.sums)
-        journal.note(self.journal, name, envelopes, after.sums)
+        journal.begin(self.journal, name, envelopes, after.sums)
         try:
             if poll is not None:
                 write_whole(self.poll, poll)
             if ballots is not None:
                 write_whole(self.ballots, ballots)
+            journal.end(self.journal)
         except OSError:
             # where there is no room for this note either, the next run makes it
             with contextlib.suppress(OSError, Fault):

@@ -32,11 +32,12 @@ def tell_edits(election: Election, files: Files) -> None:
     """
     undone = election.cut_off
     if undone is not None:
-        what = f"envelopes {undone.envelopes}, " if undone.act in ("add", "cast") else ""
+        many = "envelopes" if "-" in undone.envelopes else "envelope"
+        what = f"{many} {undone.envelopes}, " if undone.act in ("add", "cast") else ""
         kept = f"; what came is kept in {election.received}" if what else ""
         tell(f"Note: the last act ({undone.act}, {what}{time_of(undone)}) was cut off, and is not done{kept}.")
     for file in election.edited(files):
-        acts = journal.done(journal.last_entries(election.journal))
+        acts = election.last_acts()
         how = f": {what_differs(files.ballots or b'', acts)}" if file == election.ballots else ""
         tell(f"Note: {file} was changed by hand since {time_of(acts[-1])} ({acts[-1].act}){how}.")
 

@@ -181,7 +181,7 @@ def open_election(made: pathlib.Path, poll: str) -> list[Doubt]:
     places = [pathlib.Path(poll).parent, pathlib.Path(os.path.realpath(poll)).parent]
     folder = next((place for place in places if (place / journal.NAME).is_file()), None)
     now = Sums.of((made / "poll.toml").read_bytes(), (made / "ballots").read_bytes())
-    if folder is None or is_closed(journal.entries_in(folder / journal.NAME), now):
+    if folder is None or journal.last(journal.acts_done(folder / journal.NAME, now), "close") is not None:
         return []
     where = [] if folder == pathlib.Path() else ["--folder", str(folder)]
     return [
@@ -192,9 +192,3 @@ def open_election(made: pathlib.Path, poll: str) -> list[Doubt]:
             "The election was not closed when this page was made: more ballots may come in.",
         )
     ]
-
-
-def is_closed(entries: list[journal.Entry], now: Sums) -> bool:
-    """Whether the close is among the acts that were done. The last one is not, where its run was killed before it wrote."""
-    acts = journal.done(entries)
-    return any(entry.act == "close" for entry in (acts[:-1] if journal.is_cut_off(entries, now) else acts))

@@ -13,7 +13,7 @@ from debvote_tools.election.folder import Election
 from debvote_tools.election.lines import Line, lines_in
 from debvote_tools.election.telling import tell, tell_edits, time_of
 from debvote_tools.faults import Fault, Status
-from debvote_tools.files import BALLOTS_LIMIT, append_whole, in_memory, write_new
+from debvote_tools.files import BALLOTS_LIMIT, append_whole, in_memory, uninterrupted, write_new
 
 HELP = "Enter ballots by hand, and tell the reply to each; as many desks at once as there are terminals"
 
@@ -47,10 +47,12 @@ class Desk:
             for line in lines:
                 if line.is_empty:
                     tell(f"{line.where}: it is empty, and was left out")
-            if full:
-                self.batches.append(cast(self.election, "cast", files, full, lambda: self.keep(data)))
-            else:
-                self.keep(data)
+            # what is told is counted too
+            with uninterrupted():
+                if full:
+                    self.batches.append(cast(self.election, "cast", files, full, lambda: self.keep(data)))
+                else:
+                    self.keep(data)
 
     def keep(self, data: bytes) -> None:
         """Keeps what came, as it came."""

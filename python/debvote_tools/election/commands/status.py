@@ -63,11 +63,10 @@ def run(election: Election, asked: argparse.Namespace) -> int:
 
 def acts_of(election: Election, files: Files) -> list[Entry]:
     """The acts that were done. One that was cut off, and that no later act has noted as such yet, is told."""
-    acts = journal.done(election.entries())
-    if not journal.is_cut_off(acts, files.sums):
-        return acts
-    print(f"Note: the last act ({acts[-1].act}, {time_of(acts[-1])}) was cut off, and is not done; run it again.")
-    return acts[:-1]
+    begun = journal.begun(election.journal)
+    if begun is not None and begun.sums != files.sums:
+        print(f"Note: the last act ({begun.act}, {time_of(begun)}) was cut off, and is not done; run it again.")
+    return journal.acts_done(election.journal, files.sums)
 
 
 def state_of(election: Election, files: Files) -> State:

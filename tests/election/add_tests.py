@@ -1,0 +1,334 @@
+"""`add`: what is printed, what is in the ballots, and that nothing is lost."""
+
+import fcntl
+import os
+import resource
+import signal
+import subprocess
+import sys
+import time
+
+import support
+
+sys.path.insert(0, str(support.ROOT / "python"))
+
+from debvote_tools import journal  # noqa: E402
+
+LAKE = "At the lake, then In the town hall, then Further discussion, then Sell the house and meet there"
+HALL = "In the town hall, then At the lake, then Further discussion, then Sell the house and meet there"
+RIGHT = (
+    "A right line in this poll: ada 1,2,3,4 (an elector of the roll, a space, and 4 ranks with commas between, "
+    "a rank or a hyphen for each option)"
+)
+
+
+class AddTest(support.ElectionTest):
+    def received(self) -> dict[str, bytes]:
+        """What was kept of what came."""
+        folder = self.folder / "received"
+        return {file.name: file.read_bytes() for file in sorted(folder.iterdir())} if folder.exists() else {}
+
+    def assert_refused_whole(self, ended: support.Ended, before: dict[str, bytes], status: int, *parts: str) -> None:
+        """One fault, and nothing has changed."""
+        self.assert_fault(ended, status, *parts)
+        self.assertEqual(self.contents(), before)
+
+
+class Good(AddTest):
+    def test_envelope_reply_and_words(self) -> None:
+        self.write("more.txt", "ada 1,2,4,3\nben 2,1,4,3\nada 2,1,4,3\n")
+        ended = self.election("add", "more.txt")
+        self.assertEqual(
+            ended.output.splitlines(),
+            [
+                f"1 counted  ada: {LAKE}",
+                f"2 counted  ben: {HALL}",
+                f"3 replaced  ada: {HALL}",
+                "Added 3 lines (2 counted, 1 replaced).",
+                "Next: debvote-election status; add what comes with debvote-election add FILE, and when the vote is over: "
+                "debvote-election close",
+            ],
+        )
+        self.assertEqual((ended.status, ended.faults), (0, ""))
+        self.assertEqual(self.read("ballots"), self.read("more.txt"))
+        self.assertEqual(self.received(), {"0001-more.txt": self.read("more.txt")})
+        acts = journal.entries_in(self.folder / "journal")
+        self.assertEqual([(act.act, act.envelopes) for act in acts], [("add", "1-3")])
+        self.assertEqual(acts[0].sums, journal.Sums.of(self.read("poll.toml"), self.read("ballots")))
+
+    def test_several_files_and_standard_input(self) -> None:
+        self.write("a", "ada 1,2,4,3\n")
+        self.write("b", "ben 1,2,4,3")
+        ended = self.election("add", "a", "-", "b", given="cleo 1,2,4,3\n")
+        self.assertEqual(ended.status, 0)
+        self.assertEqual(self.read("ballots"), b"ada 1,2,4,3\ncleo 1,2,4,3\nben 1,2,4,3\n")
+        kept = {"0001-a": b"ada 1,2,4,3\n", "0002-standard-input": b"cleo 1,2,4,3\n", "0003-b": b"ben 1,2,4,3"}
+        self.assertEqual(self.received(), kept)
+
+    def test_equal_ranks_none_and_hyphens(self) -> None:
+        output = self.election("add", given="ada 1,1,-,2\nben -,-,-,-\n").output
+        self.assertIn(
+            "1 counted  ada: At the lake and In the town hall equally, then Further discussion; not ranked, and so behind all others: "
+            "Sell the house and meet there\n",
+            output,
+        )
+        self.assertIn("2 counted  ben: no option is ranked, so nothing is preferred\n", output)
+
+    def test_from_another_folder(self) -> None:
+        (self.scratch / "more").write_text("ada 1,2,4,3\n")
+        ended = self.election("--folder", "election", "add", "more", cwd=self.scratch)
+        self.assertIn("1 counted  ada: ", ended.output)
+        self.assertIn("Next: debvote-election --folder election status; ", ended.output)
+        self.assertEqual(self.read("ballots"), b"ada 1,2,4,3\n")
+
+    def test_ten_thousand_lines(self) -> None:
+        names = support.POLL.split('["ada')[1].split("]")[0].replace('", "', " ").strip('",').split()
+        lines = [f"{(['ada'] + names)[place % 9]}{'x' if place % 10 == 0 else ''} 1,2,4,3" for place in range(10_000)]
+        self.write("many", "\n".join(lines) + "\n")
+        start = time.monotonic()
+        ended = self.election("add", "many")
+        self.assertLess(time.monotonic() - start, 5)
+        told = [line for line in ended.output.splitlines() if line[0].isdigit()]
+        self.assertEqual(len(told), 10_000)
+        self.assertTrue(told[-1].startswith("10000 "))
+        self.assertEqual(self.read("ballots"), self.read("many"))
+
+    def test_after_the_close(self) -> None:
+        self.assertEqual(self.election("close").status, 0)
+        output = self.election("add", given="ada 1,2,4,3\nben x\n").output
+        self.assertRegex(output, r"^Note: the election was closed at \d{4}-\d\d-\d\d \d\d:\d\d:\d\d UTC; what is added now is late\.\n")
+        self.assertIn(f"1 late  ada: {LAKE}\n", output)
+        self.assertIn('2 late  ben x: bad shape: column 5: "x"\n', output)
+        self.assertIn("2 lines came after the close, and late ones count for nothing.\n", output)
+
+    def test_a_file_that_has_come_before(self) -> None:
+        self.write("monday", "ada 1,2,4,3\n")
+        self.election("add", "monday")
+        output = self.election("add", "monday").output
+        self.assertIn("Note: monday has come before, as received/0001-monday; of each elector's lines the last one counts.\n", output)
+        self.assertIn("2 replaced  ada: ", output)
+
+
+class Changed(AddTest):
+    def test_each_change_is_told(self) -> None:
+        came = b"\xef\xbb\xbfada 1,2,4,3\r\n Ben\t 2, 1 ,4,3 \r\n\r\ncleo 1,2,4,3\rdan  1,2,4,3"
+        output = self.election("add", given=came).output
+        self.assertEqual(
+            [line for line in output.splitlines() if line.startswith("standard")],
+            [
+                "standard input:3: it is empty, and was left out",
+                "standard input:1: `\\uFEFFada 1,2,4,3\\r` was changed to `ada 1,2,4,3` (byte-order mark, carriage return)",
+                "standard input:2: ` Ben\\t 2, 1 ,4,3 \\r` was changed to `ben 2,1,4,3` (carriage return, tabs, spaces, capital letters)",
+                "standard input:4: `cleo 1,2,4,3\\r` was changed to `cleo 1,2,4,3` (carriage return)",
+                "standard input:5: `dan  1,2,4,3` was changed to `dan 1,2,4,3` (spaces)",
+            ],
+        )
+        self.assertEqual(self.read("ballots"), b"ada 1,2,4,3\nben 2,1,4,3\ncleo 1,2,4,3\ndan 1,2,4,3\n")
+        self.assertEqual(self.received(), {"0001-standard-input": came})
+
+    def test_a_refused_line_goes_in_as_it_came(self) -> None:
+        came = b"\xef\xbb\xbf Cleo 1,2,3 \r\nDan  1,2,4,3\r\nGsu 1,2,4,3\n"
+        output = self.election("add", given=came).output
+        self.assertIn(
+            "standard input:1: `\\uFEFF Cleo 1,2,3 \\r` was changed to ` Cleo 1,2,3 ` (byte-order mark, carriage return)\n"
+            "1 bad shape   Cleo 1,2,3 : column 1: space\n"
+            "  it went in as it came; written as `cleo 1,2,3` it is refused too: bad rank count: 3 ranks, the poll has 4 options\n",
+            output,
+        )
+        self.assertIn(
+            "3 bad shape  Gsu 1,2,4,3: column 1: capital letter\n"
+            "  it went in as it came; written as `gsu 1,2,4,3` it is refused too: bad not on roll: gsu is not on the roll; "
+            "did you mean gus?\n",
+            output,
+        )
+        self.assertIn(f"{RIGHT}\nAdded 3 lines (2 bad shape, 1 counted).\n", output)
+        self.assertEqual(self.read("ballots"), b" Cleo 1,2,3 \ndan 1,2,4,3\nGsu 1,2,4,3\n")
+
+    def test_lines_of_a_word_processor(self) -> None:
+        came = "“ada” 1,2,4,3\nben\u00a01,2,4,3\ncleo 1,2,–,3\nA>B>C\ndan 1.\neve 1.,2,3,4\n1,2,3,4\n"
+        output = self.election("add", given=came).output
+        for told in (
+            '1 bad shape  “ada” 1,2,4,3: column 1: byte 0xE2\n',
+            "2 bad shape  ben\\u00A01,2,4,3: column 4: byte 0xC2\n",
+            "3 bad shape  cleo 1,2,–,3: column 10: byte 0xE2\n",
+            "4 bad shape  A>B>C: column 1: capital letter\n",
+            '5 bad shape  dan 1.: column 6: "."\n',
+            '6 bad shape  eve 1.,2,3,4: column 6: "."\n',
+            "7 bad shape  1,2,3,4: column 2: comma\n",
+        ):
+            self.assertIn(told, output)
+        self.assertEqual(output.count("A right line in this poll"), 1)
+        self.assertEqual(self.read("ballots").decode(), came)
+
+    def test_bytes_that_are_no_text(self) -> None:
+        came = b"ad\xff 1,2\x1b[2J\n\x00\n"
+        output = self.election("add", given=came).output
+        self.assertIn("1 bad shape  ad\\xff 1,2\\u001B[2J: column 3: byte 0xFF\n", output)
+        self.assertNotIn("\x1b", output)
+        self.assertEqual(self.read("ballots"), came)
+
+    def test_hints_do_not_run_out_and_are_not_hidden_by_the_close(self) -> None:
+        self.election("add", given="nobodynear 1,2,3,4\n" * 150)
+        self.election("close")
+        output = self.election("add", given="gsu 1,2,3,4\n").output
+        self.assertIn("151 late  gsu 1,2,3,4: bad not on roll: gsu is not on the roll; did you mean gus?\n", output)
+
+
+class RefusedWhole(AddTest):
+    def test_what_is_no_file_of_ballots(self) -> None:
+        files = {
+            "word.docx": (b"PK\x03\x04rest", 4, "word.docx: it is a ZIP, as word processors and spreadsheets save; nothing was added: "),
+            "old.doc": (b"\xd0\xcf\x11\xe0rest", 4, "it is a document of a word processor or spreadsheet; "),
+            "rich.rtf": (b"{\\rtf1 ada 1,2,4,3}", 4, "it is a document with formats (RTF); "),
+            "print.pdf": (b"%PDF-1.7\n", 4, "it is a PDF; "),
+            "wide.txt": ("ada 1,2,4,3\n".encode("utf-16"), 4, "it is a text in UTF-16; nothing was added: save it as plain text in UTF-8"),
+            "empty.txt": (b"", 9, "empty.txt: it is empty; nothing was added: write a ballot a line into it"),
+            "blank.txt": (b"\n \r\n\t\n", 9, "it has empty lines alone; nothing was added: "),
+            "other.toml": (support.POLL.encode(), 9, "other.toml: it reads as a poll, and not as ballots; nothing was added: "),
+            "broken.toml": (b'title = "x\noptions = [', 9, "it reads as a poll, and not as ballots; "),
+        }
+        self.write("good", "ada 1,2,4,3\n")
+        for name, (data, _, _) in files.items():
+            self.write(name, data)
+        before = self.contents()
+        for name, (_, status, words) in files.items():
+            with self.subTest(name=name):
+                # all files or none
+                self.assert_refused_whole(self.election("add", "good", name), before, status, words)
+
+    def test_what_can_not_be_read(self) -> None:
+        (self.folder / "folder").mkdir()
+        before = self.contents()
+        self.assert_refused_whole(self.election("add", "nowhere"), before, 4, "nowhere: No such file or directory; nothing was added: ")
+        self.assert_refused_whole(self.election("add", "folder"), before, 4, "folder: Is a directory; nothing was added: ")
+        self.assert_refused_whole(self.election("add", given=""), before, 9, "standard input: it is empty; ")
+
+    def test_without_permission(self) -> None:
+        nobody = ["setpriv", "--reuid", "65534", "--regid", "65534", "--clear-groups", sys.executable, support.ELECTION, "add", "secret"]
+        self.scratch.chmod(0o755)
+        self.write("secret", "ada 1,2,4,3\n").chmod(0o600)
+        before = self.contents()
+        if os.geteuid() != 0 or self.run_program("setpriv", "--version").status != 0:
+            self.skipTest("only root can run it as another user")
+        self.folder.chmod(0o777)
+        self.assert_refused_whole(self.run_program(*nobody), before, 4, "secret: Permission denied; nothing was added: ")
+        (self.folder / "secret").chmod(0o644)
+        self.folder.chmod(0o755)
+        (self.folder / ".lock").unlink(missing_ok=True)
+        self.assert_refused_whole(self.run_program(*nobody), before, 7, ".lock: Permission denied; ")
+
+    def test_the_ballots_themselves(self) -> None:
+        self.election("add", given="ada 1,2,4,3\n")
+        before = self.contents()
+        words = "ballots: these are the ballots of this election, which are there already; nothing was added: "
+        self.assert_refused_whole(self.election("add", "ballots"), before, 9, words)
+
+    def test_more_lines_than_debvote_takes(self) -> None:
+        self.write("ballots", "ada 1,2,4,3\n" * 99_999)
+        self.assertEqual(self.election("add", given="ben 1,2,4,3\n").status, 0)
+        before = self.read("ballots")
+        ended = self.election("add", given="cleo 1,2,4,3\n")
+        self.assert_fault(ended, 4, "ballots: nothing was added, ", "`ballots refused: too many lines`", "what came is kept in received")
+        self.assertEqual(self.read("ballots"), before)
+        self.assertEqual(self.received()["0002-standard-input"], b"cleo 1,2,4,3\n")
+
+    def test_a_file_that_is_too_long(self) -> None:
+        with open(self.folder / "long", "wb") as file:
+            file.truncate(33_554_433)
+        self.assert_fault(self.election("add", "long"), 4, "long: it is longer than 33554432 bytes, ", "add it in parts")
+        self.assertFalse((self.folder / "ballots").exists())
+
+    def test_a_poll_that_debvote_refuses(self) -> None:
+        self.write("poll.toml", support.POLL.replace("quorum = 1", "quorum = 11"))
+        before = self.contents()
+        del before["poll.toml"]
+        ended = self.election("add", given="ada 1,2,4,3\n")
+        self.assert_fault(ended, 3, "poll.toml: poll refused: quorum; ", "debvote-election check")
+        self.assertFalse((self.folder / "ballots").exists())
+
+    def test_words_that_do_not_go_together(self) -> None:
+        before = self.contents()
+        self.assert_refused_whole(self.election("add", "--csv", given="x"), before, 2, "--csv: it takes --name COLUMN and --ranks ")
+        self.assert_refused_whole(self.election("add", "--name", "x", given="x"), before, 2, "--name, --ranks: ", "write --csv with them")
+
+    def test_no_election_here(self) -> None:
+        ended = self.election("add", cwd=self.scratch, given="ada 1,2,4,3\n")
+        self.assert_fault(ended, 2, "there is no poll; ")
+
+    def test_standard_input_that_is_closed(self) -> None:
+        ended = self.run_program("sh", "-c", 'exec "$0" "$1" add <&-', sys.executable, support.ELECTION)
+        self.assert_fault(ended, 4, "standard input: it is closed; nothing was added: ")
+
+
+class Failing(AddTest):
+    def full(self, size: int) -> support.Ended:
+        """An add while no file may grow beyond so many bytes, as on a disk that is full."""
+
+        def limit() -> None:
+            signal.signal(signal.SIGXFSZ, signal.SIG_IGN)
+            resource.setrlimit(resource.RLIMIT_FSIZE, (size, size))
+
+        return self.election("add", given="ada 1,2,4,3\n" * 10, preexec_fn=limit)
+
+    def test_a_full_disk(self) -> None:
+        self.write("ballots", "ben 1,2,4,3\n" * 100)
+        before = self.read("ballots")
+        ended = self.full(1210)
+        self.assert_fault(ended, 7, "ballots: File too large; it is as it was; put this right, ")
+        self.assertEqual((ended.output, self.read("ballots")), ("", before))
+        self.assertEqual([name for name in os.listdir(self.folder) if name.startswith(".b")], [])
+        acts = journal.done(journal.entries_in(self.folder / "journal"))
+        self.assertEqual([act.act for act in acts], [])
+        ended = self.election("add", given="ada 1,2,4,3\n")
+        self.assertIn("\n101 counted  ada: ", "\n" + ended.output)
+        self.assertEqual(self.read("ballots"), before + b"ada 1,2,4,3\n")
+
+    def test_no_room_for_what_came_nor_for_the_journal(self) -> None:
+        # there is room for the poll, which debvote is given as a file in memory
+        room = len(support.POLL) + 20
+
+        def limit() -> None:
+            resource.setrlimit(resource.RLIMIT_FSIZE, (room, room))
+
+        for name in ("ada", "ben"):
+            self.assertEqual(self.election("add", given=f"{name} 1,2,4,3\n").status, 0)
+        self.write("long", "cleo 1,2,4,3\n" * 40)
+        before = self.contents()
+        self.assert_refused_whole(self.election("add", "long", preexec_fn=limit), before, 7, "received/0003-long: File too large; ")
+        ended = self.election("add", given="cleo 1,2,4,3\n", preexec_fn=limit)
+        self.assert_refused_whole(ended, before | {"received/0003-standard-input": b"cleo 1,2,4,3\n"}, 7, "journal: ")
+        self.assertIn("3 counted  cleo: ", self.election("add", given="cleo 1,2,4,3\n").output)
+
+    def test_an_output_that_is_full(self) -> None:
+        words = [sys.executable, support.ELECTION, "add", "more"]
+        self.write("more", "ada 1,2,4,3\n")
+        with open("/dev/full", "w") as full:
+            ended = subprocess.run(words, cwd=self.folder, env=support.environment(), stdout=full, stderr=subprocess.PIPE, text=True)
+        self.assertEqual((ended.returncode, ended.stderr.count("\n")), (7, 1))
+        self.assertIn("the output failed; ballots has what was to be told (1) all the same: ask debvote-election status", ended.stderr)
+        self.assertEqual(self.read("ballots"), b"ada 1,2,4,3\n")
+
+    def test_an_interrupt_while_another_holds_the_folder(self) -> None:
+        self.write("more", "ada 1,2,4,3\n")
+        before = self.contents()
+        for number, status in ((signal.SIGINT, 130), (signal.SIGTERM, 143), (signal.SIGHUP, 129)):
+            with open(self.folder / ".lock", "w") as lock:
+                fcntl.flock(lock, fcntl.LOCK_EX)
+                words = [sys.executable, support.ELECTION, "add", "more"]
+                pipes = {"stdout": subprocess.PIPE, "stderr": subprocess.PIPE}
+                with subprocess.Popen(words, cwd=self.folder, env=support.environment(), text=True, **pipes) as run:
+                    self.wait_for_lock(run.pid)
+                    run.send_signal(number)
+                    output, faults = run.communicate(timeout=support.SECONDS)
+            self.assertEqual((run.returncode, output), (status, ""))
+            self.assertNotIn("Traceback", faults)
+        self.assertEqual(self.contents(), before)
+
+    def wait_for_lock(self, process: int) -> None:
+        """Waits until the process waits for the lock."""
+        for _ in range(2000):
+            with open("/proc/locks") as locks:
+                if any("->" in line and f" {process} " in line for line in locks):
+                    return
+            time.sleep(0.01)
+        self.fail("it does not wait for the lock")

@@ -1,0 +1,158 @@
+"""`close`: the number of the last envelope, and that nothing else of the poll changes."""
+
+import re
+import resource
+import sys
+
+import support
+
+sys.path.insert(0, str(support.ROOT / "python"))
+
+from debvote_tools import journal  # noqa: E402
+from debvote_tools.files import sum_of  # noqa: E402
+
+TIME = r"\d{4}-\d\d-\d\d \d\d:\d\d:\d\d UTC"
+
+
+class CloseTest(support.ElectionTest):
+    def without_last_envelope(self) -> str:
+        """The sum by which everybody compares the poll with the call."""
+        return self.run_program("sh", "-c", "grep -v '^last_envelope' poll.toml | sha256sum").output
+
+    def acts(self) -> list[tuple[str, str]]:
+        return [(act.act, act.envelopes) for act in journal.done(journal.entries_in(self.folder / "journal"))]
+
+    def add(self, data: str) -> None:
+        self.assertEqual(self.election("add", given=data).status, 0)
+
+
+class Good(CloseTest):
+    def test_what_it_writes_and_tells(self) -> None:
+        self.add("ada 1,2,4,3\nben x\n")
+        before = self.without_last_envelope()
+        ended = self.election("close")
+        self.assertEqual((ended.status, ended.faults), (0, ""))
+        poll = self.read("poll.toml")
+        self.assertEqual(poll.decode(), support.POLL + "last_envelope = 2\n")
+        self.assertEqual(
+            ended.output.splitlines(),
+            [
+                "Closed: 2 lines came in time. What is added from now on is late, and counts for nothing.",
+                "poll.toml has got the line: last_envelope = 2",
+                f"Sum of poll.toml: {sum_of(poll)}",
+                f"Sum of ballots: {sum_of(self.read('ballots'))}",
+                "Next: debvote-election count",
+            ],
+        )
+        self.assertEqual(self.without_last_envelope(), before)
+        self.assertEqual(self.read("backup/0001-poll.toml").decode(), support.POLL)
+        self.assertEqual(self.acts()[-1], ("close", "1-2"))
+        self.assertIn("Last envelope: 2\n", self.debvote("count", "--poll", "poll.toml", "--ballots", "ballots").output)
+
+    def test_a_second_close_says_when_the_first_was(self) -> None:
+        self.add("ada 1,2,4,3\n")
+        self.election("close")
+        self.add("ben 1,2,4,3\n")
+        before = self.contents()
+        ended = self.election("close")
+        self.assertRegex(ended.output, rf"^The election was closed at {TIME}; the last envelope in time is 1\. Nothing was changed\.\n")
+        self.assertIn("1 line came after it, and late ones count for nothing.\n", ended.output)
+        self.assertEqual((ended.status, ended.faults, self.contents()), (0, "", before))
+
+    def test_without_ballots(self) -> None:
+        ended = self.election("close")
+        self.assertIn("There are no ballots: the election is closed with none.\n", ended.output)
+        self.assertEqual(self.read("poll.toml").decode(), support.POLL + "last_envelope = 0\n")
+        self.assertNotIn("Sum of ballots", ended.output)
+        self.assertIn("the last envelope in time is 0. ", self.election("close").output)
+        self.assertIn("1 late  ada: ", self.election("add", given="ada 1,2,4,3\n").output)
+
+    def test_an_unended_last_line(self) -> None:
+        self.write("ballots", "ada 1,2,4,3\nben 1,2,4,3")
+        ended = self.election("close")
+        self.assertIn(
+            "Note: the last line of ballots had no line feed; it was ended. The file as it was is backup/0001-ballots.\n", ended.output
+        )
+        self.assertEqual(self.read("backup/0001-ballots"), b"ada 1,2,4,3\nben 1,2,4,3")
+        self.assertEqual(self.read("ballots"), b"ada 1,2,4,3\nben 1,2,4,3\n")
+        self.assertIn(b"\nlast_envelope = 2\n", self.read("poll.toml"))
+        self.assertEqual(self.acts(), [("end", "-"), ("close", "1-2")])
+
+    def test_polls_of_many_forms(self) -> None:
+        base = support.POLL
+        for poll in (
+            base.rstrip("\n"),
+            base.replace("\n", "\r\n"),
+            "\ufeff" + base,
+            base + '\n[notes]\nlast_envelope = "no key of the poll"\n',
+            "# a comment\n\n" + base + "\n# the end\n[a]\nb = 1\n[[c]]\n",
+            'title = """\nlast"""\n' + base.split("\n", 1)[1],
+        ):
+            with self.subTest(poll=poll):
+                for file in self.folder.iterdir():
+                    if file.is_file():
+                        file.unlink()
+                poll = poll.replace('title = """\nlast"""', 'title = "last"')
+                self.write("poll.toml", poll)
+                self.add("ada 1,2,4,3\n")
+                before = self.without_last_envelope()
+                self.assertEqual(self.election("close").status, 0)
+                self.assertEqual(self.without_last_envelope(), before)
+                sheet = self.debvote("count", "--poll", "poll.toml", "--ballots", "ballots").output
+                self.assertIn("Last envelope: 1\n", sheet)
+                self.assertEqual(self.election("close").status, 0)
+
+
+class Stops(CloseTest):
+    def test_a_last_envelope_that_no_close_has_written(self) -> None:
+        self.write("poll.toml", support.POLL + "last_envelope = 5 # noon\n")
+        self.write("ballots", "ada 1,2,4,3")
+        before = self.contents()
+        ended = self.election("close")
+        words = "poll.toml: `last_envelope = 5 # noon` stands there, and no close has written it; nothing was changed: take the line out"
+        self.assert_fault(ended, 9, words)
+        self.assertEqual(self.contents(), before)
+
+    def test_a_last_envelope_that_is_changed_after_the_close(self) -> None:
+        self.add("ada 1,2,4,3\n")
+        self.election("close")
+        for text, said in (
+            ("last_envelope = 7\n", "and now `last_envelope = 7` stands there; "),
+            ("", "and now that line is gone; "),
+        ):
+            self.write("poll.toml", support.POLL + "# edited\n" + text)
+            ended = self.election("close")
+            self.assert_fault(ended, 9, "poll.toml: the close at ", "wrote `last_envelope = 1` into it, ", said)
+            self.assertIn("Note: poll.toml was changed by hand since ", ended.output)
+
+    def test_a_poll_or_ballots_that_debvote_refuses(self) -> None:
+        self.write("poll.toml", support.POLL.replace("quorum = 1", "quorum = 11"))
+        before = self.contents()
+        self.assert_fault(self.election("close"), 3, "poll.toml: poll refused: quorum; ", "debvote-election check")
+        self.assertEqual(self.contents(), before)
+        self.write("poll.toml", support.POLL)
+        self.write("ballots", "x\n" * 100_001)
+        before = self.contents()
+        self.assert_fault(self.election("close"), 4, "ballots: ballots refused: too many lines; ")
+        self.assertEqual(self.contents(), before)
+
+    def test_a_full_disk(self) -> None:
+        self.add("ada 1,2,4,3\n")
+        before = self.contents()
+
+        def limit(size: int):
+            return lambda: resource.setrlimit(resource.RLIMIT_FSIZE, (size, size))
+
+        # the poll with its new line is longer than the poll, and so has no room as a file in memory
+        self.election("close", preexec_fn=limit(len(support.POLL) + 5))
+        self.assertEqual(self.read("poll.toml").decode(), support.POLL)
+        self.assertEqual(self.contents(), before)
+        self.assertEqual(self.election("close").status, 0)
+
+    def test_ballots_that_are_gone(self) -> None:
+        self.add("ada 1,2,4,3\n")
+        self.add("ben 1,2,4,3\n")
+        (self.folder / "ballots").unlink()
+        ended = self.election("close")
+        self.assert_fault(ended, 4, "ballots: No such file or directory; what came is kept in received")
+        self.assertIsNone(re.search("last_envelope", self.read("poll.toml").decode()))

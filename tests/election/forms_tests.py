@@ -1,0 +1,104 @@
+"""Rows of a web form: which columns are read, and what becomes of cells that no ballot has."""
+
+import support
+
+HEAD = '"Timestamp","Your name","At the lake","In the town hall","Sell it, and meet there","Further discussion"'
+RANKS = 'At the lake,In the town hall,"Sell it, and meet there",Further discussion'
+
+
+class FormTest(support.ElectionTest):
+    def add(self, data: str | bytes, name: str = "Your name", ranks: str = RANKS, **how: object) -> support.Ended:
+        """Adds a form of these bytes."""
+        self.write("form.csv", data)
+        return self.election("add", "--csv", "--name", name, "--ranks", ranks, "form.csv", **how)
+
+    def assert_refused(self, ended: support.Ended, status: int, *parts: str) -> None:
+        """One fault, and no ballots."""
+        self.assert_fault(ended, status, *parts)
+        self.assertEqual(sorted(self.contents()), ["form.csv", "poll.toml"])
+
+
+class Rows(FormTest):
+    def test_rows_are_ballots(self) -> None:
+        came = f'{HEAD}\r\n"1.2.2026 18:04","ada","1","2","4","3"\r\n"1.2.2026 18:05"," Ben ","2","1","-","3"\r\n'
+        output = self.add(came).output
+        self.assertIn("1 counted  ada: At the lake, then In the town hall, then Further discussion, then Sell the house", output)
+        self.assertIn("form.csv: row 3: ` Ben  2,1,-,3` was changed to `ben 2,1,-,3` (spaces, capital letters)\n2 counted  ben: ", output)
+        self.assertEqual(self.read("ballots"), b"ada 1,2,4,3\nben 2,1,-,3\n")
+        self.assertEqual(self.read("received/0001-form.csv").decode(), came)
+
+    def test_columns_in_any_order_and_by_heads_in_any_case(self) -> None:
+        came = "d;C ;b;a; NAME\n4;3;2;1;ada\n"
+        self.assertEqual(self.add(came, "name", "A,B,c,D").status, 0)
+        self.assertEqual(self.read("ballots"), b"ada 1,2,3,4\n")
+
+    def test_delimiters_and_marks(self) -> None:
+        for number, delimiter in enumerate(",;\t", start=1):
+            table = delimiter.join("nabcd") + "\n" + delimiter.join(["ada", "1", "2", "3", "4"]) + "\n"
+            for data in (table.encode(), table.encode("utf-8-sig"), table.encode("utf-16"), b"\xfe\xff" + table.encode("utf-16-be")):
+                self.assertIn("  ada: At the lake, then In the town hall, ", self.add(data, "n", "a,b,c,d").output)
+        self.assertEqual(self.read("ballots"), b"ada 1,2,3,4\n" * 12)
+
+    def test_an_empty_cell_is_not_guessed(self) -> None:
+        output = self.add("n,a,b,c,d\nfay,1,,2,3\nada,1,2\n,1,2,3,4\nada 1,,2,3,4\n", "n", "a,b,c,d").output
+        self.assertIn("1 bad shape  fay 1,,2,3: column 7: comma\n", output)
+        self.assertIn("2 bad shape  ada 1,2,,: column 9: comma\n", output)
+        self.assertIn("3 bad shape   1,2,3,4: column 1: space\n", output)
+        self.assertIn("4 bad shape  ada 1 ,2,3,4: column 6: space\n", output)
+        self.assertIn("A right line in this poll: ada 1,2,3,4 ", output)
+
+    def test_an_empty_name_does_not_take_its_name_from_a_rank(self) -> None:
+        self.assertIn("1 bad shape   ada 1,2,3,4: column 1: space\n", self.add("n,a,b,c,d\n,ada 1,2,3,4\n", "n", "a,b,c,d").output)
+
+    def test_cells_with_line_feeds(self) -> None:
+        output = self.add('n,a,b,c,d,why\n"Ada\n",1,2,3,4,"so\nthere"\n"ben\nbo",1,2,3,4,\n', "n", "a,b,c,d").output
+        self.assertIn(
+            "form.csv: row 2: `Ada\\n 1,2,3,4` was changed to `ada 1,2,3,4` (line feeds, capital letters)\n1 counted  ada: ", output
+        )
+        self.assertIn("2 bad shape  ben bo 1,2,3,4: column 5: ", output)
+        self.assertEqual(self.read("ballots"), b"ada 1,2,3,4\nben bo 1,2,3,4\n")
+
+    def test_empty_rows_and_trailing_commas(self) -> None:
+        output = self.add("n,a,b,c,d,,\n\nada,1,2,3,4,,,,\n,,,,,,\n", "n", "a,b,c,d").output
+        self.assertIn("form.csv: row 2: it is empty, and was left out\nform.csv: row 4: it is empty, and was left out\n", output)
+        self.assertEqual(self.read("ballots"), b"ada 1,2,3,4\n")
+
+    def test_names_in_any_language(self) -> None:
+        output = self.add("n,a,b,c,d\nZoë Ångström,1,2,3,4\n", "n", "a,b,c,d").output
+        self.assertIn("1 bad shape  Zoë Ångström 1,2,3,4: column 1: capital letter\n", output)
+        self.assertEqual(self.read("ballots").decode(), "Zoë Ångström 1,2,3,4\n")
+
+
+class Refused(FormTest):
+    def test_columns_that_are_not_there_or_twice(self) -> None:
+        table = "n,a,b,c,d,A\nada,1,2,3,4,5\n"
+        words = "; its heads are `n`, `a`, `b`, `c`, `d`, `A`; nothing was added"
+        self.assert_refused(self.add(table, "who", "n,b,c,d"), 2, "form.csv: there is no column `who`" + words)
+        self.assert_refused(self.add(table, "n", "a,b,c,d"), 2, "form.csv: there is more than one column `a`" + words)
+        self.assert_refused(self.add(table, "n", "b,c,d,B"), 2, "the column `b` is named twice")
+        self.assert_refused(self.add(table, "b", "n,b,c,d"), 2, "the column `b` is named twice")
+
+    def test_another_number_of_ranks(self) -> None:
+        ended = self.add("n,a,b,c,d\nada,1,2,3,4\n", "n", "a,b,c")
+        self.assert_refused(
+            ended,
+            2,
+            "--ranks: it names 3 columns, and the poll has 4 options, the default among them: 1 At the lake, 2 In the town hall, "
+            "3 Sell the house and meet there, 4 Further discussion; ",
+        )
+
+    def test_rows_that_are_longer_than_the_head(self) -> None:
+        ended = self.add("why,n,a,b,c,d\nwell,I think,ada,1,2,3,4\n", "n", "a,b,c,d")
+        self.assert_refused(ended, 4, "form.csv: row 2: it has 7 cells, and the head line has 6; nothing was added: put a cell ")
+
+    def test_quotation_marks_that_do_not_end(self) -> None:
+        self.assert_refused(self.add('n,a,b,c,d\n"ada,1,2,3,4\nben,1,2,3,4\n', "n", "a,b,c,d"), 4, "it is no table with a comma between")
+        self.assert_refused(self.add("n,a,b,c,d\n", "n", '"a,b,c,d'), 2, "--ranks: ")
+
+    def test_what_is_no_table(self) -> None:
+        self.assert_refused(self.add(b"PK\x03\x04", "n", "a,b,c,d"), 4, "it is a ZIP, ", "save it as CSV")
+        self.assert_refused(self.add(b"n,a,b,c,d\nad\xe4,1,2,3,4\n", "n", "a,b,c,d"), 4, "line 2 is not in UTF-8; nothing was added: ")
+        self.assert_refused(self.add(b"", "n", "a,b,c,d"), 9, "it is empty; ")
+        self.assert_refused(self.add(b"n,a,b,c,d\n,,,,\n", "n", "a,b,c,d"), 9, "it has no row of a ballot; ")
+        self.assert_refused(self.add(b"n,a,b,c,d\n", "n", "a,b,c,d"), 9, "it has no row of a ballot; ")
+        self.assert_refused(self.add(support.POLL, "n", "a,b,c,d"), 9, "it reads as a poll, ")

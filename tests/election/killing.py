@@ -1,0 +1,83 @@
+"""A run of debvote-election in a child of its own, which kills itself before its n-th step that changes something."""
+
+import builtins
+import os
+import pathlib
+import signal
+import sys
+from collections.abc import Callable
+from dataclasses import dataclass
+
+import support
+
+sys.path.insert(0, str(support.ROOT / "python"))
+
+from debvote_tools.election import command_line  # noqa: E402
+
+# what changes a file or a folder, or brings it to the disk; and `print`, which tells something
+STEPS = ("open", "write", "fsync", "rename", "mkdir", "unlink", "ftruncate", "fchmod")
+
+
+# the modules of the commands are read here once, and not in each child
+command_line.parser()
+
+
+@dataclass(frozen=True)
+class Run:
+    """What a run has told, and its exit status; none where it was killed."""
+
+    output: str
+    faults: str
+    status: int | None
+
+
+def run(folder: pathlib.Path, words: list[str], given: bytes = b"", killed_at: int | None = None) -> Run:
+    """Runs a command in a folder. With a number the run is killed before so many steps, where it has as many."""
+    outside = folder.parent
+    (outside / "given").write_bytes(given)
+    child = os.fork()
+    if child == 0:
+        status = 70
+        try:
+            status = in_child(folder, words, outside, killed_at)
+        finally:
+            os._exit(status)
+    _, ended = os.waitpid(child, 0)
+    killed = os.WIFSIGNALED(ended)
+    texts = [(outside / name).read_text() for name in ("told", "faults")]
+    return Run(*texts, None if killed else os.waitstatus_to_exitcode(ended))
+
+
+def in_child(folder: pathlib.Path, words: list[str], outside: pathlib.Path, killed_at: int | None) -> int:
+    """What the child does."""
+    ways = [("given", os.O_RDONLY), ("told", os.O_WRONLY), ("faults", os.O_WRONLY)]
+    for number, (name, way) in enumerate(ways):
+        os.dup2(os.open(outside / name, way | os.O_CREAT | (os.O_TRUNC if number else 0)), number)
+    sys.stdin, sys.stdout, sys.stderr = open(0), open(1, "w"), open(2, "w")
+    os.chdir(folder)
+    os.environ.update(support.environment())
+    if killed_at is not None:
+        kill_at(killed_at)
+    try:
+        return command_line.main(support.ELECTION.parent, words)
+    finally:
+        sys.stdout.flush()
+        sys.stderr.flush()
+
+
+def kill_at(number: int) -> None:
+    """From now on the process kills itself before its step with this number, counted from 1."""
+    left = [number]
+
+    def counted(step: Callable) -> Callable:
+        def counting(*args: object, **how: object) -> object:
+            left[0] -= 1
+            if left[0] == 0:
+                os.kill(os.getpid(), signal.SIGKILL)
+            return step(*args, **how)
+
+        return counting
+
+    for name in STEPS:
+        setattr(os, name, counted(getattr(os, name)))
+    builtins.print = counted(print)
