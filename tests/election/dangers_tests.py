@@ -71,11 +71,12 @@ class EditedByHand(DangerTest):
     def test_desk_and_close_tell_it_too(self) -> None:
         self.write("ballots", "cleo 1,2,4,3\n")
         ended = self.election("desk", given="eve 1,2,4,3\n")
-        self.assertRegex(ended.output, rf"^Note: ballots was changed by hand since {TIME} \(add\): it has 1 whole line, and had 2; ")
+        words = "it has 1 whole line, and had 2; "
+        self.assertRegex(ended.output, rf"^Note: ballots was changed by hand since {TIME} \(add\): {words}")
         self.assertIn("2 counted  eve: ", ended.output)
         self.write("ballots", "cleo 1,2,4,3\n")
         ended = self.election("close")
-        self.assertRegex(ended.output, rf"Note: ballots was changed by hand since {TIME} \(cast\): it has 1 whole line, and had 2; ")
+        self.assertRegex(ended.output, rf"Note: ballots was changed by hand since {TIME} \(cast\): {words}")
         self.assertIn("Closed: 1 line came in time. ", ended.output)
 
     def test_a_poll_that_was_changed(self) -> None:
@@ -100,7 +101,8 @@ class EditedByHand(DangerTest):
 class Swapped(DangerTest):
     def test_the_poll_as_ballots(self) -> None:
         before = self.contents()
-        self.assert_fault(self.election("add", "poll.toml"), 9, "poll.toml: it reads as a poll, and not as ballots; nothing was added: ")
+        words = "poll.toml: it reads as a poll, and not as ballots; nothing was added: "
+        self.assert_fault(self.election("add", "poll.toml"), 9, words)
         self.assertEqual(self.contents(), before)
 
     def test_windows_line_ends_refuse_no_ballot(self) -> None:

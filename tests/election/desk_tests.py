@@ -216,7 +216,8 @@ class FromAPipe(support.ElectionTest):
     def test_lines_are_taken_as_add_takes_them(self) -> None:
         came = b"Ada 1,2,4,3\r\n\nq\ny\ngsu 1,2,4,3\n"
         output = self.election("desk", given=came).output
-        self.assertIn("desk:1: `Ada 1,2,4,3\\r` was changed to `ada 1,2,4,3` (carriage return, capital letters)\n1 counted  ada: ", output)
+        changed = "desk:1: `Ada 1,2,4,3\\r` was changed to `ada 1,2,4,3` (carriage return, capital letters)\n"
+        self.assertIn(f"{changed}1 counted  ada: ", output)
         self.assertIn("desk:2: it is empty, and was left out\n", output)
         self.assertIn("2 bad shape  q: column 2: end of line\n", output)
         self.assertIn("did you mean gus?\nA right line in this poll: ", output)

@@ -23,7 +23,8 @@ class Rows(FormTest):
         came = f'{HEAD}\r\n"1.2.2026 18:04","ada","1","2","4","3"\r\n"1.2.2026 18:05"," Ben ","2","1","-","3"\r\n'
         output = self.add(came).output
         self.assertIn("1 counted  ada: At the lake, then In the town hall, then Further discussion, then Sell the house", output)
-        self.assertIn("form.csv: row 3: ` Ben  2,1,-,3` was changed to `ben 2,1,-,3` (spaces, capital letters)\n2 counted  ben: ", output)
+        changed = "form.csv: row 3: ` Ben  2,1,-,3` was changed to `ben 2,1,-,3` (spaces, capital letters)\n"
+        self.assertIn(f"{changed}2 counted  ben: ", output)
         self.assertEqual(self.read("ballots"), b"ada 1,2,4,3\nben 2,1,-,3\n")
         self.assertEqual(self.read("received/0001-form.csv").decode(), came)
 
@@ -35,7 +36,8 @@ class Rows(FormTest):
     def test_delimiters_and_marks(self) -> None:
         for number, delimiter in enumerate(",;\t", start=1):
             table = delimiter.join("nabcd") + "\n" + delimiter.join(["ada", "1", "2", "3", "4"]) + "\n"
-            for data in (table.encode(), table.encode("utf-8-sig"), table.encode("utf-16"), b"\xfe\xff" + table.encode("utf-16-be")):
+            codings = ("utf-8", "utf-8-sig", "utf-16")
+            for data in (*map(table.encode, codings), b"\xfe\xff" + table.encode("utf-16-be")):
                 self.assertIn("  ada: At the lake, then In the town hall, ", self.add(data, "n", "a,b,c,d").output)
         self.assertEqual(self.read("ballots"), b"ada 1,2,3,4\n" * 12)
 
@@ -48,12 +50,14 @@ class Rows(FormTest):
         self.assertIn("A right line in this poll: ada 1,2,3,4 ", output)
 
     def test_an_empty_name_does_not_take_its_name_from_a_rank(self) -> None:
-        self.assertIn("1 bad shape   ada 1,2,3,4: column 1: space\n", self.add("n,a,b,c,d\n,ada 1,2,3,4\n", "n", "a,b,c,d").output)
+        output = self.add("n,a,b,c,d\n,ada 1,2,3,4\n", "n", "a,b,c,d").output
+        self.assertIn("1 bad shape   ada 1,2,3,4: column 1: space\n", output)
 
     def test_cells_with_line_feeds(self) -> None:
         output = self.add('n,a,b,c,d,why\n"Ada\n",1,2,3,4,"so\nthere"\n"ben\nbo",1,2,3,4,\n', "n", "a,b,c,d").output
         self.assertIn(
-            "form.csv: row 2: `Ada\\n 1,2,3,4` was changed to `ada 1,2,3,4` (line feeds, capital letters)\n1 counted  ada: ", output
+            "form.csv: row 2: `Ada\\n 1,2,3,4` was changed to `ada 1,2,3,4` (line feeds, capital letters)\n1 counted  ada: ",
+            output,
         )
         self.assertIn("2 bad shape  ben bo 1,2,3,4: column 5: ", output)
         self.assertEqual(self.read("ballots"), b"ada 1,2,3,4\nben bo 1,2,3,4\n")
@@ -92,12 +96,13 @@ class Refused(FormTest):
         self.assert_refused(ended, 4, "form.csv: row 2: it has 7 cells, and the head line has 6; nothing was added: put a cell ")
 
     def test_quotation_marks_that_do_not_end(self) -> None:
-        self.assert_refused(self.add('n,a,b,c,d\n"ada,1,2,3,4\nben,1,2,3,4\n', "n", "a,b,c,d"), 4, "it is no table with a comma between")
+        unended = self.add('n,a,b,c,d\n"ada,1,2,3,4\nben,1,2,3,4\n', "n", "a,b,c,d")
+        self.assert_refused(unended, 4, "it is no table with a comma between")
         self.assert_refused(self.add("n,a,b,c,d\n", "n", '"a,b,c,d'), 2, "--ranks: ")
 
     def test_what_is_no_table(self) -> None:
         self.assert_refused(self.add(b"PK\x03\x04", "n", "a,b,c,d"), 4, "it is a ZIP, ", "save it as CSV")
-        self.assert_refused(self.add(b"n,a,b,c,d\nad\xe4,1,2,3,4\n", "n", "a,b,c,d"), 4, "line 2 is not in UTF-8; nothing was added: ")
+        self.assert_refused(self.add(b"n,a,b,c,d\nad\xe4,1,2,3,4\n", "n", "a,b,c,d"), 4, "line 2 is not in UTF-8; nothing was ")
         self.assert_refused(self.add(b"", "n", "a,b,c,d"), 9, "it is empty; ")
         self.assert_refused(self.add(b"n,a,b,c,d\n,,,,\n", "n", "a,b,c,d"), 9, "it has no row of a ballot; ")
         self.assert_refused(self.add(b"n,a,b,c,d\n", "n", "a,b,c,d"), 9, "it has no row of a ballot; ")

@@ -31,7 +31,8 @@ class Entries(support.ElectionTest):
         journal.note(self.file, "add", "1-3", A)
         journal.note(self.file, "close", NONE, B)
         self.assertRegex(self.file.read_text(), rf"^{journal.TIME}\tadd\t1-3\t{A.poll}\t{A.ballots}\n{journal.TIME}\tclose\t-\t")
-        self.assertEqual([(act.act, act.envelopes, act.sums) for act in journal.entries_in(self.file)], [("add", "1-3", A), ("close", "-", B)])
+        acts = [(act.act, act.envelopes, act.sums) for act in journal.entries_in(self.file)]
+        self.assertEqual(acts, [("add", "1-3", A), ("close", "-", B)])
 
     def test_a_line_that_was_cut_off(self) -> None:
         whole = entry("add", A).line()

@@ -49,7 +49,8 @@ class KillTest(support.ElectionTest):
 
     def replies(self) -> list[str]:
         """What `debvote steps` replies to each line."""
-        return [line.partition(" ")[2] for line in self.debvote("steps", "--poll", "poll.toml", "--ballots", "ballots").output.splitlines()]
+        told = self.debvote("steps", "--poll", "poll.toml", "--ballots", "ballots").output
+        return [line.partition(" ")[2] for line in told.splitlines()]
 
     def assert_told(self, told: list[tuple[int, str]], sent: list[bytes]) -> None:
         """The told envelopes have the lines that were sent, in their order, and their replies are those of debvote."""
@@ -80,7 +81,12 @@ class BetweenSteps(KillTest):
     """A run that is killed before its first step, before its second, and so on until it ends by itself."""
 
     def each_kill(
-        self, words: list[str], given: bytes, check: Callable[[killing.Run], None], ballots: bytes | None = None, has_acts: bool = False
+        self,
+        words: list[str],
+        given: bytes,
+        check: Callable[[killing.Run], None],
+        ballots: bytes | None = None,
+        has_acts: bool = False,
     ) -> None:
         """Looks at the folder and the run for each step at which it was killed, and at last for the run that was not."""
         if ballots is not None:
@@ -261,7 +267,8 @@ class DesksAtOnce(KillTest):
             outputs[at] = desks[at].stdout.read()
 
         listeners = [threading.Thread(target=listen, args=(at,)) for at in range(len(desks))]
-        killers = {at: threading.Timer(chance.uniform(0.3, 5), desks[at].send_signal, [signal.SIGKILL]) for at in chance.sample(range(8), 3)}
+        moments = {at: chance.uniform(0.3, 5) for at in chance.sample(range(8), 3)}
+        killers = {at: threading.Timer(moment, desks[at].send_signal, [signal.SIGKILL]) for at, moment in moments.items()}
         threads = [*producers, *listeners, *killers.values()]
         for thread in threads:
             thread.start()
@@ -277,7 +284,8 @@ class DesksAtOnce(KillTest):
         self.assertEqual(watcher.wrong, [])
         self.assertGreater(watcher.looks, 20)
         self.assertEqual(faults, [b""] * 8)
-        self.assertTrue(all(status == 0 or (status == -signal.SIGKILL and at in killers) for at, status in enumerate(ended)), ended)
+        for at, status in enumerate(ended):
+            self.assertIn(status, (0, -signal.SIGKILL) if at in killers else (0,))
         self.look(sent, [told_in(output.decode()) for output in outputs], [status == 0 for status in ended])
 
     def look(self, sent: list[list[bytes]], told: list[list[tuple[int, str]]], ended: list[bool]) -> None:

@@ -25,7 +25,7 @@ class Changes(unittest.TestCase):
             self.assertEqual(changed(came), wanted)
 
     def test_what_is_not_changed(self) -> None:
-        # a no-break space, a line tabulator, quotation marks, a point, a capital that is no rank or not in ASCII, spaces elsewhere
+        # a no-break space, a line tabulator, quotation marks, a point, a capital that is no rank, letters not in ASCII, ..
         for came in (
             b"ada\xc2\xa01,2",
             b"ada 1,2\x0b",

@@ -146,8 +146,8 @@ def cast(election: Election, act: str, files: Files, lines: list[Line], keep: Ca
         try:
             tell(*report(election, batch))
         except Fault as fault:
-            words = f"the output failed; {election.ballots} has what was to be told ({envelopes}) all the same: ask debvote-election status"
-            raise Fault(words, fault.status) from None
+            words = f"the output failed; {election.ballots} has what was to be told ({envelopes}) all the same"
+            raise Fault(f"{words}: ask debvote-election status", fault.status) from None
     return batch
 
 

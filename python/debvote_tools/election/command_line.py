@@ -2,7 +2,6 @@
 
 import argparse
 import importlib
-import importlib.util
 import os
 import pathlib
 import signal
@@ -33,8 +32,6 @@ def parser() -> argparse.ArgumentParser:
     )
     commands = top.add_subparsers(dest="command", metavar="COMMAND", required=True)
     for name in COMMANDS:
-        if importlib.util.find_spec(f"debvote_tools.election.commands.{name}") is None:
-            continue
         module = importlib.import_module(f"debvote_tools.election.commands.{name}")
         command = commands.add_parser(
             name, help=module.HELP, description=f"{module.HELP}.", allow_abbrev=False, parents=[folder]

@@ -91,7 +91,9 @@ def read(name: str) -> Input:
     except OSError as error:
         words = f"{error.strerror}; nothing was added: name a file of ballots that you may read"
         raise Fault(f"{name}: {words}", Status.BAD_BALLOTS) from None
-    return Input(name, pathlib.Path(name).name[:100], data)
+    # a number comes before it, and a name of a file has 255 bytes at most
+    kept_as = os.fsencode(pathlib.Path(name).name)[:150].decode("utf-8", "ignore") or "file"
+    return Input(name, kept_as, data)
 
 
 def check_kind(election: Election, source: Input, is_form: bool) -> None:

@@ -57,7 +57,7 @@ def say_again(election: Election, sheet: Sheet, before: Entry) -> int:
     if sheet.facts.get(LAST) != number:
         there = f"`last_envelope = {sheet.facts[LAST]}` stands there" if LAST in sheet.facts else "that line is gone"
         words = f"the close at {time_of(before)} wrote `last_envelope = {number}` into it, and now {there}"
-        cure = f"find out who changed it; the line that the close wrote is put back with an editor, above every line that begins with ["
+        cure = "find out who changed it, and put the line of the close back, above every line that begins with ["
         raise Fault(f"{election.poll}: {words}; {cure}", Status.DOUBT)
     tell(f"The election was closed at {time_of(before)}; the last envelope in time is {number}. Nothing was changed.")
     late = int(sheet.facts["Lines"]) - int(number)
