@@ -4,9 +4,9 @@
 //!   are none ([`OrderFault`]): they ask for help, they are refused, or memory ran out.
 //!
 //! **What is promised.** The contracts of `clap` say which faults words have and which values it finds in them. By them a task
-//! is answered only where the words have no fault, and it has the values of the words; help comes only where the words ask for
-//! it; and a refusal only where `clap` finds a fault in the words, or no task has the values that it finds. The texts of help
-//! and refusals are `clap`'s, and no clause speaks of them.
+//! is returned only if the words have no fault, and it has the values of the words; help comes only if the words ask for it; a
+//! refusal only if `clap` finds a fault in the words, or no task has the values that it finds. The texts of help and refusals
+//! are `clap`'s, and no clause speaks of them.
 //!
 //! Nothing of votes is known here, so this crate is proved beside all others.
 #![tactic(auto)]

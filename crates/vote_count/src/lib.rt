@@ -10,12 +10,12 @@
 //! [`standing_options`]) and lists the defeats among the others ([`Defeats`]). Then it goes round:
 //! the transitive defeats of the list ([`reach`]), the Schwartz set of these ([`schwartz`]), and
 //! the [`weakest`] defeats within it, which are removed from the list, until there are none.
-//! [`decide`] names the winner in the set of the last round, with the casting vote where it needs
+//! [`decide`] names the winner in the set of the last round, with the casting vote if it needs
 //! one.
 //!
 //! Options are numbered from 1, and the last is the default option. Votes are numbers of voters.
-//! A set has no other members than options: asked for 0, or for a number past the last option, it
-//! answers no.
+//! A set has no other members than options: 0, or a number past the last option, is never in
+//! it.
 //!
 //! Each contract says the rule and not the steps of the code. The rules stand in `specs/`, in the
 //! words of the Constitution: `Ballots` and `Votes`, `Sets`, `Rules`, `Rounds`. `Laws` has what

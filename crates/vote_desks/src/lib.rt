@@ -6,17 +6,17 @@
 //! and audits.
 //!
 //! **What is shared, and who writes it.** The box stands behind its lock. The tray says which worker casts which line; it is
-//! no part of the lock. The poll, the lines and the gate are read by all. A worker takes no memory. Where its gate never waits
+//! no part of the lock. The poll, the lines and the gate are read by all. A worker takes no memory. If its gate never waits
 //! for another desk, it takes and reads some envelopes at once, and then casts them one by one.
 //!
-//! **What is promised.** `compare` answers that all is right just where it is, and else the first fault that is so. Where
-//! `take_votes` answers a box, it is audited for the poll and the lines, and each sheet rises by stamp; so by
-//! `laws::last_lines_stand` the last line of each voter that is not late stands, whatever the order in which the desks came.
-//! A line is late where its number is above the poll's last envelope, whenever it was cast.
+//! **What is promised.** `compare` returns Ok exactly when all is right, and else the first fault. A box that `take_votes`
+//! returns is audited for the poll and the lines, and each sheet rises by stamp. So by `laws::last_lines_stand` the last line
+//! of each voter that is a ballot and is not late stands, whatever the order in which the desks came.
+//! A line is late if its number is above the poll's last envelope, whenever it was cast.
 //!
 //! **What is not promised.** That two threads run at the same time, that a waiting call gets on, any fairness among desks,
-//! which desk casts which line, or in what order. That a call succeeds where memory or a thread may be refused. What a gate
-//! answers, and how long it takes.
+//! which desk casts which line, or in what order. That a call succeeds if memory or a thread may be refused. What a gate
+//! says, and how long it takes.
 #![tactic(auto)]
 
 mod auditing;

@@ -1,4 +1,4 @@
-//! What is said of a line that is refused, behind the words of its reply.
+//! What is said of a line that is refused, after the words of its reply.
 
 ghost use Rattle.std.specs.Prelude.{◌≡◌, ◌++◌, ◌-◌, List, ℕ, OnOk, string_bytes};
 ghost use Rattle.std.specs.List.{position, position_or_len};

@@ -1,10 +1,10 @@
 //! What is wrong with the lines of a ballot file, and where.
 //!
 //! - [`explain_ballots`] gives a text with a line for each line of the file that is refused, in their order: its number, the
-//!   words that `steps` has for it, and a hint. Behind them stands whether the file comes from Windows, and at the end how many
+//!   words that `steps` has for it, and a hint. After them it says whether the file comes from Windows, and at the end how many
 //!   lines are valid, refused and late, as the result sheet counts them.
-//! - [`column`] gives the column in which a line leaves the grammar of ballot lines: the bytes before it are the longest front
-//!   of the line that is also the front of a ballot line.
+//! - [`column`] gives the column in which a line leaves the grammar of ballot lines: the bytes before it are the longest prefix
+//!   of the line that is also a prefix of a ballot line.
 //!
 //! **What is promised** (`specs/Explained.antt`, `specs/Column.antt`, `specs/Nearest.antt`):
 //!
@@ -16,9 +16,9 @@
 //! - The name that is suggested is the nearest on the roll, of equals the first, and at most two edits away.
 //! - The poll and the lines leave no choice in the text ([`findings_are_determined`]).
 //!
-//! The lines are cast at one desk, as `steps` casts them. A line that is no ballot is read once more, up to the byte behind its
-//! first 200, and no memory is taken for it beside the text. The search of a near name reads the whole roll and takes memory, so
-//! it is made for the first hundred names only.
+//! The lines are cast at one desk, as `steps` casts them. A line that is no ballot is read once more, up to the byte after its
+//! first 200, and no memory is taken for it but for the text. The search for a near name reads the whole roll and takes memory,
+//! so it is made for the first hundred names only.
 //!
 //! The modules: `explain` has the text, `hints` what is said of one line, `fronts` the column, `words` what stands in it, and
 //! `nearest` the near name.

@@ -2,11 +2,11 @@
 //!
 //! A [`Source`] gives bytes and a [`Sink`] takes them. Their contracts tell how often each was called and how often it failed,
 //! whether a sink was flushed after the last that it took, and, where a device tells them, the bytes themselves. So the
-//! contracts of [`read_limited`] and [`write_text`] hold at every device, whatever it answers and whenever it fails.
+//! contracts of [`read_limited`] and [`write_text`] hold at every device, whatever it does and whenever it fails.
 //!
 //! - [`read_limited`] reads an input to its end, in no more than so many bytes and so many reads, or says why not: its
 //!   device failed, more came than the limit, or memory ran out. [`read_all`] does so for a reader of std.
-//! - [`write_text`] writes a text, all of it and nothing else, and flushes it; where it can't, a front of the text is
+//! - [`write_text`] writes a text, all of it and nothing else, and flushes it; if it can't, a prefix of the text is
 //!   written.
 //! - [`ReaderSource`] and [`WriterSink`] are devices over std's readers and writers. They count by a [`Meter`], which only
 //!   contracts see: it takes no memory and no time.

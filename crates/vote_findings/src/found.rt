@@ -1,4 +1,4 @@
-//! The keys of a poll file, each where it is there and of its kind.
+//! The keys of a poll file, each if it is there and of its kind.
 ghost use Rattle.std.specs.Prelude.{◌≡◌, IfOk, map, option_copied, option_map};
 ghost use Rattle.toml.specs.Data.{as_integer, as_str};
 ghost use Rattle.toml.specs.View.{table_view};

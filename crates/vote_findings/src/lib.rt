@@ -12,15 +12,15 @@
 //! - The faults that have a line are all faults of the file, each judged by itself, in their order (`specs/PollFaults.antt` of
 //!   vote_poll); each line has the words that the fault line of its fault has.
 //! - The poll that comes beside them, or the fault, is that of `from_text`. So the fault is the first that has a line
-//!   ([`first_fault_is_told`](vote_poll::first_fault_is_told)), and where none has one there is a poll.
-//! - Behind the faults each key that is not read has a line, in the order of the tables (`specs/UnreadKeys.antt`), with its path, as far
+//!   ([`first_fault_is_told`](vote_poll::first_fault_is_told)), and if none has one there is a poll.
+//! - After the faults each key that is not read has a line, in the order of the tables (`specs/UnreadKeys.antt`), with its path, as far
 //!   as it is shown, and what is remarked of it.
-//! - What a line says behind the words of its fault is open, and of a text that is no TOML the line, the column and the message; but
+//! - What a line says after the words of its fault is open, and of a text that is no TOML the line, the column and the message; but
 //!   no line breaks, whatever is in the file.
 //!
 //! The modules: `explain` has the call, `found` the keys that are there and of their kind, `key_findings` the faults of keys,
 //! `findings` those of what keys say, `name_findings` those of names, `unread` the keys that are not read, `path` where they stand, and
-//! `hints` what is said of a fault behind its words, and of a key that is not read.
+//! `hints` what is said of a fault after its words, and of a key that is not read.
 #![tactic(auto)]
 
 ghost use Rattle.vote_findings.specs.Limits.{LimitsAreAsWritten};

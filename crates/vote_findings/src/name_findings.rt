@@ -1,4 +1,4 @@
-//! The names of a poll file that are misshapen or double.
+//! The names of a poll file that are malformed or double.
 ghost use Rattle.std.specs.Prelude.{◌≡◌, ◌<◌, ◌^◌, ◌++◌, ◌∷◌, [], ℕ, List, IfOk, OnOk, codes, map, not, string_bytes, ◌+◌, ◌||◌};
 ghost use Rattle.std.specs.List.{list_any};
 ghost use Rattle.std.specs.Str.{bytes_eq};

@@ -6,8 +6,8 @@
 //! - [`PollFault`] has all faults of a poll file, and their words: those of its keys, which this crate finds, and those of what
 //!   the keys say, which vote_poll finds. The words are those of `specs/FaultWords.antt`, here and in what vote_findings says.
 //!
-//! What is promised, memory aside: each call answers what the definitions of `specs/Keys.antt` say of the text or the table, and
-//! a fault just where they have it.
+//! What is promised, memory aside: each call returns what the definitions of `specs/Keys.antt` say of the text or the table, and
+//! a fault exactly when they have one.
 //!
 //! No public call of the crates above has a type of `toml`: vote_poll names its tables in definitions alone, and vote_findings in
 //! private calls.

@@ -5,7 +5,7 @@
 //!   default option, a majority ratio for each other option, the multiple of Q that is its quorum, and the
 //!   roll of its electors. It may have a last envelope, and those after it are then late, and a [`Wording`] of
 //!   its majorities.
-//!   [`Poll::from_text`] reads it, or answers the first [`PollFault`], and [`Poll::from_fields`] does so for the keys of a poll
+//!   [`Poll::from_text`] reads it, or returns the first [`PollFault`], and [`Poll::from_fields`] does so for the keys of a poll
 //!   file, as `vote_keys` reads them.
 //! - [`Ranks`]: what one ballot says of the options, and which option it prefers to which.
 //! - [`Reading`]: what a poll reads in a line, by [`read_line`]: a ballot of an elector, or a [`LineFault`].
@@ -18,12 +18,12 @@
 //! the envelope with stamp `i + 1`. All texts are bytes, and names are compared byte for byte.
 //!
 //! What is promised, memory aside:
-//! - A poll file means one poll or one fault (`specs/PollFile.antt`), and `from_text` answers just that. Where
+//! - A poll file means one poll or one fault (`specs/PollFile.antt`), and `from_text` returns just that. If
 //!   several faults hold it is the first in the order of [`PollFault`].
-//! - All faults of a poll file, each judged by itself, are those of `specs/PollFaults.antt`, and the one that is answered is
+//! - All faults of a poll file, each judged by itself, are those of `specs/PollFaults.antt`, and the one that is returned is
 //!   the first of them ([`first_fault_is_told`]).
 //! - A poll reads one thing in a line (`specs/Readings.antt`, [`readings_are_unique`]), by a grammar that says
-//!   how a ballot is spelled (`specs/BallotLine.antt`). `read_line` answers it for each line of bytes, whatever
+//!   how a ballot is spelled (`specs/BallotLine.antt`). `read_line` returns it for each line of bytes, whatever
 //!   they are; it takes no memory and refuses nothing.
 //! - A ballot that was read is of a voter on the roll, and has a rank or none for each option.
 //!

@@ -14,10 +14,10 @@
 //!   whose `Display` is the program's fault line). [`poll_unread`], [`ballots_unread`] and [`sheet_unread`] name the fault of an
 //!   input that was not read.
 //!
-//! **What is promised.** A run writes the text that is meant, once, and nothing else; where its output fails, a front of that
-//! text; and after any other fault nothing. It answers each fault just where it is so, in the order of the inputs, but that want
-//! of memory can come at any growth and want of a thread at any start. Where it answers that all is well, its sink was flushed.
-//! The clauses hold over every [`Sink`](vote_files::Sink), whatever it answers and whenever it fails.
+//! **What is promised.** A run writes the text that is meant, once, and nothing else; if its output fails, a prefix of that
+//! text; and after any other fault nothing. It returns each fault exactly when it holds, in the order of the inputs; but memory
+//! may be refused at any growth, and a thread at any start. When it returns Ok, its sink was flushed.
+//! The clauses hold over every [`Sink`](vote_files::Sink), whatever it does and whenever it fails.
 //!
 //! The modules: `joined` parts a joined input, and [`laws`] says what its parts are; `taking` takes the votes of two files, and
 //! `counting` makes of them what they are taken for; `listing`, `checking` and `explaining` are the other runs, `jobs` does

@@ -17,7 +17,7 @@
 //! is open. So the shares stand for what the desks did, and `gather` shows that all shares together are the books.
 //!
 //! **What is not promised.** That a waiting call gets on, any fairness among desks, or any order of their casts. That
-//! `open_desks` and `gather` succeed where memory may be refused.
+//! `open_desks` and `gather` succeed if memory may be refused.
 #![tactic(auto)]
 
 mod desk;

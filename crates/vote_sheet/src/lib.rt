@@ -15,7 +15,7 @@
 //!   also have what an elector can rely on: the sheet knows no names and counts nobody twice, and refused and outdated lines have
 //!   no influence on it.
 //!
-//! Nothing here knows a file, a thread or a device: what is made is a text in memory, or a want of memory. The modules: `sheet`,
+//! Nothing here knows a file, a thread or a device: each call makes a text in memory, or runs out of it. The modules: `sheet`,
 //! `verify`, `picture`, `steps` and `standing` have the public calls, and `sheet_text` the parts of a sheet.
 #![tactic(auto)]
 

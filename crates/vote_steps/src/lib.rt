@@ -4,7 +4,7 @@
 //! [`BallotBox::cast`] or [`BallotBox::close`] makes one [`Step`] or refuses to, and then nothing has changed. The steps are
 //! the history of the box. All else that the box tells is a replay of them: the ballot of each voter that stands, the matrix
 //! of votes, the totals, whether the box is open. The contracts say it so: they see a box as its sizes and its steps
-//! (`BoxState`), and each answer as a definition on the steps (`History`).
+//! (`BoxState`), and each result as a definition on the steps (`History`).
 //!
 //! What is promised:
 //!

@@ -1,4 +1,4 @@
-//! How a run ended, told to who called the program.
+//! How a run ended, told to the caller of the program.
 
 ghost use Rattle.std.specs.Prelude.{◌≡◌};
 ghost use Rattle.vote_runs.specs.Status.{status};

@@ -12,8 +12,8 @@
 //! compared byte for byte.
 //!
 //! What is promised, memory aside:
-//! - A text has one list of lines (`specs/Lines.antt`, [`lines_are_unique`]), and `split` answers that list, or that it is too long.
-//! - A text is a name just where its length and its bytes are so (`specs/Names.antt`).
+//! - A text has one list of lines (`specs/Lines.antt`, [`lines_are_unique`]), and `split` returns that list, or that it is too long.
+//! - Whether a text is a name depends on its length and its bytes alone (`specs/Names.antt`).
 //! - What is shown of a text has no line feed (`specs/Shown.antt`).
 //!
 //! The formats of the two files are this project's own.

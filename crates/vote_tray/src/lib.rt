@@ -12,9 +12,9 @@
 //! all passes keep between any two steps.
 //!
 //! **What is promised.** Each place below the word was taken by one pass, once, and no other place
-//! was taken. `take` answers a place, or that none is left, and tries again only where another pass
+//! was taken. `take` returns a place, or that none is left, and tries again only where another pass
 //! took a place meanwhile. A pass that all passes were joined into has taken all places below the
-//! number that `finish` answers. No call takes a `Wait`, so none can wait for another thread: a
+//! number that `finish` returns. No call takes a `Wait`, so none can wait for another thread: a
 //! tray behind a `Mutex` does not compile under these signatures.
 //!
 //! **What is not promised.** Fairness, for one pass may get all places. Any order between desks:
