@@ -1,9 +1,6 @@
 -- The exit status that the program answers to its words.
-use Rattle.std.specs.Prelude.{◌≡◌, ◌⊎◌, ℕ, List, [], ◌∷◌, Result, Ok, Err}
-use Rattle.clap.specs.Faults.{fault_of}
-use Rattle.clap.specs.Words.{subcommand_of}
-use Rattle.vote_command.specs.CommandLine.{debvote_command}
-use Rattle.vote_command.specs.Order.{AsksFor, HelpsIfAsked, RefusesIfAtFault}
+use Rattle.std.specs.Prelude.{◌≡◌, ◌⊎◌, ℕ, List, [], ◌∷◌, Result}
+use Rattle.vote_command.specs.Words.{AreNoTask, AskFor}
 use Rattle.vote_command.specs.declared.Task.{Task}
 use Rattle.vote_command.specs.declared.OrderFault.{OrderFault}
 use Rattle.vote_command.specs.declared.OrderFault.TheVariants.{NotUtf8}
@@ -15,14 +12,11 @@ use Rattle.vote_tasks.specs.WordStatus.{AnswersWords}
 
 -- the words ask for a task, which ends so
 abbrev pub AnswersTask : List (List ℕ) → ℕ → Type 0
-AnswersTask words answered =
-    (task : Task) × (outcome : Result Ended RunFault) × AsksFor (subcommand_of debvote_command words) task × EndsTask task outcome × (answered ≡ status outcome)
+AnswersTask words answered = (task : Task) × (outcome : Result Ended RunFault) × AskFor words task × EndsTask task outcome × (answered ≡ status outcome)
 
 -- the words are no task, and this is why
 abbrev pub AnswersNoTask : List (List ℕ) → ℕ → Type 0
-AnswersNoTask words answered =
-    (fault : OrderFault) × HelpsIfAsked (fault_of debvote_command words) fault
-    × RefusesIfAtFault (fault_of debvote_command words) (subcommand_of debvote_command words) fault × AnswersWords fault answered
+AnswersNoTask words answered = (fault : OrderFault) × AreNoTask words fault × AnswersWords fault answered
 
 -- without words a joined input is read from standard input
 abbrev pub Answers : List (List ℕ) → ℕ → Type 0
