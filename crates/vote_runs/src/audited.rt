@@ -64,7 +64,7 @@ pub fn verification(
 }
 
 /// The result sheet of an audited box, with the option of the casting vote. Options are numbered
-/// from 1.
+/// from 1. For callers of the library; the program does not call it.
 pub fn sheet(
     alloc: Global,
     poll: &Poll,
