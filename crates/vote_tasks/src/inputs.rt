@@ -25,11 +25,7 @@ pub(crate) const BALLOTS_LIMIT: usize = 33_554_432;
 pub(crate) const JOINED_LIMIT: usize = 34_603_011;
 
 /// All bytes of a file. One that can't be opened is as one whose device failed.
-fn read_file<R: Files + AllocGlobal>(
-    rt: &R,
-    name: &str,
-    limit: usize,
-) -> Result<Vec<u8>, ReadFault>
+fn read_file<R: Files + AllocGlobal>(rt: &R, name: &str, limit: usize) -> Result<Vec<u8>, ReadFault>
     ensures within { IfOk result (λ bytes. vec_len bytes ≤ limit) }
 {
     match File::open(rt, name) {
