@@ -1,5 +1,6 @@
 -- The exit status that the program answers to its words.
-use Rattle.std.specs.Prelude.{◌≡◌, ◌⊎◌, ℕ, List, [], ◌∷◌, Result}
+use Rattle.std.specs.Prelude.{◌≡◌, ◌<◌, ◌⊎◌, ℕ, List, length, map, Result}
+use Rattle.std.proofs.Common.{Bor}
 use Rattle.vote_command.specs.Words.{AreNoTask, AskFor}
 use Rattle.vote_command.specs.declared.Task.{Task}
 use Rattle.vote_command.specs.declared.OrderFault.{OrderFault}
@@ -18,11 +19,16 @@ AnswersTask words answered = (task : Task) × (outcome : Result Ended RunFault) 
 abbrev pub AnswersNoTask : List (List ℕ) → ℕ → Type 0
 AnswersNoTask words answered = (fault : OrderFault) × AreNoTask words fault × AnswersWords fault answered
 
--- without words a joined input is read from standard input
-abbrev pub Answers : List (List ℕ) → ℕ → Type 0
-Answers [] answered = (outcome : Result Ended RunFault) × EndsJoined outcome × (answered ≡ status outcome)
-Answers (word ∷ words) answered = AnswersTask (word ∷ words) answered ⊎ AnswersNoTask (word ∷ words) answered
+-- there are words, and they are answered so
+abbrev pub AnswersWorded : List (List ℕ) → ℕ → Type 0
+AnswersWorded words answered = AnswersTask words answered ⊎ AnswersNoTask words answered
 
--- the words are texts and are answered so, or one of them is no text
-abbrev pub AnswersInWords : ℕ → Type 0
-AnswersInWords answered = ((words : List (List ℕ)) × Answers words answered) ⊎ AnswersWords NotUtf8 answered
+-- without words a joined input is read from standard input
+abbrev pub AnswersJoined : ℕ → Type 0
+AnswersJoined answered = (outcome : Result Ended RunFault) × EndsJoined outcome × (answered ≡ status outcome)
+
+-- this is answered to words; without them to standard input; or to a word that is no text
+abbrev pub Answers : ℕ → Type 0
+Answers answered =
+    ((words : List (Bor (List ℕ))) × (length words ≡ 0 → AnswersJoined answered) × (0 < length words → AnswersWorded (map (λ word. word.now) words) answered))
+    ⊎ AnswersWords NotUtf8 answered

@@ -11,12 +11,11 @@
 //! that were read and says how the run ended.
 #![tactic(auto)]
 
-ghost use Rattle.std.specs.Prelude.{◌≡◌, ◌⊎◌, Err, IfErr, IfOk, map};
+ghost use Rattle.std.specs.Prelude.{◌≡◌, ◌<◌, IfErr, IfOk, length, map};
 ghost use Rattle.vote_command.specs.Order.{DesksFit};
-ghost use Rattle.vote_runs.specs.Status.{status};
 ghost use Rattle.vote_tasks.specs.Doing.{EndsJoined, EndsTask, IsDone};
 ghost use Rattle.vote_tasks.specs.WordStatus.{AnswersWords};
-ghost use Rattle.debvote.specs.Program.{Answers, AnswersInWords};
+ghost use Rattle.debvote.specs.Program.{Answers, AnswersJoined, AnswersWorded};
 
 use std::io::{ErrorKind, IsTerminal};
 use std::process::ExitCode;
@@ -103,24 +102,35 @@ fn explain<R: Print + Eprint>(rt: &R, fault: &OrderFault) -> u8
     order_status(fault)
 }
 
+/// Acts on words: does the task that they ask for, or says why they are none; and gives the exit status.
+fn act_on_words<R: Files + Print + Eprint + AllocGlobal + Threads + Wait + Sync>(
+    rt: &R,
+    words: &[&str],
+) -> u8
+    ensures { AnswersWorded (map (λ word. word.now) words.now) result }
+{
+    match order(rt.alloc(), words) {
+        Ok(task) => report(rt, &carry_out(rt, &task)),
+        Err(fault) => explain(rt, &fault),
+    }
+}
+
 /// Acts on the words, or without any on standard input, and gives the exit status.
 fn act<R: Files + Input + Print + Eprint + AllocGlobal + Threads + Wait + Sync>(
     rt: &R,
     words: &[&str],
     at_terminal: bool,
 ) -> u8
-    ensures { Answers (map (λ word. word.now) words.now) result }
+    ensures alone { length words.now ≡ 0 → AnswersJoined result }
+    ensures worded { 0 < length words.now → AnswersWorded (map (λ word. word.now) words.now) result }
 {
-    if words.is_empty() {
-        if at_terminal {
-            let _ = eprintln!(rt; "debvote: {TERMINAL_HINT}");
-        }
-        return report(rt, &print_joined(rt));
+    if !words.is_empty() {
+        return act_on_words(rt, words);
     }
-    match order(rt.alloc(), words) {
-        Ok(task) => report(rt, &carry_out(rt, &task)),
-        Err(fault) => explain(rt, &fault),
+    if at_terminal {
+        let _ = eprintln!(rt; "debvote: {TERMINAL_HINT}");
     }
+    report(rt, &print_joined(rt))
 }
 
 /// Acts on the words after the program's name, and gives the exit status.
@@ -128,7 +138,7 @@ fn run_program<R: Files + Input + Print + Eprint + Env + AllocGlobal + Threads +
     rt: &R,
     at_terminal: bool,
 ) -> Result<u8, RunFault>
-    ensures answers { IfOk result AnswersInWords }
+    ensures answers { IfOk result Answers }
     ensures fault { IfErr result (λ fault. fault ≡ RunFault.Memory) }
 {
     let args = match env::args(rt) {
