@@ -1,6 +1,6 @@
 -- How a task, or a joined input, ends on an output that tells no bytes, as standard output does: what is written there no clause knows,
 -- and how the run ends is as if it were.
-use Rattle.std.specs.Prelude.{◌≡◌, ◌⊎◌, ℕ, List, Option, None, Result, Err}
+use Rattle.std.specs.Prelude.{◌≡◌, ◌⊎◌, ℕ, List, None, Result, Err}
 use Rattle.vote_command.specs.declared.Task.{Task}
 use Rattle.vote_runs.specs.Performing.{Lists, Performs}
 use Rattle.vote_runs.specs.Joined.{joined_parts}

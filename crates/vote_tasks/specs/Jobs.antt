@@ -1,5 +1,5 @@
 -- The files of a task, and its job once they are read.
-use Rattle.std.specs.Prelude.{◌≡◌, List, ℕ, Option, Some, None, is_some, option_map}
+use Rattle.std.specs.Prelude.{◌≡◌, List, ℕ, Option, Some, None, option_map}
 use Rattle.vote_command.specs.declared.Task.{Task}
 use Rattle.vote_command.specs.declared.Task.TheVariants as task
 use Rattle.vote_runs.specs.declared.Job.{Job}

@@ -1,5 +1,5 @@
 -- Which fault a file of a task gives that could not be read.
-use Rattle.std.specs.Prelude.{◌≡◌, ◌⊎◌, Option, Some, None}
+use Rattle.std.specs.Prelude.{◌≡◌, ◌⊎◌, Some}
 use Rattle.vote_command.specs.declared.Task.{Task}
 use Rattle.vote_command.specs.declared.Task.TheVariants as task
 use Rattle.vote_files.specs.declared.ReadFault.{ReadFault}

@@ -1,6 +1,6 @@
 //! The inputs of the program, read whole up to their limits.
 
-ghost use Rattle.std.specs.Prelude.{◌≡◌, ◌≤◌, [], Err, IfErr, IfOk, Ok, vec_len};
+ghost use Rattle.std.specs.Prelude.{◌≡◌, ◌≤◌, [], IfErr, IfOk, vec_len};
 ghost use Rattle.vote_files.specs.declared.ReadFault.{ReadFault};
 ghost use Rattle.vote_runs.specs.Status.{ballots_unread, poll_unread, sheet_unread};
 ghost use Rattle.vote_tasks.specs.Unread.{AreBallotsUnread, HasBallots, HasSheet, IsPollUnread, IsSheetUnread, IsUnread};
