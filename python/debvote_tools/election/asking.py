@@ -18,6 +18,12 @@ def command(election: Election, *words: str) -> str:
     return shlex.join(["debvote-election", *where, *words])
 
 
+def call_command(election: Election) -> str:
+    """The call for votes as the user types it, with what most of them want to say in it."""
+    both = "until when one can vote, and where ballots are sent; both can be left out"
+    return f'{command(election, "call")} --until "TEXT" --to ADDRESS ({both})'
+
+
 def files_of(election: Election, files: Files) -> list[str]:
     """The words that name the two files to debvote, which runs in the folder of the election."""
     ballots = NO_BALLOTS if files.ballots is None else election.ballots.name
