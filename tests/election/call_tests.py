@@ -350,6 +350,31 @@ class ChangedTest(CallTest):
         self.assertEqual(self.read("backup/0001-poll.toml.called"), self.called)
         self.assert_whole()
 
+    def test_called_anew_where_ballots_are_in_the_box(self) -> None:
+        shutil.rmtree(self.folder / "call")
+        changed = self.called.replace(b"quorum = 1", b"quorum = 2")
+        for ballots, lines in {
+            b"ada 1,2,3,4\n": "1 line already that was given for that poll",
+            b"ada 1,2,3,4\nx\nben": "3 lines already that were given for that poll",
+        }.items():
+            self.write("ballots", ballots)
+            self.write("poll.toml", changed)
+            before = self.contents()
+            self.assert_fault(
+                self.election("call"), 9, "poll.toml: it is another poll than the one that was called: line 5 was `quorum = 1`",
+                f"ballots has {lines}", "(the poll that was called is backup/poll.toml.called)",
+                "or hold a new election in a new folder: debvote-election new FOLDER",
+            )  # fmt: skip
+            self.assertEqual(self.contents(), before)
+        # an empty box, or the poll that was called with a last envelope, stops nothing
+        self.write("poll.toml", self.called + b"last_envelope = 3\n")
+        self.call()
+        shutil.rmtree(self.folder / "call")
+        self.write("poll.toml", changed)
+        self.write("ballots", b"")
+        self.call()
+        self.assertEqual(self.read("backup/poll.toml.called"), changed)
+
     def test_called_again(self) -> None:
         said = self.call("--until", "tomorrow")
         self.assertIn("Made the folder call anew.", said)

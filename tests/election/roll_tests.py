@@ -258,6 +258,15 @@ class AfterTheCall(RollTest):
         self.assert_fault(ended, 9, "poll.toml: the call for votes was made with another roll", "first remove the folder call")
         self.assert_unchanged(before)
 
+    def test_another_roll_where_ballots_are_in_the_box(self) -> None:
+        self.write("members.csv", GOOD + "cleo,,\n")
+        self.write("ballots", "ada 1,2,3,4\n")
+        before = self.contents()
+        ended = self.election("roll")
+        self.assert_fault(ended, 9, "with another roll", "ballots has 1 line already", "a new election in a new folder")
+        self.assertNotIn("remove the folder", ended.faults)
+        self.assert_unchanged(before)
+
     def test_the_same_roll_is_no_change(self) -> None:
         before = self.contents()
         self.assertEqual(self.election("roll").status, 0)

@@ -24,6 +24,19 @@ def call_command(election: Election) -> str:
     return f'{command(election, "call")} --until "TEXT" --to ADDRESS ({both})'
 
 
+def given_already(election: Election, files: Files) -> str | None:
+    """That ballots were given already, and so what is to be done for another poll; none where there are no lines."""
+    ballots = files.ballots or b""
+    lines = ballots.count(b"\n") + (not ballots.endswith(b"\n") and ballots != b"")
+    if not lines:
+        return None
+    given = "1 line already that was" if lines == 1 else f"{lines} lines already that were"
+    return (
+        f"{election.ballots} has {given} given for that poll; put this right (the poll that was called is {election.called_poll}), "
+        "or hold a new election in a new folder: debvote-election new FOLDER"
+    )
+
+
 def files_of(election: Election, files: Files) -> list[str]:
     """The words that name the two files to debvote, which runs in the folder of the election."""
     ballots = NO_BALLOTS if files.ballots is None else election.ballots.name

@@ -7,7 +7,7 @@ import re
 from collections.abc import Callable
 
 from debvote_tools.election import poll_file
-from debvote_tools.election.asking import command, empty_sheet, explained, quorum_words
+from debvote_tools.election.asking import command, empty_sheet, explained, given_already, quorum_words
 from debvote_tools.election.folder import Election, Files, difference
 from debvote_tools.election.members import AGAIN, Member, Members, doubles, doubt, members_in, plain, proposals, shown
 from debvote_tools.election.telling import count_of, tell
@@ -34,7 +34,7 @@ def run(election: Election, asked: argparse.Namespace) -> int:
         demand_allowed(election, members, poll)
         tell_alike(members, "who", lambda member: " ".join(plain(member.who).split()))
         tell_alike(members, "mail", lambda member: plain(member.mail))
-        demand_same_call(election, poll)
+        demand_same_call(election, files, poll)
         with uninterrupted():
             write(election, files, poll)
             tell_roll(election, members)
@@ -115,15 +115,15 @@ def tell_alike(members: Members, column: str, key: Callable[[Member], str]) -> N
 
 
 # ---------------------------------------------------------------- the poll
-def demand_same_call(election: Election, poll: bytes) -> None:
+def demand_same_call(election: Election, files: Files, poll: bytes) -> None:
     """Stops where the call for votes was made with another roll."""
     if not election.call.exists() or not election.called_poll.exists():
         return
     called, now = map(poll_file.without_last_envelope, (election.called_poll.read_bytes(), poll))
     if called != now:
         words = f"the call for votes was made with another roll: {shown(difference(called, now))}"
-        cure = f"to call anew with this one, first remove the folder {election.call}"
-        raise Fault(f"{election.poll}: {words}; {cure}", Status.DOUBT)
+        anew = f"to call anew with this one, first remove the folder {election.call}"
+        raise Fault(f"{election.poll}: {words}; {given_already(election, files) or anew}", Status.DOUBT)
 
 
 def write(election: Election, files: Files, poll: bytes) -> None:
