@@ -5,6 +5,7 @@ import hashlib
 import json
 import os
 import pathlib
+import re
 import resource
 import shutil
 import signal
@@ -185,6 +186,28 @@ class MadeTest(CallTest):
         self.assert_whole()
         self.call("--no-roll")
         self.assert_whole(has_poll=False)
+
+    def test_the_names_on_the_roll_in_the_letter(self) -> None:
+        place = "roll. It is in the folder of the call. So that"
+        self.call()
+        letter = self.read("call/call.txt").decode()
+        self.assertIn("letter for letter.\n\n  ada, ben, cleo, dan, eve, fay, gus, hal, ida\n\nWHAT WILL BE PUBLIC\n", letter)
+        self.assertIn(place, " ".join(letter.split()))
+        self.call("--no-roll")
+        letter = self.read("call/call.txt").decode()
+        self.assertIn("roll. It is published with the result. So that", " ".join(letter.split()))
+        self.assertNotIn("THE ROLL", letter)
+        for count, is_listed in {200: True, 201: False}.items():
+            shutil.rmtree(self.folder / "call")
+            names = [f"an-elector-with-a-long-name-{number:04}" for number in range(count)]
+            self.write("poll.toml", POLL.split("roll = ")[0] + f"roll = {json.dumps(names)}\n")
+            self.call()
+            letter = self.read("call/call.txt").decode()
+            self.assertEqual(re.findall("an-elector-with-a-long-name-[0-9]{4}", letter), names if is_listed else [])
+            elsewhere = "The names on the roll stand in the file poll.toml, in the folder of the call."
+            self.assertEqual(elsewhere in " ".join(letter.split()), not is_listed)
+            self.assertLessEqual(max(map(len, letter.splitlines())), 72)
+            self.assertIn(place, " ".join(letter.split()))
 
     def test_other_folder(self) -> None:
         ended = self.election("--folder", "election", "call", cwd=self.scratch)
