@@ -31,10 +31,9 @@ def given_already(election: Election, files: Files) -> str | None:
     if not lines:
         return None
     given = "1 line already that was" if lines == 1 else f"{lines} lines already that were"
-    return (
-        f"{election.ballots} has {given} given for that poll; put this right (the poll that was called is {election.called_poll}), "
-        "or hold a new election in a new folder: debvote-election new FOLDER"
-    )
+    right = f"put this right (the poll that was called is {election.called_poll})"
+    anew = "or hold a new election in a new folder: debvote-election new FOLDER"
+    return f"{election.ballots} has {given} given for that poll; {right}, {anew}"
 
 
 def files_of(election: Election, files: Files) -> list[str]:

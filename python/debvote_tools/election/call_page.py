@@ -43,6 +43,7 @@ input:focus-visible, select:focus-visible, button:focus-visible { outline: 3px s
 summary { padding: 0.5rem 0; cursor: pointer; font-weight: 600; }
 summary:focus-visible { outline: 3px solid var(--link); outline-offset: 2px; }
 #roll ul { columns: 12rem; margin: 0; padding: 0; list-style: none; font-family: ui-monospace, monospace; }
+#roll li { margin: 0; }
 """
 
 FORM = """<div class="field">
@@ -165,4 +166,5 @@ def poll(call: Call) -> str:
     beside = [paragraph('The file: <a href="poll.toml">poll.toml</a>')] if call.has_poll else []
     shown = f"<pre><code>{call.poll_sum}</code></pre>"
     compare = command_block(call.compare_words(), call_words.COMPARE)
-    return part("The poll", paragraph(call.poll_words("lies beside this page")), shown, *beside, compare, paragraph(call_words.LATER))
+    said = paragraph(call.poll_words("lies beside this page"))
+    return part("The poll", said, shown, *beside, compare, paragraph(call_words.LATER))

@@ -55,7 +55,7 @@ def facts(sheet: Sheet) -> str:
         ("Electors", found["Electors"]),
         ("Voters", f"{found['Voters']}, the electors with a ballot that stands"),
         ("Quorum", f"{least}: at least {multiple}, where Q is half of the square root of the number of electors"),
-        ("Lines", f"{found['Lines']} in the ballot file: {found['Valid']} valid, {found['Refused']} refused{recasts(sheet)}"),
+        ("Lines", f"{found['Lines']} in the ballot file: {found['Valid']} valid, {found['Refused']} refused" + recasts(sheet)),
     ]
     if multiple == "0Q":
         rows[2] = ("Quorum", "none")
