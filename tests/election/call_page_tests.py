@@ -72,6 +72,7 @@ async function run(job) {
   const unlabelled = [...doc.querySelectorAll("input, select")].filter((field) => field.labels.length !== 1).length;
   return { results, clip, copies, violations, unlabelled, wide: doc.documentElement.scrollWidth, title: doc.title, head: doc.querySelector("h1").textContent,
     colours: style.color + " " + style.backgroundColor, requests: win.performance.getEntriesByType("resource").length,
+    offered: [...(doc.getElementById("name").list || { options: [] }).options].map((option) => option.value),
     scripts: doc.querySelectorAll("script").length, shown: !doc.getElementById("ballot").hidden };
 }
 (async () => {
@@ -89,9 +90,9 @@ def names_of(size: int) -> list[str]:
     return [*HOSTILE, *own[len(HOSTILE) :]][: size - 1] + ["None of the above"]
 
 
-def poll_of(names: list[str], title: str, electors: int) -> str:
+def poll_of(names: list[str], title: str, electors: int, *more: str) -> str:
     ratios = [1 + place % 10 for place in range(len(names) - 1)]
-    roll = [f"e{number:02}" for number in range(electors)]
+    roll = [*(f"e{number:02}" for number in range(electors)), *more]
     keys = {"title": title, "options": names[:-1], "ratios": ratios, "default": names[-1], "quorum": 3, "roll": roll}
     return "".join(f"{key} = {json.dumps(value)}\n" for key, value in keys.items())
 
@@ -228,6 +229,42 @@ class CallPageTest(support.ElectionTest):
         self.assertEqual((results[-1]["line"], results[-1]["missing"]), ("", "Give at least one option a rank."))
         self.assertEqual(results[-1]["words"], [])
 
+    def test_names_on_the_roll_are_offered_and_near_ones_asked_about(self) -> None:
+        roll = ["zoe", "ada-angstrom", "ada.lovelace", "strasse", "oedipus", "-", "anna-1", "anna-2", "anna-3", "anna-4", "anna-5", "anna-6"]
+        missing = "{} is not on the roll of this poll; the names on the roll stand below."
+        odd = "The name has {}. Names on the roll have only small letters without accents, digits, points and hyphens."
+        said = {
+            "zoe": "", "-": "", "anna-6": "",
+            "Ada.Lovelace": "Capital letters of the name are made small.",
+            "yves": missing.format("yves"),
+            "anna": missing.format("anna") + " Did you mean anna-1, anna-2, anna-3, anna-4 or anna-5?",
+            "anna6": missing.format("anna6") + " Did you mean anna-6?",
+            "ada": missing.format("ada") + " Did you mean ada-angstrom or ada.lovelace?",
+            "--": missing.format("--"),
+            "Ada \u00c5ngstr\u00f6m": "Capital letters of the name are made small. " + odd.format("a space") + " Did you mean ada-angstrom?",
+            "ada A\u030a": "Capital letters of the name are made small. " + odd.format("a space") + " Did you mean ada-angstrom?",
+            "stra\u00dfe": odd.format("“\u00df”") + " Did you mean strasse?",
+            "\u0152dipus": odd.format("“\u0152”") + " Did you mean oedipus?",
+            "<b>": odd.format("“<”"),
+        }  # fmt: skip
+        on_roll = ["zoe", "-", "anna-6", "Ada.Lovelace"]
+        poll = support.POLL.split("roll = ")[0] + f"roll = {json.dumps(roll)}\n"
+        choices = [{"name": name, "ranks": list("1234")} for name in said]
+        jobs = [
+            {"page": self.called(name, poll, *words).as_uri(), "width": 360, "choices": choices}
+            for name, words in {"listed": (), "unlisted": ("--no-roll",)}.items()
+        ]
+        (listed, unlisted), console = browse(self.scratch, jobs)
+        self.assertEqual((console, listed["offered"], unlisted["offered"]), ("", roll, []))
+        for name, result in zip(said, listed["results"], strict=True):
+            self.assertEqual(result["said"], said[name])
+            self.assertEqual(result["line"], f"{name.lower()} 1,2,3,4" if name in on_roll else "", name)
+            self.assertEqual(result["invalid"], "false" if name in on_roll else "true", name)
+        # without the roll each name that one may have gets its line, and none is told
+        for name, result in zip(said, unlisted["results"], strict=True):
+            self.assertNotRegex(result["said"], "Did you mean|roll of this poll")
+            self.assertEqual(bool(result["line"]), re.fullmatch("[A-Za-z0-9.-]+", name) is not None, name)
+
     def test_words(self) -> None:
         ranks = ["21-3", "1111", "1---", "1-1-", "99--", "2112"]
         job = {"width": 360, "choices": [{"name": "ada", "ranks": list(given)} for given in ranks]}
@@ -259,7 +296,7 @@ class CallPageTest(support.ElectionTest):
         )
 
     def test_widths_and_colours(self) -> None:
-        pages = [self.called(str(size), poll_of(names_of(size), HOSTILE_TITLE, 9), "--to", ADDRESS) for size in (4, 32)]
+        pages = [self.called(str(size), poll_of(names_of(size), HOSTILE_TITLE, 9, "x" * 32), "--to", ADDRESS) for size in (4, 32)]
         choices = [{"name": "x" * 32, "ranks": [str(32 if len(names) > 9 else 4)] * len(names)} for names in map(names_of, (4, 32))]
         jobs = [
             {"page": page.as_uri(), "width": width, "choices": [choice]}
@@ -268,6 +305,7 @@ class CallPageTest(support.ElectionTest):
         ]
         light, dark = (browse(self.scratch, jobs, scheme)[0] for scheme in (1, 0))
         self.assertEqual([page["wide"] for page in light + dark], list(WIDTHS) * 4)
+        self.assertEqual({len(page["results"][0]["line"]) for page in light}, {32 + 8, 32 + 96})
         colours = [{page["colours"] for page in pages} for pages in (light, dark)]
         self.assertEqual((len(colours[0]), len(colours[1]), len(colours[0] | colours[1])), (1, 1, 2))
 
@@ -297,6 +335,23 @@ class CallPageTextTest(support.ElectionTest):
                 self.page(*words)
                 ended = self.run_program("tidy", "-q", "-e", "call/index.html")
                 self.assertEqual((ended.output, ended.faults, ended.status), ("", "", 0))
+
+    def test_the_names_on_the_roll(self) -> None:
+        page = self.page()
+        names = re.search(r'<details id="roll">\n<summary>The names on the roll</summary>\n<ul>\n(.*)</ul>\n</details>', page, re.DOTALL)
+        self.assertEqual(re.findall("<li>(.*?)</li>", names[1]), ["ada", "ben", "cleo", "dan", "eve", "fay", "gus", "hal", "ida"])
+        page = self.page("--no-roll")
+        for part in ("<details", "The names on the roll<", ">ada<", "The roll<"):
+            self.assertNotIn(part, page)
+
+    def test_the_names_on_a_long_roll(self) -> None:
+        for count, is_listed in {2_000: True, 2_001: False}.items():
+            shutil.rmtree(self.folder / "call", ignore_errors=True)
+            self.write("poll.toml", poll_of(["A", "B"], "x", count))
+            page = self.page()
+            self.assertEqual(page.count("<li>e"), count if is_listed else 0)
+            elsewhere = 'The names on the roll stand in the file <a href="poll.toml">poll.toml</a>, which lies beside this page.'
+            self.assertEqual(elsewhere in page, not is_listed)
 
     def test_policy(self) -> None:
         page = self.page("--to", ADDRESS)

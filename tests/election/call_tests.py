@@ -5,6 +5,7 @@ import hashlib
 import json
 import os
 import pathlib
+import re
 import resource
 import shutil
 import signal
@@ -186,6 +187,28 @@ class MadeTest(CallTest):
         self.call("--no-roll")
         self.assert_whole(has_poll=False)
 
+    def test_the_names_on_the_roll_in_the_letter(self) -> None:
+        place = "roll. It is in the folder of the call. So that"
+        self.call()
+        letter = self.read("call/call.txt").decode()
+        self.assertIn("letter for letter.\n\n  ada, ben, cleo, dan, eve, fay, gus, hal, ida\n\nWHAT WILL BE PUBLIC\n", letter)
+        self.assertIn(place, " ".join(letter.split()))
+        self.call("--no-roll")
+        letter = self.read("call/call.txt").decode()
+        self.assertIn("roll. It is published with the result. So that", " ".join(letter.split()))
+        self.assertNotIn("THE ROLL", letter)
+        for count, is_listed in {200: True, 201: False}.items():
+            shutil.rmtree(self.folder / "call")
+            names = [f"an-elector-with-a-long-name-{number:04}" for number in range(count)]
+            self.write("poll.toml", POLL.split("roll = ")[0] + f"roll = {json.dumps(names)}\n")
+            self.call()
+            letter = self.read("call/call.txt").decode()
+            self.assertEqual(re.findall("an-elector-with-a-long-name-[0-9]{4}", letter), names if is_listed else [])
+            elsewhere = "The names on the roll stand in the file poll.toml, in the folder of the call."
+            self.assertEqual(elsewhere in " ".join(letter.split()), not is_listed)
+            self.assertLessEqual(max(map(len, letter.splitlines())), 72)
+            self.assertIn(place, " ".join(letter.split()))
+
     def test_other_folder(self) -> None:
         ended = self.election("--folder", "election", "call", cwd=self.scratch)
         self.assertEqual((ended.status, ended.faults), (0, ""))
@@ -349,6 +372,31 @@ class ChangedTest(CallTest):
         self.assertEqual(self.read("backup/poll.toml.called"), changed)
         self.assertEqual(self.read("backup/0001-poll.toml.called"), self.called)
         self.assert_whole()
+
+    def test_called_anew_where_ballots_are_in_the_box(self) -> None:
+        shutil.rmtree(self.folder / "call")
+        changed = self.called.replace(b"quorum = 1", b"quorum = 2")
+        for ballots, lines in {
+            b"ada 1,2,3,4\n": "1 line already that was given for that poll",
+            b"ada 1,2,3,4\nx\nben": "3 lines already that were given for that poll",
+        }.items():
+            self.write("ballots", ballots)
+            self.write("poll.toml", changed)
+            before = self.contents()
+            self.assert_fault(
+                self.election("call"), 9, "poll.toml: it is another poll than the one that was called: line 5 was `quorum = 1`",
+                f"ballots has {lines}", "(the poll that was called is backup/poll.toml.called)",
+                "or hold a new election in a new folder: debvote-election new FOLDER",
+            )  # fmt: skip
+            self.assertEqual(self.contents(), before)
+        # an empty box, or the poll that was called with a last envelope, stops nothing
+        self.write("poll.toml", self.called + b"last_envelope = 3\n")
+        self.call()
+        shutil.rmtree(self.folder / "call")
+        self.write("poll.toml", changed)
+        self.write("ballots", b"")
+        self.call()
+        self.assertEqual(self.read("backup/poll.toml.called"), changed)
 
     def test_called_again(self) -> None:
         said = self.call("--until", "tomorrow")

@@ -17,8 +17,8 @@ Options:
   3  Sell the house and meet there (majority ratio 3)
   4  Further discussion (the default option)
 Quorum: 2 votes (1Q): at least 2 electors must prefer an option to the default option
-Electors: 9
-Next: debvote-election call
+Electors: 9 (ada, ben, cleo, dan, eve, fay, gus, hal, ida)
+Next: debvote-election call --until "TEXT" --to ADDRESS (until when one can vote, and where ballots are sent; both can be left out)
 """
         self.assertEqual((ended.output, ended.faults, ended.status), (said, "", 0))
 
@@ -29,11 +29,17 @@ Next: debvote-election call
 
     def test_no_quorum_one_elector_and_more_than(self) -> None:
         self.write("poll.toml", support.POLL.replace("quorum = 1", 'quorum = 0\nwording = "more_than"'))
-        said = "Majority: more than the ratio, where Debian has at least the ratio\nQuorum: none\nElectors: 9\n"
+        said = "Majority: more than the ratio, where Debian has at least the ratio\nQuorum: none\nElectors: 9 ("
         self.assertIn(said, self.election("check").output)
         self.write("poll.toml", support.POLL.split("roll = ")[0] + 'roll = ["ada"]\n')
-        said = "Quorum: 1 vote (1Q): at least 1 elector must prefer an option to the default option\nElectors: 1\n"
+        said = "Quorum: 1 vote (1Q): at least 1 elector must prefer an option to the default option\nElectors: 1 (ada)\n"
         self.assertIn(said, self.election("check").output)
+
+    def test_of_many_electors_the_first_are_shown(self) -> None:
+        for count, end in {10: "n9)", 11: "n9, and 1 more)", 25: "n9, and 15 more)"}.items():
+            names = ", ".join(f'"n{i}"' for i in range(count))
+            self.write("poll.toml", support.POLL.split("roll = ")[0] + f"roll = [{names}]\n")
+            self.assertIn(f"\nElectors: {count} (n0, n1, n2, n3, n4, n5, n6, n7, n8, {end}\nNext: ", self.election("check").output)
 
     def test_thirty_two_options(self) -> None:
         names = [f"Option {i}" for i in range(1, 32)]

@@ -116,6 +116,12 @@ class Refused(MembersTest):
         self.assert_refused("name,who,e-mail\nada,Ada,a@x\n", "members.csv:1: ", "no column `mail`", "name, who, e-mail", "comma")
         self.assert_refused("name|who|mail\nada|Ada|a@x\n", "no column `name`", "name|who|mail")
         self.assert_refused("ada,Ada,a@x\n", "no column `name`", "ada, Ada, a@x")
+        self.assert_refused(
+            "Member no;Name;E-mail\n1;Ada;a@x\n",
+            "no column `who`, it has: Member no, Name, E-mail",
+            "the real names belong under `who`, the addresses under `mail`",
+            "`name` is the name on the roll, which may be left empty; name the columns so, then run debvote-election roll again",
+        )
 
     def test_a_column_twice(self) -> None:
         self.assert_refused("name,who,mail,Name\nada,Ada,a@x,\n", "the column `name` twice")

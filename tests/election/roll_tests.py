@@ -39,7 +39,10 @@ class Writes(RollTest):
         ended = self.election("roll")
         self.assertEqual((ended.faults, ended.status), ("", 0))
         said = [
-            "The roll of poll.toml has 3 electors.",
+            "The roll of poll.toml has 3 electors:",
+            "  zoe: Zoë",
+            "  ada",
+            "  m.x-2",
             "Quorum: 1 vote (1Q): at least 1 elector must prefer an option to the default option",
             "Next: debvote-election check",
         ]  # fmt: skip
@@ -52,17 +55,37 @@ class Writes(RollTest):
 
     def test_the_quorum_is_that_of_the_count(self) -> None:
         self.write("members.csv", "name,who,mail\n" + "".join(f"n{i},,\n" for i in range(100)))
-        self.assertIn("has 100 electors.\nQuorum: 5 votes (1Q): at least 5 electors must", self.election("roll").output)
+        output = self.election("roll").output
+        self.assertIn("has 100 electors:\n  n0\n  n1\n", output)
+        self.assertIn("\n  n9\n  and 90 more\nQuorum: 5 votes (1Q): at least 5 electors must", output)
         self.write("poll.toml", support.POLL.replace("quorum = 1", "quorum = 0"))
-        self.assertIn("has 100 electors.\nQuorum: none\n", self.election("roll").output)
+        self.assertIn("  and 90 more\nQuorum: none\n", self.election("roll").output)
 
     def test_a_poll_that_is_not_in_order_yet(self) -> None:
         self.write("poll.toml", "# x\ntitle = ''\nroll = [ # to be written\n]\n")
         self.write("members.csv", GOOD)
         ended = self.election("roll")
         self.assertEqual((ended.status, ended.faults), (0, ""))
-        self.assertEqual(ended.output, "The roll of poll.toml has 2 electors.\nNext: debvote-election check\n")
+        said = [
+            "The roll of poll.toml has 2 electors:",
+            "  ada: Ada Lovelace",
+            "  ben: Ben",
+            "Next: debvote-election check (the poll is not in order yet: check tells what is missing)",
+        ]
+        self.assertEqual(ended.output.splitlines(), said)
         self.assertEqual(self.read("poll.toml"), b"# x\ntitle = ''\nroll = [\"ada\", \"ben\"]\n")
+
+    def test_a_roll_of_numbers_is_asked_about(self) -> None:
+        asked = (
+            "Note: all names on the roll are numbers. Are they member numbers? "
+            "Then put the real names under who, leave name empty, and run debvote-election roll again."
+        )
+        for names, is_asked in {("1", "25"): True, ("2024-17", "3.5"): True, ("1", "m25"): False}.items():
+            self.write("members.csv", "name;who;mail\n" + "".join(f"{name};Ada {name};\n" for name in names))
+            ended = self.election("roll")
+            self.assertEqual((ended.faults, ended.status, self.roll_of()), ("", 0, list(names)))
+            self.assertEqual(asked in ended.output.splitlines(), is_asked, names)
+            self.assertIn(f"  {names[0]}: Ada {names[0]}\n", ended.output)
 
     def test_a_second_run_changes_nothing(self) -> None:
         self.write("members.csv", GOOD)
@@ -95,7 +118,8 @@ class Writes(RollTest):
     def test_ten_thousand_electors(self) -> None:
         self.write("members.csv", "name,who,mail\n" + "".join(f"n{i},N. {i},n{i}@x\n" for i in range(10_000)))
         ended = self.election("roll")
-        self.assertIn("has 10000 electors.\nQuorum: 50 votes", ended.output)
+        self.assertIn("has 10000 electors:\n  n0: N. 0\n", ended.output)
+        self.assertIn("\n  n9: N. 9\n  and 9990 more\nQuorum: 50 votes", ended.output)
         self.write("members.csv", "name,who,mail\n" + "".join(f"n{i},,\n" for i in range(10_001)))
         before = self.contents()
         self.assert_fault(self.election("roll"), 9, "members.csv: the roll would have 10001 names, 10000 are the most")
@@ -234,6 +258,15 @@ class AfterTheCall(RollTest):
         self.assert_fault(ended, 9, "poll.toml: the call for votes was made with another roll", "first remove the folder call")
         self.assert_unchanged(before)
 
+    def test_another_roll_where_ballots_are_in_the_box(self) -> None:
+        self.write("members.csv", GOOD + "cleo,,\n")
+        self.write("ballots", "ada 1,2,3,4\n")
+        before = self.contents()
+        ended = self.election("roll")
+        self.assert_fault(ended, 9, "with another roll", "ballots has 1 line already", "a new election in a new folder")
+        self.assertNotIn("remove the folder", ended.faults)
+        self.assert_unchanged(before)
+
     def test_the_same_roll_is_no_change(self) -> None:
         before = self.contents()
         self.assertEqual(self.election("roll").status, 0)
@@ -332,7 +365,7 @@ class Fails(RollTest):
             before = len(self.roll_of())
             output, faults = running.communicate(timeout=30)
             if before < len(self.roll_of()):
-                self.assertIn("The roll of poll.toml has 3000 electors.\n", output)
+                self.assertIn("The roll of poll.toml has 3000 electors:\n", output)
             if running.returncode == 0:
                 self.assertEqual(faults, "")
             else:

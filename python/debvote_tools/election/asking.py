@@ -18,6 +18,24 @@ def command(election: Election, *words: str) -> str:
     return shlex.join(["debvote-election", *where, *words])
 
 
+def call_command(election: Election) -> str:
+    """The call for votes as the user types it, with what most of them want to say in it."""
+    both = "until when one can vote, and where ballots are sent; both can be left out"
+    return f'{command(election, "call")} --until "TEXT" --to ADDRESS ({both})'
+
+
+def given_already(election: Election, files: Files) -> str | None:
+    """That ballots were given already, and so what is to be done for another poll; none where there are no lines."""
+    ballots = files.ballots or b""
+    lines = ballots.count(b"\n") + (not ballots.endswith(b"\n") and ballots != b"")
+    if not lines:
+        return None
+    given = "1 line already that was" if lines == 1 else f"{lines} lines already that were"
+    right = f"put this right (the poll that was called is {election.called_poll})"
+    anew = "or hold a new election in a new folder: debvote-election new FOLDER"
+    return f"{election.ballots} has {given} given for that poll; {right}, {anew}"
+
+
 def files_of(election: Election, files: Files) -> list[str]:
     """The words that name the two files to debvote, which runs in the folder of the election."""
     ballots = NO_BALLOTS if files.ballots is None else election.ballots.name

@@ -7,11 +7,15 @@
   // mail programs break longer lines at their space
   const MAIL_LIMIT = 72;
   const UNRANKED = "-";
+  // so many names that are near a typed one are shown
+  const NEAR_LIMIT = 5;
 
   const byId = (id) => document.getElementById(id);
   const form = byId("ballot");
   const nameInput = byId("name");
   const selects = [...form.querySelectorAll("select")];
+  // the names on the roll, where the page shows them
+  const roll = [...document.querySelectorAll("#roll li")].map((item) => item.textContent);
 
   // ---------------------------------------------------------------- the name
   // What is put right in a name, and the sentence that says so.
@@ -32,8 +36,42 @@
     return { name, notes };
   }
 
-  // Why no elector can have this name, or nothing.
+  // Letters that Unicode does not take apart into a letter and its accent.
+  const letters = { ø: "o", ł: "l", đ: "d", ð: "d", þ: "th", æ: "ae", œ: "oe", ı: "i", ħ: "h", ŧ: "t", ß: "ss" };
+
+  // The letters and digits of a name, small and without accents.
+  function lettersOf(name) {
+    const plain = name.normalize("NFKD").toLowerCase().replace(/[øłđðþæœıħŧß]/g, (letter) => letters[letter]);
+    return plain.replace(/[^\p{Letter}\p{Number}]/gu, "");
+  }
+
+  const keys = new Map(roll.map((name) => [name, lettersOf(name)]));
+
+  // The names on the roll that have the letters of a typed one, or else begin with them.
+  function near(name) {
+    const typed = lettersOf(name);
+    if (typed === "") return [];
+    const same = roll.filter((other) => keys.get(other) === typed);
+    return same.length > 0 ? same : roll.filter((other) => keys.get(other).startsWith(typed));
+  }
+
+  // A question for the names that are near, or nothing.
+  function question(name) {
+    const found = near(name).slice(0, NEAR_LIMIT);
+    if (found.length < 2) return found.map((other) => `Did you mean ${other}?`).join("");
+    return `Did you mean ${found.slice(0, -1).join(", ")} or ${found[found.length - 1]}?`;
+  }
+
+  // Why this is no name on the roll, with those that are near; nothing where it is one, or may be one since the page has no roll.
   function faultOf(name) {
+    if (keys.has(name)) return "";
+    const missing = `${name} is not on the roll of this poll; the names on the roll stand below.`;
+    const fault = oddity(name) || (keys.size > 0 ? missing : "");
+    return [fault, question(name)].filter(Boolean).join(" ");
+  }
+
+  // Why no elector can have this name, or nothing.
+  function oddity(name) {
     if (name === "") return "Type your name as it stands on the roll.";
     const odd = [...name].find((character) => !/[a-z0-9.-]/.test(character));
     if (odd !== undefined) {
@@ -158,6 +196,16 @@
     }
   }
 
+  // The field offers the names on the roll.
+  function offer() {
+    const offered = document.createElement("datalist");
+    offered.id = "offered";
+    offered.append(...roll.map((name) => new Option(name, name)));
+    form.append(offered);
+    nameInput.setAttribute("list", offered.id);
+  }
+
+  if (roll.length > 0) offer();
   // a telephone begins a text with a capital letter
   nameInput.autocapitalize = "none";
   form.addEventListener("input", update);

@@ -8,6 +8,12 @@ from debvote_tools.election.call_words import Call
 # mail programs leave lines of this length as they are
 COLUMNS = 72
 
+# the names of a longer roll stand in the poll alone
+NAMES_LIMIT = 200
+
+# a letter that was sent has no file beside it
+PLACE = "in the folder of the call"
+
 
 def letter(call: Call) -> str:
     """The text of the letter. A line that somebody copies, as the example or the sum, is never wrapped."""
@@ -26,16 +32,26 @@ def letter(call: Call) -> str:
         copied(call.example()),
         wrapped(call.example_words()),
         wrapped(call_words.AGAIN),
+        *roll(call),
         heading("What will be public"),
         wrapped(call_words.PUBLIC),
         heading("The poll"),
-        wrapped(call.poll_words()),
+        wrapped(call.poll_words(f"is {PLACE}")),
         copied(call.poll_sum),
         wrapped(call.compare_words()),
         copied(call_words.COMPARE),
         wrapped(call_words.LATER),
     ]
     return "\n".join(parts)
+
+
+def roll(call: Call) -> list[str]:
+    """The names on the roll, or where they stand; nothing where the call has no roll."""
+    if call.roll is None:
+        return []
+    if len(call.roll) > NAMES_LIMIT:
+        return [heading("The roll"), wrapped(f"The names on the roll stand in the file poll.toml, {PLACE}.")]
+    return [heading("The roll"), wrapped(call_words.NAMES), wrapped(", ".join(call.roll), "  ", "  ")]
 
 
 def option_of(call: Call, option: int) -> str:

@@ -13,6 +13,9 @@ from debvote_tools.pages import command_block, listed, paragraph, part
 
 SCRIPT = pathlib.Path(__file__).with_name("ballot.js")
 
+# in names; above it the page would be long, and the names stand in the poll alone
+NAMES_LIMIT = 2_000
+
 STYLE = """
 [hidden] { display: none !important; }
 h3 { font-size: 1.05rem; margin: 1.5rem 0 0.3rem; }
@@ -37,6 +40,10 @@ input:focus-visible, select:focus-visible, button:focus-visible { outline: 3px s
 .said:empty { display: none; }
 #words ul { padding-left: 1.25rem; }
 .outcome p { margin: 0; }
+summary { padding: 0.5rem 0; cursor: pointer; font-weight: 600; }
+summary:focus-visible { outline: 3px solid var(--link); outline-offset: 2px; }
+#roll ul { columns: 12rem; margin: 0; padding: 0; list-style: none; font-family: ui-monospace, monospace; }
+#roll li { margin: 0; }
 """
 
 FORM = """<div class="field">
@@ -74,7 +81,7 @@ def html(call: Call) -> str:
     policy = (
         f"default-src 'none'; script-src {source_of(script)}; style-src {source_of(style)}; base-uri 'none'; form-action 'none'"
     )
-    parts = [head(call), options(call), form(call), how(call), public(), poll(call)]
+    parts = [head(call), options(call), form(call), roll(call), how(call), public(), poll(call)]
     title = escape(call.title)
     behind = f"<script>{script}</script>\n"
     return pages.page(f"Vote: {title}", title, "".join(parts), style=style, policy=policy, behind=behind)
@@ -131,6 +138,18 @@ def rank(option: int, name: str, count: int) -> str:
     )
 
 
+def roll(call: Call) -> str:
+    """The names on the roll, which the script reads here, or where they stand; nothing where the call has no roll."""
+    if call.roll is None:
+        return ""
+    if len(call.roll) > NAMES_LIMIT:
+        said = 'The names on the roll stand in the file <a href="poll.toml">poll.toml</a>, which lies beside this page.'
+        return part("The roll", paragraph(said))
+    names = listed("ul", map(escape, call.roll))
+    shown = f'<details id="roll">\n<summary>The names on the roll</summary>\n{names}\n</details>'
+    return part("The roll", paragraph(call_words.NAMES), shown)
+
+
 def how(call: Call) -> str:
     example = command_block("For example:", call.example())
     said = [call_words.HOW, call_words.RANKS]
@@ -147,4 +166,5 @@ def poll(call: Call) -> str:
     beside = [paragraph('The file: <a href="poll.toml">poll.toml</a>')] if call.has_poll else []
     shown = f"<pre><code>{call.poll_sum}</code></pre>"
     compare = command_block(call.compare_words(), call_words.COMPARE)
-    return part("The poll", paragraph(call.poll_words()), shown, *beside, compare, paragraph(call_words.LATER))
+    said = paragraph(call.poll_words("lies beside this page"))
+    return part("The poll", said, shown, *beside, compare, paragraph(call_words.LATER))

@@ -20,6 +20,7 @@ RANKS = (
     "the same rank are equal to you. A hyphen stands for an option that you do not rank: it is behind all others."
 )
 AGAIN = "You may vote again: of your ballots that are valid and in time the last one counts."
+NAMES = "The name on your ballot has to be one of these, letter for letter."
 DEFAULT = (
     "It stays where no other option is good enough. Rank before it what you would accept, and behind it what is worse to you "
     "than the default option."
@@ -39,14 +40,19 @@ LATER = (
 class Call:
     """What is called for: the sheet of the poll without ballots, and the sum of the poll without its last envelope.
 
-    `until` and `to` are none where the secretary announces them otherwise, and `has_poll` says whether the poll lies beside.
+    `until` and `to` are none where the secretary announces them otherwise, and `roll` is none where the call has neither the poll
+    nor a name of its roll.
     """
 
     sheet: Sheet
     poll_sum: str
     until: str | None
     to: str | None
-    has_poll: bool
+    roll: list[str] | None
+
+    @property
+    def has_poll(self) -> bool:
+        return self.roll is not None
 
     @property
     def title(self) -> str:
@@ -107,9 +113,9 @@ class Call:
         said = in_words(self.example_ranks(), list(self.sheet.names.values()))
         return f"Your own name stands in the place of {EXAMPLE_NAME}. This ballot says: {said}."
 
-    def poll_words(self) -> str:
-        """What the sum is for."""
-        where = "lies beside this call" if self.has_poll else "is published with the result"
+    def poll_words(self, place: str) -> str:
+        """What the sum is for. The place is where the poll of a call that has it is, as `lies beside this page`."""
+        where = place if self.has_poll else "is published with the result"
         return (
             f"All that decides stands in the file poll.toml: title, options, ratios, quorum and roll. It {where}. "
             "So that nobody can change it unseen, this is its sum (SHA-256):"

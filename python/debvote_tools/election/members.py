@@ -23,6 +23,11 @@ LONGEST_NAME = 32
 AGAIN = "then run debvote-election roll again"
 SAVE_AS = f"save it anew as CSV in UTF-8, {AGAIN}"
 
+# what belongs in which column
+BELONGS = (
+    "the real names belong under `who`, the addresses under `mail`, and `name` is the name on the roll, which may be left empty"
+)
+
 # how a file begins that is no text, and what it is
 KINDS = {
     b"PK\x03\x04": "it is a spreadsheet or another packed file, and no CSV",
@@ -199,7 +204,7 @@ def places_of(file: pathlib.Path, head: Row, delimiter: str) -> dict[str, int]:
         if column not in titles:
             said = ", ".join(shown(cell.value) for cell in head.cells if cell.value)
             words = f"the head line has no column `{column}`, it has: {said} (read with the {DELIMITERS[delimiter]} between)"
-            raise doubt(file, f"{words}; name the columns name, who and mail, {AGAIN}", head.line)
+            raise doubt(file, f"{words}; {BELONGS}; name the columns so, {AGAIN}", head.line)
         if titles.count(column) > 1:
             raise doubt(file, f"the head line has the column `{column}` twice; name one of them otherwise, {AGAIN}", head.line)
     return {column: titles.index(column) for column in COLUMNS}

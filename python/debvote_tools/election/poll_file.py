@@ -67,6 +67,11 @@ def document(data: bytes) -> dict[str, object]:
         raise unread(str(error)) from None
 
 
+def roll_of(data: bytes) -> list[str]:
+    """The names on the roll of a poll that debvote takes, in their order."""
+    return [str(name) for name in document(data)["roll"]]
+
+
 def unread(why: str) -> Fault:
     """The fault of a poll that can't be read."""
     words = f"poll.toml: it can't be read as TOML 1.0: {why}; put this right with an editor, then run: {CHECK}"

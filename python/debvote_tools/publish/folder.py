@@ -6,13 +6,14 @@ import pathlib
 import shutil
 import tempfile
 
+from debvote_tools.election.poll_file import without_last_envelope
 from debvote_tools.faults import Fault, Status
 from debvote_tools.files import BALLOTS_LIMIT, POLL_LIMIT, read_at_most, sum_of, umask
 from debvote_tools.publish import doubts
 from debvote_tools.publish.calls import Calls, calls_in
 from debvote_tools.publish.page import Published, page_of
 from debvote_tools.publish.picture import picture_of
-from debvote_tools.sheet import sheet_in
+from debvote_tools.sheet import Sheet, sheet_in
 
 
 def publish(asked: argparse.Namespace, beside: pathlib.Path) -> tuple[str, int]:
@@ -53,7 +54,8 @@ def fill(folder: pathlib.Path, asked: argparse.Namespace, beside: pathlib.Path) 
         (folder / "picture.svg").write_bytes(picture)
     verified = calls.verify()
     sheet = sheet_in(text)
-    page = page_of(Published(sheet, standing, picture, calls.casting, verified.rstrip("\n"), version, found))
+    called = called_sum(folder / "poll.toml", sheet)
+    page = page_of(Published(sheet, standing, picture, calls.casting, verified.rstrip("\n"), version, found, called))
     (folder / "index.html").write_text(page)
     (folder / "SHA256SUMS").write_text(sums_of(folder))
     return f"{sheet.last_line}\n{verified}", status
@@ -76,6 +78,11 @@ def copy(file: str, limit: int, target: pathlib.Path, kind: str, status: int) ->
     except OSError:
         raise Fault(f"{kind} unreadable", status) from None
     target.write_bytes(data)
+
+
+def called_sum(poll: pathlib.Path, sheet: Sheet) -> str | None:
+    """The sum of the poll as it was before it got its last envelope; none where it has none."""
+    return sum_of(without_last_envelope(poll.read_bytes())) if "Last envelope" in sheet.facts else None
 
 
 def sums_of(folder: pathlib.Path) -> str:

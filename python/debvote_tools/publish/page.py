@@ -6,6 +6,7 @@ import shlex
 from html import escape
 
 from debvote_tools import ballots, pages
+from debvote_tools.election.call_words import COMPARE
 from debvote_tools.pages import command_block, joined, listed, paragraph, part
 from debvote_tools.publish import count
 from debvote_tools.publish.calls import FILES
@@ -15,6 +16,8 @@ from debvote_tools.sheet import Sheet
 
 # in bytes; where the names of the options in all ballots come to more, ballots have their numbers alone
 NAMES_LIMIT = 2_000_000
+
+CALLED = "The poll is that of the call, but for its last envelope: this answers the sum that stands in the call for votes."
 
 
 @dataclasses.dataclass(frozen=True)
@@ -29,6 +32,8 @@ class Published:
     verified: str
     version: str
     doubts: list[Doubt]
+    # of a poll that has a last envelope the sum without it, which stands in the call for votes
+    called_sum: str | None
 
 
 def page_of(found: Published) -> str:
@@ -101,6 +106,8 @@ def check(found: Published) -> str:
         ("The sheet anew:", debvote("count", *FILES, *casting), None),
         ("The picture, with Graphviz:", debvote("picture", *FILES, *casting) + " | dot -Tsvg > picture.svg", None),
     ]
+    if found.called_sum is not None:
+        commands.insert(1, (CALLED, COMPARE, f"{found.called_sum}  -"))
     said = (
         "Each reader can count again. Put these files and this page, as index.html, into one folder, "
         f"install the program <code>{escape(found.version)}</code>, and type the commands in that folder:"

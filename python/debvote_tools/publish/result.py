@@ -38,6 +38,15 @@ def outcome(sheet: Sheet) -> str:
     )
 
 
+def recasts(sheet: Sheet) -> str:
+    """Why there are more valid lines than voters; nothing where each voter has one."""
+    voters, valid = (int(sheet.facts[name]) for name in ("Voters", "Valid"))
+    if voters == valid:
+        return ""
+    of = "1 voter has" if voters == 1 else f"{voters} voters have"
+    return f". {of} {valid} valid lines: electors who voted again account for the difference, and the last valid line of each counts"
+
+
 def facts(sheet: Sheet) -> str:
     """The numbers that the sheet begins with."""
     found = sheet.facts
@@ -46,7 +55,7 @@ def facts(sheet: Sheet) -> str:
         ("Electors", found["Electors"]),
         ("Voters", f"{found['Voters']}, the electors with a ballot that stands"),
         ("Quorum", f"{least}: at least {multiple}, where Q is half of the square root of the number of electors"),
-        ("Lines", f"{found['Lines']} in the ballot file: {found['Valid']} valid, {found['Refused']} refused"),
+        ("Lines", f"{found['Lines']} in the ballot file: {found['Valid']} valid, {found['Refused']} refused" + recasts(sheet)),
     ]
     if multiple == "0Q":
         rows[2] = ("Quorum", "none")

@@ -12,10 +12,10 @@ import unicodedata
 
 from debvote_tools import journal
 from debvote_tools.election import call_letter, call_page, poll_file
-from debvote_tools.election.asking import NO_BALLOTS, command
+from debvote_tools.election.asking import NO_BALLOTS, command, given_already
 from debvote_tools.election.call_words import Call
 from debvote_tools.election.checking import checked
-from debvote_tools.election.folder import Election, Files
+from debvote_tools.election.folder import Election, Files, difference
 from debvote_tools.faults import Fault, Status
 from debvote_tools.files import sum_of, sync_folder, umask, write_whole
 
@@ -47,11 +47,13 @@ def run(election: Election, asked: argparse.Namespace) -> int:
     demand_address(asked.to)
     with election.changing() as files:
         sheet = checked(election, files)
+        demand_unvoted(election, files)
         demand_covered(election, files.poll)
         demand_own(election)
         files = ended(election, files)
         poll_sum = sum_of(poll_file.without_last_envelope(files.poll))
-        call = Call(sheet, poll_sum, asked.until, asked.to, not asked.no_roll)
+        roll = None if asked.no_roll else poll_file.roll_of(files.poll)
+        call = Call(sheet, poll_sum, asked.until, asked.to, roll)
         is_anew = election.call.exists()
         take_away_leftovers(election)
         make(election, files, texts_of(call, files.poll))
@@ -112,6 +114,17 @@ def demand_covered(election: Election, poll: bytes) -> None:
     if has_line and sheet_without_last(election, poll) != sheet_without_last(election, bare):
         words = "a line begins with last_envelope and is more than that; the sum of the call would leave it out"
         raise Fault(f"{election.poll}: {words}; write it in another way, then call again", Status.DOUBT)
+
+
+def demand_unvoted(election: Election, files: Files) -> None:
+    """Stops where another poll was called before, and there are ballots, for they would count under this one."""
+    given = given_already(election, files)
+    if given is None or not election.called_poll.exists():
+        return
+    called, now = map(poll_file.without_last_envelope, (election.called_poll.read_bytes(), files.poll))
+    if called != now:
+        words = f"it is another poll than the one that was called: {difference(called, now)}; {given}"
+        raise Fault(f"{election.poll}: {words}", Status.DOUBT)
 
 
 def sheet_without_last(election: Election, poll: bytes) -> list[str]:

@@ -2,13 +2,17 @@
 
 import argparse
 
-from debvote_tools.election.asking import command, quorum_words
+from debvote_tools.election import poll_file
+from debvote_tools.election.asking import call_command, command, quorum_words
 from debvote_tools.election.checking import checked
 from debvote_tools.election.folder import Election
 from debvote_tools.faults import Status
 from debvote_tools.sheet import Sheet
 
 HELP = "Say all that is wrong with the poll, or what is voted on"
+
+# so many names of the roll are shown; all of them stand in the poll
+SHOWN = 10
 
 
 def options(parser: argparse.ArgumentParser) -> None:
@@ -18,13 +22,13 @@ def options(parser: argparse.ArgumentParser) -> None:
 def run(election: Election, asked: argparse.Namespace) -> int:
     with election.reading() as files:
         sheet = checked(election, files)
-    print_poll(sheet)
-    print(f"Next: {command(election, 'status' if election.call.exists() else 'call')}")
+    print_poll(sheet, poll_file.roll_of(files.poll))
+    print(f"Next: {command(election, 'status') if election.call.exists() else call_command(election)}")
     return Status.DECIDED
 
 
-def print_poll(sheet: Sheet) -> None:
-    """Says what is voted on, by a sheet without ballots."""
+def print_poll(sheet: Sheet, roll: list[str]) -> None:
+    """Says what is voted on, by a sheet without ballots, and who votes."""
     print(f"Title: {sheet.facts['Poll']}")
     print("Options:")
     for option, name in sheet.names.items():
@@ -33,4 +37,5 @@ def print_poll(sheet: Sheet) -> None:
     if "Majority" in sheet.facts:
         print("Majority: more than the ratio, where Debian has at least the ratio")
     print(quorum_words(sheet))
-    print(f"Electors: {sheet.facts['Electors']}")
+    more = [f"and {len(roll) - SHOWN} more"] if len(roll) > SHOWN else []
+    print(f"Electors: {sheet.facts['Electors']} ({', '.join([*roll[:SHOWN], *more])})")

@@ -7,7 +7,7 @@ import re
 from collections.abc import Callable
 
 from debvote_tools.election import poll_file
-from debvote_tools.election.asking import command, empty_sheet, explained, quorum_words
+from debvote_tools.election.asking import command, empty_sheet, explained, given_already, quorum_words
 from debvote_tools.election.folder import Election, Files, difference
 from debvote_tools.election.members import AGAIN, Member, Members, doubles, doubt, members_in, plain, proposals, shown
 from debvote_tools.election.telling import count_of, tell
@@ -34,14 +34,16 @@ def run(election: Election, asked: argparse.Namespace) -> int:
         demand_allowed(election, members, poll)
         tell_alike(members, "who", lambda member: " ".join(plain(member.who).split()))
         tell_alike(members, "mail", lambda member: plain(member.mail))
-        demand_same_call(election, poll)
+        demand_same_call(election, files, poll)
         with uninterrupted():
             write(election, files, poll)
-            tell(f"The roll of {election.poll} has {count_of(len(members.members), 'elector')}.")
+            tell_roll(election, members)
         sheet = empty_sheet(election)
+    tell_numbers(election, members)
     if sheet is not None:
         tell(quorum_words(sheet))
-    tell(f"Next: {command(election, 'check')}")
+    later = "" if sheet is not None else " (the poll is not in order yet: check tells what is missing)"
+    tell(f"Next: {command(election, 'check')}{later}")
     return Status.DECIDED
 
 
@@ -113,15 +115,15 @@ def tell_alike(members: Members, column: str, key: Callable[[Member], str]) -> N
 
 
 # ---------------------------------------------------------------- the poll
-def demand_same_call(election: Election, poll: bytes) -> None:
+def demand_same_call(election: Election, files: Files, poll: bytes) -> None:
     """Stops where the call for votes was made with another roll."""
     if not election.call.exists() or not election.called_poll.exists():
         return
     called, now = map(poll_file.without_last_envelope, (election.called_poll.read_bytes(), poll))
     if called != now:
         words = f"the call for votes was made with another roll: {shown(difference(called, now))}"
-        cure = f"to call anew with this one, first remove the folder {election.call}"
-        raise Fault(f"{election.poll}: {words}; {cure}", Status.DOUBT)
+        anew = f"to call anew with this one, first remove the folder {election.call}"
+        raise Fault(f"{election.poll}: {words}; {given_already(election, files) or anew}", Status.DOUBT)
 
 
 def write(election: Election, files: Files, poll: bytes) -> None:
@@ -134,6 +136,21 @@ def write(election: Election, files: Files, poll: bytes) -> None:
 def list_of(names: list[str]) -> str:
     """A list of texts as TOML has it, on one line."""
     return "[" + ", ".join(json.dumps(name, ensure_ascii=False).replace("\x7f", "\\u007f") for name in names) + "]"
+
+
+# ---------------------------------------------------------------- what is told
+def tell_roll(election: Election, members: Members) -> None:
+    """Says how many electors the roll has, and who they are; of many the first."""
+    told = [f"  {member.name}" + (f": {shown(member.who)}" if member.who else "") for member in members.members[:SHOWN]]
+    more = [f"  and {len(members.members) - SHOWN} more"] if len(members.members) > SHOWN else []
+    tell(f"The roll of {election.poll} has {count_of(len(members.members), 'elector')}:", *told, *more)
+
+
+def tell_numbers(election: Election, members: Members) -> None:
+    """Asks about a roll that has numbers alone: electors know their own names, and one number is soon taken for another."""
+    if all(re.fullmatch(r"[0-9][0-9.-]*", member.name) for member in members.members):
+        cure = f"put the real names under who, leave name empty, and run {command(election, 'roll')} again"
+        tell(f"Note: all names on the roll are numbers. Are they member numbers? Then {cure}.")
 
 
 def lines_of(lines: list[int]) -> str:

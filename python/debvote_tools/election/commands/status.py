@@ -8,7 +8,7 @@ import textwrap
 
 from debvote_tools import journal
 from debvote_tools.election import poll_file
-from debvote_tools.election.asking import command, files_of, quorum_words, refused
+from debvote_tools.election.asking import call_command, command, files_of, quorum_words, refused
 from debvote_tools.election.folder import Election, Files
 from debvote_tools.election.members import shown
 from debvote_tools.election.telling import time_of
@@ -125,7 +125,7 @@ def what_next(election: Election, acts: list[Entry], state: State) -> str:
     """The command that the election needs next."""
     add = f"{command(election, 'add', 'FILE')}, or {command(election, 'desk')}"
     if not election.call.exists() and not state.findings.totals.lines:
-        return command(election, "call")
+        return call_command(election)
     if journal.last(acts, "close") is None:
         return f"add the ballots as they come: {add}; when the vote is over: {command(election, 'close')}"
     return f"{command(election, 'count')}, then {command(election, 'publish')}"
