@@ -75,8 +75,8 @@ class Good(AddTest):
         self.assertIn("2 counted  ben: no option is ranked, so nothing is preferred\n", output)
 
     def test_names_of_files(self) -> None:
-        for name in ("ä" * 127, "x" * 255, "-n", "a b\nc"):
-            self.write(name, "ada 1,2,4,3\n")
+        for number, name in enumerate(("ä" * 127, "x" * 255, "-n", "a b\nc"), start=5):
+            self.write(name, f"ada 1,2,4,{number}\n")
             self.assertEqual(self.election("add", "--", name).status, 0)
         os.rename(os.fsencode(self.write("odd", "ada 1,2,4,3\n")), os.fsencode(self.folder) + b"/\xff")
         words = [sys.executable, str(support.ELECTION), "add", b"\xff"]
@@ -112,13 +112,108 @@ class Good(AddTest):
         self.assertIn('2 late  ben x: bad shape: column 5: "x"\n', output)
         self.assertIn("2 lines came after the close, and late ones count for nothing.\n", output)
 
-    def test_a_file_that_has_come_before(self) -> None:
-        self.write("monday", "ada 1,2,4,3\n")
-        self.election("add", "monday")
-        output = self.election("add", "monday").output
-        note = "Note: monday has come before, as received/0001-monday; of each elector's lines the last one counts.\n"
-        self.assertIn(note, output)
-        self.assertIn("2 replaced  ada: ", output)
+
+class NoBallots(AddTest):
+    def assert_stops(self, data: str | bytes, *parts: str, words: tuple[str, ...] = ()) -> None:
+        """It stops, and nothing has changed; `--even-so` adds each line."""
+        self.write("wrong", data)
+        before = self.contents()
+        said = "none of the 2 lines as a ballot; nothing was added: "
+        ended = self.election("add", *words, "wrong")
+        self.assert_refused_whole(ended, before, 9, said, *parts, ", or add it all the same with --even-so")
+        ended = self.election("add", *words, "--even-so", "wrong")
+        self.assertEqual((ended.status, ended.faults), (0, ""))
+        self.assertIn("Added 2 lines (2 bad ", ended.output)
+        self.assertEqual(len(self.read("ballots").splitlines()), 2)
+
+    def test_the_list_of_members(self) -> None:
+        self.assert_stops('\ufeff"Name";who;mail\r\nada;Ada;ada@club.example\r\n', "it looks like the list of members, so name ")
+
+    def test_a_table(self) -> None:
+        for sign in ",;\t":
+            with self.subTest(sign=sign):
+                table = f"When{sign}Your name{sign}a\nMonday{sign}ada{sign}1\n"
+                self.assert_stops(table, "it looks like a table, which is added with --csv --name COLUMN --ranks COLUMN,COLUMN,..")
+                (self.folder / "ballots").unlink()
+                (self.folder / "journal").unlink()
+
+    def test_another_file(self) -> None:
+        self.assert_stops("Dear all,\nwe meet on Monday\n", "look at the file, whose first line is `Dear all,` (bad shape: ")
+
+    def test_ballots_of_another_poll(self) -> None:
+        words = "look at the file, whose first line is `ada 1,2` (bad rank count: 2 ranks, the poll has 4 options)"
+        self.assert_stops("ada 1,2\nben 2,1\n", words)
+
+    def test_columns_that_are_not_the_right_ones(self) -> None:
+        table = "n,a,b,c,d,e\nada,1,2,3,4,x\nben,1,2,3,4,x\n"
+        self.assert_stops(table, "look whether --name and --ranks name the right ", words=("--csv", "--name=n", "--ranks=e,a,b,c"))
+
+    def test_beside_a_good_file(self) -> None:
+        self.write("good", "ada 1,2,4,3\n")
+        self.write("wrong", "x\ny\n")
+        before = self.contents()
+        self.assert_refused_whole(self.election("add", "good", "wrong"), before, 9, "wrong: debvote takes none of the 2 lines ")
+
+    def test_one_line_alone_and_one_that_is_taken(self) -> None:
+        self.assertIn("1 bad shape  x: ", self.election("add", given="x\n\n").output)
+        self.assertIn("Added 3 lines (1 counted, 2 bad shape).\n", self.election("add", given="ada 1,2,4,3\nx\ny\n").output)
+        self.election("close")
+        self.assertIn("Added 2 lines (2 late).\n", self.election("add", given="ben 1,2,4,3\nx\n").output)
+
+
+class AddedBefore(AddTest):
+    MONDAY = "Ada 1,2,4,3\nben 1, 2,4,3\n"
+
+    def setUp(self) -> None:
+        super().setUp()
+        self.write("monday", self.MONDAY)
+        self.assertEqual(self.election("add", "monday").status, 0)
+        self.assertEqual(self.election("add", given="ada 2,1,4,3\n").status, 0)
+
+    def assert_stops(self, name: str, *parts: str, words: tuple[str, ...] = ()) -> None:
+        """It stops, and nothing has changed."""
+        before = self.contents()
+        said = "and now its lines would put back what these electors have sent since; nothing was added: leave it, or add it all "
+        self.assert_refused_whole(self.election("add", *words, name), before, 9, f"{name}: it was added before, with ", said, *parts)
+
+    def test_the_same_file(self) -> None:
+        self.assert_stops("monday", "with received/0001-monday (envelopes 1-2), and ")
+        output = self.election("add", "--even-so", "monday").output
+        self.assertIn("4 replaced  ada: ", output)
+        self.assertEqual(self.read("ballots").count(b"\n"), 5)
+
+    def test_a_copy_with_other_line_ends(self) -> None:
+        self.write("copy", "\ufeff" + self.MONDAY.replace("\n", "\r\n") + "\r\n")
+        self.assert_stops("copy", "with received/0001-monday (envelopes 1-2), and ")
+
+    def test_a_part_of_it_in_another_order(self) -> None:
+        self.write("copy", "ben 1,2,4,3\nada 1,2,4,3\n")
+        self.assert_stops("copy", "with received/0001-monday, and ")
+
+    def test_a_letter_that_comes_again(self) -> None:
+        self.write("letter", "ada 2,1,4,3\n")
+        self.assert_stops("letter", "with received/0002-standard-input (envelope 3), and ")
+        self.write("letter", "ada 2, 1, 4, 3\r\n")
+        self.assert_stops("letter", "with received/0002-standard-input (envelope 3), and ")
+
+    def test_a_line_that_came_among_others_is_no_copy(self) -> None:
+        self.write("letter", "ada 1,2,4,3\n")
+        self.assertIn("4 replaced  ada: ", self.election("add", "letter").output)
+
+    def test_more_than_came_before_is_no_copy(self) -> None:
+        self.write("friday", self.MONDAY + "cleo 1,2,4,3\n")
+        self.assertEqual(self.election("add", "friday").status, 0)
+
+    def test_a_form(self) -> None:
+        words = ("--csv", "--name=n", "--ranks=a,b,c,d")
+        self.write("form", "n,a,b,c,d\nada,1,2,3,4\n")
+        self.assertEqual(self.election("add", *words, "form").status, 0)
+        self.assert_stops("form", "with received/0003-form (envelope 4), and ", words=words)
+
+    def test_what_was_kept_and_not_added_can_be_added(self) -> None:
+        self.write("received/0003-more", "cleo 1,2,4,3\n")
+        self.write("more", "cleo 1,2,4,3\n")
+        self.assertIn("4 counted  cleo: ", self.election("add", "more").output)
 
 
 class Changed(AddTest):
@@ -160,7 +255,7 @@ class Changed(AddTest):
 
     def test_lines_of_a_word_processor(self) -> None:
         came = "“ada” 1,2,4,3\nben\u00a01,2,4,3\ncleo 1,2,–,3\nA>B>C\ndan 1.\neve 1.,2,3,4\n1,2,3,4\n"
-        output = self.election("add", given=came).output
+        output = self.election("add", "--even-so", given=came).output
         for told in (
             '1 bad shape  “ada” 1,2,4,3: column 1: byte 0xE2\n',
             "2 bad shape  ben\\u00A01,2,4,3: column 4: byte 0xC2\n",
@@ -176,13 +271,13 @@ class Changed(AddTest):
 
     def test_bytes_that_are_no_text(self) -> None:
         came = b"ad\xff 1,2\x1b[2J\n\x00\n"
-        output = self.election("add", given=came).output
+        output = self.election("add", "--even-so", given=came).output
         self.assertIn("1 bad shape  ad\\xff 1,2\\u001B[2J: column 3: byte 0xFF\n", output)
         self.assertNotIn("\x1b", output)
         self.assertEqual(self.read("ballots"), came)
 
     def test_hints_do_not_run_out_and_are_not_hidden_by_the_close(self) -> None:
-        self.election("add", given="nobodynear 1,2,3,4\n" * 150)
+        self.election("add", "--even-so", given="nobodynear 1,2,3,4\n" * 150)
         self.election("close")
         output = self.election("add", given="gsu 1,2,3,4\n").output
         self.assertIn("151 late  gsu 1,2,3,4: bad not on roll: gsu is not on the roll; did you mean gus?\n", output)

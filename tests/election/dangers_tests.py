@@ -109,7 +109,10 @@ class Swapped(DangerTest):
         self.add("ada 1,2,4,3\r\nben 1,2,4,3\r\n")
         self.assertEqual(self.replies(), ["1 counted", "2 counted"])
 
-    def test_the_same_ballots_twice_are_told(self) -> None:
+    def test_the_same_ballots_again_do_not_put_a_later_one_back(self) -> None:
         self.add("ada 1,2,4,3\n")
         self.add("ada 2,1,4,3\n")
-        self.assertIn("Note: standard input has come before, as received/0001-standard-input; ", self.add("ada 1,2,4,3\n"))
+        before = self.contents()
+        ended = self.election("add", given="ada 1,2,4,3\n")
+        self.assert_fault(ended, 9, "standard input: it was added before, with received/0001-standard-input (envelope 1), ")
+        self.assertEqual(self.contents(), before)

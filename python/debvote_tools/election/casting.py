@@ -131,14 +131,28 @@ def standing_of(election: Election, files: Files, name: str) -> str | None:
 
 
 # ---------------------------------------------------------------- casting
-def cast(election: Election, act: str, files: Files, lines: list[Line], keep: Callable[[], None]) -> Batch:
+def cast(
+    election: Election,
+    act: str,
+    files: Files,
+    lines: list[Line],
+    keep: Callable[[], None],
+    look: Callable[[Batch], None] = lambda batch: None,
+) -> Batch:
     """Casts lines, none of them empty, and tells what became of each. The caller holds the lock alone.
 
-    First of all `keep` keeps what came. Nothing is told before it is done, and what is done is told: an interrupt waits.
+    First `look` may stop at what debvote says of the batch. Then `keep` keeps what came, also where debvote refuses the whole.
+    Nothing is told before it is done, and what is done is told: an interrupt waits.
     """
+    try:
+        batch = judged(election, files, lines)
+    except Fault:
+        with uninterrupted():
+            keep()
+        raise
+    look(batch)
     with uninterrupted():
         keep()
-    batch = judged(election, files, lines)
     first, last = batch.ballots[0].envelope, batch.ballots[-1].envelope
     envelopes = str(first) if first == last else f"{first}-{last}"
     with uninterrupted():
