@@ -23,6 +23,11 @@ RIGHT = (
 
 
 class AddTest(support.ElectionTest):
+    def setUp(self) -> None:
+        super().setUp()
+        # with it no note says that there was no call
+        (self.folder / "call").mkdir()
+
     def received(self) -> dict[str, bytes]:
         """What was kept of what came."""
         folder = self.folder / "received"
@@ -102,6 +107,17 @@ class Good(AddTest):
         self.assertEqual(len(told), 10_000)
         self.assertTrue(told[-1].startswith("10000 "))
         self.assertEqual(self.read("ballots"), self.read("many"))
+
+    def test_before_the_call(self) -> None:
+        (self.folder / "call").rmdir()
+        note = "Note: the call for votes has not been made yet.\n"
+        ended = self.election("add", given="ada 1,2,4,3\n")
+        self.assertTrue(ended.output.startswith(f"{note}1 counted  ada: "), ended)
+        ended = self.election("desk", given="ben 1,2,4,3\n")
+        self.assertTrue(ended.output.startswith(f"{note}2 counted  ben: "), ended)
+        self.assertEqual(self.election("call").status, 0)
+        self.assertNotIn("Note: ", self.election("add", given="ada 2,1,4,3\n").output)
+        self.assertNotIn("Note: ", self.election("desk", given="ben 2,1,4,3\n").output)
 
     def test_after_the_close(self) -> None:
         self.assertEqual(self.election("close").status, 0)

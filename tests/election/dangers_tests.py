@@ -6,6 +6,11 @@ TIME = r"\d{4}-\d\d-\d\d \d\d:\d\d:\d\d UTC"
 
 
 class DangerTest(support.ElectionTest):
+    def setUp(self) -> None:
+        super().setUp()
+        # with it no note says that there was no call
+        (self.folder / "call").mkdir()
+
     def add(self, data: str) -> str:
         ended = self.election("add", given=data)
         self.assertEqual(ended.status, 0, ended)

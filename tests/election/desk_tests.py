@@ -57,7 +57,14 @@ class Terminal:
         return self.text, os.waitstatus_to_exitcode(status)
 
 
-class AtATerminal(support.ElectionTest):
+class DeskTest(support.ElectionTest):
+    def setUp(self) -> None:
+        super().setUp()
+        # with it no note says that there was no call
+        (self.folder / "call").mkdir()
+
+
+class AtATerminal(DeskTest):
     def test_a_ballot_is_shown_and_cast(self) -> None:
         desk = Terminal(self)
         head = desk.until("Ballot: ")
@@ -173,7 +180,7 @@ class AtATerminal(support.ElectionTest):
         self.assertIn("1 counted  ada: ", desk.end()[0])
 
 
-class FromAPipe(support.ElectionTest):
+class FromAPipe(DeskTest):
     def start(self) -> subprocess.Popen:
         words = [sys.executable, support.ELECTION, "desk"]
         pipes = {"stdin": subprocess.PIPE, "stdout": subprocess.PIPE, "stderr": subprocess.PIPE}

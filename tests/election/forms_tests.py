@@ -42,7 +42,7 @@ class Rows(FormTest):
         self.assertEqual(self.read("ballots"), b"ada 1,2,3,4\n" * 12)
 
     def test_an_empty_cell_is_not_guessed(self) -> None:
-        output = self.add("n,a,b,c,d\nfay,1,,2,3\nada,1,2\n,1,2,3,4\nada 1,,2,3,4\n", "n", "a,b,c,d").output
+        output = self.add("n,a,b,c,d\nfay,1,,2,3\nada,1,2\n,1,2,3,4\nada 1,,2,3,4\nben,1,2,3,4\n", "n", "a,b,c,d").output
         self.assertIn("1 bad shape  fay 1,,2,3: column 7: comma\n", output)
         self.assertIn("2 bad shape  ada 1,2,,: column 9: comma\n", output)
         self.assertIn("3 bad shape   1,2,3,4: column 1: space\n", output)

@@ -14,7 +14,7 @@ from debvote_tools.election.doubts import Part, stop_at_added_before, stop_at_no
 from debvote_tools.election.folder import Election, Files
 from debvote_tools.election.forms import columns_of, lines_of_form
 from debvote_tools.election.lines import Line, lines_in
-from debvote_tools.election.telling import tell, tell_edits, time_of
+from debvote_tools.election.telling import tell, tell_edits, tell_time
 from debvote_tools.faults import Fault, Status
 from debvote_tools.files import BALLOTS_LIMIT, in_memory, read_at_most, write_new
 
@@ -63,7 +63,7 @@ def run(election: Election, asked: argparse.Namespace) -> int:
         for source in inputs:
             check_kind(election, source, asked.csv)
         found = lines_of(election, files, inputs, asked)
-        tell_notes(election)
+        tell_time(election, "what is added")
 
         def look(batch: Batch) -> None:
             if not asked.even_so:
@@ -165,13 +165,6 @@ def parts_of(inputs: list[Input], found: list[list[Line]], batch: Batch) -> list
         Part(source.name, source.data, [next(ballots) for line in lines if not line.is_empty])
         for source, lines in zip(inputs, found)
     ]
-
-
-def tell_notes(election: Election) -> None:
-    """Says what may surprise."""
-    closed = election.closed()
-    if closed is not None:
-        tell(f"Note: the election was closed at {time_of(closed)}; what is added now is late.")
 
 
 def tell_empty(found: list[list[Line]]) -> None:
