@@ -125,7 +125,7 @@ class Good(AddTest):
         time_of_close = r"\d{4}-\d\d-\d\d \d\d:\d\d:\d\d UTC"
         self.assertRegex(output, rf"^Note: the election was closed at {time_of_close}; what is added now is late\.\n")
         self.assertIn(f"1 late  ada: {LAKE}\n", output)
-        self.assertIn('2 late  ben x: bad shape: column 5: "x"\n', output)
+        self.assertIn('2 late  ben x: bad shape: column 5: "x" (a word stands where ranks belong)\n', output)
         self.assertIn("2 lines came after the close, and late ones count for nothing.\n", output)
 
 
@@ -273,13 +273,13 @@ class Changed(AddTest):
         came = "“ada” 1,2,4,3\nben\u00a01,2,4,3\ncleo 1,2,–,3\nA>B>C\ndan 1.\neve 1.,2,3,4\n1,2,3,4\n"
         output = self.election("add", "--even-so", given=came).output
         for told in (
-            '1 bad shape  “ada” 1,2,4,3: column 1: byte 0xE2\n',
-            "2 bad shape  ben\\u00A01,2,4,3: column 4: byte 0xC2\n",
-            "3 bad shape  cleo 1,2,–,3: column 10: byte 0xE2\n",
-            "4 bad shape  A>B>C: column 1: capital letter\n",
-            '5 bad shape  dan 1.: column 6: "."\n',
-            '6 bad shape  eve 1.,2,3,4: column 6: "."\n',
-            "7 bad shape  1,2,3,4: column 2: comma\n",
+            '1 bad shape  “ada” 1,2,4,3: column 1: byte 0xE2 (it has quotation marks; a ballot has none)\n',
+            "2 bad shape  ben\\u00A01,2,4,3: column 4: byte 0xC2 (it has a no-break space; a plain space belongs there)\n",
+            "3 bad shape  cleo 1,2,–,3: column 10: byte 0xE2 (a long dash stands where a hyphen belongs)\n",
+            "4 bad shape  A>B>C: column 1: capital letter (it has the sign >; a ballot has numbers with commas between, a rank for each option)\n",
+            '5 bad shape  dan 1.: column 6: "." (a rank is a number alone, without a point or a bracket behind it)\n',
+            '6 bad shape  eve 1.,2,3,4: column 6: "." (a rank is a number alone, without a point or a bracket behind it)\n',
+            "7 bad shape  1,2,3,4: column 2: comma (the name is missing before the ranks)\n",
         ):
             self.assertIn(told, output)
         self.assertEqual(output.count("A right line in this poll"), 1)

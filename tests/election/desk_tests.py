@@ -226,7 +226,7 @@ class FromAPipe(DeskTest):
         changed = "desk:1: `Ada 1,2,4,3\\r` was changed to `ada 1,2,4,3` (carriage return, capital letters)\n"
         self.assertIn(f"{changed}1 counted  ada: ", output)
         self.assertIn("desk:2: it is empty, and was left out\n", output)
-        self.assertIn("2 bad shape  q: column 2: end of line\n", output)
+        self.assertIn("2 bad shape  q: column 2: end of line (it is one word; a ballot has a name, a space and the ranks)\n", output)
         self.assertIn("did you mean gus?\nA right line in this poll: ", output)
         self.assertEqual(self.read("ballots"), b"ada 1,2,4,3\nq\ny\ngsu 1,2,4,3\n")
         self.assertEqual(self.read("received/0001-desk"), came)
