@@ -240,21 +240,36 @@ class Changed(AddTest):
             [line for line in output.splitlines() if line.startswith("standard")],
             [
                 "standard input:3: it is empty, and was left out",
-                "standard input:1: `\\uFEFFada 1,2,4,3\\r` was changed to `ada 1,2,4,3` (byte-order mark, carriage return)",
-                "standard input:2: ` Ben\\t 2, 1 ,4,3 \\r` was changed to `ben 2,1,4,3` "
-                "(carriage return, tabs, spaces, capital letters)",
-                "standard input:4: `cleo 1,2,4,3\\r` was changed to `cleo 1,2,4,3` (carriage return)",
+                "standard input: it begins with a mark that Windows writes (byte-order mark); it was taken off",
+                "standard input: 3 lines end as Windows ends them (carriage return); that was taken off",
+                "standard input:2: ` Ben\\t 2, 1 ,4,3 ` was changed to `ben 2,1,4,3` (tabs, spaces, capital letters)",
                 "standard input:5: `dan  1,2,4,3` was changed to `dan 1,2,4,3` (spaces)",
             ],
         )
         self.assertEqual(self.read("ballots"), b"ada 1,2,4,3\nben 2,1,4,3\ncleo 1,2,4,3\ndan 1,2,4,3\n")
         self.assertEqual(self.received(), {"0001-standard-input": came})
 
+    def test_line_ends_of_windows_are_told_once_a_file(self) -> None:
+        self.write("monday", "ada 1,2,4,3\r\nben 1,2,4,3\r\ncleo 1,2,4,3\r\n")
+        self.write("tuesday", "\ufeffdan 1,2,4,3\r\neve 1,2,4,3\n")
+        output = self.election("add", "monday", "tuesday").output
+        self.assertEqual(
+            output.splitlines()[:4],
+            [
+                "monday: 3 lines end as Windows ends them (carriage return); that was taken off",
+                "tuesday: it begins with a mark that Windows writes (byte-order mark); it was taken off",
+                "tuesday: 1 line ends as Windows ends it (carriage return); that was taken off",
+                f"1 counted  ada: {LAKE}",
+            ],
+        )
+        self.assertNotIn("was changed to", output)
+
     def test_a_refused_line_goes_in_as_it_came(self) -> None:
         came = b"\xef\xbb\xbf Cleo 1,2,3 \r\nDan  1,2,4,3\r\nGsu 1,2,4,3\n"
         output = self.election("add", given=came).output
         self.assertIn(
-            "standard input:1: `\\uFEFF Cleo 1,2,3 \\r` was changed to ` Cleo 1,2,3 ` (byte-order mark, carriage return)\n"
+            "standard input: it begins with a mark that Windows writes (byte-order mark); it was taken off\n"
+            "standard input: 2 lines end as Windows ends them (carriage return); that was taken off\n"
             "1 bad shape   Cleo 1,2,3 : column 1: space\n"
             "  it went in as it came; written as `cleo 1,2,3` it is refused too: "
             "bad rank count: 3 ranks, the poll has 4 options\n",

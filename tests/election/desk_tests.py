@@ -208,7 +208,8 @@ class FromAPipe(DeskTest):
     def test_line_ends_that_come_in_parts(self) -> None:
         run = self.start()
         self.send(run, b"\xef\xbb\xbfada 1,2,4,3\r")
-        run.stdout.readline()
+        self.assertIn(b"desk: it begins with a mark", run.stdout.readline())
+        self.assertIn(b"desk: 1 line ends as Windows", run.stdout.readline())
         self.assertTrue(run.stdout.readline().startswith(b"1 counted  ada: "))
         self.send(run, b"\nben 1,2")
         time.sleep(0.1)
@@ -223,8 +224,9 @@ class FromAPipe(DeskTest):
     def test_lines_are_taken_as_add_takes_them(self) -> None:
         came = b"Ada 1,2,4,3\r\n\nq\ny\ngsu 1,2,4,3\n"
         output = self.election("desk", given=came).output
-        changed = "desk:1: `Ada 1,2,4,3\\r` was changed to `ada 1,2,4,3` (carriage return, capital letters)\n"
-        self.assertIn(f"{changed}1 counted  ada: ", output)
+        ends = "desk: 1 line ends as Windows ends it (carriage return); that was taken off\n"
+        changed = "desk:1: `Ada 1,2,4,3` was changed to `ada 1,2,4,3` (capital letters)\n"
+        self.assertIn(f"{ends}{changed}1 counted  ada: ", output)
         self.assertIn("desk:2: it is empty, and was left out\n", output)
         self.assertIn("2 bad shape  q: column 2: end of line (it is one word; a ballot has a name, a space and the ranks)\n", output)
         self.assertIn("did you mean gus?\nA right line in this poll: ", output)

@@ -80,6 +80,12 @@ class Ends(unittest.TestCase):
         self.assertEqual((line.came, line.kept), (mark + b"Ada;1\r", b"Ada;1"))
 
 
+    def test_what_is_told_of_the_whole_file(self) -> None:
+        lines = lines_in(b"\xef\xbb\xbfAda 1\r\nben 2\r\ncleo  3\n", "f")
+        self.assertEqual([line.frame for line in lines], [(True, True), (False, True), (False, False)])
+        self.assertEqual([line.inner for line in lines], [b"Ada 1", b"ben 2", b"cleo  3"])
+
+
 class Shown(unittest.TestCase):
     def test_nothing_steers_the_terminal(self) -> None:
         self.assertEqual(shown(b"a\x1b[2Jb\t\r\n\x00\xff"), "a\\u001B[2Jb\\t\\r\\n\\u0000\\xff")

@@ -170,6 +170,7 @@ def report(election: Election, batch: Batch) -> Iterator[str]:
     """What is told of a batch that was cast."""
     if batch.ends_a_line:
         yield f"Note: the last line of {election.ballots} had no line feed; it was ended."
+    yield from frame_words(batch.ballots)
     for ballot in batch.ballots:
         yield from change_words(ballot)
         yield f"{ballot.envelope} {ballot.reply}  {ballot_words(ballot, batch.names)}"
@@ -181,9 +182,23 @@ def report(election: Election, batch: Batch) -> Iterator[str]:
         yield f"{count_of(late, 'line')} came after the close, and late ones count for nothing."
 
 
+def frame_words(ballots: list[Ballot]) -> Iterator[str]:
+    """The marks and the line ends of Windows that were taken off, told once a file."""
+    by_file: dict[str, list[tuple[bool, bool]]] = {}
+    for ballot in ballots:
+        by_file.setdefault(ballot.line.where.rpartition(":")[0], []).append(ballot.line.frame)
+    for file, frames in by_file.items():
+        ends = sum(has_return for _, has_return in frames)
+        if any(has_mark for has_mark, _ in frames):
+            yield f"{file}: it begins with a mark that Windows writes (byte-order mark); it was taken off"
+        if ends:
+            verb, they = ("ends", "it") if ends == 1 else ("end", "them")
+            yield f"{file}: {count_of(ends, 'line')} {verb} as Windows ends {they} (carriage return); that was taken off"
+
+
 def change_words(ballot: Ballot) -> Iterator[str]:
     """What was changed of a line, before and after."""
-    came = ballot.line.came
+    came = ballot.line.inner
     if came != ballot.text:
         how = ", ".join(differences(came, ballot.text))
         yield f"{ballot.line.where}: `{shown(came)}` was changed to `{shown(ballot.text)}` ({how})"
