@@ -106,14 +106,34 @@ class AtATerminal(DeskTest):
         desk = Terminal(self)
         desk.until("Ballot: ")
         desk.type("gsu 1,2,3,4\n")
-        shown = desk.until("Cast it? [y/n] ")
-        self.assertIn("debvote will refuse it: gsu 1,2,3,4: gsu is not on the roll; did you mean gus?\n", shown)
-        self.assertIn("A right line in this poll: ada 1,2,3,4 ", shown)
+        shown = desk.until("It would count for nothing. Cast it all the same? [y/n] ")
+        words = "It would be refused: gsu 1,2,3,4: bad not on roll: gsu is not on the roll; did you mean gus?\n"
+        self.assertIn(f"{words}A right line in this poll: ada 1,2,3,4 ", shown)
         desk.type("y\n")
         self.assertIn("1 bad not on roll  gsu 1,2,3,4: ", desk.until("Ballot: "))
         desk.type("q\n")
         desk.end()
         self.assertEqual(self.read("ballots"), b"gsu 1,2,3,4\n")
+
+    def test_a_refused_line_is_told_once_before_it_is_cast(self) -> None:
+        desk = Terminal(self)
+        desk.until("Ballot: ")
+        for line, words in {
+            "Gsu 1,2,3,4": "Gsu 1,2,3,4: bad not on roll: gsu is not on the roll; did you mean gus?",
+            "Ada 1,,3,4": "Ada 1,,3,4: bad shape: column 7: comma (the second rank is missing; who does not want to rank an option "
+            "writes a hyphen)",
+            "Ada 1,2": "Ada 1,2: bad rank count: 2 ranks, the poll has 4 options",
+        }.items():
+            desk.type(f"{line}\nperhaps\nn\n")
+            shown = desk.until("It would count for nothing. Cast it all the same? [y/n] ")
+            self.assertRegex(shown, rf"\nn\nIt would be refused: {re.escape(words)}\nA right line [^\n]*\nIt would")
+            self.assertNotIn("went in", shown)
+            # the question is asked in the same words again
+            desk.until("It would count for nothing. Cast it all the same? [y/n] ")
+            desk.until("Ballot: ")
+        desk.type("q\n")
+        desk.end()
+        self.assertFalse((self.folder / "ballots").exists())
 
     def test_the_end_of_the_input_at_the_question_is_a_no(self) -> None:
         desk = Terminal(self)

@@ -222,6 +222,12 @@ def cause_words(ballot: Ballot) -> Iterator[str]:
         yield f"  it went in as it came; written as `{shown(ballot.line.changed)}` it is refused too: {why}"
 
 
+def would_words(ballot: Ballot) -> str:
+    """A line that is not cast yet, as it would go in, and the one cause that would stay after the changes that are allowed."""
+    finding = ballot.finding_of_changed
+    return f"{shown(ballot.text)}: {finding.word}: {finding.hint}{plainly(ballot, finding)}"
+
+
 def has_other_cause(ballot: Ballot) -> bool:
     """Whether debvote refuses the changed line for another cause than the line as it came."""
     finding, other = ballot.finding, ballot.finding_of_changed
