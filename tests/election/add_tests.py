@@ -149,7 +149,8 @@ class NoBallots(AddTest):
         for sign in ",;\t":
             with self.subTest(sign=sign):
                 table = f"When{sign}Your name{sign}a\nMonday{sign}ada{sign}1\n"
-                self.assert_stops(table, "it looks like a table, which is added with --csv --name COLUMN --ranks COLUMN,COLUMN,..")
+                words = "it looks like a table, which is added with --csv --name COLUMN --ranks COLUMN,COLUMN,.."
+                self.assert_stops(table, words)
                 (self.folder / "ballots").unlink()
                 (self.folder / "journal").unlink()
 
@@ -162,7 +163,8 @@ class NoBallots(AddTest):
 
     def test_columns_that_are_not_the_right_ones(self) -> None:
         table = "n,a,b,c,d,e\nada,1,2,3,4,x\nben,1,2,3,4,x\n"
-        self.assert_stops(table, "look whether --name and --ranks name the right ", words=("--csv", "--name=n", "--ranks=e,a,b,c"))
+        words = ("--csv", "--name=n", "--ranks=e,a,b,c")
+        self.assert_stops(table, "look whether --name and --ranks name the right ", words=words)
 
     def test_beside_a_good_file(self) -> None:
         self.write("good", "ada 1,2,4,3\n")
@@ -190,7 +192,8 @@ class AddedBefore(AddTest):
         """It stops, and nothing has changed."""
         before = self.contents()
         said = "and now its lines would put back what these electors have sent since; nothing was added: leave it, or add it all "
-        self.assert_refused_whole(self.election("add", *words, name), before, 9, f"{name}: it was added before, with ", said, *parts)
+        ended = self.election("add", *words, name)
+        self.assert_refused_whole(ended, before, 9, f"{name}: it was added before, with ", said, *parts)
 
     def test_the_same_file(self) -> None:
         self.assert_stops("monday", "with received/0001-monday (envelopes 1-2), and ")
@@ -291,7 +294,8 @@ class Changed(AddTest):
             '1 bad shape  “ada” 1,2,4,3: column 1: byte 0xE2 (it has quotation marks; a ballot has none)\n',
             "2 bad shape  ben\\u00A01,2,4,3: column 4: byte 0xC2 (it has a no-break space; a plain space belongs there)\n",
             "3 bad shape  cleo 1,2,–,3: column 10: byte 0xE2 (a long dash stands where a hyphen belongs)\n",
-            "4 bad shape  A>B>C: column 1: capital letter (it has the sign >; a ballot has numbers with commas between, a rank for each option)\n",
+            "4 bad shape  A>B>C: column 1: capital letter "
+            "(it has the sign >; a ballot has numbers with commas between, a rank for each option)\n",
             '5 bad shape  dan 1.: column 6: "." (a rank is a number alone, without a point or a bracket behind it)\n',
             '6 bad shape  eve 1.,2,3,4: column 6: "." (a rank is a number alone, without a point or a bracket behind it)\n',
             "7 bad shape  1,2,3,4: column 2: comma (the name is missing before the ranks)\n",

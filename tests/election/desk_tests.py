@@ -120,8 +120,8 @@ class AtATerminal(DeskTest):
         desk.until("Ballot: ")
         for line, words in {
             "Gsu 1,2,3,4": "Gsu 1,2,3,4: bad not on roll: gsu is not on the roll; did you mean gus?",
-            "Ada 1,,3,4": "Ada 1,,3,4: bad shape: column 7: comma (the second rank is missing; who does not want to rank an option "
-            "writes a hyphen)",
+            "Ada 1,,3,4": "Ada 1,,3,4: bad shape: column 7: comma "
+            "(the second rank is missing; who does not want to rank an option writes a hyphen)",
             "Ada 1,2": "Ada 1,2: bad rank count: 2 ranks, the poll has 4 options",
         }.items():
             desk.type(f"{line}\nperhaps\nn\n")
@@ -248,7 +248,8 @@ class FromAPipe(DeskTest):
         changed = "desk:1: `Ada 1,2,4,3` was changed to `ada 1,2,4,3` (capital letters)\n"
         self.assertIn(f"{ends}{changed}1 counted  ada: ", output)
         self.assertIn("desk:2: it is empty, and was left out\n", output)
-        self.assertIn("2 bad shape  q: column 2: end of line (it is one word; a ballot has a name, a space and the ranks)\n", output)
+        words = "(it is one word; a ballot has a name, a space and the ranks)"
+        self.assertIn(f"2 bad shape  q: column 2: end of line {words}\n", output)
         self.assertIn("did you mean gus?\nA right line in this poll: ", output)
         self.assertEqual(self.read("ballots"), b"ada 1,2,4,3\nq\ny\ngsu 1,2,4,3\n")
         self.assertEqual(self.read("received/0001-desk"), came)

@@ -1,4 +1,4 @@
-"""What is plainly wrong with a line that is no shape of a ballot, in words that a person knows. Nothing is guessed of its meaning."""
+"""What is plainly wrong with a line that is no shape of a ballot, in words that a person knows. Nothing is guessed."""
 
 import re
 
