@@ -21,5 +21,6 @@ complete -c debvote-election -n "__fish_seen_subcommand_from call" -l no-roll -d
 complete -c debvote-election -n "__fish_seen_subcommand_from add" -l csv -d "The files are tables of a web form"
 complete -c debvote-election -n "__fish_seen_subcommand_from add" -l name -x -d "The column with the name"
 complete -c debvote-election -n "__fish_seen_subcommand_from add" -l ranks -x -d "The columns with the ranks"
+complete -c debvote-election -n "__fish_seen_subcommand_from add" -l even-so -d "Add although no line is a ballot, or they came before"
 complete -c debvote-election -n "__fish_seen_subcommand_from count publish" -l casting -x -d "The option of the casting vote"
 complete -c debvote-election -n "__fish_seen_subcommand_from publish" -l even-so -d "Publish although something looks wrong"

@@ -23,6 +23,11 @@ RIGHT = (
 
 
 class AddTest(support.ElectionTest):
+    def setUp(self) -> None:
+        super().setUp()
+        # with it no note says that there was no call
+        (self.folder / "call").mkdir()
+
     def received(self) -> dict[str, bytes]:
         """What was kept of what came."""
         folder = self.folder / "received"
@@ -75,8 +80,8 @@ class Good(AddTest):
         self.assertIn("2 counted  ben: no option is ranked, so nothing is preferred\n", output)
 
     def test_names_of_files(self) -> None:
-        for name in ("ä" * 127, "x" * 255, "-n", "a b\nc"):
-            self.write(name, "ada 1,2,4,3\n")
+        for number, name in enumerate(("ä" * 127, "x" * 255, "-n", "a b\nc"), start=5):
+            self.write(name, f"ada 1,2,4,{number}\n")
             self.assertEqual(self.election("add", "--", name).status, 0)
         os.rename(os.fsencode(self.write("odd", "ada 1,2,4,3\n")), os.fsencode(self.folder) + b"/\xff")
         words = [sys.executable, str(support.ELECTION), "add", b"\xff"]
@@ -103,22 +108,131 @@ class Good(AddTest):
         self.assertTrue(told[-1].startswith("10000 "))
         self.assertEqual(self.read("ballots"), self.read("many"))
 
+    def test_before_the_call(self) -> None:
+        (self.folder / "call").rmdir()
+        note = "Note: the call for votes has not been made yet.\n"
+        ended = self.election("add", given="ada 1,2,4,3\n")
+        self.assertTrue(ended.output.startswith(f"{note}1 counted  ada: "), ended)
+        ended = self.election("desk", given="ben 1,2,4,3\n")
+        self.assertTrue(ended.output.startswith(f"{note}2 counted  ben: "), ended)
+        self.assertEqual(self.election("call").status, 0)
+        self.assertNotIn("Note: ", self.election("add", given="ada 2,1,4,3\n").output)
+        self.assertNotIn("Note: ", self.election("desk", given="ben 2,1,4,3\n").output)
+
     def test_after_the_close(self) -> None:
         self.assertEqual(self.election("close").status, 0)
         output = self.election("add", given="ada 1,2,4,3\nben x\n").output
         time_of_close = r"\d{4}-\d\d-\d\d \d\d:\d\d:\d\d UTC"
         self.assertRegex(output, rf"^Note: the election was closed at {time_of_close}; what is added now is late\.\n")
         self.assertIn(f"1 late  ada: {LAKE}\n", output)
-        self.assertIn('2 late  ben x: bad shape: column 5: "x"\n', output)
+        self.assertIn('2 late  ben x: bad shape: column 5: "x" (a word stands where ranks belong)\n', output)
         self.assertIn("2 lines came after the close, and late ones count for nothing.\n", output)
 
-    def test_a_file_that_has_come_before(self) -> None:
-        self.write("monday", "ada 1,2,4,3\n")
-        self.election("add", "monday")
-        output = self.election("add", "monday").output
-        note = "Note: monday has come before, as received/0001-monday; of each elector's lines the last one counts.\n"
-        self.assertIn(note, output)
-        self.assertIn("2 replaced  ada: ", output)
+
+class NoBallots(AddTest):
+    def assert_stops(self, data: str | bytes, *parts: str, words: tuple[str, ...] = ()) -> None:
+        """It stops, and nothing has changed; `--even-so` adds each line."""
+        self.write("wrong", data)
+        before = self.contents()
+        said = "none of the 2 lines as a ballot; nothing was added: "
+        ended = self.election("add", *words, "wrong")
+        self.assert_refused_whole(ended, before, 9, said, *parts, ", or add it all the same with --even-so")
+        ended = self.election("add", *words, "--even-so", "wrong")
+        self.assertEqual((ended.status, ended.faults), (0, ""))
+        self.assertIn("Added 2 lines (2 bad ", ended.output)
+        self.assertEqual(len(self.read("ballots").splitlines()), 2)
+
+    def test_the_list_of_members(self) -> None:
+        self.assert_stops('\ufeff"Name";who;mail\r\nada;Ada;ada@club.example\r\n', "it looks like the list of members, so name ")
+
+    def test_a_table(self) -> None:
+        for sign in ",;\t":
+            with self.subTest(sign=sign):
+                table = f"When{sign}Your name{sign}a\nMonday{sign}ada{sign}1\n"
+                words = "it looks like a table, which is added with --csv --name COLUMN --ranks COLUMN,COLUMN,.."
+                self.assert_stops(table, words)
+                (self.folder / "ballots").unlink()
+                (self.folder / "journal").unlink()
+
+    def test_another_file(self) -> None:
+        self.assert_stops("Dear all,\nwe meet on Monday\n", "look at the file, whose first line is `Dear all,` (bad shape: ")
+
+    def test_ballots_of_another_poll(self) -> None:
+        words = "look at the file, whose first line is `ada 1,2` (bad rank count: 2 ranks, the poll has 4 options)"
+        self.assert_stops("ada 1,2\nben 2,1\n", words)
+
+    def test_columns_that_are_not_the_right_ones(self) -> None:
+        table = "n,a,b,c,d,e\nada,1,2,3,4,x\nben,1,2,3,4,x\n"
+        words = ("--csv", "--name=n", "--ranks=e,a,b,c")
+        self.assert_stops(table, "look whether --name and --ranks name the right ", words=words)
+
+    def test_beside_a_good_file(self) -> None:
+        self.write("good", "ada 1,2,4,3\n")
+        self.write("wrong", "x\ny\n")
+        before = self.contents()
+        self.assert_refused_whole(self.election("add", "good", "wrong"), before, 9, "wrong: debvote takes none of the 2 lines ")
+
+    def test_one_line_alone_and_one_that_is_taken(self) -> None:
+        self.assertIn("1 bad shape  x: ", self.election("add", given="x\n\n").output)
+        self.assertIn("Added 3 lines (1 counted, 2 bad shape).\n", self.election("add", given="ada 1,2,4,3\nx\ny\n").output)
+        self.election("close")
+        self.assertIn("Added 2 lines (2 late).\n", self.election("add", given="ben 1,2,4,3\nx\n").output)
+
+
+class AddedBefore(AddTest):
+    MONDAY = "Ada 1,2,4,3\nben 1, 2,4,3\n"
+
+    def setUp(self) -> None:
+        super().setUp()
+        self.write("monday", self.MONDAY)
+        self.assertEqual(self.election("add", "monday").status, 0)
+        self.assertEqual(self.election("add", given="ada 2,1,4,3\n").status, 0)
+
+    def assert_stops(self, name: str, *parts: str, words: tuple[str, ...] = ()) -> None:
+        """It stops, and nothing has changed."""
+        before = self.contents()
+        said = "and now its lines would put back what these electors have sent since; nothing was added: leave it, or add it all "
+        ended = self.election("add", *words, name)
+        self.assert_refused_whole(ended, before, 9, f"{name}: it was added before, with ", said, *parts)
+
+    def test_the_same_file(self) -> None:
+        self.assert_stops("monday", "with received/0001-monday (envelopes 1-2), and ")
+        output = self.election("add", "--even-so", "monday").output
+        self.assertIn("4 replaced  ada: ", output)
+        self.assertEqual(self.read("ballots").count(b"\n"), 5)
+
+    def test_a_copy_with_other_line_ends(self) -> None:
+        self.write("copy", "\ufeff" + self.MONDAY.replace("\n", "\r\n") + "\r\n")
+        self.assert_stops("copy", "with received/0001-monday (envelopes 1-2), and ")
+
+    def test_a_part_of_it_in_another_order(self) -> None:
+        self.write("copy", "ben 1,2,4,3\nada 1,2,4,3\n")
+        self.assert_stops("copy", "with received/0001-monday, and ")
+
+    def test_a_letter_that_comes_again(self) -> None:
+        self.write("letter", "ada 2,1,4,3\n")
+        self.assert_stops("letter", "with received/0002-standard-input (envelope 3), and ")
+        self.write("letter", "ada 2, 1, 4, 3\r\n")
+        self.assert_stops("letter", "with received/0002-standard-input (envelope 3), and ")
+
+    def test_a_line_that_came_among_others_is_no_copy(self) -> None:
+        self.write("letter", "ada 1,2,4,3\n")
+        self.assertIn("4 replaced  ada: ", self.election("add", "letter").output)
+
+    def test_more_than_came_before_is_no_copy(self) -> None:
+        self.write("friday", self.MONDAY + "cleo 1,2,4,3\n")
+        self.assertEqual(self.election("add", "friday").status, 0)
+
+    def test_a_form(self) -> None:
+        words = ("--csv", "--name=n", "--ranks=a,b,c,d")
+        self.write("form", "n,a,b,c,d\nada,1,2,3,4\n")
+        self.assertEqual(self.election("add", *words, "form").status, 0)
+        self.assert_stops("form", "with received/0003-form (envelope 4), and ", words=words)
+
+    def test_what_was_kept_and_not_added_can_be_added(self) -> None:
+        self.write("received/0003-more", "cleo 1,2,4,3\n")
+        self.write("more", "cleo 1,2,4,3\n")
+        self.assertIn("4 counted  cleo: ", self.election("add", "more").output)
 
 
 class Changed(AddTest):
@@ -129,21 +243,36 @@ class Changed(AddTest):
             [line for line in output.splitlines() if line.startswith("standard")],
             [
                 "standard input:3: it is empty, and was left out",
-                "standard input:1: `\\uFEFFada 1,2,4,3\\r` was changed to `ada 1,2,4,3` (byte-order mark, carriage return)",
-                "standard input:2: ` Ben\\t 2, 1 ,4,3 \\r` was changed to `ben 2,1,4,3` "
-                "(carriage return, tabs, spaces, capital letters)",
-                "standard input:4: `cleo 1,2,4,3\\r` was changed to `cleo 1,2,4,3` (carriage return)",
+                "standard input: it begins with a mark that Windows writes (byte-order mark); it was taken off",
+                "standard input: 3 lines end as Windows ends them (carriage return); that was taken off",
+                "standard input:2: ` Ben\\t 2, 1 ,4,3 ` was changed to `ben 2,1,4,3` (tabs, spaces, capital letters)",
                 "standard input:5: `dan  1,2,4,3` was changed to `dan 1,2,4,3` (spaces)",
             ],
         )
         self.assertEqual(self.read("ballots"), b"ada 1,2,4,3\nben 2,1,4,3\ncleo 1,2,4,3\ndan 1,2,4,3\n")
         self.assertEqual(self.received(), {"0001-standard-input": came})
 
+    def test_line_ends_of_windows_are_told_once_a_file(self) -> None:
+        self.write("monday", "ada 1,2,4,3\r\nben 1,2,4,3\r\ncleo 1,2,4,3\r\n")
+        self.write("tuesday", "\ufeffdan 1,2,4,3\r\neve 1,2,4,3\n")
+        output = self.election("add", "monday", "tuesday").output
+        self.assertEqual(
+            output.splitlines()[:4],
+            [
+                "monday: 3 lines end as Windows ends them (carriage return); that was taken off",
+                "tuesday: it begins with a mark that Windows writes (byte-order mark); it was taken off",
+                "tuesday: 1 line ends as Windows ends it (carriage return); that was taken off",
+                f"1 counted  ada: {LAKE}",
+            ],
+        )
+        self.assertNotIn("was changed to", output)
+
     def test_a_refused_line_goes_in_as_it_came(self) -> None:
         came = b"\xef\xbb\xbf Cleo 1,2,3 \r\nDan  1,2,4,3\r\nGsu 1,2,4,3\n"
         output = self.election("add", given=came).output
         self.assertIn(
-            "standard input:1: `\\uFEFF Cleo 1,2,3 \\r` was changed to ` Cleo 1,2,3 ` (byte-order mark, carriage return)\n"
+            "standard input: it begins with a mark that Windows writes (byte-order mark); it was taken off\n"
+            "standard input: 2 lines end as Windows ends them (carriage return); that was taken off\n"
             "1 bad shape   Cleo 1,2,3 : column 1: space\n"
             "  it went in as it came; written as `cleo 1,2,3` it is refused too: "
             "bad rank count: 3 ranks, the poll has 4 options\n",
@@ -160,15 +289,16 @@ class Changed(AddTest):
 
     def test_lines_of_a_word_processor(self) -> None:
         came = "“ada” 1,2,4,3\nben\u00a01,2,4,3\ncleo 1,2,–,3\nA>B>C\ndan 1.\neve 1.,2,3,4\n1,2,3,4\n"
-        output = self.election("add", given=came).output
+        output = self.election("add", "--even-so", given=came).output
         for told in (
-            '1 bad shape  “ada” 1,2,4,3: column 1: byte 0xE2\n',
-            "2 bad shape  ben\\u00A01,2,4,3: column 4: byte 0xC2\n",
-            "3 bad shape  cleo 1,2,–,3: column 10: byte 0xE2\n",
-            "4 bad shape  A>B>C: column 1: capital letter\n",
-            '5 bad shape  dan 1.: column 6: "."\n',
-            '6 bad shape  eve 1.,2,3,4: column 6: "."\n',
-            "7 bad shape  1,2,3,4: column 2: comma\n",
+            '1 bad shape  “ada” 1,2,4,3: column 1: byte 0xE2 (it has quotation marks; a ballot has none)\n',
+            "2 bad shape  ben\\u00A01,2,4,3: column 4: byte 0xC2 (it has a no-break space; a plain space belongs there)\n",
+            "3 bad shape  cleo 1,2,–,3: column 10: byte 0xE2 (a long dash stands where a hyphen belongs)\n",
+            "4 bad shape  A>B>C: column 1: capital letter "
+            "(it has the sign >; a ballot has numbers with commas between, a rank for each option)\n",
+            '5 bad shape  dan 1.: column 6: "." (a rank is a number alone, without a point or a bracket behind it)\n',
+            '6 bad shape  eve 1.,2,3,4: column 6: "." (a rank is a number alone, without a point or a bracket behind it)\n',
+            "7 bad shape  1,2,3,4: column 2: comma (the name is missing before the ranks)\n",
         ):
             self.assertIn(told, output)
         self.assertEqual(output.count("A right line in this poll"), 1)
@@ -176,13 +306,13 @@ class Changed(AddTest):
 
     def test_bytes_that_are_no_text(self) -> None:
         came = b"ad\xff 1,2\x1b[2J\n\x00\n"
-        output = self.election("add", given=came).output
+        output = self.election("add", "--even-so", given=came).output
         self.assertIn("1 bad shape  ad\\xff 1,2\\u001B[2J: column 3: byte 0xFF\n", output)
         self.assertNotIn("\x1b", output)
         self.assertEqual(self.read("ballots"), came)
 
     def test_hints_do_not_run_out_and_are_not_hidden_by_the_close(self) -> None:
-        self.election("add", given="nobodynear 1,2,3,4\n" * 150)
+        self.election("add", "--even-so", given="nobodynear 1,2,3,4\n" * 150)
         self.election("close")
         output = self.election("add", given="gsu 1,2,3,4\n").output
         self.assertIn("151 late  gsu 1,2,3,4: bad not on roll: gsu is not on the roll; did you mean gus?\n", output)

@@ -60,6 +60,21 @@ class Good(CloseTest):
         self.assertIn("1 line came after it, and late ones count for nothing.\n", ended.output)
         self.assertEqual((ended.status, ended.faults, self.contents()), (0, "", before))
 
+    def test_after_a_call_the_sum_of_the_call_is_told_first(self) -> None:
+        called = self.election("call").output
+        self.add("ada 1,2,4,3\n")
+        output = self.election("close").output
+        of_call = sum_of(support.POLL.encode())
+        self.assertIn(f"The sum of the poll: {of_call}\n", called)
+        self.assertIn(
+            "poll.toml has got the line: last_envelope = 1\n"
+            f"Without this line poll.toml is the poll that was called, with the sum of the call: {of_call}\n"
+            f"Sum of poll.toml as it is now, with this line: {sum_of(self.read('poll.toml'))}\n"
+            "Sum of ballots: ",
+            output,
+        )
+        self.assertEqual(self.without_last_envelope().split()[0], of_call)
+
     def test_without_ballots(self) -> None:
         ended = self.election("close")
         self.assertIn("There are no ballots: the election is closed with none.\n", ended.output)

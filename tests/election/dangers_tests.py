@@ -6,6 +6,11 @@ TIME = r"\d{4}-\d\d-\d\d \d\d:\d\d:\d\d UTC"
 
 
 class DangerTest(support.ElectionTest):
+    def setUp(self) -> None:
+        super().setUp()
+        # with it no note says that there was no call
+        (self.folder / "call").mkdir()
+
     def add(self, data: str) -> str:
         ended = self.election("add", given=data)
         self.assertEqual(ended.status, 0, ended)
@@ -109,7 +114,10 @@ class Swapped(DangerTest):
         self.add("ada 1,2,4,3\r\nben 1,2,4,3\r\n")
         self.assertEqual(self.replies(), ["1 counted", "2 counted"])
 
-    def test_the_same_ballots_twice_are_told(self) -> None:
+    def test_the_same_ballots_again_do_not_put_a_later_one_back(self) -> None:
         self.add("ada 1,2,4,3\n")
         self.add("ada 2,1,4,3\n")
-        self.assertIn("Note: standard input has come before, as received/0001-standard-input; ", self.add("ada 1,2,4,3\n"))
+        before = self.contents()
+        ended = self.election("add", given="ada 1,2,4,3\n")
+        self.assert_fault(ended, 9, "standard input: it was added before, with received/0001-standard-input (envelope 1), ")
+        self.assertEqual(self.contents(), before)

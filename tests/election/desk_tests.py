@@ -57,7 +57,14 @@ class Terminal:
         return self.text, os.waitstatus_to_exitcode(status)
 
 
-class AtATerminal(support.ElectionTest):
+class DeskTest(support.ElectionTest):
+    def setUp(self) -> None:
+        super().setUp()
+        # with it no note says that there was no call
+        (self.folder / "call").mkdir()
+
+
+class AtATerminal(DeskTest):
     def test_a_ballot_is_shown_and_cast(self) -> None:
         desk = Terminal(self)
         head = desk.until("Ballot: ")
@@ -99,14 +106,34 @@ class AtATerminal(support.ElectionTest):
         desk = Terminal(self)
         desk.until("Ballot: ")
         desk.type("gsu 1,2,3,4\n")
-        shown = desk.until("Cast it? [y/n] ")
-        self.assertIn("debvote will refuse it: gsu 1,2,3,4: gsu is not on the roll; did you mean gus?\n", shown)
-        self.assertIn("A right line in this poll: ada 1,2,3,4 ", shown)
+        shown = desk.until("It would count for nothing. Cast it all the same? [y/n] ")
+        words = "It would be refused: gsu 1,2,3,4: bad not on roll: gsu is not on the roll; did you mean gus?\n"
+        self.assertIn(f"{words}A right line in this poll: ada 1,2,3,4 ", shown)
         desk.type("y\n")
         self.assertIn("1 bad not on roll  gsu 1,2,3,4: ", desk.until("Ballot: "))
         desk.type("q\n")
         desk.end()
         self.assertEqual(self.read("ballots"), b"gsu 1,2,3,4\n")
+
+    def test_a_refused_line_is_told_once_before_it_is_cast(self) -> None:
+        desk = Terminal(self)
+        desk.until("Ballot: ")
+        for line, words in {
+            "Gsu 1,2,3,4": "Gsu 1,2,3,4: bad not on roll: gsu is not on the roll; did you mean gus?",
+            "Ada 1,,3,4": "Ada 1,,3,4: bad shape: column 7: comma "
+            "(the second rank is missing; who does not want to rank an option writes a hyphen)",
+            "Ada 1,2": "Ada 1,2: bad rank count: 2 ranks, the poll has 4 options",
+        }.items():
+            desk.type(f"{line}\nperhaps\nn\n")
+            shown = desk.until("It would count for nothing. Cast it all the same? [y/n] ")
+            self.assertRegex(shown, rf"\nn\nIt would be refused: {re.escape(words)}\nA right line [^\n]*\nIt would")
+            self.assertNotIn("went in", shown)
+            # the question is asked in the same words again
+            desk.until("It would count for nothing. Cast it all the same? [y/n] ")
+            desk.until("Ballot: ")
+        desk.type("q\n")
+        desk.end()
+        self.assertFalse((self.folder / "ballots").exists())
 
     def test_the_end_of_the_input_at_the_question_is_a_no(self) -> None:
         desk = Terminal(self)
@@ -173,7 +200,7 @@ class AtATerminal(support.ElectionTest):
         self.assertIn("1 counted  ada: ", desk.end()[0])
 
 
-class FromAPipe(support.ElectionTest):
+class FromAPipe(DeskTest):
     def start(self) -> subprocess.Popen:
         words = [sys.executable, support.ELECTION, "desk"]
         pipes = {"stdin": subprocess.PIPE, "stdout": subprocess.PIPE, "stderr": subprocess.PIPE}
@@ -201,7 +228,8 @@ class FromAPipe(support.ElectionTest):
     def test_line_ends_that_come_in_parts(self) -> None:
         run = self.start()
         self.send(run, b"\xef\xbb\xbfada 1,2,4,3\r")
-        run.stdout.readline()
+        self.assertIn(b"desk: it begins with a mark", run.stdout.readline())
+        self.assertIn(b"desk: 1 line ends as Windows", run.stdout.readline())
         self.assertTrue(run.stdout.readline().startswith(b"1 counted  ada: "))
         self.send(run, b"\nben 1,2")
         time.sleep(0.1)
@@ -216,10 +244,12 @@ class FromAPipe(support.ElectionTest):
     def test_lines_are_taken_as_add_takes_them(self) -> None:
         came = b"Ada 1,2,4,3\r\n\nq\ny\ngsu 1,2,4,3\n"
         output = self.election("desk", given=came).output
-        changed = "desk:1: `Ada 1,2,4,3\\r` was changed to `ada 1,2,4,3` (carriage return, capital letters)\n"
-        self.assertIn(f"{changed}1 counted  ada: ", output)
+        ends = "desk: 1 line ends as Windows ends it (carriage return); that was taken off\n"
+        changed = "desk:1: `Ada 1,2,4,3` was changed to `ada 1,2,4,3` (capital letters)\n"
+        self.assertIn(f"{ends}{changed}1 counted  ada: ", output)
         self.assertIn("desk:2: it is empty, and was left out\n", output)
-        self.assertIn("2 bad shape  q: column 2: end of line\n", output)
+        words = "(it is one word; a ballot has a name, a space and the ranks)"
+        self.assertIn(f"2 bad shape  q: column 2: end of line {words}\n", output)
         self.assertIn("did you mean gus?\nA right line in this poll: ", output)
         self.assertEqual(self.read("ballots"), b"ada 1,2,4,3\nq\ny\ngsu 1,2,4,3\n")
         self.assertEqual(self.read("received/0001-desk"), came)

@@ -42,10 +42,11 @@ class Rows(FormTest):
         self.assertEqual(self.read("ballots"), b"ada 1,2,3,4\n" * 12)
 
     def test_an_empty_cell_is_not_guessed(self) -> None:
-        output = self.add("n,a,b,c,d\nfay,1,,2,3\nada,1,2\n,1,2,3,4\nada 1,,2,3,4\n", "n", "a,b,c,d").output
-        self.assertIn("1 bad shape  fay 1,,2,3: column 7: comma\n", output)
-        self.assertIn("2 bad shape  ada 1,2,,: column 9: comma\n", output)
-        self.assertIn("3 bad shape   1,2,3,4: column 1: space\n", output)
+        output = self.add("n,a,b,c,d\nfay,1,,2,3\nada,1,2\n,1,2,3,4\nada 1,,2,3,4\nben,1,2,3,4\n", "n", "a,b,c,d").output
+        hyphen = "; who does not want to rank an option writes a hyphen)\n"
+        self.assertIn(f"1 bad shape  fay 1,,2,3: column 7: comma (the second rank is missing{hyphen}", output)
+        self.assertIn(f"2 bad shape  ada 1,2,,: column 9: comma (the third and the fourth rank are missing{hyphen}", output)
+        self.assertIn("3 bad shape   1,2,3,4: column 1: space (the name is missing before the ranks)\n", output)
         self.assertIn("4 bad shape  ada 1 ,2,3,4: column 6: space\n", output)
         self.assertIn("A right line in this poll: ada 1,2,3,4 ", output)
 

@@ -9,6 +9,7 @@ from debvote_tools.election import poll_file
 from debvote_tools.election.asking import NO_BALLOTS, refused
 from debvote_tools.election.folder import Election, Files
 from debvote_tools.election.lines import Line, differences, shown
+from debvote_tools.election.shapes import plain_words
 from debvote_tools.election.telling import count_of, tell
 from debvote_tools.faults import Fault, Status
 from debvote_tools.files import in_memory, uninterrupted
@@ -131,14 +132,28 @@ def standing_of(election: Election, files: Files, name: str) -> str | None:
 
 
 # ---------------------------------------------------------------- casting
-def cast(election: Election, act: str, files: Files, lines: list[Line], keep: Callable[[], None]) -> Batch:
+def cast(
+    election: Election,
+    act: str,
+    files: Files,
+    lines: list[Line],
+    keep: Callable[[], None],
+    look: Callable[[Batch], None] = lambda batch: None,
+) -> Batch:
     """Casts lines, none of them empty, and tells what became of each. The caller holds the lock alone.
 
-    First of all `keep` keeps what came. Nothing is told before it is done, and what is done is told: an interrupt waits.
+    First `look` may stop at what debvote says of the batch. Then `keep` keeps what came, also where debvote refuses the whole.
+    Nothing is told before it is done, and what is done is told: an interrupt waits.
     """
+    try:
+        batch = judged(election, files, lines)
+    except Fault:
+        with uninterrupted():
+            keep()
+        raise
+    look(batch)
     with uninterrupted():
         keep()
-    batch = judged(election, files, lines)
     first, last = batch.ballots[0].envelope, batch.ballots[-1].envelope
     envelopes = str(first) if first == last else f"{first}-{last}"
     with uninterrupted():
@@ -155,6 +170,7 @@ def report(election: Election, batch: Batch) -> Iterator[str]:
     """What is told of a batch that was cast."""
     if batch.ends_a_line:
         yield f"Note: the last line of {election.ballots} had no line feed; it was ended."
+    yield from frame_words(batch.ballots)
     for ballot in batch.ballots:
         yield from change_words(ballot)
         yield f"{ballot.envelope} {ballot.reply}  {ballot_words(ballot, batch.names)}"
@@ -166,9 +182,23 @@ def report(election: Election, batch: Batch) -> Iterator[str]:
         yield f"{count_of(late, 'line')} came after the close, and late ones count for nothing."
 
 
+def frame_words(ballots: list[Ballot]) -> Iterator[str]:
+    """The marks and the line ends of Windows that were taken off, told once a file."""
+    by_file: dict[str, list[tuple[bool, bool]]] = {}
+    for ballot in ballots:
+        by_file.setdefault(ballot.line.where.rpartition(":")[0], []).append(ballot.line.frame)
+    for file, frames in by_file.items():
+        ends = sum(has_return for _, has_return in frames)
+        if any(has_mark for has_mark, _ in frames):
+            yield f"{file}: it begins with a mark that Windows writes (byte-order mark); it was taken off"
+        if ends:
+            verb, they = ("ends", "it") if ends == 1 else ("end", "them")
+            yield f"{file}: {count_of(ends, 'line')} {verb} as Windows ends {they} (carriage return); that was taken off"
+
+
 def change_words(ballot: Ballot) -> Iterator[str]:
     """What was changed of a line, before and after."""
-    came = ballot.line.came
+    came = ballot.line.inner
     if came != ballot.text:
         how = ", ".join(differences(came, ballot.text))
         yield f"{ballot.line.where}: `{shown(came)}` was changed to `{shown(ballot.text)}` ({how})"
@@ -178,16 +208,36 @@ def ballot_words(ballot: Ballot, names: list[str]) -> str:
     """The ballot in words, or the line and why debvote refuses it."""
     if ballot.finding is not None:
         word = "" if ballot.finding.word == ballot.reply else f"{ballot.finding.word}: "
-        return f"{shown(ballot.text)}: {word}{ballot.finding.hint}"
+        plain = "" if has_other_cause(ballot) else plainly(ballot, ballot.finding)
+        return f"{shown(ballot.text)}: {word}{ballot.finding.hint}{plain}"
     voter, ranks = ballot.text.decode("ascii").split(" ")
     return f"{voter}: {in_words(ranks, names)}"
 
 
 def cause_words(ballot: Ballot) -> Iterator[str]:
     """Why debvote refuses the changed line too, where that is another cause."""
+    if has_other_cause(ballot):
+        other = ballot.finding_of_changed
+        why = f"{other.word}: {other.hint}{plainly(ballot, other)}"
+        yield f"  it went in as it came; written as `{shown(ballot.line.changed)}` it is refused too: {why}"
+
+
+def would_words(ballot: Ballot) -> str:
+    """A line that is not cast yet, as it would go in, and the one cause that would stay after the changes that are allowed."""
+    finding = ballot.finding_of_changed
+    return f"{shown(ballot.text)}: {finding.word}: {finding.hint}{plainly(ballot, finding)}"
+
+
+def has_other_cause(ballot: Ballot) -> bool:
+    """Whether debvote refuses the changed line for another cause than the line as it came."""
     finding, other = ballot.finding, ballot.finding_of_changed
-    if other is not None and (other.word, other.hint) != (finding.word, finding.hint):
-        yield f"  it went in as it came; written as `{shown(ballot.line.changed)}` it is refused too: {other.word}: {other.hint}"
+    return other is not None and (other.word, other.hint) != (finding.word, finding.hint)
+
+
+def plainly(ballot: Ballot, finding: Finding) -> str:
+    """What is plainly wrong with the shape of a line, to be said behind the words of debvote."""
+    words = plain_words(ballot.line.changed) if finding.word == "bad shape" else None
+    return "" if words is None else f" ({words})"
 
 
 def right_words(batch: Batch) -> str:

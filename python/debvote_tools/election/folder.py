@@ -162,9 +162,13 @@ class Election:
         return write_new(self.backup, file.name, file.read_bytes())
 
     # ------------------------------------------------------------ the call
+    def is_called(self) -> bool:
+        """Whether the poll was called, and the call was not taken back."""
+        return self.call.exists() and self.called_poll.exists()
+
     def check_called(self, files: Files) -> None:
         """Stops where the poll is no more the one that was called, its last envelope left out."""
-        if not self.call.exists() or not self.called_poll.exists():
+        if not self.is_called():
             return
         called = poll_file.without_last_envelope(self.called_poll.read_bytes())
         now = poll_file.without_last_envelope(files.poll)

@@ -39,6 +39,18 @@ class Line:
     def is_empty(self) -> bool:
         return not self.changed
 
+    @property
+    def frame(self) -> tuple[bool, bool]:
+        """Whether the mark before it, and the carriage return behind it, are all that was taken off as it was read."""
+        marked = self.came.startswith(MARK) and not self.kept.startswith(MARK)
+        bare = self.came.removeprefix(MARK) if marked else self.came
+        return (marked, bare != self.kept) if bare.removesuffix(b"\r") == self.kept else (False, False)
+
+    @property
+    def inner(self) -> bytes:
+        """The line as it came, without what is told of the whole file."""
+        return self.kept if any(self.frame) else self.came
+
 
 def lines_in(data: bytes, name: str, first: int = 1) -> list[Line]:
     """The lines of a file; `first` is the number of the first one. A byte-order mark is taken out where it is at line 1."""

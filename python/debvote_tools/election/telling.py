@@ -25,6 +25,15 @@ def time_of(entry: Entry) -> str:
     return entry.time.replace("T", " ").replace("Z", " UTC")
 
 
+def tell_time(election: Election, what: str) -> None:
+    """Says where ballots come before the call for votes, or after the close; the words say what is done with them."""
+    closed = election.closed()
+    if closed is not None:
+        tell(f"Note: the election was closed at {time_of(closed)}; {what} now is late.")
+    elif not election.call.exists() and journal.last(election.entries(), "call") is None:
+        tell("Note: the call for votes has not been made yet.")
+
+
 def tell_edits(election: Election, files: Files) -> None:
     """Says what was not done, and which files somebody has edited by hand: an editor is allowed, unseen is not.
 

@@ -9,11 +9,12 @@ import re
 import sys
 
 from debvote_tools.election.asking import command
-from debvote_tools.election.casting import cast, sheet_of, summary
+from debvote_tools.election.casting import Batch, cast, sheet_of, summary
+from debvote_tools.election.doubts import Part, stop_at_added_before, stop_at_no_ballot
 from debvote_tools.election.folder import Election, Files
 from debvote_tools.election.forms import columns_of, lines_of_form
 from debvote_tools.election.lines import Line, lines_in
-from debvote_tools.election.telling import tell, tell_edits, time_of
+from debvote_tools.election.telling import tell, tell_edits, tell_time
 from debvote_tools.faults import Fault, Status
 from debvote_tools.files import BALLOTS_LIMIT, in_memory, read_at_most, write_new
 
@@ -50,6 +51,7 @@ def options(parser: argparse.ArgumentParser) -> None:
     parser.add_argument(
         "--ranks", metavar="COLUMN,..", help="With --csv: the heads of the columns with the ranks, in the order of the options"
     )
+    parser.add_argument("--even-so", action="store_true", help="Add them although no line is a ballot, or they came before")
 
 
 def run(election: Election, asked: argparse.Namespace) -> int:
@@ -60,9 +62,18 @@ def run(election: Election, asked: argparse.Namespace) -> int:
         tell_edits(election, files)
         for source in inputs:
             check_kind(election, source, asked.csv)
-        lines = lines_of(election, files, inputs, asked)
-        tell_notes(election, inputs, lines)
-        batch = cast(election, "add", files, [line for line in lines if not line.is_empty], lambda: keep(election, inputs))
+        found = lines_of(election, files, inputs, asked)
+        tell_time(election, "what is added")
+
+        def look(batch: Batch) -> None:
+            if not asked.even_so:
+                parts = parts_of(inputs, found, batch)
+                stop_at_no_ballot(parts, asked.csv)
+                stop_at_added_before(election, files, parts, asked.csv)
+            tell_empty(found)
+
+        full = [line for lines in found for line in lines if not line.is_empty]
+        batch = cast(election, "add", files, full, lambda: keep(election, inputs), look)
     tell(f"Added {summary([batch])}.")
     tell(f"Next: {what_next(election)}")
     return Status.DECIDED
@@ -131,8 +142,8 @@ def keep(election: Election, inputs: list[Input]) -> None:
 
 
 # ---------------------------------------------------------------- lines
-def lines_of(election: Election, files: Files, inputs: list[Input], asked: argparse.Namespace) -> list[Line]:
-    """The lines of all that came. There is at least one that is not empty."""
+def lines_of(election: Election, files: Files, inputs: list[Input], asked: argparse.Namespace) -> list[list[Line]]:
+    """The lines of each file that came. In each there is at least one that is not empty."""
     if asked.csv:
         with in_memory(files.poll) as poll:
             names = list(sheet_of(election, poll).names.values())
@@ -144,28 +155,23 @@ def lines_of(election: Election, files: Files, inputs: list[Input], asked: argpa
         if all(line.is_empty for line in lines):
             what = "it has no row of a ballot" if asked.csv else "it has empty lines alone"
             raise Fault(f"{source.name}: {what}; nothing was added: write a ballot a line into it", Status.DOUBT)
-    return [line for lines in found for line in lines]
+    return found
 
 
-def tell_notes(election: Election, inputs: list[Input], lines: list[Line]) -> None:
-    """Says what may surprise: the close, a file that was added before, and what is left out."""
-    closed = election.closed()
-    if closed is not None:
-        tell(f"Note: the election was closed at {time_of(closed)}; what is added now is late.")
-    for source in inputs:
-        earlier = same_file(election.received, source.data)
-        if earlier is not None:
-            tell(f"Note: {source.name} has come before, as {earlier}; of each elector's lines the last one counts.")
-    empty = [f"{line.where}: it is empty, and was left out" for line in lines if line.is_empty]
+def parts_of(inputs: list[Input], found: list[list[Line]], batch: Batch) -> list[Part]:
+    """The batch by the files that came."""
+    ballots = iter(batch.ballots)
+    return [
+        Part(source.name, source.data, [next(ballots) for line in lines if not line.is_empty])
+        for source, lines in zip(inputs, found)
+    ]
+
+
+def tell_empty(found: list[list[Line]]) -> None:
+    """Says which lines are left out."""
+    empty = [f"{line.where}: it is empty, and was left out" for lines in found for line in lines if line.is_empty]
     if empty:
         tell(*empty)
-
-
-def same_file(folder: pathlib.Path, data: bytes) -> pathlib.Path | None:
-    """A file of the folder that has these bytes."""
-    files = sorted(folder.iterdir()) if folder.is_dir() else []
-    alike = (file for file in files if file.is_file() and file.stat().st_size == len(data))
-    return next((file for file in alike if file.read_bytes() == data), None)
 
 
 def what_next(election: Election) -> str:

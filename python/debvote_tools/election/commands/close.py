@@ -9,7 +9,7 @@ from debvote_tools.election.asking import NO_BALLOTS, command, refused
 from debvote_tools.election.folder import Election, Files
 from debvote_tools.election.telling import count_of, tell, tell_edits, time_of
 from debvote_tools.faults import Fault, Status
-from debvote_tools.files import in_memory, uninterrupted
+from debvote_tools.files import in_memory, sum_of, uninterrupted
 from debvote_tools.journal import Entry
 from debvote_tools.sheet import Sheet, sheet_in
 
@@ -109,7 +109,18 @@ def say(election: Election, after: Files, number: int) -> None:
     else:
         tell(f"Closed: {count_of(number, 'line')} came in time. What is added from now on is late, and counts for nothing.")
     tell(f"{election.poll} has got the line: last_envelope = {number}")
-    tell(f"Sum of {election.poll}: {after.sums.poll}")
+    tell(*poll_sums(election, after))
     if after.ballots is not None:
         tell(f"Sum of {election.ballots}: {after.sums.ballots}")
     tell(f"Next: {command(election, 'count')}")
+
+
+def poll_sums(election: Election, after: Files) -> list[str]:
+    """The sum of the poll; where it was called, first that which the call names, since the line of the close is new."""
+    if not election.is_called():
+        return [f"Sum of {election.poll}: {after.sums.poll}"]
+    of_call = sum_of(poll_file.without_last_envelope(after.poll))
+    return [
+        f"Without this line {election.poll} is the poll that was called, with the sum of the call: {of_call}",
+        f"Sum of {election.poll} as it is now, with this line: {after.sums.poll}",
+    ]

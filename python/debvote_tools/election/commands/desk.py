@@ -7,11 +7,11 @@ import sys
 
 from debvote_tools.ballots import in_words
 from debvote_tools.election.asking import command
-from debvote_tools.election.casting import Ballot, Batch, ballot_words, cast, cause_words, change_words, judged
-from debvote_tools.election.casting import right_line, right_words, sheet_of, standing_of, summary
+from debvote_tools.election.casting import Ballot, Batch, ballot_words, cast, change_words, judged
+from debvote_tools.election.casting import right_line, right_words, sheet_of, standing_of, summary, would_words
 from debvote_tools.election.folder import Election
 from debvote_tools.election.lines import Line, lines_in
-from debvote_tools.election.telling import tell, tell_edits, time_of
+from debvote_tools.election.telling import tell, tell_edits, tell_time
 from debvote_tools.faults import Fault, Status
 from debvote_tools.files import BALLOTS_LIMIT, append_whole, in_memory, uninterrupted, write_new
 
@@ -71,9 +71,7 @@ def run(election: Election, asked: argparse.Namespace) -> int:
         raise Fault("standard input: it is closed; nothing was cast: run it at a terminal", Status.BAD_BALLOTS)
     desk = Desk(election)
     with election.reading():
-        closed = election.closed()
-    if closed is not None:
-        tell(f"Note: the election was closed at {time_of(closed)}; what is cast now is late.")
+        tell_time(election, "what is cast")
     try:
         if sys.stdin.isatty():
             at_terminal(desk)
@@ -119,8 +117,7 @@ def at_terminal(desk: Desk) -> None:
         elif line.changed.lower() == QUIT:
             return
         else:
-            show(desk.election, line)
-            answer = is_yes()
+            answer = is_yes(show(desk.election, line))
             if answer is None:
                 return
             if answer:
@@ -138,9 +135,9 @@ def typed(question: str) -> bytes | None:
     return line or None
 
 
-def is_yes() -> bool | None:
+def is_yes(question: str) -> bool | None:
     """Asks whether to cast; none at the end of the input."""
-    while (answer := typed("Cast it? [y/n] ")) is not None:
+    while (answer := typed(f"{question} [y/n] ")) is not None:
         word = answer.strip().lower()
         if word in (b"y", b"yes"):
             return True
@@ -159,21 +156,24 @@ def tell_head(election: Election) -> None:
     tell(f"Type a ballot as {example} (the elector, then a rank for each option in this order); q ends.")
 
 
-def show(election: Election, line: Line) -> None:
-    """Shows what a line would be: in words, or why debvote would refuse it."""
+def show(election: Election, line: Line) -> str:
+    """Shows what a line would be: in words, or why debvote would refuse it. Returns the question whether to cast it."""
     with election.reading() as files:
         batch = judged(election, files, [line])
         (ballot,) = batch.ballots
         earlier = standing_of(election, files, name_of(ballot)) if ballot.reply == "replaced" else None
-    tell(*change_words(ballot))
+    changes = list(change_words(ballot))
+    if changes:
+        tell(*changes)
     if ballot.finding is not None:
-        tell(f"debvote will refuse it: {ballot_words(ballot, batch.names)}", *cause_words(ballot), right_words(batch))
-        return
+        tell(f"It would be refused: {would_words(ballot)}", right_words(batch))
+        return "It would count for nothing. Cast it all the same?"
     tell(ballot_words(ballot, batch.names))
     if ballot.reply == "late":
         tell("It is late, and will count for nothing.")
     if earlier is not None:
         tell(f"{name_of(ballot)} has a ballot: {in_words(earlier, batch.names)}. It will be replaced.")
+    return "Cast it?"
 
 
 def name_of(ballot: Ballot) -> str:
