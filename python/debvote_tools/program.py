@@ -73,6 +73,13 @@ class Debvote:
         return self.ask("--version").text.strip()
 
 
+def casting_words(name: str | None) -> list[str]:
+    """The words of a casting vote. A name that begins with a hyphen would be read as another option."""
+    if name is None:
+        return []
+    return [f"--casting={name}"] if name.startswith("-") else ["--casting", name]
+
+
 # ---------------------------------------------------------------- answers, read by FORMATS
 FINDING = re.compile(r"ballots:(\d+): (late|bad shape|bad rank count|bad not on roll): (.*)")
 TOTALS = re.compile(r"(\d+) lines: (\d+) valid, (\d+) refused, (\d+) of them late; (\d+) of (\d+) electors have a ballot")

@@ -42,13 +42,6 @@ def files_of(election: Election, files: Files) -> list[str]:
     return ["--poll", election.poll.name, "--ballots", ballots]
 
 
-def casting_words(name: str | None) -> list[str]:
-    """The words of a casting vote. A name that begins with a hyphen would be read as another option."""
-    if name is None:
-        return []
-    return [f"--casting={name}"] if name.startswith("-") else ["--casting", name]
-
-
 def refused(election: Election, answer: Answer) -> Fault:
     """The fault of an answer without a text: what debvote said, with the file that it is about, and its status."""
     said = answer.faults.strip().removeprefix("debvote: ") or f"it ended with status {answer.status}"

@@ -175,7 +175,8 @@ class Election:
         if called != now:
             raise Fault(
                 f"{self.poll}: it was changed after the call for votes: {difference(called, now)}; put this right (the poll that "
-                f"was called is {self.called_poll}), or, where no ballot has come yet, remove the folder {self.call} and call again",
+                f"was called is {self.called_poll}), or, where no ballot has come yet, remove the folder {self.call} and call "
+                "again",
                 Status.DOUBT,
             )
 

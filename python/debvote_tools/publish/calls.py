@@ -5,16 +5,9 @@ import pathlib
 import sys
 
 from debvote_tools.faults import Fault, Status
-from debvote_tools.program import Debvote
+from debvote_tools.program import Debvote, casting_words
 
 FILES = ["--poll", "poll.toml", "--ballots", "ballots"]
-
-
-def casting_words(name: str | None) -> list[str]:
-    """The words of a casting vote. A name that begins with a hyphen would be read as another option."""
-    if name is None:
-        return []
-    return [f"--casting={name}"] if name.startswith("-") else ["--casting", name]
 
 
 @dataclasses.dataclass(frozen=True)

@@ -44,7 +44,8 @@ def recasts(sheet: Sheet) -> str:
     if voters == valid:
         return ""
     of = "1 voter has" if voters == 1 else f"{voters} voters have"
-    return f". {of} {valid} valid lines: electors who voted again account for the difference, and the last valid line of each counts"
+    said = "electors who voted again account for the difference, and the last valid line of each counts"
+    return f". {of} {valid} valid lines: {said}"
 
 
 def facts(sheet: Sheet) -> str:

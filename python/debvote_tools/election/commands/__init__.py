@@ -1,1 +1,1 @@
-"""The commands of debvote-election, a module each: `HELP`, `options(parser)` and `run(election, asked)`, which returns the status."""
+"""The commands of debvote-election, a module each: `HELP`, `options(parser)`, and `run(election, asked)`, which gives the status."""

@@ -3,9 +3,10 @@
 import argparse
 import sys
 
-from debvote_tools.election.asking import casting_words, command, demand_option, files_of, listed, refused
+from debvote_tools.election.asking import command, demand_option, files_of, listed, refused
 from debvote_tools.election.folder import Election
 from debvote_tools.faults import Status
+from debvote_tools.program import casting_words
 from debvote_tools.sheet import Sheet, sheet_in
 
 HELP = "Print the result sheet"

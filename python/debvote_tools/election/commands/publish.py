@@ -8,10 +8,11 @@ import shutil
 import subprocess
 import sys
 
-from debvote_tools.election.asking import NO_BALLOTS, casting_words, command, demand_option
+from debvote_tools.election.asking import NO_BALLOTS, command, demand_option
 from debvote_tools.election.commands.count import casting_option
 from debvote_tools.election.folder import Election, Files
 from debvote_tools.faults import Fault, Status
+from debvote_tools.program import casting_words
 
 HELP = "Make the folder of the result for a web site"
 
