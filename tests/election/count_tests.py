@@ -36,8 +36,12 @@ class Count(support.ElectionTest):
 
     def test_a_tie(self) -> None:
         self.write("ballots", TIE)
-        said = "Next: it is a tie between 'At the lake', 'In the town hall'; who has the casting vote chooses one of these"
-        self.assert_counted(self.election("count"), self.sheet(), 1, said, ": debvote-election count --casting=NAME\n")
+        said = "it is a tie between 'At the lake', 'In the town hall'; who has the casting vote chooses one of them: "
+        commands = "debvote-election publish --casting 'At the lake' or debvote-election publish --casting 'In the town hall'\n"
+        open_still = "Next: this is no result yet: when the vote is over debvote-election close, then "
+        self.assert_counted(self.election("count"), self.sheet(), 1, open_still + said + commands)
+        self.election("close")
+        self.assert_counted(self.election("count"), self.sheet(), 1, "Next: " + said + commands)
 
     def test_the_casting_vote(self) -> None:
         self.write("ballots", TIE)

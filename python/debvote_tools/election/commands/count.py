@@ -40,13 +40,12 @@ def run(election: Election, asked: argparse.Namespace) -> int:
 
 
 def what_next(election: Election, sheet: Sheet, casting: str | None) -> str:
-    """What the secretary does with this sheet."""
+    """What the secretary does with this sheet. Before the close it is no result yet."""
+    over = "" if election.closed() else f"this is no result yet: when the vote is over {command(election, 'close')}, then "
     if sheet.winner() is not None:
-        publish = command(election, "publish", *(casting_words(casting) if sheet.winner()[1] else []))
-        return publish if election.closed() else f"when the vote is over {command(election, 'close')}, then {publish}"
-    left = listed(sheet.names[option] for option in sheet.final_set())
+        return over + command(election, "publish", *(casting_words(casting) if sheet.winner()[1] else []))
+    names = [sheet.names[option] for option in sheet.final_set()]
     outside = sheet.casting_outside()
     why = f"; {listed([sheet.names[outside]])} is not among them" if outside is not None else ""
-    chosen = f"{command(election, 'count')} --casting=NAME"
-    who = "who has the casting vote chooses one of these, and you write it in place of NAME"
-    return f"it is a tie between {left}{why}; {who}: {chosen}"
+    commands = " or ".join(command(election, "publish", *casting_words(name)) for name in names)
+    return f"{over}it is a tie between {listed(names)}{why}; who has the casting vote chooses one of them: {commands}"
