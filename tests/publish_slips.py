@@ -37,6 +37,59 @@ UNENDED_SHOWN = (
 OPEN = "journal: the election in this folder is not closed; close it: debvote-election close"
 OPEN_SHOWN = "The election was not closed when this page was made: more ballots may come in."
 
+LATE = "dan 1,2,3\n"
+KEPT = "(the lines of the close are in backup/ballots.closed)"
+ORDER = "and the last line of each elector counts"
+COPY = (
+    "backup/ballots.closed: it has not the sum that the ballots had at the close; "
+    "look who changed it, and compare the ballots with what came, which is kept in received"
+)
+COPY_SHOWN = (
+    "The copy of the ballots that the close kept was changed, so it does not show whether the same lines are in time now."
+)
+
+
+def last_gone(number):
+    """What is told of a poll whose last envelope is gone."""
+    place = "above every line that begins with ["
+    said = f"it was closed at line {number}, and has no last envelope now"
+    return f"poll.toml: {said}; write last_envelope = {number} into it, {place}"
+
+
+def last_gone_shown(number):
+    return f"The vote was closed at line {number} of the ballot file, and the poll file has no last envelope now."
+
+
+def last_raised(number):
+    """What is told of a poll whose last envelope was raised by one."""
+    return (
+        f"poll.toml: it was closed at line {number}, and has last_envelope = {number + 1} now; write last_envelope = {number} "
+        "into it, above every line that begins with [, unless lines that had come in time were put in before the late ones"
+    )
+
+
+def last_raised_shown(number):
+    return f"The vote was closed at line {number} of the ballot file, and the poll file has last_envelope = {number + 1} now."
+
+
+def new(number, line):
+    """What is told of a line that was not among those of the close."""
+    return f"ballots:{number}: `{line}` was not among the lines at the close, and counts now; look whether it came in time"
+
+
+def new_shown(number, line):
+    return f"Line {number} of the ballot file, `{line}`, was not among the lines at the close, and counts now."
+
+
+def gone(number, line):
+    """What is told of a line of the close that is not in time any more."""
+    words = "is not among the lines that are in time now; look who took it out, and put it back"
+    return f"ballots: `{line}`, which was line {number} at the close, {words} {KEPT}"
+
+
+def gone_shown(number, line):
+    return f"Line {number} of the ballot file at the close, `{line}`, is not among the lines that are in time now."
+
 
 @dataclasses.dataclass
 class Slip:
@@ -49,7 +102,12 @@ class Slip:
     ballots: str = PLAIN_BALLOTS
     # the acts that the journal of an election has; without them there is no journal
     acts: list[str] = dataclasses.field(default_factory=list)
-    # the last of these was noted, and its run killed before it had written its file
+    # the ballots as they were closed, which the close has kept, or has not; those above where they are not given
+    closed: str | None = None
+    has_copy: bool = True
+    # what was written into the copy by hand
+    edit: str = ""
+    # the last of these acts was noted, and its run killed before it had written its file
     is_cut_off: bool = False
 
     def write(self, room):
@@ -59,13 +117,19 @@ class Slip:
         (room / "ballots").write_bytes(self.ballots.encode())
         if self.acts:
             (room / "journal").write_text("".join(self.journal()))
+        if self.closed is not None and self.has_copy:
+            (room / "backup").mkdir()
+            (room / "backup" / "ballots.closed").write_bytes((self.closed + self.edit).encode())
 
     def journal(self):
         """The lines of the journal: the sums after all acts are those of the files, but for an act that was cut off."""
-        poll, ballots = (hashlib.sha256(text.encode()).hexdigest() for text in (self.poll, self.ballots))
         for number, act in enumerate(self.acts, start=1):
             is_lost = self.is_cut_off and number == len(self.acts)
-            yield f"2026-11-25T18:04:11Z\t{act}\t-\t{'0' * 64 if is_lost else poll}\t{ballots}" + ("" if is_lost else "\n")
+            closed = self.ballots if self.closed is None or act != "close" else self.closed
+            envelopes = f"1-{closed.count(chr(10))}" if act == "close" and closed else "-"
+            poll, ballots = (hashlib.sha256(text.encode()).hexdigest() for text in (self.poll, closed))
+            sums = f"{'0' * 64 if is_lost else poll}\t{ballots}"
+            yield f"2026-11-25T18:04:11Z\t{act}\t{envelopes}\t{sums}" + ("" if is_lost else "\n")
 
 
 SLIPS = [
@@ -164,6 +228,96 @@ SLIPS = [
     Slip("a close that was cut off", [OPEN], [OPEN_SHOWN], acts=["add", "close"], is_cut_off=True),
     Slip("a close that was cut off, and is noted so", [OPEN], [OPEN_SHOWN], acts=["add", "close", "undone"]),
     Slip(
+        "the called poll put back after the close",
+        [last_gone(3), new(4, "dan 1,2,3")],
+        [last_gone_shown(3), new_shown(4, "dan 1,2,3")],
+        ballots=PLAIN_BALLOTS + LATE,
+        acts=["add", "close", "add"],
+        closed=PLAIN_BALLOTS,
+    ),
+    Slip(
+        "the called poll put back after a close without ballots",
+        [last_gone(0), new(1, "dan 1,2,3")],
+        [last_gone_shown(0), new_shown(1, "dan 1,2,3")],
+        ballots=LATE,
+        acts=["close", "add"],
+        closed="",
+    ),
+    Slip(
+        "a forgotten line behind a late one",
+        [last_raised(3), new(4, "dan 1,2,3")],
+        [last_raised_shown(3), new_shown(4, "dan 1,2,3")],
+        poll=PLAIN_POLL + "last_envelope = 4\n",
+        ballots=PLAIN_BALLOTS + LATE + "ada 2,1,3\n",
+        acts=["add", "close", "add"],
+        closed=PLAIN_BALLOTS,
+    ),
+    Slip(
+        "a forgotten line before the late one",
+        [last_raised(3), new(4, "ada 2,1,3")],
+        [last_raised_shown(3), new_shown(4, "ada 2,1,3")],
+        poll=PLAIN_POLL + "last_envelope = 4\n",
+        ballots=PLAIN_BALLOTS + "ada 2,1,3\n" + LATE,
+        acts=["add", "close", "add"],
+        closed=PLAIN_BALLOTS,
+    ),
+    Slip(
+        "a forgotten line without the number raised",
+        [new(1, "dan 3,1,<b>2\\u001B</b>"), gone(3, "cleo 1,2,3")],
+        [new_shown(1, "dan 3,1,<b>2\\u001B</b>"), gone_shown(3, "cleo 1,2,3")],
+        poll=PLAIN_POLL + "last_envelope = 3\n",
+        ballots="dan 3,1,<b>2\x1b</b>\n" + PLAIN_BALLOTS,
+        acts=["add", "close"],
+        closed=PLAIN_BALLOTS,
+    ),
+    Slip(
+        "all lines written anew",
+        [
+            *(new(number, "dan 1,2,3") for number in (3, 4, 5)),
+            "ballots: and 1 more line was not among the lines at the close, and counts now; look whether it came in time",
+            *(gone(number, "ben 2,1,3") for number in (3, 4, 5)),
+            f"ballots: and 2 more lines of the close are not among the lines that are in time now; put them back {KEPT}",
+        ],
+        [
+            *(new_shown(number, "dan 1,2,3") for number in (3, 4, 5)),
+            "And 1 more line was not among the lines at the close, and counts now.",
+            *(gone_shown(number, "ben 2,1,3") for number in (3, 4, 5)),
+            "And 2 more lines of the close are not among the lines that are in time now.",
+        ],
+        poll="last_envelope = 7\n" + PLAIN_POLL,
+        ballots="ada 1,2,3\nben 2,1,3\n" + LATE * 4,
+        acts=["add", "close"],
+        closed="ada 1,2,3\n" + "ben 2,1,3\n" * 6,
+    ),
+    Slip(
+        "lines in another order",
+        [f"ballots: its lines stand in another order than at the close, {ORDER}; put them back in their order {KEPT}"],
+        [f"The lines of the ballot file stand in another order than at the close, {ORDER}."],
+        poll=PLAIN_POLL + "last_envelope = 3\n",
+        ballots="ben 2,1,3\nada 1,2,3\ncleo 1,2,3\n" + LATE,
+        acts=["add", "close", "add"],
+        closed=PLAIN_BALLOTS,
+    ),
+    Slip(
+        "a copy of the close that was edited",
+        [COPY],
+        [COPY_SHOWN],
+        poll=PLAIN_POLL + "last_envelope = 3\n",
+        acts=["add", "close"],
+        closed=PLAIN_BALLOTS,
+        edit=LATE,
+    ),
+    Slip(
+        "a close that kept no copy",
+        [last_raised(3)],
+        [last_raised_shown(3)],
+        poll=PLAIN_POLL + "last_envelope = 4\n",
+        ballots=PLAIN_BALLOTS + LATE,
+        acts=["add", "close", "add"],
+        closed=PLAIN_BALLOTS,
+        has_copy=False,
+    ),
+    Slip(
         "several at once",
         [
             FROM_WINDOWS,
@@ -192,8 +346,24 @@ NEAR_SLIPS = [
     Slip(
         "an election that is closed, and has a late line",
         poll="last_envelope = 3\n" + PLAIN_POLL,
-        ballots=PLAIN_BALLOTS + "dan 1,2,3\n",
+        ballots=PLAIN_BALLOTS + LATE,
         acts=["add", "close", "add"],
+        closed=PLAIN_BALLOTS,
+    ),
+    Slip(
+        "an election that is closed, and has a late line that is one of those in time",
+        poll="last_envelope = 4\n" + PLAIN_POLL,
+        ballots=PLAIN_BALLOTS + "ada 1,2,3\n" * 2,
+        acts=["add", "close", "add"],
+        closed=PLAIN_BALLOTS + "ada 1,2,3\n",
+    ),
+    Slip(
+        "an election whose close kept no copy",
+        poll="last_envelope = 3\n" + PLAIN_POLL,
+        ballots=PLAIN_BALLOTS + LATE,
+        acts=["add", "close", "add"],
+        closed=PLAIN_BALLOTS,
+        has_copy=False,
     ),
 ]
 

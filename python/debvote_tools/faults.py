@@ -1,4 +1,6 @@
-"""How a run ends: the exit statuses, and the fault that ends one."""
+"""How a run ends: the exit statuses, the fault that ends one, and the doubt at which one stops."""
+
+import dataclasses
 
 
 class Status:
@@ -25,3 +27,16 @@ class Fault(Exception):
         super().__init__(words, status)
         self.words = words
         self.status = status
+
+
+@dataclasses.dataclass(frozen=True)
+class Doubt:
+    """A reason to stop: file, reason and cure for the one who publishes, and a sentence for the readers of the page."""
+
+    file: str
+    reason: str
+    cure: str
+    sentence: str
+
+    def line(self) -> str:
+        return f"{self.file}: {self.reason}; {self.cure}"

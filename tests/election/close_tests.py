@@ -173,3 +173,84 @@ class Stops(CloseTest):
         ended = self.election("close")
         self.assert_fault(ended, 4, "ballots: No such file or directory; what came is kept in received")
         self.assertIsNone(re.search("last_envelope", self.read("poll.toml").decode()))
+
+
+class SinceTheClose(CloseTest):
+    """Slips after a close: no late line counts, and no line that was in time stops counting, without a word."""
+
+    def setUp(self) -> None:
+        super().setUp()
+        self.assertEqual(self.election("call").status, 0)
+        self.add("ada 1,2,4,3\nben 2,1,4,3\n")
+        self.assertEqual(self.election("close").status, 0)
+        self.add("cleo 2,1,4,3\n")
+
+    def assert_told(self, *lines: str) -> None:
+        """publish stops at these lines, the page says them with --even-so, and status tells them beside all else."""
+        ended = self.election("publish")
+        even_so = "(or publish it as it is, with --even-so)"
+        wanted = "".join(f"debvote-publish: {line} {even_so}\n" for line in lines)
+        self.assertEqual((ended.output, ended.faults, ended.status), ("", wanted, 9))
+        self.assertFalse((self.folder / "result").exists())
+        ended = self.election("status")
+        self.assertEqual((ended.faults, ended.status), ("", 0))
+        told = [line for line in ended.output.splitlines() if line.startswith("Note: ") and "by hand" not in line]
+        self.assertEqual(told, [f"Note: {line}" for line in lines])
+        self.assertEqual(self.election("publish", "--even-so").status, 0)
+        self.assertEqual(self.read("result/index.html").decode().count("<strong>Doubt:</strong>"), len(lines))
+
+    def test_nothing_has_changed(self) -> None:
+        self.assertEqual(self.read("backup/ballots.closed"), b"ada 1,2,4,3\nben 2,1,4,3\n")
+        self.assertNotIn("Note: ", self.election("status").output)
+        for more in ([], ["--even-so"]):
+            ended = self.election("publish", *more, f"result{len(more)}")
+            self.assertEqual((ended.output.splitlines()[:2], ended.faults, ended.status), (["Tie: 1 2", "verified"], "", 1))
+        self.assertNotIn(b"Doubt", self.read("result0/index.html"))
+        self.assertEqual(self.read("result0/index.html"), self.read("result1/index.html"))
+
+    def test_a_second_close_keeps_the_lines_of_the_first(self) -> None:
+        before = self.contents()
+        self.assertEqual(self.election("close").status, 0)
+        self.assertEqual(self.contents(), before)
+
+    def test_the_called_poll_is_put_back(self) -> None:
+        self.write("poll.toml", self.read("poll.toml").replace(b"quorum = 1", b"quorum = 2"))
+        place = "belongs above every line that begins with [)"
+        words = f"is backup/poll.toml.called, and its line last_envelope = 2, which the close wrote, {place}, or, where no ballot"
+        self.assert_fault(self.election("publish"), 9, f"put this right (the poll that was called {words}")
+        self.write("poll.toml", self.read("backup/poll.toml.called"))
+        self.assert_told(
+            "poll.toml: it was closed at line 2, and has no last envelope now; "
+            "write last_envelope = 2 into it, above every line that begins with [",
+            "ballots:3: `cleo 2,1,4,3` was not among the lines at the close, and counts now; look whether it came in time",
+        )
+        page = self.read("result/index.html").decode()
+        self.assertIn("Line 3 of the ballot file, `cleo 2,1,4,3`, was not among the lines at the close, and counts now.", page)
+        self.assertIn("The vote was closed at line 2 of the ballot file, and the poll file has no last envelope now.", page)
+
+    def raised(self, line: str) -> None:
+        """A forgotten ballot is put in, and the number is raised; this line counts by it."""
+        self.write("poll.toml", self.read("poll.toml").replace(b"last_envelope = 2", b"last_envelope = 3"))
+        self.assert_told(
+            "poll.toml: it was closed at line 2, and has last_envelope = 3 now; write last_envelope = 2 into it, "
+            "above every line that begins with [, unless lines that had come in time were put in before the late ones",
+            f"ballots:3: `{line}` was not among the lines at the close, and counts now; look whether it came in time",
+        )
+
+    def test_a_forgotten_ballot_at_the_end(self) -> None:
+        self.write("ballots", self.read("ballots") + b"dan 1,2,4,3\n")
+        self.raised("cleo 2,1,4,3")
+
+    def test_a_forgotten_ballot_at_its_place(self) -> None:
+        self.write("ballots", self.read("ballots").replace(b"cleo", b"dan 1,2,4,3\ncleo"))
+        self.raised("dan 1,2,4,3")
+        page = self.read("result/index.html").decode()
+        self.assertIn("Line 3 of the ballot file, `dan 1,2,4,3`, was not among the lines at the close, and counts now.", page)
+
+    def test_what_a_close_that_was_not_done_has_kept(self) -> None:
+        """Its copy of fewer lines is no more that of the close; it stays by number."""
+        (self.folder / "journal").unlink()
+        self.write("poll.toml", self.read("backup/poll.toml.called"))
+        self.assertEqual(self.election("close").status, 0)
+        self.assertEqual(self.read("backup/ballots.closed"), self.read("ballots"))
+        self.assertEqual(self.read("backup/0003-ballots.closed"), b"ada 1,2,4,3\nben 2,1,4,3\n")

@@ -173,6 +173,7 @@ class BetweenSteps(KillTest):
             self.assertEqual("The election was closed at" in following.output, now != poll)
             self.assertEqual(self.read("poll.toml"), poll + b"last_envelope = 2\n")
             self.assertEqual(self.read("ballots"), ballots + b"\n")
+            self.assertEqual(self.read("backup/ballots.closed"), ballots + b"\n")
             self.assert_nothing_half_written()
             acts = [act.act for act in journal.done(journal.entries_in(self.folder / "journal"))]
             self.assertEqual(acts, ["end", "close"])

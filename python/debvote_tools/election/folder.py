@@ -7,12 +7,13 @@ import functools
 import pathlib
 from collections.abc import Iterator
 
-from debvote_tools import journal
+from debvote_tools import closed, journal
 from debvote_tools.election import poll_file
 from debvote_tools.faults import Fault, Status
 from debvote_tools.files import BALLOTS_LIMIT, POLL_LIMIT, locked, read_at_most, write_new, write_whole
 from debvote_tools.journal import Entry, Sums
 from debvote_tools.program import Debvote
+from debvote_tools.sheet import Sheet
 
 
 @dataclasses.dataclass(frozen=True)
@@ -40,6 +41,7 @@ class Election:
         self.backup = folder / "backup"
         self.call = folder / "call"
         self.called_poll = self.backup / "poll.toml.called"
+        self.closed_ballots = folder / closed.KEPT
         self.result = folder / "result"
         self.journal = folder / journal.NAME
         self.lock = folder / ".lock"
@@ -83,7 +85,7 @@ class Election:
             for file in self.folder.glob(f".{name}.*"):
                 file.unlink()
         for folder in (self.received, self.backup):
-            for file in folder.glob(".[0-9]*"):
+            for file in [*folder.glob(".[0-9]*"), *folder.glob(f".{self.closed_ballots.name}.*")]:
                 file.unlink()
         begun = journal.begun(self.journal)
         is_undone = begun is not None and begun.sums != files.sums
@@ -161,6 +163,26 @@ class Election:
         """Keeps a copy of a file that is about to be changed, in backup/, by number."""
         return write_new(self.backup, file.name, file.read_bytes())
 
+    # ------------------------------------------------------------ the close
+    def keep_closed(self, ballots: bytes) -> None:
+        """Keeps the ballots as they are closed. What a close that was not done has kept of others gets a number."""
+        if self.closed_ballots.exists():
+            if self.closed_ballots.read_bytes() == ballots:
+                return
+            self.keep_copy(self.closed_ballots)
+        write_whole(self.closed_ballots, ballots)
+
+    def changed_since_close(self, files: Files, sheet: Sheet) -> list[str]:
+        """What has changed since the close, a sentence each: the last envelope, and the lines that are in time.
+
+        The sheet is that of the files. The caller holds the lock.
+        """
+        close = journal.last(journal.acts_done(self.journal, files.sums), "close")
+        if close is None:
+            return []
+        counted = closed.Counted(str(self.poll), str(self.ballots), files.ballots or b"", sheet)
+        return [doubt.line() for doubt in closed.changed_since(close, self.folder, counted)]
+
     # ------------------------------------------------------------ the call
     def is_called(self) -> bool:
         """Whether the poll was called, and the call was not taken back."""
@@ -175,10 +197,18 @@ class Election:
         if called != now:
             raise Fault(
                 f"{self.poll}: it was changed after the call for votes: {difference(called, now)}; put this right (the poll that "
-                f"was called is {self.called_poll}), or, where no ballot has come yet, remove the folder {self.call} and call "
-                "again",
+                f"was called is {self.called_poll}{self.and_its_last_envelope()}), or, where no ballot has come yet, remove the "
+                f"folder {self.call} and call again",
                 Status.DOUBT,
             )
+
+    def and_its_last_envelope(self) -> str:
+        """The line that the close has put into the poll: who copies the called poll back has to write it again."""
+        close = self.closed()
+        number = None if close is None else closed.number_of(close)
+        if number is None:
+            return ""
+        return f", and its line last_envelope = {number}, which the close wrote, belongs above every line that begins with ["
 
 
 def bytes_of(file: pathlib.Path, limit: int, status: int, cure: str) -> bytes:

@@ -1,10 +1,9 @@
 """What there is to doubt about an election: the traces that a slip of the hand leaves in its files.
 
-Of each file debvote is asked what it reads as, and what is refused in it; only the end of the ballot file and the journal of the
-election are looked at here.
+Of each file debvote is asked what it reads as, and what is refused in it; only the end of the ballot file, and what an election
+has noted and kept, are looked at here.
 """
 
-import dataclasses
 import os
 import pathlib
 import re
@@ -12,10 +11,12 @@ import shlex
 import sys
 
 from debvote_tools import journal
-from debvote_tools.faults import Fault, Status
+from debvote_tools.closed import Counted, changed_since
+from debvote_tools.faults import Doubt, Fault, Status
 from debvote_tools.journal import Sums
 from debvote_tools.program import Debvote, Findings, Totals, findings_in
 from debvote_tools.publish.calls import Calls
+from debvote_tools.sheet import Sheet
 
 EVEN_SO = "(or publish it as it is, with --even-so)"
 
@@ -32,19 +33,6 @@ roll = ["-"]
 REQUIRED_KEYS = 6
 
 
-@dataclasses.dataclass(frozen=True)
-class Doubt:
-    """A reason to stop: file, reason and cure for the one who publishes, and a sentence for the readers of the page."""
-
-    file: str
-    reason: str
-    cure: str
-    sentence: str
-
-    def line(self) -> str:
-        return f"{self.file}: {self.reason}; {self.cure}"
-
-
 def tell(lines: list[str]) -> None:
     """Tells each line on standard error."""
     for line in lines:
@@ -57,15 +45,18 @@ def stop(found: list[Doubt]) -> Fault:
     return Fault(None, Status.DOUBT)
 
 
-def found_in(calls: Calls, poll: str, ballots: str) -> list[Doubt]:
-    """All doubts about a poll in order and its ballots. The files lie in the folder, and are called as they were given."""
+def found_in(calls: Calls, poll: str, ballots: str, sheet: Sheet) -> list[Doubt]:
+    """All doubts about a poll in order and its ballots, which have this sheet.
+
+    The files lie in the folder, and are called as they were given.
+    """
     findings = findings_in(calls.explain())
     return [
         *misplaced(calls.debvote, poll, ballots),
         *about_ballots(findings, poll, ballots),
         *unended(calls.debvote.folder / "ballots", ballots),
         *unread_keys(findings, poll),
-        *open_election(calls.debvote.folder, poll),
+        *about_election(calls.debvote.folder, poll, ballots, sheet),
     ]
 
 
@@ -175,20 +166,28 @@ def unread_keys(findings: Findings, poll: str) -> list[Doubt]:
     return found
 
 
-def open_election(made: pathlib.Path, poll: str) -> list[Doubt]:
-    """That the poll lies in the folder of an election that is not closed. `made` is the folder with the copies of the files."""
+def about_election(made: pathlib.Path, poll: str, ballots: str, sheet: Sheet) -> list[Doubt]:
+    """That the poll lies in the folder of an election that is not closed, or is not as it was closed.
+
+    `made` is the folder with the copies of the files.
+    """
     # where the poll is named by a link, either place may be the folder of the election
     places = [pathlib.Path(poll).parent, pathlib.Path(os.path.realpath(poll)).parent]
     folder = next((place for place in places if (place / journal.NAME).is_file()), None)
-    now = Sums.of((made / "poll.toml").read_bytes(), (made / "ballots").read_bytes())
-    if folder is None or journal.last(journal.acts_done(folder / journal.NAME, now), "close") is not None:
+    if folder is None:
         return []
+    data = (made / "ballots").read_bytes()
+    now = Sums.of((made / "poll.toml").read_bytes(), data)
+    close = journal.last(journal.acts_done(folder / journal.NAME, now), "close")
+    return [not_closed(folder)] if close is None else changed_since(close, folder, Counted(poll, ballots, data, sheet))
+
+
+def not_closed(folder: pathlib.Path) -> Doubt:
+    """That the election in a folder is not closed."""
     where = [] if folder == pathlib.Path() else ["--folder", str(folder)]
-    return [
-        Doubt(
-            str(folder / journal.NAME),
-            "the election in this folder is not closed",
-            f"close it: {shlex.join(['debvote-election', *where, 'close'])}",
-            "The election was not closed when this page was made: more ballots may come in.",
-        )
-    ]
+    return Doubt(
+        str(folder / journal.NAME),
+        "the election in this folder is not closed",
+        f"close it: {shlex.join(['debvote-election', *where, 'close'])}",
+        "The election was not closed when this page was made: more ballots may come in.",
+    )

@@ -35,6 +35,7 @@ def run(election: Election, asked: argparse.Namespace) -> int:
         poll = closed_poll(election, files, number)
         with uninterrupted():
             election.keep_copy(election.poll)
+            election.keep_closed(files.ballots or b"")
             after = election.act("close", files, f"1-{number}" if number else journal.NONE, poll=poll)
             say(election, after, number)
     return Status.DECIDED

@@ -51,8 +51,11 @@ def run(election: Election, asked: argparse.Namespace) -> int:
         acts = acts_of(election, files)
         tell_edited(election, files, acts)
         state = state_of(election, files)
+        changed = election.changed_since_close(files, state.sheet)
     print(f"Title: {state.sheet.facts['Poll']}")
     tell_stage(election, acts, state.sheet)
+    for line in changed:
+        print(f"Note: {line}")
     print(quorum_words(state.sheet))
     tell_lines(state)
     tell_electors(state)
