@@ -124,3 +124,16 @@ class Count(support.ElectionTest):
         self.assertEqual(self.election("count", "x").status, 2)
         ended = self.election("count", b"--casting=\xff".decode(errors="surrogateescape"))
         self.assert_fault(ended, 2, "an argument is not UTF-8")
+
+    def test_what_has_changed_since_the_close_is_told(self) -> None:
+        self.write("ballots", WON)
+        self.election("close")
+        lines = len(WON.splitlines())
+        poll = self.read("poll.toml").decode()
+        self.write("poll.toml", poll.replace(f"last_envelope = {lines}\n", ""))
+        ended = self.election("count")
+        self.assertEqual((ended.output, ended.status), (self.sheet(), 0))
+        note, following = ended.faults.splitlines()
+        self.assertTrue(note.startswith("Note: poll.toml: "), note)
+        self.assertIn(f"last_envelope = {lines}", note)
+        self.assertTrue(following.startswith("Next: "), following)

@@ -30,12 +30,15 @@ def run(election: Election, asked: argparse.Namespace) -> int:
         answer = election.debvote.ask("count", *files_of(election, files), *casting_words(asked.casting))
         if not answer.text and answer.status == Status.CASTING_OUTSIDE:
             demand_option(election, asked.casting)
-    if not answer.text:
-        raise refused(election, answer)
+        if not answer.text:
+            raise refused(election, answer)
+        sheet = sheet_in(answer.text)
+        changes = election.changed_since_close(files, sheet)
     # the sheet alone, so that it can go into a file
     sys.stdout.write(answer.text)
     sys.stdout.flush()
-    print(f"Next: {what_next(election, sheet_in(answer.text), asked.casting)}", file=sys.stderr)
+    print(*(f"Note: {change}\n" for change in changes), sep="", end="", file=sys.stderr)
+    print(f"Next: {what_next(election, sheet, asked.casting)}", file=sys.stderr)
     return answer.status
 
 
