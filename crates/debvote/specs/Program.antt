@@ -1,15 +1,15 @@
 -- The exit status that the program answers to its words.
-use Rattle.std.specs.Prelude.{◌≡◌, ◌<◌, ◌⊎◌, ℕ, List, length, map, Result}
+use Rattle.std.specs.Prelude.{◌≡◌, ◌<◌, ◌⊎◌, ℕ, List, length, Result}
 use Rattle.std.proofs.Common.{Bor}
-use Rattle.vote_command.specs.Words.{AreNoTask, AskFor}
-use Rattle.vote_command.specs.declared.Task.{Task}
-use Rattle.vote_command.specs.declared.OrderFault.{OrderFault}
-use Rattle.vote_command.specs.declared.OrderFault.TheVariants.{NotUtf8}
-use Rattle.vote_runs.specs.Status.{status}
-use Rattle.vote_runs.specs.declared.Ended.{Ended}
-use Rattle.vote_runs.specs.declared.RunFault.{RunFault}
-use Rattle.vote_tasks.specs.Doing.{EndsJoined, EndsTask}
-use Rattle.vote_tasks.specs.WordStatus.{AnswersWords}
+use Rattle.vote_job_words.specs.Words.{AreNoTask, AskFor, texts_of}
+use Rattle.vote_job_words.specs.declared.Task.{Task}
+use Rattle.vote_job_words.specs.declared.OrderFault.{OrderFault}
+use Rattle.vote_job_words.specs.declared.OrderFault.TheVariants.{NotUtf8}
+use Rattle.vote_jobs.specs.Status.{status}
+use Rattle.vote_jobs.specs.declared.Ended.{Ended}
+use Rattle.vote_jobs.specs.declared.RunFault.{RunFault}
+use Rattle.vote_job_files.specs.Doing.{EndsJoined, EndsTask}
+use Rattle.vote_job_files.specs.WordStatus.{AnswersWords}
 
 -- the words ask for a task, which ends so
 abbrev pub AnswersTask : List (List ℕ) → ℕ → Type 0
@@ -30,5 +30,5 @@ AnswersJoined answered = (outcome : Result Ended RunFault) × EndsJoined outcome
 -- this is answered to words; without them to standard input; or to a word that is no text
 abbrev pub Answers : ℕ → Type 0
 Answers answered =
-    ((words : List (Bor (List ℕ))) × (length words ≡ 0 → AnswersJoined answered) × (0 < length words → AnswersWorded (map (λ word. word.now) words) answered))
+    ((words : List (Bor (List ℕ))) × (length words ≡ 0 → AnswersJoined answered) × (0 < length words → AnswersWorded (texts_of words) answered))
     ⊎ AnswersWords NotUtf8 answered

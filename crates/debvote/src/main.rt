@@ -1,20 +1,22 @@
 //! Counts votes by the Debian Constitution.
 //!
 //! `debvote count` counts the ballots of a file by a poll file and writes the result sheet, and `debvote picture` the outcome as
-//! a graph. `debvote steps` writes the reply of the ballot box to each line, `debvote standing` the ballots that stand, and
+//! a graph. `debvote steps` writes the reply of the ballot box to each line, `debvote standing` the ballots that count, and
 //! `debvote verify` whether a published sheet is that of the count. `debvote check` checks a poll file, and `debvote explain`
-//! says all that is wrong with it and with the ballots. Without arguments the program reads a poll and its ballots from
+//! reports every problem in it and in the ballots. Without arguments the program reads a poll and its ballots from
 //! standard input, joined by a line `%%`, and acts as `steps`.
 //!
-//! The program reads, calls and reports. What the words ask for is said by `vote_command`, and the files of a task are read, made
-//! a job of, and its end reported, by `vote_tasks`; all else is one call of `vote_runs`, which writes what is meant by the bytes
+//! The program reads, calls and reports. What the words ask for is said by `vote_job_words`, and the files of a task are read, made
+//! a job of, and its end reported, by `vote_job_files`; all else is one call of `vote_jobs`, which writes what is meant by the bytes
 //! that were read and says how the run ended.
 #![tactic(auto)]
 
-ghost use Rattle.std.specs.Prelude.{◌≡◌, ◌<◌, IfErr, IfOk, length, map};
-ghost use Rattle.vote_command.specs.Order.{DesksFit};
-ghost use Rattle.vote_tasks.specs.Doing.{EndsJoined, EndsTask, IsDone};
-ghost use Rattle.vote_tasks.specs.WordStatus.{AnswersWords};
+ghost use Rattle.std.specs.Prelude.{◌≡◌, ◌<◌, IfErr, IfOk, length};
+ghost use Rattle.vote_job_words.specs.Order.{DesksFit};
+ghost use Rattle.vote_job_words.specs.Words.{texts_of};
+ghost use Rattle.vote_job_files.specs.Doing.{EndsJoined, EndsTask, IsDone};
+ghost use Rattle.vote_job_files.specs.Jobs.{files_of};
+ghost use Rattle.vote_job_files.specs.WordStatus.{AnswersWords};
 ghost use Rattle.debvote.specs.Program.{Answers, AnswersJoined, AnswersWorded};
 
 use std::io::{ErrorKind, IsTerminal};
@@ -23,28 +25,24 @@ use std::rt::{Env, Files};
 use std::sync::Wait;
 use std::thread::Threads;
 use std::{env, io};
-use vote_command::{OrderFault, Task, order};
 use vote_desks::NoGate;
-use vote_runs::{Ended, Job, RunFault, perform_on};
-use vote_tasks::{Inputs, job_of, order_status, read_inputs, read_joined, report};
+use vote_job_files::{Inputs, job_of, order_status, read_inputs, read_joined, report};
+use vote_job_words::{OrderFault, Task, order};
+use vote_jobs::{Ended, Job, RunFault, perform_on};
 
 const TERMINAL_HINT: &str = "reading a poll and its ballots from the terminal; see debvote --help";
 
-/// Does the job of a task, whose files are read.
+/// Does the job of a task whose files are read. It is a function of its own since words and bytes stand in one job, so that they
+/// have to live equally long: here both are lent.
 fn do_job<R: Print + AllocGlobal + Threads + Wait + Sync>(
     rt: &R,
     task: &Task<'_>,
     inputs: &Inputs,
 ) -> Result<Ended, RunFault>
     requires { DesksFit task.now }
-    ensures { IsDone task.now (record { poll = inputs.now.poll.items; ballots = inputs.now.ballots.items; sheet = inputs.now.sheet.items }) result }
+    ensures { IsDone task.now (files_of inputs.now) result }
 {
-    let job = job_of(
-        task,
-        inputs.poll.as_slice(),
-        inputs.ballots.as_slice(),
-        inputs.sheet.as_slice(),
-    );
+    let job = job_of(task, inputs);
     let (_, outcome) = perform_on(rt, rt.alloc(), &job, &NoGate, io::writer(rt));
     outcome
 }
@@ -82,7 +80,7 @@ fn print_joined<R: Input + Print + AllocGlobal + Threads + Wait + Sync>(
 }
 
 /// Prints the text for words that are no task, help on standard output and a refusal on standard error, and gives the exit status.
-fn explain<R: Print + Eprint>(rt: &R, fault: &OrderFault) -> u8
+fn report_no_task<R: Print + Eprint>(rt: &R, fault: &OrderFault) -> u8
     ensures { AnswersWords fault.now result }
 {
     match fault {
@@ -107,11 +105,11 @@ fn act_on_words<R: Files + Print + Eprint + AllocGlobal + Threads + Wait + Sync>
     rt: &R,
     words: &[&str],
 ) -> u8
-    ensures { AnswersWorded (map (λ word. word.now) words.now) result }
+    ensures { AnswersWorded (texts_of words.now) result }
 {
     match order(rt.alloc(), words) {
         Ok(task) => report(rt, &carry_out(rt, &task)),
-        Err(fault) => explain(rt, &fault),
+        Err(fault) => report_no_task(rt, &fault),
     }
 }
 
@@ -122,7 +120,7 @@ fn act<R: Files + Input + Print + Eprint + AllocGlobal + Threads + Wait + Sync>(
     at_terminal: bool,
 ) -> u8
     ensures alone { length words.now ≡ 0 → AnswersJoined result }
-    ensures worded { 0 < length words.now → AnswersWorded (map (λ word. word.now) words.now) result }
+    ensures worded { 0 < length words.now → AnswersWorded (texts_of words.now) result }
 {
     if !words.is_empty() {
         return act_on_words(rt, words);
@@ -144,7 +142,7 @@ fn run_program<R: Files + Input + Print + Eprint + Env + AllocGlobal + Threads +
     let args = match env::args(rt) {
         Ok(args) => args,
         Err(error) if error.kind() == ErrorKind::InvalidData => {
-            return Ok(explain(rt, &OrderFault::NotUtf8));
+            return Ok(report_no_task(rt, &OrderFault::NotUtf8));
         }
         Err(_) => return Err(RunFault::Memory),
     };

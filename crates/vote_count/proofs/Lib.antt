@@ -13,6 +13,8 @@ pub mod Schulze
 pub mod Raising
 pub mod Clones
 pub mod Pareto
-mod PassLanes
+mod TurnLanes
+mod Turns
+mod RunningLemmas
 pub mod Determined
 mod Filled

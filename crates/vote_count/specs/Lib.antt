@@ -7,4 +7,6 @@ pub mod Rounds
 pub mod Laws
 -- what types stand for, and what private functions say of their parts
 pub mod Bits
+pub mod Rows
+pub mod Changes
 pub mod Weakest

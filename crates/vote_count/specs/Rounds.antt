@@ -85,3 +85,17 @@ pub record IsOutcome (poll : PollContent) (matrix : Votes) (outcome : VerdictSta
 pub record IsDecision (set : List Bool) (casting : Option ℕ) (decision : Decision) : Type 0 where
   pub alone : (o : ℕ) → IsAlone set o → decision ≡ Winner o
   pub several : ((o : ℕ) → ¬ IsAlone set o) → IsByCasting set casting decision
+
+-- each option of the final set is kept
+abbrev pub IsFinalSetKept : PollContent → Votes → VerdictState → Type 0
+IsFinalSetKept poll matrix verdict = (o : ℕ) → In (final_set verdict.rounds) o → IsKept poll matrix o
+
+-- the default option is in the final set exactly when no other option is kept
+abbrev pub IsDefaultFinalAlone : PollContent → Votes → VerdictState → Type 0
+IsDefaultFinalAlone poll matrix verdict =
+    let default = option_count poll in
+    In (final_set verdict.rounds) default ↔ ((o : ℕ) → IsKept poll matrix o → o ≡ default)
+
+-- if the default option is in the final set, no other is
+abbrev pub IsDefaultAlone : PollContent → VerdictState → Type 0
+IsDefaultAlone poll verdict = In (final_set verdict.rounds) (option_count poll) → IsAlone (final_set verdict.rounds) (option_count poll)

@@ -1,5 +1,5 @@
 -- The rules of the count, from Appendix A of the Constitution, Vote Counting, and for the quorum from section 4.2; that a majority can be worded as more than its ratio is this project's own. A set of options is a fact on an option, and a list of defeats a fact on two.
-use Rattle.std.specs.Prelude.{◌≡◌, ℕ, ◌*◌, ◌^◌, ◌<◌, ◌≤◌, ◌⊎◌, List, [], ◌∷◌, ◌++◌, ⊤}
+use Rattle.std.specs.Prelude.{◌≡◌, ℕ, ◌*◌, ◌^◌, ◌<◌, ◌≤◌, ◌≢◌, ◌⊎◌, ◌↔◌, List, [], ◌∷◌, ◌++◌, ⊤}
 use Rattle.vote_poll.specs.PollContent.{PollContent, elector_count, option_count, ratio_of}
 use Rattle.vote_poll.specs.declared.wording.Wording.{Wording}
 use Rattle.vote_poll.specs.declared.wording.Wording.TheVariants.{AtLeast, MoreThan}
@@ -17,6 +17,21 @@ IsQuorum poll n = MeetsQuorum poll n × ((m : ℕ) → MeetsQuorum poll m → n 
 abbrev pub IsMajority : Wording → ℕ → ℕ → ℕ → Type 0
 IsMajority AtLeast ratio won lost = (ratio * lost ≤ won) × (lost < won)
 IsMajority MoreThan ratio won lost = ratio * lost < won
+
+-- how many voters prefer an option to the default, and how many the default to it
+abbrev pub votes_for : PollContent → Votes → ℕ → ℕ
+votes_for poll matrix o = votes matrix o (option_count poll)
+
+abbrev pub votes_against : PollContent → Votes → ℕ → ℕ
+votes_against poll matrix o = votes matrix (option_count poll) o
+
+-- more voters prefer an option to the default than the default to it
+abbrev pub IsAhead : PollContent → Votes → ℕ → Type 0
+IsAhead poll matrix o = votes_against poll matrix o < votes_for poll matrix o
+
+-- each option of a set is ahead of the default, but for the default itself
+abbrev pub AreAhead : PollContent → Votes → (ℕ → Type 0) → Type 0
+AreAhead poll matrix set = (o : ℕ) → set o → o ≢ option_count poll → IsAhead poll matrix o
 
 -- A defeats the default option by A's majority ratio, in the poll's wording
 abbrev pub MeetsMajority : PollContent → Votes → ℕ → Type 0
@@ -44,10 +59,13 @@ EachDefeatsNext defeats (a ∷ b ∷ rest) = defeats a b × EachDefeatsNext defe
 abbrev pub TransitivelyDefeats : (ℕ → ℕ → Type 0) → ℕ → ℕ → Type 0
 TransitivelyDefeats defeats a c = (between : List ℕ) × EachDefeatsNext defeats (a ∷ between ++ c ∷ [])
 
+-- for each option B of a set, A transitively defeats B, or B does not transitively defeat A
+abbrev pub IsUnbeaten : (ℕ → Type 0) → (ℕ → ℕ → Type 0) → ℕ → Type 0
+IsUnbeaten options transitively_defeats a = (b : ℕ) → options b → transitively_defeats a b ⊎ ¬ transitively_defeats b a
+
 -- A is in the Schwartz set: for each option B, A transitively defeats B, or B does not transitively defeat A
 abbrev pub InSchwartzSet : (ℕ → Type 0) → (ℕ → ℕ → Type 0) → ℕ → Type 0
-InSchwartzSet options transitively_defeats a =
-    options a × ((b : ℕ) → options b → transitively_defeats a b ⊎ ¬ transitively_defeats b a)
+InSchwartzSet options transitively_defeats a = options a × IsUnbeaten options transitively_defeats a
 
 -- the defeat (A,X) is weaker than the defeat (B,Y)
 abbrev pub IsWeaker : Votes → ℕ → ℕ → ℕ → ℕ → Type 0
@@ -61,6 +79,10 @@ Within set defeats a b = defeats a b × set a × set b
 -- (A,B) is a weakest of the defeats between options of a set: no other is weaker
 abbrev pub IsWeakest : Votes → (ℕ → Type 0) → (ℕ → ℕ → Type 0) → ℕ → ℕ → Type 0
 IsWeakest matrix set defeats a b = Within set defeats a b × ((x y : ℕ) → Within set defeats x y → ¬ IsWeaker matrix x y a b)
+
+-- these are all the weakest defeats between options of a set
+abbrev pub AreWeakest : Votes → (ℕ → Type 0) → (ℕ → ℕ → Type 0) → (ℕ → ℕ → Type 0) → Type 0
+AreWeakest matrix set defeats weakest = (a b : ℕ) → weakest a b ↔ IsWeakest matrix set defeats a b
 
 -- the defeats that are left without the removed ones
 abbrev pub Without : (ℕ → ℕ → Type 0) → (ℕ → ℕ → Type 0) → ℕ → ℕ → Type 0

@@ -1,5 +1,6 @@
 -- V(A,B), the number of voters who prefer A to B (Constitution, Appendix A, Vote Counting).
-use Rattle.std.specs.Prelude.{ℕ, List, []}
+use Rattle.std.specs.Prelude.{◌≡◌, ℕ, ◌<◌, List, [], length, slice_index_or}
+use Rattle.vote_poll.specs.declared.TheConstants.{MAX_OPTIONS}
 use Rattle.vote_poll.specs.Options.{at_option}
 
 -- a matrix of votes: for each option one row, with one number for each option
@@ -10,3 +11,7 @@ pub record Votes : Type 0 where
 -- V(A,B)
 abbrev pub votes : Votes → ℕ → ℕ → ℕ
 votes matrix a b = at_option (at_option matrix.rows a []) b 0
+
+-- each row has room for as many options as a poll can have
+abbrev pub AreRows : List (List ℕ) → Type 0
+AreRows rows = (a : ℕ) → a < MAX_OPTIONS → length (slice_index_or rows a []) ≡ MAX_OPTIONS

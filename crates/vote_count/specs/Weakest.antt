@@ -1,5 +1,6 @@
--- One of the weakest defeats.
+-- One of the weakest defeats, and those that are no stronger.
 use Rattle.std.specs.Prelude.{◌≡◌, ℕ, ◌⊎◌, Option, Some, None}
+use Rattle.vote_poll.specs.Options.{IsOption}
 use Rattle.vote_count.specs.Rules.{IsWeaker}
 use Rattle.vote_count.specs.Votes.{Votes}
 
@@ -13,3 +14,15 @@ IsWeakerOf matrix defeat (Some other) result =
 abbrev pub IsOneWeakest : Votes → (ℕ → ℕ → Type 0) → Option (ℕ × ℕ) → Type 0
 IsOneWeakest matrix defeats None = (a b : ℕ) → ¬ defeats a b
 IsOneWeakest matrix defeats (Some weakest) = defeats weakest.0 weakest.1 × ((a b : ℕ) → defeats a b → ¬ IsWeaker matrix a b weakest.0 weakest.1)
+
+-- both are options
+abbrev pub AreOptions : ℕ → ℕ × ℕ → Type 0
+AreOptions options pair = IsOption options pair.0 × IsOption options pair.1
+
+-- each defeat is between options
+abbrev pub AreBetween : ℕ → (ℕ → ℕ → Type 0) → Type 0
+AreBetween options defeats = (a b : ℕ) → defeats a b → IsOption options a × IsOption options b
+
+-- (A,B) is a defeat, and one defeat is not weaker than it
+abbrev pub IsNoStronger : Votes → (ℕ → ℕ → Type 0) → ℕ × ℕ → ℕ → ℕ → Type 0
+IsNoStronger matrix defeats weakest a b = defeats a b × ¬ IsWeaker matrix weakest.0 weakest.1 a b

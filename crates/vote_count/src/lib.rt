@@ -38,6 +38,7 @@ mod options;
 mod pairs;
 mod rounds;
 mod rules;
+mod running;
 mod tally;
 
 pub use laws::{
@@ -51,4 +52,5 @@ pub use options::{OptionSet, Word};
 pub use pairs::{Chains, Defeats, reach};
 pub use rounds::{Cause, Decision, Round, Verdict, decide, outcome};
 pub use rules::{meets_majority, meets_quorum, quorum_votes, schwartz, standing_options, weakest};
+pub use running::RunningMatrix;
 pub use tally::{Matrix, recount};

@@ -3,7 +3,7 @@ ghost use Rattle.std.specs.Prelude.{◌≡◌, ℕ, ◌-◌, ◌≤◌, ◌⊎�
 ghost use Rattle.std.specs.Int.{bit_at};
 ghost use Rattle.vote_poll.specs.Options.{IsOption};
 ghost use Rattle.vote_count.specs.Rules.{PairwiseDefeats, TransitivelyDefeats, Within};
-ghost use Rattle.vote_count.specs.Sets.{has_pair, pair_count, In, Pairs};
+ghost use Rattle.vote_count.specs.Sets.{has_pair, has_other_pair, pair_count, In, Pairs};
 
 use crate::{Matrix, OptionSet, Word};
 use std::marker::Model;
@@ -128,7 +128,7 @@ impl Defeats {
 
     /// The defeats that are not among the removed ones.
     pub fn minus(&self, removed: &Self) -> Self
-        ensures { (a b : ℕ) → has_pair result a b ≡ (has_pair self.now a b && not (has_pair removed.now a b)) }
+        ensures { (a b : ℕ) → has_pair result a b ≡ has_other_pair self.now removed.now a b }
     {
         let mut rest = *self;
         for (i, row) in removed.rows.iter().enumerate() {

@@ -2,7 +2,7 @@
 ghost use Rattle.std.specs.Prelude.{◌≡◌, ℕ, ◌<◌, ◌≤◌, ◌↔◌, ◌⊎◌, IsTrue, IfOk, None, Some};
 ghost use Rattle.vote_poll.specs.Options.{IsOption};
 ghost use Rattle.vote_poll.specs.PollContent.{option_count};
-ghost use Rattle.vote_count.specs.Rounds.{AreRounds, HasCause, IsDecision, IsOutcome, cause_of, final_set};
+ghost use Rattle.vote_count.specs.Rounds.{AreRounds, HasCause, IsDecision, IsOutcome, IsFinalSetKept, IsDefaultFinalAlone, IsDefaultAlone, cause_of, final_set};
 ghost use Rattle.vote_count.specs.Rules.{IsKept, IsQuorum};
 ghost use Rattle.vote_count.specs.Sets.{In, Pairs, IsAlone};
 
@@ -69,7 +69,7 @@ fn rounds_of(
 ) -> Result<Vec<Round>, AllocError>
     requires few { matrix.now.options ≤ MAX_OPTIONS }
     requires standing { (o : ℕ) → In standing.now o → IsOption matrix.now.options o }
-    ensures { IfOk result (λ rounds. AreRounds (In standing.now) matrix.now (Pairs defeats) rounds.items) }
+    ensures { IfOk result (λ r. AreRounds (In standing.now) matrix.now (Pairs defeats) r.items) }
 {
     let mut rounds = Vec::new(alloc);
     loop {
@@ -113,9 +113,9 @@ pub fn outcome(alloc: Global, poll: &Poll, matrix: &Matrix) -> Result<Verdict, A
 
     // The final set is never empty, and has no dropped option. The default is in it exactly where no other option is kept, and then it is alone.
     ensures some { IfOk result (λ verdict. (o : ℕ) × In (final_set verdict.rounds) o) }
-    ensures kept { IfOk result (λ verdict. (o : ℕ) → In (final_set verdict.rounds) o → IsKept poll.now matrix.now o) }
-    ensures default { IfOk result (λ verdict. In (final_set verdict.rounds) (option_count poll.now) ↔ ((o : ℕ) → IsKept poll.now matrix.now o → o ≡ option_count poll.now)) }
-    ensures default_alone { IfOk result (λ verdict. In (final_set verdict.rounds) (option_count poll.now) → IsAlone (final_set verdict.rounds) (option_count poll.now)) }
+    ensures kept { IfOk result (IsFinalSetKept poll.now matrix.now) }
+    ensures default { IfOk result (IsDefaultFinalAlone poll.now matrix.now) }
+    ensures default_alone { IfOk result (IsDefaultAlone poll.now) }
 {
     let quorum = quorum_votes(poll);
     let standing = kept_with(poll, matrix, quorum);

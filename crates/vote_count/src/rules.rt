@@ -2,8 +2,8 @@
 ghost use Rattle.std.specs.Prelude.{◌≡◌, ◌≢◌, ℕ, ◌^◌, ◌≤◌, ◌<◌, ◌↔◌, ◌⊎◌, IsTrue, IfSome};
 ghost use Rattle.vote_poll.specs.Options.{IsOption};
 ghost use Rattle.vote_poll.specs.PollContent.{option_count};
-ghost use Rattle.vote_count.specs.Rules.{MeetsQuorum, IsQuorum, MeetsMajority, IsKept, InSchwartzSet, IsWeaker, IsWeakest};
-ghost use Rattle.vote_count.specs.Weakest.{IsWeakerOf, IsOneWeakest};
+ghost use Rattle.vote_count.specs.Rules.{MeetsQuorum, IsQuorum, MeetsMajority, IsKept, IsAhead, AreAhead, IsUnbeaten, InSchwartzSet, IsWeaker, AreWeakest, votes_for};
+ghost use Rattle.vote_count.specs.Weakest.{IsWeakerOf, IsOneWeakest, IsNoStronger, AreOptions, AreBetween};
 ghost use Rattle.vote_count.specs.Sets.{In, Pairs};
 ghost use Rattle.vote_count.specs.Votes.{votes};
 
@@ -32,7 +32,7 @@ pub fn meets_quorum(poll: &Poll, matrix: &Matrix, option: u8) -> bool
     requires options { matrix.now.options ≡ option_count poll.now }
     requires first { 1 ≤ option }
     requires below_default { option < option_count poll.now }
-    ensures { IsTrue result ↔ MeetsQuorum poll.now (votes matrix.now option (option_count poll.now)) }
+    ensures { IsTrue result ↔ MeetsQuorum poll.now (votes_for poll.now matrix.now option) }
 {
     has_quorum(poll, matrix, option, quorum_votes(poll))
 }
@@ -43,7 +43,7 @@ pub(crate) fn has_quorum(poll: &Poll, matrix: &Matrix, option: u8, quorum: u64) 
     requires first { 1 ≤ option }
     requires below_default { option < option_count poll.now }
     requires quorum { IsQuorum poll.now quorum }
-    ensures { IsTrue result ↔ MeetsQuorum poll.now (votes matrix.now option (option_count poll.now)) }
+    ensures { IsTrue result ↔ MeetsQuorum poll.now (votes_for poll.now matrix.now option) }
 {
     u64::from(matrix.votes(option, poll.options())) >= quorum
 }
@@ -56,7 +56,7 @@ pub fn meets_majority(poll: &Poll, matrix: &Matrix, option: u8) -> bool
     requires first { 1 ≤ option }
     requires below_default { option < option_count poll.now }
     ensures majority { IsTrue result ↔ MeetsMajority poll.now matrix.now option }
-    ensures more { IsTrue result → votes matrix.now (option_count poll.now) option < votes matrix.now option (option_count poll.now) }
+    ensures more { IsTrue result → IsAhead poll.now matrix.now option }
 {
     let default = poll.options();
     let won = u64::from(matrix.votes(option, default));
@@ -83,7 +83,7 @@ pub(crate) fn kept_with(poll: &Poll, matrix: &Matrix, quorum: u64) -> OptionSet
     requires options { matrix.now.options ≡ option_count poll.now }
     requires quorum { IsQuorum poll.now quorum }
     ensures kept { (o : ℕ) → In result o ↔ IsKept poll.now matrix.now o }
-    ensures more { (o : ℕ) → In result o → o ≢ option_count poll.now → votes matrix.now (option_count poll.now) o < votes matrix.now o (option_count poll.now) }
+    ensures more { AreAhead poll.now matrix.now (In result) }
 {
     let default = poll.options();
     let mut standing = OptionSet::empty();
@@ -106,7 +106,7 @@ fn is_beaten_by(chains: &Chains, a: u8, b: u8) -> bool
 // Whether `a` transitively defeats each option of the set that transitively defeats it.
 fn is_unbeaten(set: &OptionSet, chains: &Chains, a: u8) -> bool
     requires { (o : ℕ) → In set.now o → IsOption MAX_OPTIONS o }
-    ensures { IsTrue result ↔ ((b : ℕ) → In set.now b → Pairs chains.now a b ⊎ ¬ Pairs chains.now b a) }
+    ensures { IsTrue result ↔ IsUnbeaten (In set.now) (Pairs chains.now) a }
 {
     for b in 1..set.last() + 1 {
         if set.has(b) && is_beaten_by(chains, a, b) {
@@ -133,8 +133,8 @@ pub fn schwartz(set: &OptionSet, chains: &Chains) -> OptionSet
 
 // Whether a defeat is weaker than another. Each is an option and one that it defeats.
 fn is_weaker(matrix: &Matrix, defeat: (u8, u8), other: (u8, u8)) -> bool
-    requires defeat { IsOption matrix.now.options defeat.0 × IsOption matrix.now.options defeat.1 }
-    requires other { IsOption matrix.now.options other.0 × IsOption matrix.now.options other.1 }
+    requires defeat { AreOptions matrix.now.options defeat }
+    requires other { AreOptions matrix.now.options other }
     ensures { IsTrue result ↔ IsWeaker matrix.now defeat.0 defeat.1 other.0 other.1 }
 {
     let won = matrix.votes(defeat.0, defeat.1);
@@ -146,8 +146,8 @@ fn is_weaker(matrix: &Matrix, defeat: (u8, u8), other: (u8, u8)) -> bool
 
 // The weaker one of a defeat and the weakest one so far.
 fn weaker_of(matrix: &Matrix, defeat: (u8, u8), so_far: Option<(u8, u8)>) -> (u8, u8)
-    requires defeat { IsOption matrix.now.options defeat.0 × IsOption matrix.now.options defeat.1 }
-    requires so_far { IfSome so_far (λ other. IsOption matrix.now.options other.0 × IsOption matrix.now.options other.1) }
+    requires defeat { AreOptions matrix.now.options defeat }
+    requires so_far { IfSome so_far (AreOptions matrix.now.options) }
     ensures { IsWeakerOf matrix.now defeat so_far result }
 {
     match so_far {
@@ -158,7 +158,7 @@ fn weaker_of(matrix: &Matrix, defeat: (u8, u8), so_far: Option<(u8, u8)>) -> (u8
 
 // One of the weakest defeats, if there is a defeat.
 fn one_weakest(defeats: &Defeats, matrix: &Matrix) -> Option<(u8, u8)>
-    requires { (a b : ℕ) → Pairs defeats.now a b → IsOption matrix.now.options a × IsOption matrix.now.options b }
+    requires { AreBetween matrix.now.options (Pairs defeats.now) }
     ensures { IsOneWeakest matrix.now (Pairs defeats.now) result }
 {
     let mut weakest = None;
@@ -175,17 +175,17 @@ fn one_weakest(defeats: &Defeats, matrix: &Matrix) -> Option<(u8, u8)>
 // Whether a pair is one of the defeats and no stronger than this one.
 fn is_no_stronger(matrix: &Matrix, defeats: &Defeats, pair: (u8, u8), weakest: (u8, u8)) -> bool
     requires pair { IsOption matrix.now.options pair.0 × IsOption matrix.now.options pair.1 }
-    requires weakest { IsOption matrix.now.options weakest.0 × IsOption matrix.now.options weakest.1 }
-    ensures { IsTrue result ↔ (Pairs defeats.now pair.0 pair.1 × ¬ IsWeaker matrix.now weakest.0 weakest.1 pair.0 pair.1) }
+    requires weakest { AreOptions matrix.now.options weakest }
+    ensures { IsTrue result ↔ IsNoStronger matrix.now (Pairs defeats.now) weakest pair.0 pair.1 }
 {
     defeats.has(pair.0, pair.1) && !is_weaker(matrix, weakest, pair)
 }
 
 // The defeats that are no stronger than this one.
 fn no_stronger_than(weakest: (u8, u8), defeats: &Defeats, matrix: &Matrix) -> Defeats
-    requires weakest { IsOption matrix.now.options weakest.0 × IsOption matrix.now.options weakest.1 }
-    requires defeats { (a b : ℕ) → Pairs defeats.now a b → IsOption matrix.now.options a × IsOption matrix.now.options b }
-    ensures { (a b : ℕ) → Pairs result a b ↔ (Pairs defeats.now a b × ¬ IsWeaker matrix.now weakest.0 weakest.1 a b) }
+    requires weakest { AreOptions matrix.now.options weakest }
+    requires defeats { AreBetween matrix.now.options (Pairs defeats.now) }
+    ensures { (a b : ℕ) → Pairs result a b ↔ IsNoStronger matrix.now (Pairs defeats.now) weakest a b }
 {
     let mut found = Defeats::empty();
     for a in 1..matrix.options() + 1 {
@@ -204,7 +204,7 @@ fn no_stronger_than(weakest: (u8, u8), defeats: &Defeats, matrix: &Matrix) -> De
 /// with more votes against it.
 pub fn weakest(set: &OptionSet, defeats: &Defeats, matrix: &Matrix) -> Defeats
     requires { (o : ℕ) → In set.now o → IsOption matrix.now.options o }
-    ensures { (a b : ℕ) → Pairs result a b ↔ IsWeakest matrix.now (In set.now) (Pairs defeats.now) a b }
+    ensures { AreWeakest matrix.now (In set.now) (Pairs defeats.now) (Pairs result) }
 {
     let inside = defeats.within(set);
     match one_weakest(&inside, matrix) {

@@ -8,7 +8,7 @@ use Rattle.std.proofs.lemmas.List.{get_or-take, get_or_append_left, length-appen
 use Rattle.std.proofs.lemmas.List.Quantifiers.{position-Some}
 use Rattle.vote_poll.specs.PollContent.{PollContent}
 use Rattle.vote_poll.specs.Readings.{readings}
-use Rattle.vote_shared.specs.declared.Slip.{Slip}
+use Rattle.vote_desks_box.specs.declared.Slip.{Slip}
 use Rattle.vote_desks.specs.declared.fault.AuditFault.{AuditFault}
 use Rattle.vote_desks.specs.declared.fault.AuditFault.TheVariants.{SizeDiffers, CountDiffers, StepDiffers, SlipDiffers, ClosedEarly}
 use Rattle.vote_steps.specs.declared.Step.{Step}
@@ -16,8 +16,8 @@ use Rattle.vote_steps.specs.declared.Step.TheVariants.{Cast, Close}
 use Rattle.vote_steps.specs.History.{is_close, is_closed, before_close}
 use Rattle.vote_steps.specs.Boxes.{BoxState, IsLegal, MayFollow}
 use Rattle.vote_steps.specs.Recasts.{HasOwnReading}
-use Rattle.vote_shared.specs.Slips.{slips}
-use Rattle.vote_shared.specs.Desks.{sheet_at}
+use Rattle.vote_desks_box.specs.Slips.{slips}
+use Rattle.vote_desks_box.specs.Desks.{sheet_at}
 use Rattle.vote_desks.specs.Comparing.{HasDesk, HasEnvelope}
 use Rattle.vote_steps.specs.Casting.{HasOwnReadings}
 use Rattle.vote_desks.specs.Audit.{HasSlips, IsAudited, DiffersFirst, PartAt, SheetDiffers, IsEarlyClose, IsFaultOf}

@@ -8,9 +8,9 @@ use Rattle.std.proofs.lemmas.List.FromFn.{length-range_with_len, get_or-range_wi
 use Rattle.std.specs.List.Sorted.{IsPermutation}
 use Rattle.std.proofs.lemmas.List.Sorted.{sum_by-IsPermutation, All-permutation}
 use Rattle.vote_tray.specs.Passes.{TrayId, PassState, new_pass, joined}
-use Rattle.vote_shared.specs.declared.Slip.{Slip}
-use Rattle.vote_shared.specs.Slips.{Rises}
-use Rattle.vote_shared.specs.Desks.{DeskState, IsLater, fresh_desk}
+use Rattle.vote_desks_box.specs.declared.Slip.{Slip}
+use Rattle.vote_desks_box.specs.Slips.{Rises}
+use Rattle.vote_desks_box.specs.Desks.{DeskState, IsLater, fresh_desk}
 use Rattle.vote_poll.specs.PollContent.{PollContent}
 use Rattle.vote_steps.specs.Boxes.{BoxState, box_of}
 use Rattle.vote_steps.specs.Casting.{HasSizes}

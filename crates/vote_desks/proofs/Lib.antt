@@ -1,7 +1,7 @@
 pub mod AuditLemmas
 pub mod StretchLemmas
 pub mod CountLemmas
-pub mod RunLemmas
+pub mod BatchLemmas
 pub mod Joined
 pub mod SlipLemmas
 pub mod BackLemmas

@@ -8,13 +8,13 @@ use Rattle.std.proofs.lemmas.List.{append-nil, take-append-le, take_all, length-
 use Rattle.std.proofs.lemmas.Grind.{get_or-set_at}
 use Rattle.std.proofs.lemmas.Option.{slice_get_within, get_or_from_slice_get}
 use Rattle.vote_poll.specs.declared.Reading.{Reading}
-use Rattle.vote_shared.specs.declared.Slip.{Slip}
+use Rattle.vote_desks_box.specs.declared.Slip.{Slip}
 use Rattle.vote_desks.specs.declared.sheets.Compared.{Compared}
 use Rattle.vote_steps.specs.declared.Reply.{Reply}
 use Rattle.vote_steps.specs.declared.Step.{Step}
 use Rattle.vote_steps.specs.declared.Step.TheVariants.{Cast, Close}
-use Rattle.vote_shared.specs.Slips.{slip_of, slips_from, slips}
-use Rattle.vote_shared.specs.Desks.{sheet_at}
+use Rattle.vote_desks_box.specs.Slips.{slip_of, slips_from, slips}
+use Rattle.vote_desks_box.specs.Desks.{sheet_at}
 use Rattle.vote_desks.specs.Comparing.{AgreesWith, AgreeWith, compared_at}
 
 -- lists

@@ -5,19 +5,18 @@ use Rattle.std.proofs.lemmas.Bool.{cases_lt}
 use Rattle.std.proofs.lemmas.List.{get_or-map, length-map}
 use Rattle.vote_poll.specs.PollContent.{PollContent}
 use Rattle.vote_steps.specs.History.{is_cast}
-use Rattle.vote_steps.specs.Boxes.{BoxState}
 use Rattle.vote_steps.specs.Casting.{HasSizes}
-use Rattle.vote_shared.specs.declared.Slip.{Slip}
+use Rattle.vote_desks_box.specs.Desks.{SealedState}
 use Rattle.vote_desks.specs.declared.fault.AuditFault.TheVariants.{SizeDiffers, CountDiffers, StepDiffers, SlipDiffers, ClosedEarly}
 use Rattle.vote_desks.specs.declared.fault.VoteFault.{VoteFault}
 use Rattle.vote_desks.specs.declared.fault.VoteFault.TheVariants.{Memory, Thread, Gate, Enter, Desk, Audit}
 use Rattle.vote_desks.specs.declared.worked.Stop.{Stop}
 use Rattle.vote_desks.specs.declared.worked.Stop.TheVariants.{Barred, Refused}
-use Rattle.vote_shared.specs.declared.EnterFault.{EnterFault}
-use Rattle.vote_shared.specs.declared.EnterFault.TheVariants.{StampUsed}
+use Rattle.vote_desks_box.specs.declared.EnterFault.{EnterFault}
+use Rattle.vote_desks_box.specs.declared.EnterFault.TheVariants.{StampUsed}
 use Rattle.vote_desks.specs.Faults.{CanStopVotes, IsOfDesk, IsAuditFaultOf}
 use Rattle.vote_desks.specs.Stops.{stop_fault, IsLeastStop}
-use Rattle.vote_shared.proofs.Ranges.{at_range}
+use Rattle.vote_desks_box.proofs.Ranges.{at_range}
 
 -- desks that are numbered in order, of which the first at this place stopped early
 pub least_stop : {W : Type 0} (desk : W → ℕ) (stopped : W → Option Stop) (all : List W) (k : ℕ) (w : W) (stop : Stop) (fault : VoteFault)
@@ -56,25 +55,25 @@ of_desk desks desk Barred low high = (low, high)
 of_desk desks desk (Refused fault) low high = (low, high)
 
 -- an audit finds neither of these two in a box with the sizes of the poll and a cast for each line
-pub can_stop_audit : (poll : PollContent) (lines : List (List ℕ)) (b : BoxState) (sheets : List (List Slip)) (fault : VoteFault)
-    → HasSizes poll lines b → count_by is_cast b.steps ≡ length lines → IsAuditFaultOf poll lines b sheets fault → CanStopVotes fault
-can_stop_audit poll lines b sheets Memory sizes casts found = tt
-can_stop_audit poll lines b sheets Thread sizes casts found = tt
-can_stop_audit poll lines b sheets (Gate desk) sizes casts found = tt
-can_stop_audit poll lines b sheets (Enter desk fault) sizes casts found = absurd found
-can_stop_audit poll lines b sheets (Desk fault) sizes casts found = found
-can_stop_audit poll lines b sheets (Audit SizeDiffers) sizes casts found = absurd (found sizes)
-can_stop_audit poll lines b sheets (Audit CountDiffers) sizes casts found = absurd (found.1 casts)
-can_stop_audit poll lines b sheets (Audit (StepDiffers number)) sizes casts found = (λ e. cc, λ e. cc)
-can_stop_audit poll lines b sheets (Audit (SlipDiffers desk place)) sizes casts found = (λ e. cc, λ e. cc)
-can_stop_audit poll lines b sheets (Audit (ClosedEarly number)) sizes casts found = (λ e. cc, λ e. cc)
+pub can_stop_audit : (poll : PollContent) (lines : List (List ℕ)) (s : SealedState) (fault : VoteFault)
+    → HasSizes poll lines s.ballot_box → count_by is_cast s.ballot_box.steps ≡ length lines → IsAuditFaultOf poll lines s fault → CanStopVotes fault
+can_stop_audit poll lines s Memory sizes casts found = tt
+can_stop_audit poll lines s Thread sizes casts found = tt
+can_stop_audit poll lines s (Gate desk) sizes casts found = tt
+can_stop_audit poll lines s (Enter desk fault) sizes casts found = absurd found
+can_stop_audit poll lines s (Desk fault) sizes casts found = found
+can_stop_audit poll lines s (Audit SizeDiffers) sizes casts found = absurd (found sizes)
+can_stop_audit poll lines s (Audit CountDiffers) sizes casts found = absurd (found.1 casts)
+can_stop_audit poll lines s (Audit (StepDiffers number)) sizes casts found = (λ e. cc, λ e. cc)
+can_stop_audit poll lines s (Audit (SlipDiffers desk place)) sizes casts found = (λ e. cc, λ e. cc)
+can_stop_audit poll lines s (Audit (ClosedEarly number)) sizes casts found = (λ e. cc, λ e. cc)
 
 -- what an audit finds is of no one desk
-pub audit_of_desk : (desks : ℕ) (poll : PollContent) (lines : List (List ℕ)) (b : BoxState) (sheets : List (List Slip)) (fault : VoteFault)
-    → IsAuditFaultOf poll lines b sheets fault → IsOfDesk desks fault
-audit_of_desk desks poll lines b sheets Memory found = tt
-audit_of_desk desks poll lines b sheets Thread found = tt
-audit_of_desk desks poll lines b sheets (Gate desk) found = absurd found
-audit_of_desk desks poll lines b sheets (Enter desk fault) found = absurd found
-audit_of_desk desks poll lines b sheets (Desk fault) found = tt
-audit_of_desk desks poll lines b sheets (Audit fault) found = tt
+pub audit_of_desk : (desks : ℕ) (poll : PollContent) (lines : List (List ℕ)) (s : SealedState) (fault : VoteFault)
+    → IsAuditFaultOf poll lines s fault → IsOfDesk desks fault
+audit_of_desk desks poll lines s Memory found = tt
+audit_of_desk desks poll lines s Thread found = tt
+audit_of_desk desks poll lines s (Gate desk) found = absurd found
+audit_of_desk desks poll lines s (Enter desk fault) found = absurd found
+audit_of_desk desks poll lines s (Desk fault) found = tt
+audit_of_desk desks poll lines s (Audit fault) found = tt

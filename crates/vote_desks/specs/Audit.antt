@@ -1,8 +1,8 @@
 -- What an audit finds.
-use Rattle.std.specs.Prelude.{◌≡◌, ◌≢◌, ℕ, ◌+◌, ◌<◌, ◌≤◌, List, ◌∷◌, ◌++◌, length, take, slice_get, count_by}
+use Rattle.std.specs.Prelude.{◌≡◌, ◌≢◌, ℕ, ◌+◌, ◌<◌, ◌≤◌, ◌↔◌, List, ◌∷◌, ◌++◌, Option, Result, Err, MatchOption, length, take, slice_get, count_by}
 use Rattle.vote_poll.specs.PollContent.{PollContent}
 use Rattle.vote_poll.specs.Readings.{readings}
-use Rattle.vote_shared.specs.declared.Slip.{Slip}
+use Rattle.vote_desks_box.specs.declared.Slip.{Slip}
 use Rattle.vote_desks.specs.declared.fault.AuditFault.{AuditFault}
 use Rattle.vote_desks.specs.declared.fault.AuditFault.TheVariants.{SizeDiffers, CountDiffers, StepDiffers, SlipDiffers, ClosedEarly}
 use Rattle.vote_steps.specs.declared.TheConstants.{MAX_DESKS}
@@ -11,8 +11,8 @@ use Rattle.vote_steps.specs.History.{is_cast, before_close}
 use Rattle.vote_steps.specs.Boxes.{BoxState}
 use Rattle.vote_steps.specs.Recasts.{HasOwnReading}
 use Rattle.vote_steps.specs.Casting.{HasOwnReadings, HasSizes, HoldsLines}
-use Rattle.vote_shared.specs.Slips.{slips}
-use Rattle.vote_shared.specs.Desks.{sheet_at}
+use Rattle.vote_desks_box.specs.Slips.{slips}
+use Rattle.vote_desks_box.specs.Desks.{SealedState, sheet_at}
 
 -- the sheet of each desk is the slips of its casts
 abbrev pub HasSlips : List Step → List (List Slip) → Type 0
@@ -23,6 +23,10 @@ pub record IsAudited (poll : PollContent) (lines : List (List ℕ)) (b : BoxStat
   pub holds : HoldsLines poll lines b
   pub sheets_are : HasSlips b.steps sheets
 
+-- a sealed box is audited for a poll and its lines
+abbrev pub IsAuditedFor : PollContent → List (List ℕ) → SealedState → Type 0
+IsAuditedFor poll lines s = IsAudited poll lines s.ballot_box s.sheets
+
 -- the step of this number is the first cast with another reading than its line
 pub record DiffersFirst (poll : PollContent) (lines : List (List ℕ)) (steps : List Step) (number : ℕ) : Type 0 where
   pub before : List Step
@@ -32,6 +36,10 @@ pub record DiffersFirst (poll : PollContent) (lines : List (List ℕ)) (steps : 
   pub number_is : number ≡ length before + 1
   pub so_far : HasOwnReadings poll lines before
   pub differs : ¬ HasOwnReading (readings poll lines) step
+
+-- each cast has the reading of its line, or this is the number of the first that has another one
+abbrev pub FindsReading : Option ℕ → PollContent → List (List ℕ) → List Step → Type 0
+FindsReading found poll lines steps = MatchOption found (HasOwnReadings poll lines steps) (DiffersFirst poll lines steps)
 
 -- two sheets differ first at this place, counted from 1; one may have ended there
 pub record PartAt (sheet other : List Slip) (place : ℕ) : Type 0 where
@@ -46,11 +54,15 @@ pub record SheetDiffers (steps : List Step) (sheets : List (List Slip)) (desk pl
   pub others : (other : ℕ) → 1 ≤ other → other < desk → sheet_at sheets other ≡ slips steps other
   pub part : PartAt (sheet_at sheets desk) (slips steps desk) place
 
+-- each sheet is the slips of its desk's casts, or this is the first desk where it is not, with the first place where they differ
+abbrev pub FindsSheet : Option (ℕ × ℕ) → List Step → List (List Slip) → Type 0
+FindsSheet found steps sheets = MatchOption found (HasSlips steps sheets) (λ at. SheetDiffers steps sheets at.0 at.1)
+
 -- the close has this number, and steps come after it
 abbrev pub IsEarlyClose : List Step → ℕ → Type 0
 IsEarlyClose steps number = (number ≡ length (before_close steps) + 1) × (number < length steps)
 
--- where each fault is found: what those before it test is as it should be
+-- where each fault is found: all earlier tests passed
 abbrev pub IsFaultOf : PollContent → List (List ℕ) → BoxState → List (List Slip) → AuditFault → Type 0
 IsFaultOf poll lines b sheets SizeDiffers = ¬ HasSizes poll lines b
 IsFaultOf poll lines b sheets CountDiffers = HasSizes poll lines b × (count_by is_cast b.steps ≢ length lines)
@@ -60,3 +72,7 @@ IsFaultOf poll lines b sheets (SlipDiffers desk place) =
     HasSizes poll lines b × (count_by is_cast b.steps ≡ length lines) × HasOwnReadings poll lines b.steps × SheetDiffers b.steps sheets desk place
 IsFaultOf poll lines b sheets (ClosedEarly number) =
     HasSizes poll lines b × (count_by is_cast b.steps ≡ length lines) × HasOwnReadings poll lines b.steps × HasSlips b.steps sheets × IsEarlyClose b.steps number
+
+-- the call fails exactly when there is a fault, and returns that one
+abbrev pub FindsFault : {A : Type 0} → Result A AuditFault → PollContent → List (List ℕ) → BoxState → List (List Slip) → Type 0
+FindsFault result poll lines b sheets = (fault : AuditFault) → (result ≡ Err fault) ↔ IsFaultOf poll lines b sheets fault

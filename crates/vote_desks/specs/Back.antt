@@ -2,8 +2,8 @@
 use Rattle.std.specs.Prelude.{◌≡◌, ℕ, ◌+◌, List, [], ◌∷◌, length, map, sum_by, All}
 use Rattle.std.specs.List.{range_with_len}
 use Rattle.vote_tray.specs.Passes.{TrayId, PassState}
-use Rattle.vote_shared.specs.Slips.{Rises}
-use Rattle.vote_shared.specs.Desks.{DeskState}
+use Rattle.vote_desks_box.specs.Slips.{Rises}
+use Rattle.vote_desks_box.specs.Desks.{DeskState}
 use Rattle.vote_desks.specs.Work.{HasCastAll}
 
 -- the desks and passes come from n on in order, and have emptied the tray
@@ -12,6 +12,10 @@ AreBackFrom tray n [] = Unit {0}
 AreBackFrom tray n (back ∷ others) =
     (back.0.number ≡ n + 1) × (back.1.tray ≡ tray) × (back.1.parts ≡ n ∷ []) × HasCastAll back.0 back.1 × AreBackFrom tray (n + 1) others
 
+-- how many envelopes these desks have cast
+abbrev pub casts_at : List DeskState → ℕ
+casts_at desks = sum_by (λ desk. length desk.slips) desks
+
 -- the first n desks, and the pass that their passes were joined into
 pub record AreHandedIn (tray : TrayId) (n : ℕ) (desks : List DeskState) (pass : PassState) : Type 0 where
   pub numbers : map (λ desk. desk.number) desks ≡ range_with_len 1 n
@@ -19,4 +23,8 @@ pub record AreHandedIn (tray : TrayId) (n : ℕ) (desks : List DeskState) (pass 
   pub its_tray : pass.tray ≡ tray
   pub parts : pass.parts ≡ range_with_len 0 n
   pub emptied : pass.seen ≡ tray.size
-  pub cast : sum_by (λ desk. length desk.slips) desks ≡ length pass.places
+  pub cast : casts_at desks ≡ length pass.places
+
+-- all desks, and the pass that all passes were joined into
+abbrev pub AreAllHandedIn : TrayId → List DeskState → PassState → Type 0
+AreAllHandedIn tray desks pass = AreHandedIn tray tray.passes desks pass

@@ -1,12 +1,13 @@
 -- How far the sheets of the desks were compared with the slips of their casts.
-use Rattle.std.specs.Prelude.{◌≡◌, ◌≢◌, ℕ, ◌-◌, ◌<◌, ◌≤◌, true, false, List, length, take, slice_get, slice_index_or}
-use Rattle.vote_shared.specs.declared.Slip.{Slip}
+use Rattle.std.specs.Prelude.{◌≡◌, ◌≢◌, ℕ, ◌-◌, ◌+◌, ◌<◌, ◌≤◌, true, false, List, [], ◌∷◌, ◌++◌, Option, MatchOption, length, take, slice_get, slice_index_or}
+use Rattle.vote_desks_box.specs.declared.Slip.{Slip}
 use Rattle.vote_desks.specs.declared.sheets.Compared.{Compared}
 use Rattle.vote_steps.specs.declared.TheConstants.{MAX_DESKS}
 use Rattle.vote_steps.specs.declared.Step.{Step}
 use Rattle.vote_steps.specs.declared.Step.TheVariants.{Cast, Close}
-use Rattle.vote_shared.specs.Slips.{slips}
-use Rattle.vote_shared.specs.Desks.{sheet_at}
+use Rattle.vote_desks_box.specs.Slips.{slips}
+use Rattle.vote_desks_box.specs.Desks.{sheet_at}
+use Rattle.vote_desks.specs.Audit.{PartAt}
 
 -- a cast is of one of the desks
 abbrev pub HasDesk : Step → Type 0
@@ -25,6 +26,14 @@ pub record AgreesWith (sheet casts : List Slip) (at : Compared) : Type 0 where
   pub all : at.differs ≡ false → length casts ≡ at.alike
   pub part : at.differs ≡ true → (at.alike < length casts) × (slice_get sheet at.alike ≢ slice_get casts at.alike)
 
+-- whatever the casts gave so far, what is known of them is known with this slip too
+abbrev pub AgreesWithOneMore : List Slip → Compared → Slip → Compared → Type 0
+AgreesWithOneMore sheet before slip at = (casts : List Slip) → AgreesWith sheet casts before → AgreesWith sheet (casts ++ slip ∷ []) at
+
+-- whatever the casts gave, they gave this sheet, or this is the first place, from 1, where it differs from what they gave
+abbrev pub FindsPlace : Option ℕ → List Slip → Compared → Type 0
+FindsPlace found sheet at = (casts : List Slip) → AgreesWith sheet casts at → MatchOption found (sheet ≡ casts) (PartAt sheet casts)
+
 -- nothing was compared yet
 abbrev pub nothing_compared : Compared
 nothing_compared = record { alike = 0; differs = false }
@@ -40,3 +49,8 @@ AreWithin sheets compared = (desk : ℕ) → 1 ≤ desk → desk ≤ MAX_DESKS �
 -- the sheets were compared with the slips of these steps
 abbrev pub AgreeWith : List (List Slip) → List Step → List Compared → Type 0
 AgreeWith sheets steps compared = (desk : ℕ) → 1 ≤ desk → desk ≤ MAX_DESKS → AgreesWith (sheet_at sheets desk) (slips steps desk) (compared_at compared desk)
+
+-- whatever steps were compared so far, what is known of them is known with this step too, which has this number
+abbrev pub AgreeWithOneMore : List (List Slip) → List Compared → ℕ → Step → List Compared → Type 0
+AgreeWithOneMore sheets before number step compared =
+    (steps : List Step) → length steps + 1 ≡ number → AgreeWith sheets steps before → AgreeWith sheets (steps ++ step ∷ []) compared

@@ -1,9 +1,8 @@
 -- Which faults can come where.
 use Rattle.std.specs.Prelude.{◌≡◌, ◌≢◌, ◌≤◌, ◌⊎◌, ℕ, List}
 use Rattle.vote_poll.specs.PollContent.{PollContent}
-use Rattle.vote_steps.specs.Boxes.{BoxState}
-use Rattle.vote_shared.specs.declared.Slip.{Slip}
-use Rattle.vote_shared.specs.declared.EnterFault.TheVariants.{StampUsed}
+use Rattle.vote_desks_box.specs.Desks.{SealedState}
+use Rattle.vote_desks_box.specs.declared.EnterFault.TheVariants.{StampUsed}
 use Rattle.vote_desks.specs.declared.fault.AuditFault.TheVariants.{SizeDiffers, CountDiffers}
 use Rattle.vote_desks.specs.declared.fault.VoteFault.{VoteFault}
 use Rattle.vote_desks.specs.declared.fault.VoteFault.TheVariants.{Memory, Thread, Gate, Enter, Desk, Audit}
@@ -32,11 +31,11 @@ IsOfDesk desks (Audit fault) = Unit {0}
 abbrev pub IsStartFault : VoteFault → Type 0
 IsStartFault fault = (fault ≡ Memory) ⊎ (fault ≡ Thread)
 
--- the audit of a box and its sheets finds this, and nothing else is answered
-abbrev pub IsAuditFaultOf : PollContent → List (List ℕ) → BoxState → List (List Slip) → VoteFault → Type 0
-IsAuditFaultOf poll lines b sheets Memory = ⊥
-IsAuditFaultOf poll lines b sheets Thread = ⊥
-IsAuditFaultOf poll lines b sheets (Gate desk) = ⊥
-IsAuditFaultOf poll lines b sheets (Enter desk fault) = ⊥
-IsAuditFaultOf poll lines b sheets (Desk fault) = ⊥
-IsAuditFaultOf poll lines b sheets (Audit fault) = IsFaultOf poll lines b sheets fault
+-- the audit of a sealed box finds this, and nothing else is returned
+abbrev pub IsAuditFaultOf : PollContent → List (List ℕ) → SealedState → VoteFault → Type 0
+IsAuditFaultOf poll lines s Memory = ⊥
+IsAuditFaultOf poll lines s Thread = ⊥
+IsAuditFaultOf poll lines s (Gate desk) = ⊥
+IsAuditFaultOf poll lines s (Enter desk fault) = ⊥
+IsAuditFaultOf poll lines s (Desk fault) = ⊥
+IsAuditFaultOf poll lines s (Audit fault) = IsFaultOf poll lines s.ballot_box s.sheets fault

@@ -7,5 +7,6 @@ pub mod Standing
 -- what private functions say of their parts
 pub mod Comparing
 pub mod Work
+pub mod Workers
 pub mod Back
 pub mod Stops

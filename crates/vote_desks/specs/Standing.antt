@@ -2,7 +2,7 @@
 use Rattle.std.specs.Prelude.{◌≡◌, ℕ, List, take}
 use Rattle.vote_poll.specs.PollContent.{PollContent}
 use Rattle.vote_poll.specs.Readings.{readings}
-use Rattle.vote_shared.specs.declared.Slip.{Slip}
+use Rattle.vote_desks_box.specs.declared.Slip.{Slip}
 use Rattle.vote_steps.specs.History.{standing_ranks}
 use Rattle.vote_steps.specs.Boxes.{BoxState}
 use Rattle.vote_steps.specs.Recasts.{last_ballot}

@@ -1,11 +1,17 @@
--- Which desk's early stop is answered.
+-- Why desks stop early, and which stop is told.
 use Rattle.std.specs.Prelude.{◌≡◌, ℕ, ◌≤◌, ◌⊎◌, List, Option, Some, None, All, Contains}
+use Rattle.vote_desks_box.specs.declared.EnterFault.{EnterFault}
+use Rattle.vote_desks_box.specs.declared.EnterFault.TheVariants.{StampUsed}
 use Rattle.vote_desks.specs.declared.worked.Stop.{Stop}
 use Rattle.vote_desks.specs.declared.worked.Stop.TheVariants.{Barred, Refused}
 use Rattle.vote_desks.specs.declared.fault.VoteFault.{VoteFault}
 use Rattle.vote_desks.specs.declared.fault.VoteFault.TheVariants.{Memory, Gate, Enter}
 
--- the fault that a desk's early stop is answered by
+-- a cast was refused only because its stamp was used
+abbrev pub IsRefusedAsUsed : Option Stop → Type 0
+IsRefusedAsUsed stopped = (fault : EnterFault) → stopped ≡ Some (Refused fault) → fault ≡ StampUsed
+
+-- the fault that tells a desk's early stop
 abbrev pub stop_fault : ℕ → Stop → VoteFault
 stop_fault desk Barred = Gate desk
 stop_fault desk (Refused fault) = Enter desk fault

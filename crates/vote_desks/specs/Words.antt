@@ -1,6 +1,6 @@
 -- What the fault line says where the votes are not taken.
 use Rattle.std.specs.Prelude.{ℕ, ◌++◌, List, codes, decimal}
-use Rattle.vote_shared.specs.declared.fault.DeskFault.TheVariants as gathering
+use Rattle.vote_desks_box.specs.declared.fault.DeskFault.TheVariants as gathering
 use Rattle.vote_desks.specs.declared.fault.VoteFault.{VoteFault}
 use Rattle.vote_desks.specs.declared.fault.VoteFault.TheVariants.{Memory, Thread, Gate, Enter, Desk, Audit}
 

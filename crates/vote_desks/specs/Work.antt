@@ -1,19 +1,28 @@
 -- What a worker is given, and what it gives back.
-use Rattle.std.specs.Prelude.{◌≡◌, ℕ, ◌+◌, ◌≤◌, List, [], map, length, All}
+use Rattle.std.specs.Prelude.{◌≡◌, ℕ, ◌+◌, ◌≤◌, List, [], ◌++◌, map, length, All}
+use Rattle.std.specs.List.{range_with_len}
 use Rattle.std.specs.List.Sorted.{IsStrictlyIncreasing}
-use Rattle.vote_tray.specs.Passes.{TrayId, PassState}
-use Rattle.vote_shared.specs.Slips.{Rises, stamps_of}
-use Rattle.vote_shared.specs.Desks.{DeskState}
+use Rattle.vote_tray.specs.Passes.{TrayId, PassState, new_pass}
+use Rattle.vote_desks_box.specs.Slips.{Rises, stamps_of}
+use Rattle.vote_desks_box.specs.Desks.{DeskState}
 
 -- a desk with room for as many slips as there are lines, and no slip yet
 pub record IsFresh (lines : ℕ) (desk : DeskState) : Type 0 where
   pub room : desk.limit ≡ lines
   pub empty : desk.slips ≡ []
 
+-- the passes of a new tray
+abbrev pub new_passes : TrayId → List PassState
+new_passes tray = map (new_pass tray) (range_with_len 0 tray.passes)
+
 -- a pass of this tray that has taken nothing
 pub record IsUnused (tray : TrayId) (pass : PassState) : Type 0 where
   pub its_tray : pass.tray ≡ tray
   pub empty : pass.places ≡ []
+
+-- the desk has cast these envelopes since, in this order
+abbrev pub HasCast : DeskState → List ℕ → DeskState → Type 0
+HasCast before stamps desk = stamps_of desk.slips ≡ stamps_of before.slips ++ stamps
 
 -- the desk has cast the envelopes of the places that its pass took, in order, and the tray is empty
 pub record HasCastAll (desk : DeskState) (pass : PassState) : Type 0 where

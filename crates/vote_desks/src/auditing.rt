@@ -1,21 +1,21 @@
 //! Reading the lines once more, and comparing them with what the desks did.
-ghost use Rattle.std.specs.Prelude.{◌≡◌, ◌≤◌, ◌↔◌, Err, length, map, count_by, position, vec_items, IsTrue, IsOk, IfOk, MatchOption, All};
+ghost use Rattle.std.specs.Prelude.{◌≡◌, ◌≤◌, ◌↔◌, length, count_by, position, IsTrue, IsOk, IfOk, All};
 ghost use Rattle.std.specs.Thread.{IsSync};
 ghost use Rattle.vote_poll.specs.Readings.{readings};
 ghost use Rattle.vote_steps.specs.History.{is_cast, is_close, is_closed};
 ghost use Rattle.vote_steps.specs.Recasts.{HasOwnReading};
-ghost use Rattle.vote_steps.specs.Casting.{HasSizes, HasOwnReadings};
-ghost use Rattle.vote_shared.specs.Desks.{sheet_at};
+ghost use Rattle.vote_steps.specs.Casting.{HasSizes};
+ghost use Rattle.vote_desks_box.specs.Desks.{sheet_at, slips_on};
 ghost use Rattle.vote_desks.specs.Comparing.{HasEnvelope};
-ghost use Rattle.vote_desks.specs.Audit.{IsAudited, DiffersFirst, IsFaultOf};
+ghost use Rattle.vote_desks.specs.Audit.{FindsFault, FindsReading, IsAudited};
 
 use crate::fault::AuditFault;
 use crate::sheets::first_other_sheet;
 use std::marker::Model;
 use std::thread;
 use std::thread::Threads;
+use vote_desks_box::{Sealed, Slip};
 use vote_poll::{Lines, Poll, is_reading};
-use vote_shared::{Sealed, Slip};
 use vote_steps::laws::closes_once;
 use vote_steps::{BallotBox, MAX_DESKS, Step};
 
@@ -51,10 +51,10 @@ fn has_own_reading(poll: &Poll, lines: &Lines<'_>, step: &Step) -> bool
     }
 }
 
-/// The number of the first step that has not the reading of its line.
+/// The number of the first step that does not have the reading of its line.
 fn first_other_reading(poll: &Poll, lines: &Lines<'_>, steps: &[Step]) -> Option<u64>
     requires { All (HasEnvelope (length lines.now)) steps.now }
-    ensures { MatchOption result (HasOwnReadings poll.now lines.now steps.now) (DiffersFirst poll.now lines.now steps.now) }
+    ensures { FindsReading result poll.now lines.now steps.now }
 {
     for (place, step) in steps.iter().enumerate() {
         if !has_own_reading(poll, lines, step) {
@@ -64,12 +64,15 @@ fn first_other_reading(poll: &Poll, lines: &Lines<'_>, steps: &[Step]) -> Option
     None
 }
 
-/// The fewest steps for which a thread is started: a start takes about as long as to compare some hundred steps.
+/// The fewest steps for which a thread is started: a start takes about as long as to compare some
+/// hundred steps.
 const STRETCH: usize = 2_000;
 
-/// The number of the first step that has not the reading of its line, found by this many threads.
+/// The number of the first step that does not have the reading of its line, found by this many
+/// threads.
 ///
-/// Each thread takes a stretch of the steps, and the calling thread is one of them. It takes all that no thread can be had for.
+/// Each thread takes a stretch of the steps, and the calling thread is one of them. If no thread
+/// can be started, the caller does that share itself.
 #[cycle(stretches)]
 fn first_other_reading_by<R: Threads + Sync>(
     rt: &R,
@@ -79,7 +82,7 @@ fn first_other_reading_by<R: Threads + Sync>(
     threads: usize,
 ) -> Option<u64>
     requires { All (HasEnvelope (length lines.now)) steps.now }
-    ensures { MatchOption result (HasOwnReadings poll.now lines.now steps.now) (DiffersFirst poll.now lines.now steps.now) }
+    ensures { FindsReading result poll.now lines.now steps.now }
 {
     if threads < 2 || steps.len() < 2 * STRETCH {
         return first_other_reading(poll, lines, steps);
@@ -89,11 +92,11 @@ fn first_other_reading_by<R: Threads + Sync>(
     let (front, back) = steps.split_at(steps.len() / threads * low);
     let left = move || -> Option<u64>
         requires { IsSync R.row × All (HasEnvelope (length lines.now)) front.now }
-        ensures { MatchOption result (HasOwnReadings poll.entry.now lines.entry.now front.entry.now) (DiffersFirst poll.entry.now lines.entry.now front.entry.now) }
+        ensures { FindsReading result poll.entry.now lines.entry.now front.entry.now }
     { first_other_reading_by(rt, poll, lines, front, low) };
     let right = move || -> Option<u64>
         requires { IsSync R.row × All (HasEnvelope (length lines.now)) back.now }
-        ensures { MatchOption result (HasOwnReadings poll.entry.now lines.entry.now back.entry.now) (DiffersFirst poll.entry.now lines.entry.now back.entry.now) }
+        ensures { FindsReading result poll.entry.now lines.entry.now back.entry.now }
     { first_other_reading_by(rt, poll, lines, back, high) };
     let (first, second) = thread::join(rt, left, right);
     match (first, second) {
@@ -103,7 +106,8 @@ fn first_other_reading_by<R: Threads + Sync>(
     }
 }
 
-/// The place of the close. It is mostly the last, so that is where it is looked for first: a box is closed once.
+/// The place of the close. A box is closed once, mostly at the end, so the last place is looked at
+/// first.
 fn close_place(ballot_box: &BallotBox) -> Option<usize>
     ensures { result ≡ position is_close ballot_box.now.steps }
 {
@@ -115,9 +119,11 @@ fn close_place(ballot_box: &BallotBox) -> Option<usize>
     steps.iter().position(|step| matches!(step, Step::Close))
 }
 
-/// Compares a closed box and the sheets of its desks, that of desk `d` at place `d - 1`, with the lines.
+/// Compares a closed box and the sheets of its desks, that of desk `d` at place `d - 1`, with the
+/// lines.
 ///
-/// Each line is read once, and the steps are gone through once for each kind of fault. It takes no memory.
+/// Each line is read once, and the steps are gone through once for each kind of fault. It takes no
+/// memory.
 pub fn compare<R: Threads + Sync>(
     rt: &R,
     poll: &Poll,
@@ -127,8 +133,8 @@ pub fn compare<R: Threads + Sync>(
 ) -> Result<(), AuditFault>
     requires closed { IsTrue (is_closed ballot_box.now.steps) }
     requires sheets { length sheets.now ≤ MAX_DESKS }
-    ensures ok { IsOk result ↔ IsAudited poll.now lines.now ballot_box.now (map vec_items sheets.now) }
-    ensures fault { (fault : AuditFault) → (result ≡ Err fault) ↔ IsFaultOf poll.now lines.now ballot_box.now (map vec_items sheets.now) fault }
+    ensures ok { IsOk result ↔ IsAudited poll.now lines.now ballot_box.now (slips_on sheets.now) }
+    ensures fault { FindsFault result poll.now lines.now ballot_box.now (slips_on sheets.now) }
 {
     if !has_sizes(poll, lines, ballot_box) {
         return Err(AuditFault::SizeDiffers);
@@ -156,7 +162,7 @@ pub struct Audited {
 }
 
 impl Model for Audited {
-    ghost use Rattle.vote_shared.specs.Desks.{SealedState};
+    ghost use Rattle.vote_desks_box.specs.Desks.{SealedState};
 
     ghost Value = { SealedState };
 
@@ -191,7 +197,8 @@ impl Audited {
     }
 }
 
-/// Compares a sealed box and its sheets with the lines, as `compare` does. On a fault the sealed box is given up.
+/// Compares a sealed box and its sheets with the lines, as `compare` does. On a fault the sealed
+/// box is given up.
 pub fn audit<R: Threads + Sync>(
     rt: &R,
     poll: &Poll,
@@ -200,7 +207,7 @@ pub fn audit<R: Threads + Sync>(
 ) -> Result<Audited, AuditFault>
     ensures same { IfOk result (λ audited. audited ≡ sealed) }
     ensures ok { IsOk result ↔ IsAudited poll.now lines.now sealed.ballot_box sealed.sheets }
-    ensures fault { (fault : AuditFault) → (result ≡ Err fault) ↔ IsFaultOf poll.now lines.now sealed.ballot_box sealed.sheets fault }
+    ensures fault { FindsFault result poll.now lines.now sealed.ballot_box sealed.sheets }
 {
     match compare(rt, poll, lines, sealed.ballot_box(), sealed.sheets()) {
         Ok(()) => Ok(Audited { sealed }),

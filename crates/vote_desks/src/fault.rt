@@ -5,18 +5,21 @@ ghost use Rattle.vote_desks.specs.declared.fault.VoteFault.TheVariants.{Memory};
 use std::alloc::{AllocError, AllocFailed};
 use std::error::Error;
 use std::fmt;
-use vote_shared::{DeskFault, EnterFault};
+use vote_desks_box::{DeskFault, EnterFault};
 
-/// Where a box and its sheets are not what the lines give. Steps, and the slips of a sheet, are counted from 1.
+/// Where a box and its sheets are not what the lines give. Steps, and the slips of a sheet, are
+/// counted from 1.
 #[derive(Clone, Copy, Debug, PartialEq, Eq)]
 pub enum AuditFault {
-    /// The box has not the poll's numbers of options and electors or its last envelope, or its limit is not the number of lines.
+    /// The box does not have the poll's numbers of options and electors or its last envelope, or
+    /// its limit is not the number of lines.
     SizeDiffers,
-    /// The box has not as many casts as there are lines.
+    /// The box does not have as many casts as there are lines.
     CountDiffers,
-    /// This step is the first cast that has not the reading of the line with its stamp.
+    /// This step is the first cast that does not have the reading of the line with its stamp.
     StepDiffers(u64),
-    /// This desk is the least whose sheet is not the slips of its casts, and this is where the two first differ.
+    /// This desk is the least whose sheet is not the slips of its casts, and this is where the two
+    /// first differ.
     SlipDiffers(u8, u64),
     /// This step is the close, and it is not the last.
     ClosedEarly(u64),
@@ -31,11 +34,13 @@ pub enum VoteFault {
     Thread,
     /// The gate stopped a worker, and this desk is the least that stopped early.
     Gate(u8),
-    /// A cast was refused, and this desk is the least that stopped early. `take_votes` answers it with `StampUsed` alone.
+    /// A cast was refused, and this desk is the least that stopped early. `take_votes` returns it
+    /// with `StampUsed` alone.
     Enter(u8, EnterFault),
-    /// The desks could not be gathered. `take_votes` never answers this.
+    /// The desks could not be gathered. `take_votes` never returns this.
     Desk(DeskFault),
-    /// The box is not what the lines give. `take_votes` answers neither `SizeDiffers` nor `CountDiffers`.
+    /// The box is not what the lines give. `take_votes` returns neither `SizeDiffers` nor
+    /// `CountDiffers`.
     Audit(AuditFault),
 }
 

@@ -2,7 +2,7 @@
 ghost use Rattle.std.specs.Prelude.{IsTrue};
 
 use crate::work::Gate;
-use vote_shared::Slip;
+use vote_desks_box::Slip;
 
 /// Lets every envelope pass.
 pub struct NoGate;

@@ -1,10 +1,10 @@
 //! Comparing the sheets of all desks with the slips of their casts, in one pass over the steps.
-ghost use Rattle.std.specs.Prelude.{◌≡◌, ◌+◌, ◌^◌, ◌<◌, ◌≤◌, ◌↔◌, ◌∷◌, ◌++◌, [], length, map, slice_get, Some, vec_items, IsTrue, MatchOption, All, List};
-ghost use Rattle.vote_shared.specs.Desks.{sheet_at};
-ghost use Rattle.vote_desks.specs.Audit.{HasSlips, PartAt, SheetDiffers};
-ghost use Rattle.vote_desks.specs.Comparing.{AgreesWith, AgreeWith, AreWithin, HasDesk};
+ghost use Rattle.std.specs.Prelude.{◌≡◌, ◌^◌, ◌<◌, ◌≤◌, ◌↔◌, length, slice_get, Some, IsTrue, All};
+ghost use Rattle.vote_desks_box.specs.Desks.{sheet_at, slips_on};
+ghost use Rattle.vote_desks.specs.Audit.{FindsSheet};
+ghost use Rattle.vote_desks.specs.Comparing.{AgreeWith, AgreeWithOneMore, AgreesWithOneMore, AreWithin, FindsPlace, HasDesk};
 
-use vote_shared::Slip;
+use vote_desks_box::Slip;
 use vote_steps::{MAX_DESKS, Step};
 
 /// How many desks a box can have, as the length of an array.
@@ -15,7 +15,7 @@ const ALL_DESKS: usize = MAX_DESKS as usize;
 pub(crate) struct Compared {
     /// How many slips are alike, from the first on.
     pub alike: usize,
-    /// Whether the casts gave a slip after these that the sheet has not there.
+    /// Whether the next slip cast is missing from the sheet, or is another one.
     pub differs: bool,
 }
 
@@ -23,7 +23,7 @@ impl Compared {
     /// What is known once the casts have given one more slip.
     fn with(self, sheet: &[Slip], slip: &Slip) -> Compared
         requires { self.alike ≤ length sheet.now }
-        ensures { (casts : List Slip) → AgreesWith sheet.now casts self → AgreesWith sheet.now (casts ++ slip.now ∷ []) result }
+        ensures { AgreesWithOneMore sheet.now self slip.now result }
     {
         if self.differs {
             return self;
@@ -44,7 +44,7 @@ impl Compared {
     /// The first place, from 1, at which the sheet is not what the casts gave.
     fn first_other(self, sheet: &[Slip]) -> Option<u64>
         requires { self.alike ≤ length sheet.now }
-        ensures { (casts : List Slip) → AgreesWith sheet.now casts self → MatchOption result (sheet.now ≡ casts) (PartAt sheet.now casts) }
+        ensures { FindsPlace result sheet.now self }
     {
         if self.differs || self.alike < sheet.len() {
             Some(self.alike as u64 + 1)
@@ -64,7 +64,7 @@ fn has_slip(sheet: &[Slip], place: usize, slip: &Slip) -> bool
 /// The sheet of a desk, which is empty where there is none.
 fn sheet_of(sheets: &[Vec<Slip>], desk: u8) -> &[Slip]
     requires { 1 ≤ desk }
-    ensures { result.now ≡ sheet_at (map vec_items sheets.now) desk }
+    ensures { result.now ≡ sheet_at (slips_on sheets.now) desk }
 {
     match sheets.get(usize::from(desk) - 1) {
         Some(sheet) => sheet.as_slice(),
@@ -75,9 +75,9 @@ fn sheet_of(sheets: &[Vec<Slip>], desk: u8) -> &[Slip]
 /// Compares the slip that a step gives with the sheet of its desk.
 fn compare_step(compared: &mut [Compared], sheets: &[Vec<Slip>], number: u32, step: &Step)
     requires all { length compared.old ≡ MAX_DESKS }
-    requires within { AreWithin (map vec_items sheets.now) compared.old }
+    requires within { AreWithin (slips_on sheets.now) compared.old }
     requires desk { HasDesk step.now }
-    ensures { (before : List Step) → length before + 1 ≡ number → AgreeWith (map vec_items sheets.now) before compared.old → AgreeWith (map vec_items sheets.now) (before ++ step.now ∷ []) compared.new }
+    ensures { AgreeWithOneMore (slips_on sheets.now) compared.old number step.now compared.new }
 {
     let Step::Cast {
         desk,
@@ -101,7 +101,7 @@ fn compare_step(compared: &mut [Compared], sheets: &[Vec<Slip>], number: u32, st
 fn compare_steps(steps: &[Step], sheets: &[Vec<Slip>]) -> [Compared; ALL_DESKS]
     requires few { length steps.now < 2 ^ 32 }
     requires desks { All HasDesk steps.now }
-    ensures { AgreeWith (map vec_items sheets.now) steps.now result }
+    ensures { AgreeWith (slips_on sheets.now) steps.now result }
 {
     let mut compared = [Compared {
         alike: 0,
@@ -113,11 +113,12 @@ fn compare_steps(steps: &[Step], sheets: &[Vec<Slip>]) -> [Compared; ALL_DESKS]
     compared
 }
 
-/// The least desk whose sheet is not the slips of its casts, and the first place, from 1, where they differ.
+/// The least desk whose sheet is not the slips of its casts, and the first place, from 1, where
+/// they differ.
 pub(crate) fn first_other_sheet(steps: &[Step], sheets: &[Vec<Slip>]) -> Option<(u8, u64)>
     requires few { length steps.now < 2 ^ 32 }
     requires desks { All HasDesk steps.now }
-    ensures { MatchOption result (HasSlips steps.now (map vec_items sheets.now)) (λ at. SheetDiffers steps.now (map vec_items sheets.now) at.0 at.1) }
+    ensures { FindsSheet result steps.now (slips_on sheets.now) }
 {
     let compared = compare_steps(steps, sheets);
     for desk in 1..=MAX_DESKS {

@@ -1,15 +1,16 @@
 //! Taking the votes of all lines.
-ghost use Rattle.std.specs.Prelude.{◌≡◌, ◌<◌, ◌≤◌, [], IfOk, IfErr, IfSome, IsNone, All, None, length, map, sum_by, vec_len};
+ghost use Rattle.std.specs.Prelude.{◌≡◌, ◌<◌, [], IfOk, IfErr, IfSome, IsNone, All, None, length, map, vec_len};
 ghost use Rattle.std.specs.List.{range_with_len};
 ghost use Rattle.vote_steps.specs.Boxes.{box_of};
-ghost use Rattle.vote_tray.specs.Passes.{new_pass};
-ghost use Rattle.vote_shared.specs.Slips.{Rises};
-ghost use Rattle.vote_shared.specs.Desks.{fresh_desk};
-ghost use Rattle.vote_desks.specs.Audit.{IsAudited};
-ghost use Rattle.vote_desks.specs.Back.{AreBackFrom, AreHandedIn};
+ghost use Rattle.vote_steps.specs.Desks.{AreDesks};
+ghost use Rattle.vote_desks_box.specs.Slips.{Rises};
+ghost use Rattle.vote_desks_box.specs.Desks.{fresh_desks};
+ghost use Rattle.vote_desks.specs.Audit.{IsAuditedFor};
+ghost use Rattle.vote_desks.specs.Back.{AreAllHandedIn, AreBackFrom, casts_at};
 ghost use Rattle.vote_desks.specs.Stops.{stop_fault, IsLeastStop, StopsWorkers};
 ghost use Rattle.vote_desks.specs.Faults.{CanStopVotes, IsOfDesk, IsAuditFaultOf};
-ghost use Rattle.vote_desks.specs.Work.{tray_and_parts};
+ghost use Rattle.vote_desks.specs.Work.{new_passes, tray_and_parts};
+ghost use Rattle.vote_desks.specs.Workers.{numbers_back, numbers_of, pairs_back, parts_back, stops_back};
 
 use crate::auditing::{Audited, audit};
 use crate::fault::VoteFault;
@@ -20,12 +21,12 @@ use std::marker::Brand;
 use std::sync::ledger::Blank;
 use std::sync::{Mutex, Wait};
 use std::thread::Threads;
+use vote_desks_box::{Desk, DeskFault, Sealed, SharedBox, Tally, gather, open_desks};
 use vote_poll::{Lines, Poll};
-use vote_shared::{Desk, DeskFault, Sealed, SharedBox, Tally, gather, open_desks};
 use vote_steps::MAX_DESKS;
 use vote_tray::{Pass, Tray, TrayFault};
 
-/// The fault by which a desk's early stop is answered.
+/// The fault that tells a desk's early stop.
 fn stop_fault(desk: u8, stop: Stop) -> VoteFault
     ensures { result ≡ stop_fault desk stop }
 {
@@ -37,8 +38,8 @@ fn stop_fault(desk: u8, stop: Stop) -> VoteFault
 
 /// The fault of the least desk that stopped early.
 fn first_stop<VL: Tally, RL: Tally>(all: &[WorkerResult<VL, RL>]) -> Option<VoteFault>
-    requires { map (λ worked. worked.desk.number) all.now ≡ range_with_len 1 (length all.now) }
-    ensures some { IfSome result (IsLeastStop (map (λ worked. (worked.desk.number, worked.stopped)) all.now)) }
+    requires { numbers_back all.now ≡ range_with_len 1 (length all.now) }
+    ensures some { IfSome result (IsLeastStop (stops_back all.now)) }
     ensures can { IfSome result CanStopVotes }
     ensures desk { IfSome result (IsOfDesk (length all.now)) }
     ensures none { IsNone result → All (λ worked. worked.stopped ≡ None) all.now }
@@ -58,8 +59,8 @@ fn hand_in<VL: Tally, RL: Tally>(
     all: Vec<WorkerResult<VL, RL>>,
 ) -> Result<(Vec<Desk<VL, RL>>, Pass), VoteFault>
     requires all { (0 < vec_len all) × (vec_len all ≡ tray.now.passes) }
-    requires back { AreBackFrom tray.now 0 (map (λ worked. (worked.desk, worked.pass)) all.items) }
-    ensures handed { IfOk result (λ handed. AreHandedIn tray.now tray.now.passes handed.0.items handed.1) }
+    requires back { AreBackFrom tray.now 0 (pairs_back all.items) }
+    ensures handed { IfOk result (λ handed. AreAllHandedIn tray.now handed.0.items handed.1) }
     ensures err { IfErr result (λ fault. fault ≡ VoteFault.Memory) }
 {
     let mut all = all.into_iter();
@@ -76,17 +77,18 @@ fn hand_in<VL: Tally, RL: Tally>(
     Ok((desks, joined))
 }
 
-/// Takes the desks back from their workers, with one pass that all passes were joined into, unless a desk stopped early.
+/// Takes the desks back from their workers, with one pass that all passes were joined into, unless
+/// a desk stopped early.
 fn take_back<VL: Tally, RL: Tally>(
     alloc: Global,
     tray: &Tray,
     all: Vec<WorkerResult<VL, RL>>,
 ) -> Result<(Vec<Desk<VL, RL>>, Pass), VoteFault>
     requires some { 0 < tray.now.passes }
-    requires numbers { map (λ worked. worked.desk.number) all.items ≡ range_with_len 1 tray.now.passes }
-    requires passes { map (λ worked. tray_and_parts worked.pass) all.items ≡ map tray_and_parts (map (new_pass tray.now) (range_with_len 0 tray.now.passes)) }
-    ensures handed { IfOk result (λ handed. AreHandedIn tray.now tray.now.passes handed.0.items handed.1) }
-    ensures stops { IfErr result (StopsWorkers (map (λ worked. (worked.desk.number, worked.stopped)) all.items)) }
+    requires numbers { numbers_back all.items ≡ range_with_len 1 tray.now.passes }
+    requires passes { parts_back all.items ≡ map tray_and_parts (new_passes tray.now) }
+    ensures handed { IfOk result (λ handed. AreAllHandedIn tray.now handed.0.items handed.1) }
+    ensures stops { IfErr result (StopsWorkers (stops_back all.items)) }
     ensures fault { IfErr result CanStopVotes }
     ensures desk { IfErr result (IsOfDesk tray.now.passes) }
 {
@@ -96,7 +98,8 @@ fn take_back<VL: Tally, RL: Tally>(
     hand_in(alloc, tray, all)
 }
 
-/// Has the desks cast all envelopes of the tray, and takes them back with one pass that all passes were joined into.
+/// Has the desks cast all envelopes of the tray, and takes them back with one pass that all passes
+/// were joined into.
 fn cast_all<
     VL: Tally + Send + Sync,
     RL: Tally + Send + Sync,
@@ -109,10 +112,12 @@ fn cast_all<
     desks: Vec<Desk<VL, RL>>,
     passes: Vec<Pass>,
 ) -> Result<(Vec<Desk<VL, RL>>, Pass), VoteFault>
-    requires some { (0 < vec_len desks) × (vec_len desks ≡ workplace.now.tray.now.passes) × (vec_len passes ≡ vec_len desks) }
-    requires desks { desks.items ≡ map (fresh_desk (length workplace.now.lines.now)) (range_with_len 1 workplace.now.tray.now.passes) }
-    requires passes { passes.items ≡ map (new_pass workplace.now.tray.now) (range_with_len 0 workplace.now.tray.now.passes) }
-    ensures handed { IfOk result (λ handed. AreHandedIn workplace.now.tray.now workplace.now.tray.now.passes handed.0.items handed.1) }
+    requires some { 0 < vec_len desks }
+    requires each { vec_len desks ≡ workplace.now.tray.now.passes }
+    requires same { vec_len passes ≡ vec_len desks }
+    requires desks { desks.items ≡ fresh_desks (length workplace.now.lines.now) (vec_len desks) }
+    requires passes { passes.items ≡ new_passes workplace.now.tray.now }
+    ensures handed { IfOk result (λ all. AreAllHandedIn workplace.now.tray.now all.0.items all.1) }
     ensures fault { IfErr result CanStopVotes }
     ensures desk { IfErr result (IsOfDesk workplace.now.tray.now.passes) }
 {
@@ -136,12 +141,13 @@ fn cast_lines<
     opened: Vec<Desk<VL, RL>>,
     desks: u8,
 ) -> Result<Vec<Desk<VL, RL>>, VoteFault>
-    requires desks { (1 ≤ desks) × (desks ≤ MAX_DESKS) × (vec_len opened ≡ desks) }
+    requires desks { AreDesks desks }
+    requires opened { vec_len opened ≡ desks }
     requires box_is { shared.now.opened ≡ box_of poll.now (length lines.now) [] }
-    requires fresh { opened.items ≡ map (fresh_desk (length lines.now)) (range_with_len 1 desks) }
-    ensures numbers { IfOk result (λ back. map (λ desk. desk.number) back.items ≡ range_with_len 1 desks) }
+    requires fresh { opened.items ≡ fresh_desks (length lines.now) desks }
+    ensures numbers { IfOk result (λ back. numbers_of back.items ≡ range_with_len 1 desks) }
     ensures rising { IfOk result (λ back. All (λ desk. Rises desk.slips) back.items) }
-    ensures cast { IfOk result (λ back. sum_by (λ desk. length desk.slips) back.items ≡ length lines.now) }
+    ensures cast { IfOk result (λ back. casts_at back.items ≡ length lines.now) }
     ensures fault { IfErr result CanStopVotes }
     ensures desk { IfErr result (IsOfDesk desks) }
 {
@@ -175,8 +181,8 @@ fn audit_votes<R: Threads + Sync>(
     sealed: Sealed,
 ) -> Result<Audited, VoteFault>
     ensures same { IfOk result (λ audited. audited ≡ sealed) }
-    ensures audited { IfOk result (λ audited. IsAudited poll.now lines.now audited.ballot_box audited.sheets) }
-    ensures fault { IfErr result (IsAuditFaultOf poll.now lines.now sealed.ballot_box sealed.sheets) }
+    ensures audited { IfOk result (IsAuditedFor poll.now lines.now) }
+    ensures fault { IfErr result (IsAuditFaultOf poll.now lines.now sealed) }
 {
     match audit(rt, poll, lines, sealed) {
         Ok(audited) => Ok(audited),
@@ -196,10 +202,10 @@ fn gather_and_audit<VL: Tally, RL: Tally, R: Threads + Sync>(
     requires valid { VL.desks ≡ VL.parts }
     requires refused { RL.desks ≡ RL.parts }
     requires opened { shared.opened ≡ box_of poll.now (length lines.now) [] }
-    requires numbers { map (λ desk. desk.number) desks.items ≡ range_with_len 1 shared.desks }
+    requires numbers { numbers_of desks.items ≡ range_with_len 1 shared.desks }
     requires rising { All (λ desk. Rises desk.slips) desks.items }
-    requires cast { sum_by (λ desk. length desk.slips) desks.items ≡ length lines.now }
-    ensures audited { IfOk result (λ audited. IsAudited poll.now lines.now audited.ballot_box audited.sheets) }
+    requires cast { casts_at desks.items ≡ length lines.now }
+    ensures audited { IfOk result (IsAuditedFor poll.now lines.now) }
     ensures desks { IfOk result (λ audited. length audited.sheets ≡ shared.desks) }
     ensures rising { IfOk result (λ audited. All Rises audited.sheets) }
     ensures fault { IfErr result CanStopVotes }
@@ -229,11 +235,13 @@ fn serve<
     valid: Blank,
     refused: Blank,
 ) -> Result<Audited, VoteFault>
-    requires desks { (1 ≤ desks) × (desks ≤ MAX_DESKS) }
-    requires valid { (valid.name ≡ VL.name) × (valid.parts ≡ VL.parts) × (VL.parts ≡ desks) × (VL.desks ≡ desks) }
-    requires refused { (refused.name ≡ RL.name) × (refused.parts ≡ RL.parts) × (RL.parts ≡ desks) × (RL.desks ≡ desks) }
+    requires desks { AreDesks desks }
+    requires valid { (valid.name ≡ VL.name) × (valid.parts ≡ VL.parts) }
+    requires valid_desks { (VL.parts ≡ desks) × (VL.desks ≡ desks) }
+    requires refused { (refused.name ≡ RL.name) × (refused.parts ≡ RL.parts) }
+    requires refused_desks { (RL.parts ≡ desks) × (RL.desks ≡ desks) }
     requires opened { VL.opened ≡ box_of poll.now (length lines.now) [] }
-    ensures audited { IfOk result (λ audited. IsAudited poll.now lines.now audited.ballot_box audited.sheets) }
+    ensures audited { IfOk result (IsAuditedFor poll.now lines.now) }
     ensures desks { IfOk result (λ audited. length audited.sheets ≡ desks) }
     ensures rising { IfOk result (λ audited. All Rises audited.sheets) }
     ensures fault { IfErr result CanStopVotes }
@@ -250,9 +258,10 @@ fn serve<
 
 /// Takes the votes of all lines at desks 1 to `desks`, each served in a thread of its own.
 ///
-/// The box takes stamps 1 to the number of lines, and the workers take the lines from one tray, so each line is cast once. A
-/// worker whose gate bars an envelope, or whose cast is refused, stops; the others go on. When all have ended, the desks are gathered
-/// and each line is read once more. The first fault in the order of `VoteFault` is answered, but `Memory` may come at any growth.
+/// The box takes stamps 1 to the number of lines, and the workers take the lines from one tray, so
+/// each line is cast once. A worker whose gate bars an envelope, or whose cast is refused, stops;
+/// the others go on. When all have ended, the desks are gathered and each line is read once more.
+/// The first fault in the order of `VoteFault` is returned, but `Memory` may come at any growth.
 pub fn take_votes<G: Gate + Sync, R: Threads + Wait + Sync>(
     rt: &R,
     alloc: Global,
@@ -261,8 +270,8 @@ pub fn take_votes<G: Gate + Sync, R: Threads + Wait + Sync>(
     desks: u8,
     gate: &G,
 ) -> Result<Audited, VoteFault>
-    requires { (1 ≤ desks) × (desks ≤ MAX_DESKS) }
-    ensures audited { IfOk result (λ audited. IsAudited poll.now lines.now audited.ballot_box audited.sheets) }
+    requires { AreDesks desks }
+    ensures audited { IfOk result (IsAuditedFor poll.now lines.now) }
     ensures desks { IfOk result (λ audited. length audited.sheets ≡ desks) }
     ensures rising { IfOk result (λ audited. All Rises audited.sheets) }
     ensures fault { IfErr result CanStopVotes }

@@ -1,42 +1,46 @@
 //! Workers, each of which serves a desk in a thread of its own.
-ghost use Rattle.std.specs.Prelude.{◌≡◌, ◌+◌, ◌<◌, ◌≤◌, ◌^◌, ◌++◌, [], None, Ok, Some, All, IsNone, IsTrue, IfOk, IfErr, map, length, vec_len};
+ghost use Rattle.std.specs.Prelude.{◌≡◌, ◌+◌, ◌<◌, ◌≤◌, ◌^◌, [], None, Ok, Some, All, IsNone, IsTrue, IfOk, IfErr, map, length, vec_len};
 ghost use Rattle.std.specs.List.{AllByRecursion};
 ghost use Rattle.vote_steps.specs.Boxes.{box_of};
-ghost use Rattle.vote_shared.specs.Slips.{stamps_of};
-ghost use Rattle.vote_shared.specs.Desks.{FitsBox};
-ghost use Rattle.vote_desks.specs.Work.{HasCastAll, IsFresh, IsStampOf, IsUnused, tray_and_parts};
+ghost use Rattle.vote_desks_box.specs.Desks.{FitsBox};
+ghost use Rattle.vote_desks.specs.Work.{HasCast, HasCastAll, IsFresh, IsStampOf, IsUnused, tray_and_parts};
+ghost use Rattle.vote_desks.specs.Workers.{desks_promised, numbers_back, numbers_of, parts_back, parts_promised, passes_promised};
+ghost use Rattle.vote_desks.specs.Stops.{IsRefusedAsUsed};
 ghost use Rattle.vote_desks.specs.Faults.{IsStartFault};
 
+use crate::batch::{BATCH, batch_length, read_batch, take_batch};
 use crate::fault::VoteFault;
-use crate::run::{RUN, read_run, run_length, take_run};
 use crate::worked::{Stop, WorkerResult};
 use std::alloc::Global;
 use std::snapshot::Snapshot;
 use std::sync::{Mutex, Wait};
 use std::thread;
 use std::thread::{Promise, PromisedHandle, Scope, SpawnError, Threads};
+use vote_desks_box::{Desk, EnterFault, SharedBox, Slip, Tally};
 use vote_poll::{LineFault, Lines, Poll, Reading};
-use vote_shared::{Desk, EnterFault, SharedBox, Slip, Tally};
 use vote_tray::{Pass, Tray};
 
-/// Lets envelopes pass to the box, or stops their desks. All workers share it, and the box is not locked while it is asked.
+/// Lets envelopes pass to the box, or stops their desks. All workers share it, and the box is not
+/// locked while it is asked.
 pub trait Gate {
-    /// Whether this desk may cast the envelope with this stamp. Where it may not, its worker stops, and the others go on.
+    /// Whether this desk may cast the envelope with this stamp. If not, its worker stops, and the
+    /// others go on.
     fn before(&self, desk: u8, stamp: u32) -> bool;
 
     /// Takes note that this desk has cast an envelope, with the slip that the cast gave.
     fn after(&self, desk: u8, slip: &Slip);
 
-    /// Whether a call may wait for what another desk does; it is asked once, before the workers start. If so, a worker takes an
-    /// envelope from the tray only when it has cast the one before. If not, it may take some at once, and asks for each right
-    /// before its cast.
+    /// Whether a call may wait for what another desk does; it is asked once, before the workers
+    /// start. If so, a worker takes an envelope from the tray only when it has cast the one before.
+    /// If not, it may take a batch at once, and asks for each envelope right before its cast.
     fn may_wait(&self) -> bool {
         true
     }
 }
 
-/// What all workers share: the poll and its lines, the box, the gate and whether it may wait, the tray, whose places are the lines
-/// from 0, and a lock of nothing, by which a desk keeps the others away from the box while it casts a run.
+/// What all workers share: the poll and its lines, the box, the gate and whether it may wait, the
+/// tray, whose places are the lines from 0, and the turn, a `Mutex<()>` that a desk holds for a
+/// batch, so that the others wait once.
 #[derive(Drop)]
 pub(crate) struct Workplace<'h, 't, VL: Tally, RL: Tally, G> {
     pub poll: &'h Poll,
@@ -59,10 +63,13 @@ pub(crate) struct WorkerPromise {
 }
 
 impl<VL: Tally, RL: Tally> Promise<WorkerResult<VL, RL>> for WorkerPromise {
-    ghost kept_by = { λ promise worked. (worked.desk.number ≡ promise.number) × (worked.pass.tray ≡ promise.pass.value.tray) × (worked.pass.parts ≡ promise.pass.value.parts) };
+    ghost kept_by = { λ promise worked. (worked.desk.number ≡ promise.number)
+        × (worked.pass.tray ≡ promise.pass.value.tray)
+        × (worked.pass.parts ≡ promise.pass.value.parts) };
 }
 
-/// Casts the envelopes with these stamps, each as one step, until the gate or the box stops the desk.
+/// Casts the envelopes with these stamps, each as one step, until the gate or the box stops the
+/// desk.
 fn cast_each<VL: Tally, RL: Tally, G: Gate, R: Wait>(
     rt: &R,
     workplace: &Workplace<'_, '_, VL, RL, G>,
@@ -71,11 +78,12 @@ fn cast_each<VL: Tally, RL: Tally, G: Gate, R: Wait>(
     readings: &[Reading],
 ) -> Option<Stop>
     requires stamps { All (IsStampOf (length workplace.now.lines.now)) stamps.now }
-    requires readings { (length stamps.now ≤ length readings.now) × All (FitsBox workplace.now.shared.now.opened) readings.now }
+    requires each { length stamps.now ≤ length readings.now }
+    requires readings { All (FitsBox workplace.now.shared.now.opened) readings.now }
     requires room { length desk.old.slips + length stamps.now ≤ desk.old.limit }
     ensures same { (desk.new.number ≡ desk.old.number) × (desk.new.limit ≡ desk.old.limit) }
-    ensures cast { IsNone result → stamps_of desk.new.slips ≡ stamps_of desk.old.slips ++ stamps.now }
-    ensures refused { (fault : EnterFault) → result ≡ Some (Stop.Refused fault) → fault ≡ EnterFault.StampUsed }
+    ensures cast { IsNone result → HasCast desk.old stamps.now desk.new }
+    ensures refused { IsRefusedAsUsed result }
 {
     for place in 0..stamps.len() {
         let stamp = stamps[place];
@@ -90,12 +98,14 @@ fn cast_each<VL: Tally, RL: Tally, G: Gate, R: Wait>(
     None
 }
 
-/// Casts the envelopes of a run, each as one step, until the gate or the box stops the desk. Where the gate may wait for another
-/// desk, a run has one envelope: the gate would wait for ever for another of the same run.
+/// Casts the envelopes of a batch, each as one step, until the gate or the box stops the desk. If
+/// the gate may wait for another desk, a batch has one envelope: the gate would wait for ever for
+/// another one of the same batch.
 ///
-/// Each cast takes the lock of the box anew. Around a longer run the desk takes its turn, so that the others wait once for
-/// the run and not for each cast: what they wait for is the costly part, and the matrix stays with one processor meanwhile.
-fn cast_run<VL: Tally, RL: Tally, G: Gate, R: Wait>(
+/// Each cast takes the lock of the box anew. Around a longer batch the desk takes its turn, so that
+/// the others wait once for the batch and not for each cast. To wait is what costs, and meanwhile
+/// the matrix stays with one processor.
+fn cast_batch<VL: Tally, RL: Tally, G: Gate, R: Wait>(
     rt: &R,
     workplace: &Workplace<'_, '_, VL, RL, G>,
     desk: &mut Desk<VL, RL>,
@@ -104,11 +114,12 @@ fn cast_run<VL: Tally, RL: Tally, G: Gate, R: Wait>(
 ) -> Option<Stop>
     requires stamps { All (IsStampOf (length workplace.now.lines.now)) stamps.now }
     requires alone { IsTrue workplace.now.may_wait → length stamps.now ≤ 1 }
-    requires readings { (length stamps.now ≤ length readings.now) × All (FitsBox workplace.now.shared.now.opened) readings.now }
+    requires each { length stamps.now ≤ length readings.now }
+    requires readings { All (FitsBox workplace.now.shared.now.opened) readings.now }
     requires room { length desk.old.slips + length stamps.now ≤ desk.old.limit }
     ensures same { (desk.new.number ≡ desk.old.number) × (desk.new.limit ≡ desk.old.limit) }
-    ensures cast { IsNone result → stamps_of desk.new.slips ≡ stamps_of desk.old.slips ++ stamps.now }
-    ensures refused { (fault : EnterFault) → result ≡ Some (Stop.Refused fault) → fault ≡ EnterFault.StampUsed }
+    ensures cast { IsNone result → HasCast desk.old stamps.now desk.new }
+    ensures refused { IsRefusedAsUsed result }
 {
     let _turn = if stamps.len() > 1 {
         Some(workplace.turn.lock(rt))
@@ -118,10 +129,11 @@ fn cast_run<VL: Tally, RL: Tally, G: Gate, R: Wait>(
     cast_each(rt, workplace, desk, stamps, readings)
 }
 
-/// Casts envelopes at one desk until the tray is empty, or the gate or the box stops the desk. It takes no memory.
+/// Casts envelopes at one desk until the tray is empty, or the gate or the box stops the desk. It
+/// takes no memory.
 ///
-/// It takes a run of envelopes at once, and reads all their lines before it casts the first.
-fn cast_runs<VL: Tally, RL: Tally, G: Gate, R: Wait>(
+/// It takes a batch of envelopes at once, and reads all their lines before it casts the first.
+fn cast_batches<VL: Tally, RL: Tally, G: Gate, R: Wait>(
     rt: &R,
     workplace: &Workplace<'_, '_, VL, RL, G>,
     desk: &mut Desk<VL, RL>,
@@ -133,24 +145,24 @@ fn cast_runs<VL: Tally, RL: Tally, G: Gate, R: Wait>(
     ensures desk { desk.new.number ≡ desk.old.number }
     ensures pass { (pass.new.tray ≡ pass.old.tray) × (pass.new.parts ≡ pass.old.parts) }
     ensures emptied { result ≡ None → HasCastAll desk.new pass.new }
-    ensures refused { (fault : EnterFault) → result ≡ Some (Stop.Refused fault) → fault ≡ EnterFault.StampUsed }
+    ensures refused { IsRefusedAsUsed result }
 {
     let lines = workplace.lines.len();
-    let mut stamps = [0; RUN];
-    let mut readings = [Reading::Bad(LineFault::Shape); RUN];
-    let mut most = run_length(workplace.may_wait, lines);
+    let mut stamps = [0; BATCH];
+    let mut readings = [Reading::Bad(LineFault::Shape); BATCH];
+    let mut most = batch_length(workplace.may_wait, lines);
     loop {
-        let count = take_run(workplace.tray, pass, most, &mut stamps);
+        let count = take_batch(workplace.tray, pass, most, &mut stamps);
         if count == 0 {
             return None;
         }
-        let run = &stamps[..count];
-        read_run(workplace.poll, workplace.lines, run, &mut readings);
-        let stopped = cast_run(rt, workplace, desk, run, &readings);
+        let batch = &stamps[..count];
+        read_batch(workplace.poll, workplace.lines, batch, &mut readings);
+        let stopped = cast_batch(rt, workplace, desk, batch, &readings);
         if stopped.is_some() {
             return stopped;
         }
-        most = run_length(
+        most = batch_length(
             workplace.may_wait,
             lines.saturating_sub(stamps[count - 1] as usize),
         );
@@ -169,7 +181,7 @@ fn work<VL: Tally, RL: Tally, G: Gate, R: Wait>(
     ensures desk { result.desk.number ≡ desk.number }
     ensures pass { (result.pass.tray ≡ pass.tray) × (result.pass.parts ≡ pass.parts) }
 {
-    let stopped = cast_runs(rt, workplace, &mut desk, &mut pass);
+    let stopped = cast_batches(rt, workplace, &mut desk, &mut pass);
     WorkerResult {
         desk,
         pass,
@@ -200,7 +212,8 @@ fn start<'s, E, VL: Tally + Send + Sync, RL: Tally + Send + Sync, G: Gate + Sync
 ) -> Result<PromisedHandle<WorkerResult<VL, RL>, WorkerPromise>, VoteFault>
     requires desk { IsFresh (length workplace.now.lines.now) desk }
     requires pass { IsUnused workplace.now.tray.now pass }
-    ensures ok { IfOk result (λ handle. (handle.promise.number ≡ desk.number) × (handle.promise.pass.value ≡ pass)) }
+    ensures desk { IfOk result (λ handle. handle.promise.number ≡ desk.number) }
+    ensures pass { IfOk result (λ handle. handle.promise.pass.value ≡ pass) }
     ensures err { IfErr result (λ fault. fault ≡ VoteFault.Thread) }
 {
     let promise = WorkerPromise {
@@ -235,8 +248,8 @@ fn start_all<
     requires desks { AllByRecursion (IsFresh (length workplace.now.lines.now)) desks.items }
     requires passes { AllByRecursion (IsUnused workplace.now.tray.now) passes.items }
     requires same { vec_len passes ≡ vec_len desks }
-    ensures desks { IfOk result (λ handles. map (λ handle. handle.promise.number) handles.items ≡ map (λ desk. desk.number) desks.items) }
-    ensures passes { IfOk result (λ handles. map (λ handle. handle.promise.pass.value) handles.items ≡ passes.items) }
+    ensures desks { IfOk result (λ all. desks_promised all.items ≡ numbers_of desks.items) }
+    ensures passes { IfOk result (λ all. passes_promised all.items ≡ passes.items) }
     ensures err { IfErr result IsStartFault }
 {
     let mut handles = Vec::new(alloc);
@@ -264,8 +277,8 @@ pub(crate) fn work_all<
     requires desks { AllByRecursion (IsFresh (length workplace.now.lines.now)) desks.items }
     requires passes { AllByRecursion (IsUnused workplace.now.tray.now) passes.items }
     requires same { vec_len passes ≡ vec_len desks }
-    ensures desks { IfOk result (λ all. map (λ worked. worked.desk.number) all.items ≡ map (λ desk. desk.number) desks.items) }
-    ensures passes { IfOk result (λ all. map (λ worked. tray_and_parts worked.pass) all.items ≡ map tray_and_parts passes.items) }
+    ensures desks { IfOk result (λ all. numbers_back all.items ≡ numbers_of desks.items) }
+    ensures passes { IfOk result (λ all. parts_back all.items ≡ map tray_and_parts passes.items) }
     ensures err { IfErr result IsStartFault }
 {
     let handles = thread::scope(
@@ -275,8 +288,8 @@ pub(crate) fn work_all<
             requires desks { AllByRecursion (IsFresh (length workplace.now.lines.now)) desks.items }
             requires passes { AllByRecursion (IsUnused workplace.now.tray.now) passes.items }
             requires same { vec_len passes ≡ vec_len desks }
-            ensures desks { IfOk result (λ handles. map (λ handle. handle.promise.number) handles.items ≡ map (λ desk. desk.number) desks.items) }
-            ensures passes { IfOk result (λ handles. map (λ handle. handle.promise.pass.value) handles.items ≡ passes.items) }
+            ensures desks { IfOk result (λ all. desks_promised all.items ≡ numbers_of desks.items) }
+            ensures passes { IfOk result (λ all. passes_promised all.items ≡ passes.items) }
             ensures err { IfErr result IsStartFault }
         { start_all(scope, rt, alloc, workplace, desks, passes) },
     )?;
@@ -288,8 +301,8 @@ fn join_all<VL: Tally, RL: Tally, R: Threads>(
     rt: &R,
     handles: Vec<PromisedHandle<WorkerResult<VL, RL>, WorkerPromise>>,
 ) -> Result<Vec<WorkerResult<VL, RL>>, VoteFault>
-    ensures desks { IfOk result (λ all. map (λ worked. worked.desk.number) all.items ≡ map (λ handle. handle.promise.number) handles.items) }
-    ensures passes { IfOk result (λ all. map (λ worked. tray_and_parts worked.pass) all.items ≡ map (λ handle. tray_and_parts handle.promise.pass.value) handles.items) }
+    ensures desks { IfOk result (λ all. numbers_back all.items ≡ desks_promised handles.items) }
+    ensures passes { IfOk result (λ all. parts_back all.items ≡ parts_promised handles.items) }
     ensures err { IfErr result (λ fault. fault ≡ VoteFault.Memory) }
 {
     match thread::join_promised(rt, handles) {

@@ -1,11 +1,9 @@
 //! What a worker gives back.
-ghost use Rattle.std.specs.Prelude.{◌≡◌, None, Some};
-ghost use Rattle.vote_shared.specs.declared.EnterFault.{EnterFault};
-ghost use Rattle.vote_shared.specs.declared.EnterFault.TheVariants.{StampUsed};
-ghost use Rattle.vote_desks.specs.declared.worked.Stop.TheVariants.{Refused};
+ghost use Rattle.std.specs.Prelude.{◌≡◌, None};
+ghost use Rattle.vote_desks.specs.Stops.{IsRefusedAsUsed};
 ghost use Rattle.vote_desks.specs.Work.{HasCastAll};
 
-use vote_shared::{Desk, EnterFault, Tally};
+use vote_desks_box::{Desk, EnterFault, Tally};
 use vote_tray::Pass;
 
 /// Why a worker stopped before the tray was empty.
@@ -17,13 +15,14 @@ pub(crate) enum Stop {
     Refused(EnterFault),
 }
 
-/// A desk, its pass, and why its worker stopped early, if it did. Where it did not, the tray is empty, and the desk has cast the
-/// envelopes of its pass. A cast is refused only because its stamp was used.
+/// A desk, its pass, and why its worker stopped early, if it did. If it did not, the tray is empty,
+/// and the desk has cast the envelopes of its pass. A cast is refused only because its stamp was
+/// used.
 #[derive(Drop)]
 pub(crate) struct WorkerResult<VL: Tally, RL: Tally> {
     pub desk: Desk<VL, RL>,
     pub pass: Pass,
     pub stopped: Option<Stop>,
     ghost emptied: { stopped ≡ None → HasCastAll desk pass },
-    ghost refused: { (fault : EnterFault) → stopped ≡ Some (Refused fault) → fault ≡ StampUsed },
+    ghost refused: { IsRefusedAsUsed stopped },
 }

@@ -1,7 +1,7 @@
 //! An input read whole, and a text written whole, over any reader and writer.
 //!
 //! A [`Source`] gives bytes and a [`Sink`] takes them. Their contracts tell how often each was called and how often it failed,
-//! whether a sink was flushed after the last that it took, and, where a device tells them, the bytes themselves. So the
+//! whether a sink was flushed after the last that it took, and, if a device tells them, the bytes themselves. So the
 //! contracts of [`read_limited`] and [`write_text`] hold at every device, whatever it does and whenever it fails.
 //!
 //! - [`read_limited`] reads an input to its end, in no more than so many bytes and so many reads, or says why not: its

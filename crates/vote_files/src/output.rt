@@ -6,9 +6,9 @@ ghost use Rattle.vote_files.specs.Device.{AppendsPrefix};
 
 use crate::device::{DeviceFault, Sink};
 
-/// Writes the text, all of it and nothing else, and flushes the sink once. An error comes exactly where a `put` or the flush
-/// failed or a `put` took no bytes, and a front of the text was written then. The sink is called at most once for each byte of
-/// the text and once for the flush.
+/// Writes the text, all of it and nothing else, and flushes the sink once. It returns an error exactly when a `put` or the flush
+/// failed, or a `put` took no bytes; a prefix of the text was written then. The sink is called at most once for each byte of the
+/// text, and once for the flush.
 pub fn write_text<W: Sink>(sink: &mut W, text: &[u8]) -> Result<(), DeviceFault>
     ensures ok { OnOk result (Appends (W.contents sink.old) (W.contents sink.new) text.now) }
     ensures err { OnErr result (AppendsPrefix (W.contents sink.old) (W.contents sink.new) text.now) }

@@ -18,10 +18,10 @@ use Rattle.vote_poll.specs.declared.reading.LineFault.TheVariants.{RankCount}
 use Rattle.std.proofs.lemmas.List.Elements.{All-nil, All-cons, All-head, All-tail, All-weaker}
 use Rattle.std.proofs.lemmas.List.Splits.{length-slice_split, join_with_byte-slice_split, slice_split_none, slice_split_at}
 use Rattle.vote_poll.specs.Names.{place_of}
-use Rattle.vote_text.specs.Names.{is_within, is_voter_byte, is_voter_name}
+use Rattle.vote_poll_text.specs.Names.{is_within, is_voter_byte, is_voter_name}
 use Rattle.vote_poll.proofs.NamesLaws.{voter_bytes, within_bounds}
 use Rattle.vote_poll.specs.BallotLine.{IsRank, rank_text, line_text, IsBallotLine}
-use Rattle.vote_keys.specs.Lists.{all_some}
+use Rattle.vote_poll_keys.specs.Lists.{all_some}
 use Rattle.vote_poll.specs.Readings.{rank_in, ranks_in, ballot_in, reading, reading_of, reading_at, IsReading, ReadingFits, is_space, named, NamedRanks}
 use Rattle.vote_poll.specs.declared.TheConstants.{MAX_LINE}
 

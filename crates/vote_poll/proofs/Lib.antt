@@ -1,3 +1,4 @@
+mod Adding
 mod Assembly
 pub mod Equality
 mod BallotLaws
@@ -11,4 +12,5 @@ mod PollFaultsLaws
 mod RankKeys
 mod RankRow
 mod ReadingLaws
+mod SeenLaws
 pub mod OptionLaws

@@ -16,8 +16,8 @@ use Rattle.std.proofs.lemmas.List.Sums.{AllPass-from_list_all}
 use Rattle.std.proofs.lemmas.Str.{IsUtf8-from_ascii}
 use Rattle.std.proofs.lemmas.Str.Ascii.{IsAscii-from_all}
 use Rattle.vote_poll.specs.Names.{place_of}
-use Rattle.vote_text.specs.Names.{is_within, is_voter_byte, is_voter_name}
-use Rattle.vote_text.specs.declared.TheConstants.{MAX_VOTER_NAME}
+use Rattle.vote_poll_text.specs.Names.{is_within, is_voter_byte, is_voter_name}
+use Rattle.vote_poll_text.specs.declared.TheConstants.{MAX_VOTER_NAME}
 
 pub within_bounds : (low high n : ℕ) → is_within low high n ≡ true → (low ≤ n) × (n ≤ high)
 within_bounds low high n h = (grind (arith, nat_tests), grind (arith, nat_tests))

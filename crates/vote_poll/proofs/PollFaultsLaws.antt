@@ -6,18 +6,20 @@ use Rattle.std.specs.List.{range_with_len}
 use Rattle.std.proofs.lemmas.Bool.{cases_Bool, cases_lt}
 use Rattle.toml.specs.Data.{Data, Members, as_str, as_integer}
 use Rattle.vote_poll.specs.Names.{first_bad, is_bad_at}
-use Rattle.vote_text.specs.Names.{is_option_name, is_voter_name, is_within}
+use Rattle.vote_poll_text.specs.Names.{is_option_name, is_voter_name, is_within}
 use Rattle.vote_poll.specs.PollContent.{PollContent}
-use Rattle.vote_keys.specs.Keys.{◌>>=◌, Fields, document, fields_of, found, list_of, of_kind_or_none}
-use Rattle.vote_poll.specs.PollFile.{err_or, last_envelope_in, poll_in, poll_of, quorum_in, ratios_in, title_in, wording_in}
-use Rattle.vote_poll.specs.PollFaults.{Found, bad_places, fault_of, fault_told, fault_unless, faults_in, found_in, of_contents, of_key, of_keys, of_last_envelope, of_option_count, of_option_names, of_quorum, of_ratios, of_roll_size, of_title, of_voter_names, of_wording, where_found, FirstIsTold}
+use Rattle.vote_poll_keys.specs.Keys.{◌>>=◌, Fields, document, fields_of, found, list_of, of_kind_or_none}
+use Rattle.vote_poll.specs.PollFile.{err_or, last_envelope_in, poll_in, poll_in_table, poll_of, quorum_in, ratios_in, title_in, wording_in}
+use Rattle.vote_poll_keys.specs.KeyFaults.{FoundKeys, fault_unless, found_in, of_key, of_keys}
+use Rattle.vote_poll_keys.specs.Keys.{Fails}
+use Rattle.vote_poll.specs.PollFaults.{IsJudged, bad_places, fault_of, fault_told, faults_in, of_contents, of_last_envelope, of_option_count, of_option_names, of_quorum, of_ratios, of_roll_size, of_title, of_voter_names, of_wording, where_found, FirstIsTold}
 use Rattle.vote_poll.proofs.FirstBad.{first_bad-some, first_bad-none}
 use Rattle.vote_poll.specs.declared.TheConstants.{MAX_OPTIONS}
 use Rattle.vote_poll.specs.declared.wording.Wording.{Wording}
-use Rattle.vote_keys.specs.declared.fault.PollKey.{PollKey}
-use Rattle.vote_keys.specs.declared.fault.PollKey.TheVariants as key
-use Rattle.vote_keys.specs.declared.fault.PollFault.{PollFault}
-use Rattle.vote_keys.specs.declared.fault.PollFault.TheVariants as fault
+use Rattle.vote_poll_keys.specs.declared.fault.PollKey.{PollKey}
+use Rattle.vote_poll_keys.specs.declared.fault.PollKey.TheVariants as key
+use Rattle.vote_poll_keys.specs.declared.fault.PollFault.{PollFault}
+use Rattle.vote_poll_keys.specs.declared.fault.PollFault.TheVariants as fault
 
 -- ---- the first of the numbers that pass a test
 -- none passes, or one is the first
@@ -112,7 +114,7 @@ told_wording None next = refl
 told_wording (Some wording) next = told_end (wording_in (Some wording)) next
 
 -- ---- the whole
-told_contents : (f : Found) (g : Fields) → f.title ≡ Some g.title → f.options ≡ Some g.options → f.ratios ≡ Some g.ratios → f.default_option ≡ Some g.default_option
+told_contents : (f : FoundKeys) (g : Fields) → f.title ≡ Some g.title → f.options ≡ Some g.options → f.ratios ≡ Some g.ratios → f.default_option ≡ Some g.default_option
     → f.quorum ≡ Some g.quorum → f.roll ≡ Some g.roll → f.last_envelope ≡ g.last_envelope → f.wording ≡ g.wording
     → slice_get (of_contents f) 0 ≡ fault_told (poll_of g)
 unfolding of_contents of_title of_option_count of_option_names of_ratios of_quorum of_roll_size of_voter_names of_last_envelope of_wording poll_of
@@ -147,3 +149,25 @@ told_file (Err e) = refl
 pub first_is_told : FirstIsTold
 unfolding poll_in
 first_is_told text = told_file (document text)
+
+-- ---- a table whose faults were found
+told_is : (m : Result PollContent PollFault) (e : PollFault) → fault_told m ≡ Some e → m ≡ Err e
+told_is (Ok poll) e h = cc
+told_is (Err d) e h = let same : d ≡ e = cc in ap Err same
+
+told_none : (m : Result PollContent PollFault) → fault_told m ≡ None → (poll : PollContent) × (m ≡ Ok poll)
+told_none (Ok poll) h = (poll, refl)
+told_none (Err e) h = cc
+
+is_refused : (e : PollFault) (m : Result PollContent PollFault) → m ≡ Err e → Fails e m
+is_refused fault.Memory m h = tt
+is_refused e m h = h
+
+told_of : (table : Members) (keys : FoundKeys) (faults : List PollFault) → IsJudged table keys faults → slice_get faults 0 ≡ fault_told (poll_in_table table)
+told_of table keys faults is = ap (λ es. slice_get es 0) is.all ∙ told_all table
+
+pub fails_first : (table : Members) (keys : FoundKeys) (faults : List PollFault) (e : PollFault) → IsJudged table keys faults → slice_get faults 0 ≡ Some e → Fails e (poll_in_table table)
+fails_first table keys faults e is first = is_refused e (poll_in_table table) (told_is (poll_in_table table) e (sym (told_of table keys faults is) ∙ first))
+
+pub is_poll : (table : Members) (keys : FoundKeys) (faults : List PollFault) → IsJudged table keys faults → slice_get faults 0 ≡ None → (poll : PollContent) × (poll_in_table table ≡ Ok poll)
+is_poll table keys faults is none = told_none (poll_in_table table) (sym (told_of table keys faults is) ∙ none)

@@ -4,10 +4,11 @@ use Rattle.std.specs.List.{range_with_len}
 use Rattle.std.proofs.lemmas.List.FromFn.{get_or-map-range_with_len}
 use Rattle.std.proofs.lemmas.Bool.{cases_Bool}
 use Rattle.std.proofs.lemmas.Bool.Decides.{nat_tests}
-use Rattle.vote_text.specs.Names.{is_within}
+use Rattle.vote_poll_text.specs.Names.{is_within}
 use Rattle.vote_poll.specs.Parsing.{kind_of}
 use Rattle.vote_poll.specs.Readings.{rank_in}
 use Rattle.vote_poll.specs.SortKeys.{rank_of_key}
+use Rattle.vote_poll.specs.Spelling.{rank_bytes}
 use Rattle.vote_poll.specs.declared.rank_key.TheConstants.{KEYS, KINDS, LENGTHS, PAIRS}
 use Rattle.vote_poll.proofs.NamesLaws.{within_bounds}
 
@@ -37,10 +38,6 @@ keys-at first second few small =
 -- a digit, a comma, a hyphen or none of these
 pub kind-small : (b : ℕ) → kind_of b < 13
 kind-small b = grind (arith, nat_tests)
-
--- the bytes of a rank of which the second may be the comma behind it
-abbrev pub rank_bytes : ℕ → ℕ → List ℕ
-rank_bytes first second = cond (second == 44) (first ∷ []) (first ∷ second ∷ [])
 
 -- the rank at a key, where 0 is none
 abbrev spelled : ℕ → Option (Option ℕ)

@@ -3,12 +3,12 @@ use Rattle.std.proofs.Common.{◌≡◌, ◌==◌, ◌+◌, ◌-◌, ◌<◌, �
 use Rattle.std.specs.Option.{option_map}
 use Rattle.std.proofs.lemmas.List.{length_push, length-append, length-take, length-replicate, map-append, set_at, take_all, take_at, take-append-le, take-map, take_rest, length-map}
 use Rattle.std.proofs.lemmas.List.Splits.{slice_split_at, slice_split_none}
-use Rattle.vote_keys.specs.Lists.{all_some}
+use Rattle.vote_poll_keys.specs.Lists.{all_some}
 use Rattle.vote_poll.specs.Parsing.{kept_and_count}
 use Rattle.vote_poll.specs.SortKeys.{rank_of_key, row_of}
 use Rattle.vote_poll.specs.Readings.{rank_in, ranks_in}
 use Rattle.vote_poll.specs.declared.TheConstants.{MAX_OPTIONS}
-use Rattle.vote_poll.proofs.RankKeys.{rank_bytes}
+use Rattle.vote_poll.specs.Spelling.{rank_bytes}
 use Rattle.vote_poll.proofs.GrammarLaws.{rank_text-rank_in, rank_text_has_no_comma}
 
 -- ---- a row

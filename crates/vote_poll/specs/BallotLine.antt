@@ -3,7 +3,7 @@ use Rattle.std.specs.Prelude.{◌≡◌, ℕ, ◌≤◌, List, ◌++◌, map, le
 use Rattle.std.specs.List.{All, join_with_byte}
 use Rattle.std.specs.Fmt.{decimal}
 use Rattle.std.specs.Str.{byte}
-use Rattle.vote_text.specs.Names.{is_voter_name}
+use Rattle.vote_poll_text.specs.Names.{is_voter_name}
 use Rattle.vote_poll.specs.declared.TheConstants.{MAX_LINE, MAX_RANK}
 
 -- a rank is none, or a number from 1 to the greatest rank

@@ -8,8 +8,10 @@ pub mod PollFile
 pub mod PollFaults
 pub mod BallotLine
 pub mod Readings
+pub mod Spelling
 pub mod Comparisons
 pub mod SortKeys
 -- what types stand for, and what private functions say of their parts
 pub mod PollView
+pub mod NameLists
 pub mod Parsing

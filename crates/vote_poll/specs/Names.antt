@@ -1,9 +1,10 @@
 -- Lists of names. Two names are the same where they have the same bytes.
-use Rattle.std.specs.Prelude.{ℕ, List, [], Bool, ◌||◌, not, length, Option, position, take, slice_index_or}
+use Rattle.std.specs.Prelude.{◌≡◌, Some, IsTrue, ℕ, List, [], Bool, ◌||◌, not, length, Option, position, take, slice_index_or}
 use Rattle.std.specs.List.{list_any, range_with_len}
 use Rattle.std.specs.Str.{bytes_eq}
+use Rattle.vote_poll_text.specs.Names.{is_voter_name}
 
--- the name is misshapen, or equals an earlier one
+-- the name is malformed, or equals an earlier one
 abbrev pub is_bad_after : (List ℕ → Bool) → List (List ℕ) → List ℕ → Bool
 is_bad_after has_shape earlier name = not (has_shape name) || list_any (bytes_eq name) earlier
 
@@ -17,3 +18,7 @@ first_bad has_shape names = position (is_bad_at has_shape names) (range_with_len
 -- the place of a name in a list of names
 abbrev pub place_of : List ℕ → List (List ℕ) → Option ℕ
 place_of name names = position (bytes_eq name) names
+
+-- the name is that of the voter with this number alone
+abbrev pub IsNameOf : List (List ℕ) → ℕ → List ℕ → Type 0
+IsNameOf roll voter name = (place_of name roll ≡ Some voter) × IsTrue (is_voter_name name)

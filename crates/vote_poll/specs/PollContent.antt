@@ -4,10 +4,10 @@
 use Rattle.std.specs.Prelude.{◌≡◌, ℕ, ◌+◌, ◌≤◌, List, length, Option, None, IfSome, unwrap_or, IsTrue}
 use Rattle.std.specs.List.{All}
 use Rattle.vote_poll.specs.Names.{first_bad}
-use Rattle.vote_text.specs.Names.{is_option_name, is_title, is_voter_name}
+use Rattle.vote_poll_text.specs.Names.{is_option_name, is_title, is_voter_name}
 use Rattle.vote_poll.specs.Options.{at_option}
 use Rattle.vote_poll.specs.declared.TheConstants.{MAX_OPTIONS, MAX_ELECTORS, MAX_RATIO, MAX_QUORUM_MULTIPLE}
-use Rattle.vote_text.specs.declared.lines.TheConstants.{MAX_LINES}
+use Rattle.vote_poll_text.specs.declared.lines.TheConstants.{MAX_LINES}
 use Rattle.vote_poll.specs.declared.wording.Wording.{Wording}
 
 -- The default option is the last one. The options but the default have a ratio each. Where there is a last envelope, those

@@ -1,55 +1,19 @@
 -- All faults of a poll file, in their order. Each is judged by itself: wherever the keys that it speaks of are there and of their
--- kind, whatever else is wrong.
-use Rattle.std.specs.Prelude.{◌≡◌, ℕ, ◌+◌, List, [], ◌∷◌, ◌++◌, map, filter, length, Bool, ◌||◌, if◌then◌else◌, ℤ, Option, Some, None, is_some, is_none, option_to_list, slice_get, Result, Ok, Err}
+-- kind, whatever else is wrong. Those of the keys are in `KeyFaults` of vote_poll_keys.
+use Rattle.std.specs.Prelude.{◌≡◌, ℕ, ◌+◌, List, [], ◌∷◌, ◌++◌, map, filter, length, Bool, Option, Some, None, slice_get, Result, Ok, Err}
 use Rattle.std.specs.List.{range_with_len}
-use Rattle.toml.specs.Data.{Members, as_str, as_integer}
+use Rattle.toml.specs.Data.{Members}
+use Rattle.vote_poll_keys.specs.KeyFaults.{FoundKeys, fault_unless, found_in, names_of_options, of_keys}
+use Rattle.vote_poll_keys.specs.Keys.{Gives, document}
+use Rattle.vote_poll_keys.specs.declared.fault.PollFault.{PollFault}
+use Rattle.vote_poll_keys.specs.declared.fault.PollFault.TheVariants as fault
+use Rattle.vote_poll_text.specs.Names.{is_option_name, is_voter_name, is_within}
 use Rattle.vote_poll.specs.Names.{is_bad_at}
-use Rattle.vote_text.specs.Names.{is_option_name, is_voter_name, is_within}
 use Rattle.vote_poll.specs.PollContent.{PollContent}
-use Rattle.vote_keys.specs.Keys.{document, found, list_of, value_at}
-use Rattle.vote_poll.specs.PollFile.{last_envelope_in, poll_in, quorum_in, ratios_in, title_in, wording_in}
+use Rattle.vote_poll.specs.PollFile.{last_envelope_in, poll_in, poll_in_table, quorum_in, ratios_in, title_in, wording_in}
 use Rattle.vote_poll.specs.declared.TheConstants.{MAX_OPTIONS, MAX_ELECTORS}
-use Rattle.vote_keys.specs.declared.fault.PollKey.{PollKey}
-use Rattle.vote_keys.specs.declared.fault.PollKey.TheVariants as key
-use Rattle.vote_keys.specs.declared.fault.PollFault.{PollFault}
-use Rattle.vote_keys.specs.declared.fault.PollFault.TheVariants as fault
-
--- ---- the keys
--- the keys, each where it is there and of its kind
-pub record Found : Type 0 where
-  pub title : Option (List ℕ)
-  pub options : Option (List (List ℕ))
-  pub ratios : Option (List ℤ)
-  pub default_option : Option (List ℕ)
-  pub quorum : Option ℤ
-  pub roll : Option (List (List ℕ))
-  pub last_envelope : Option ℤ
-  pub wording : Option (List ℕ)
-
-abbrev pub found_in : Members → Found
-found_in table = record {
-  title = found key.Title as_str table;
-  options = found key.Options (list_of as_str) table;
-  ratios = found key.Ratios (list_of as_integer) table;
-  default_option = found key.DefaultOption as_str table;
-  quorum = found key.Quorum as_integer table;
-  roll = found key.Roll (list_of as_str) table;
-  last_envelope = found key.LastEnvelope as_integer table;
-  wording = found key.Wording as_str table;
-}
 
 -- ---- one fault
-abbrev pub fault_unless : Bool → PollFault → List PollFault
-fault_unless right e = if right then [] else e ∷ []
-
--- a key that has to be there is missing or of the wrong kind
-abbrev pub of_key : {X : Type 0} → PollKey → Option X → List PollFault
-of_key name value = fault_unless (is_some value) (fault.Key name)
-
--- a key that may be missing is of the wrong kind
-abbrev pub of_optional_key : {X : Type 0} → PollKey → Members → Option X → List PollFault
-of_optional_key name table value = fault_unless (is_none (value_at name table) || is_some value) (fault.Key name)
-
 abbrev pub fault_of : {X : Type 0} → Result X PollFault → List PollFault
 fault_of (Ok x) = []
 fault_of (Err e) = e ∷ []
@@ -59,54 +23,42 @@ abbrev pub where_found : {X : Type 0} → Option X → (X → List PollFault) �
 where_found None faults = []
 where_found (Some x) faults = faults x
 
--- the places of the names that are misshapen or equal an earlier one
+-- the places of the names that are malformed or equal an earlier one
 abbrev pub bad_places : (List ℕ → Bool) → List (List ℕ) → List ℕ
 bad_places has_shape names = filter (is_bad_at has_shape names) (range_with_len 0 (length names))
 
 -- ---- what the keys say
-unfoldable pub of_title : Found → List PollFault
+unfoldable pub of_title : FoundKeys → List PollFault
 of_title f = where_found f.title (λ title. fault_of (title_in title))
 
 -- the default option is one more
-unfoldable pub of_option_count : Found → List PollFault
+unfoldable pub of_option_count : FoundKeys → List PollFault
 of_option_count f = where_found f.options (λ options. fault_unless (is_within 2 MAX_OPTIONS (length options + 1)) fault.OptionCount)
 
 -- the default option is the last, where it is there
-unfoldable pub of_option_names : Found → List PollFault
-of_option_names f = where_found f.options (λ options.
-    map (λ place. fault.OptionName (place + 1)) (bad_places is_option_name (options ++ option_to_list f.default_option)))
+unfoldable pub of_option_names : FoundKeys → List PollFault
+of_option_names f = where_found (names_of_options f) (λ names. map (λ place. fault.OptionName (place + 1)) (bad_places is_option_name names))
 
-unfoldable pub of_ratios : Found → List PollFault
+unfoldable pub of_ratios : FoundKeys → List PollFault
 of_ratios f = where_found f.options (λ options. where_found f.ratios (λ ratios. fault_of (ratios_in (length options) ratios)))
 
-unfoldable pub of_quorum : Found → List PollFault
+unfoldable pub of_quorum : FoundKeys → List PollFault
 of_quorum f = where_found f.quorum (λ quorum. fault_of (quorum_in quorum))
 
-unfoldable pub of_roll_size : Found → List PollFault
+unfoldable pub of_roll_size : FoundKeys → List PollFault
 of_roll_size f = where_found f.roll (λ roll. fault_unless (is_within 1 MAX_ELECTORS (length roll)) fault.RollSize)
 
-unfoldable pub of_voter_names : Found → List PollFault
+unfoldable pub of_voter_names : FoundKeys → List PollFault
 of_voter_names f = where_found f.roll (λ roll. map fault.VoterName (bad_places is_voter_name roll))
 
-unfoldable pub of_last_envelope : Found → List PollFault
+unfoldable pub of_last_envelope : FoundKeys → List PollFault
 of_last_envelope f = where_found f.last_envelope (λ last. fault_of (last_envelope_in (Some last)))
 
-unfoldable pub of_wording : Found → List PollFault
+unfoldable pub of_wording : FoundKeys → List PollFault
 of_wording f = where_found f.wording (λ wording. fault_of (wording_in (Some wording)))
 
 -- ---- the file
-unfoldable pub of_keys : Members → Found → List PollFault
-of_keys table f =
-    of_key key.Title f.title
-    ++ of_key key.Options f.options
-    ++ of_key key.Ratios f.ratios
-    ++ of_key key.DefaultOption f.default_option
-    ++ of_key key.Quorum f.quorum
-    ++ of_key key.Roll f.roll
-    ++ of_optional_key key.LastEnvelope table f.last_envelope
-    ++ of_optional_key key.Wording table f.wording
-
-unfoldable pub of_contents : Found → List PollFault
+unfoldable pub of_contents : FoundKeys → List PollFault
 of_contents f =
     of_title f
     ++ of_option_count f
@@ -125,6 +77,29 @@ faults_in (Err e) = e ∷ []
 -- all faults of the text of a poll file
 abbrev pub poll_faults : List ℕ → List PollFault
 poll_faults text = faults_in (document text)
+
+-- the keys are those of this table, and the faults are all that it has
+pub record IsJudged (table : Members) (keys : FoundKeys) (faults : List PollFault) : Type 0 where
+  pub found : keys ≡ found_in table
+  pub all : faults ≡ faults_in (Ok table)
+
+-- the poll that a table with these keys means, where it means one
+pub record IsPollOf (keys : FoundKeys) (poll : PollContent) : Type 0 where
+  pub table : Members
+  pub found : keys ≡ found_in table
+  pub means : poll_in_table table ≡ Ok poll
+
+-- a table with these keys means this poll, if it means one
+abbrev pub IsOnlyPollOf : FoundKeys → PollContent → Type 0
+IsOnlyPollOf keys made = (poll : PollContent) → IsPollOf keys poll → made ≡ poll
+
+-- the result is the poll of a table that was judged, or the first of its faults
+abbrev pub IsPollOrFirst : FoundKeys → List PollFault → Result PollContent PollFault → Type 0
+IsPollOrFirst keys faults result = (table : Members) → IsJudged table keys faults → result ≡ poll_in_table table
+
+-- the same, memory aside
+abbrev pub GivesPollOrFirst : FoundKeys → List PollFault → Result PollContent PollFault → Type 0
+GivesPollOrFirst keys faults result = (table : Members) → IsJudged table keys faults → Gives (λ poll. poll) result (poll_in_table table)
 
 -- ---- the law
 abbrev pub fault_told : Result PollContent PollFault → Option PollFault

@@ -3,14 +3,14 @@ use Rattle.std.specs.Prelude.{ℕ, ◌+◌, List, [], ◌∷◌, ◌++◌, map, 
 use Rattle.std.specs.List.{list_all}
 use Rattle.std.specs.Str.{bytes_eq}
 use Rattle.toml.specs.Data.{Members}
-use Rattle.vote_keys.specs.Keys.{Fields, ◌>>=◌, document, fields_of}
-use Rattle.vote_keys.specs.declared.fault.PollFault.{PollFault}
-use Rattle.vote_keys.specs.declared.fault.PollFault.TheVariants as fault
+use Rattle.vote_poll_keys.specs.Keys.{Fields, ◌>>=◌, document, fields_of}
+use Rattle.vote_poll_keys.specs.declared.fault.PollFault.{PollFault}
+use Rattle.vote_poll_keys.specs.declared.fault.PollFault.TheVariants as fault
 use Rattle.vote_poll.specs.Names.{first_bad}
-use Rattle.vote_text.specs.Names.{is_option_name, is_title, is_voter_name, is_within}
+use Rattle.vote_poll_text.specs.Names.{is_option_name, is_title, is_voter_name, is_within}
 use Rattle.vote_poll.specs.PollContent.{PollContent}
 use Rattle.vote_poll.specs.declared.TheConstants.{MAX_OPTIONS, MAX_ELECTORS, MAX_RATIO, MAX_QUORUM_MULTIPLE}
-use Rattle.vote_text.specs.declared.lines.TheConstants.{MAX_LINES}
+use Rattle.vote_poll_text.specs.declared.lines.TheConstants.{MAX_LINES}
 use Rattle.vote_poll.specs.declared.wording.Wording.{Wording}
 use Rattle.vote_poll.specs.declared.wording.Wording.TheVariants.{AtLeast, MoreThan}
 
@@ -32,6 +32,10 @@ option_names_in names =
 -- the number is one from low to high
 abbrev pub is_integer_within : ℕ → ℕ → ℤ → Bool
 is_integer_within low high z = int_le (pos low) z && int_le z (pos high)
+
+-- the ratio that a number is, if it is one
+abbrev pub ratio_in : ℤ → Option ℕ
+ratio_in z = if is_integer_within 1 MAX_RATIO z then Some (nat_abs z) else None
 
 -- the ratios of so many options
 abbrev pub ratios_in : ℕ → List ℤ → Result (List ℕ) PollFault

@@ -3,9 +3,9 @@ use Rattle.std.specs.Prelude.{◌≡◌, ◌≢◌, ℕ, ◌<◌, List, [], ◌�
 use Rattle.std.specs.List.{slice_split, before_first, after_first}
 use Rattle.std.specs.Str.{byte}
 use Rattle.vote_poll.specs.Names.{place_of}
-use Rattle.vote_text.specs.Names.{is_voter_name, is_within}
+use Rattle.vote_poll_text.specs.Names.{is_voter_name, is_within}
 use Rattle.vote_poll.specs.BallotLine.{IsBallotLine}
-use Rattle.vote_keys.specs.Lists.{all_some}
+use Rattle.vote_poll_keys.specs.Lists.{all_some}
 use Rattle.vote_poll.specs.PollContent.{PollContent, option_count}
 use Rattle.vote_poll.specs.declared.TheConstants.{MAX_LINE}
 use Rattle.vote_poll.specs.declared.reading.Reading.{Reading}

@@ -5,12 +5,12 @@
 //!   default option, a majority ratio for each other option, the multiple of Q that is its quorum, and the
 //!   roll of its electors. It may have a last envelope, and those after it are then late, and a [`Wording`] of
 //!   its majorities.
-//!   [`Poll::from_text`] reads it, or returns the first [`PollFault`], and [`Poll::from_fields`] does so for the keys of a poll
-//!   file, as `vote_keys` reads them.
+//!   [`Poll::from_text`] reads it, or returns the first [`PollFault`]. So does [`Poll::unless_faulty`] for a file of which all
+//!   faults were found: those of its keys by `vote_poll_keys`, the others by [`push_faults`].
 //! - [`Ranks`]: what one ballot says of the options, and which option it prefers to which.
 //! - [`Reading`]: what a poll reads in a line, by [`read_line`]: a ballot of an elector, or a [`LineFault`].
 //!   [`is_reading`] says whether a reading is that of a line.
-//! - [`Lines`], [`is_voter_name`] and the other calls of `vote_text`: what the texts of both files are by themselves, whatever the
+//! - [`Lines`], [`is_voter_name`] and the other calls of `vote_poll_text`: what the texts of both files are by themselves, whatever the
 //!   poll.
 //!
 //! Options are numbered from 1, as in the file, and the default option has the greatest number. Voters are
@@ -34,6 +34,7 @@
 
 ghost use Rattle.vote_poll.specs.Limits.{LimitsAreAsWritten};
 
+mod faults;
 mod names;
 mod poll;
 mod poll_file;
@@ -42,14 +43,15 @@ mod ranks;
 mod reading;
 mod wording;
 
+pub use faults::{parse_ratio, push_faults};
 pub use poll::Poll;
 pub use poll_file::first_fault_is_told;
 pub use ranks::Ranks;
 pub use reading::{
     LineFault, Reading, each_line_is_read, is_reading, read_line, readings_are_unique,
 };
-pub use vote_keys::{PollFault, PollKey};
-pub use vote_text::{
+pub use vote_poll_keys::{PollFault, PollKey};
+pub use vote_poll_text::{
     Lines, LinesFault, MAX_LINES, MAX_OPTION_NAME, MAX_TITLE, MAX_VOTER_NAME, hex_digit,
     is_option_name, is_printable, is_title, is_voter_byte, is_voter_name, lines_are_unique,
     push_shown,

@@ -1,10 +1,10 @@
 //! The poll: its options, its quorum and its roll of voters.
 ghost use Rattle.std.specs.Prelude.{◌≡◌, ◌≤◌, ◌<◌, ◌+◌, ◌-◌, Some, IfSome, IsTrue, slice_get, option_map};
-ghost use Rattle.vote_poll.specs.Names.{place_of};
-ghost use Rattle.vote_text.specs.Names.{is_voter_name};
+ghost use Rattle.vote_poll.specs.Names.{IsNameOf, place_of};
+ghost use Rattle.vote_poll_text.specs.Names.{is_voter_name};
 ghost use Rattle.vote_poll.specs.Options.{IsOption};
 ghost use Rattle.vote_poll.specs.PollContent.{option_count, elector_count, last_in_time, ratio_of};
-ghost use Rattle.vote_text.specs.declared.lines.TheConstants.{MAX_LINES};
+ghost use Rattle.vote_poll_text.specs.declared.lines.TheConstants.{MAX_LINES};
 
 use crate::names::place_of;
 use crate::wording::Wording;
@@ -149,7 +149,7 @@ impl Poll {
     /// The name of the voter with this number (from 0), where there is one. Only this voter has it.
     pub fn voter_name(&self, voter: usize) -> Option<&[u8]>
         ensures found { option_map (λ name. name.now) result ≡ slice_get self.now.roll voter }
-        ensures name { IfSome result (λ name. (place_of name.now self.now.roll ≡ Some voter) × IsTrue (is_voter_name name.now)) }
+        ensures name { IfSome result (λ name. IsNameOf self.now.roll voter name.now) }
     {
         let name = self.roll.get_index(voter)?;
         Some(name.as_str().as_bytes())

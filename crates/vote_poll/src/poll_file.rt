@@ -1,153 +1,144 @@
-//! Reading a poll file.
-ghost use Rattle.std.specs.Prelude.{◌≡◌, map, string_bytes};
-ghost use Rattle.std.specs.Option.{option_copied};
-ghost use Rattle.vote_keys.specs.FieldsView.{fields_view};
-ghost use Rattle.vote_keys.specs.Keys.{Gives};
-ghost use Rattle.vote_poll.specs.PollFaults.{FirstIsTold};
-ghost use Rattle.vote_poll.specs.Parsing.{optional_rules_in, roll_and_rules_in, thresholds_in};
-ghost use Rattle.vote_poll.specs.PollFile.{last_envelope_in, poll_in, poll_of, quorum_in, ratios_in, title_in};
+//! Reading a poll file: its keys, what is wrong with them, and the poll if nothing is.
+ghost use Rattle.std.specs.Prelude.{◌≡◌, [], None, true, IfOk, IfSome, map, nat_abs, option_copied, string_bytes, unwrap_or};
+ghost use Rattle.std.specs.List.{list_all};
+ghost use Rattle.toml.specs.Data.{Members};
+ghost use Rattle.vote_poll_keys.specs.FoundView.{found_view, numbers_view, texts, texts_view};
+ghost use Rattle.vote_poll_keys.specs.Keys.{Gives};
+ghost use Rattle.vote_poll_text.specs.Names.{is_voter_name};
+ghost use Rattle.vote_poll.specs.Names.{first_bad};
+ghost use Rattle.vote_poll.specs.PollContent.{PollContent};
+ghost use Rattle.vote_poll.specs.PollFaults.{FirstIsTold, GivesPollOrFirst, IsJudged, IsOnlyPollOf, IsPollOf};
+ghost use Rattle.vote_poll.specs.PollFile.{is_integer_within, last_envelope_in, poll_in, quorum_in, wording_in};
+ghost use Rattle.vote_poll.specs.declared.TheConstants.{MAX_RATIO};
 
-use crate::names::{parse_option_names, parse_voter_names};
+use crate::faults::{parse_last_envelope, parse_quorum, parse_ratio, push_faults};
 use crate::poll::Poll;
 use crate::wording::{Wording, parse_wording};
-use crate::{MAX_QUORUM_MULTIPLE, MAX_RATIO};
 use indexmap::IndexSet;
-use std::alloc::Global;
-use vote_keys::{Fields, PollFault, document, fields_of};
-use vote_text::{MAX_LINES, is_title};
+use std::alloc::{AllocError, Global};
+use vote_poll_keys::{FoundKeys, PollFault, document};
 
-/// The title.
-fn parse_title(alloc: Global, text: &str) -> Result<String, PollFault>
-    ensures { Gives string_bytes result (title_in text.now) }
+/// The texts of a list that was found, or none.
+fn texts_or_none<'l, 't>(list: &'l Option<Vec<&'t str>>) -> &'l [&'t str]
+    ensures { texts result.now ≡ unwrap_or (texts_view list.now) [] }
 {
-    if !is_title(text.as_bytes()) {
-        return Err(PollFault::Title);
+    match list {
+        Some(texts) => texts,
+        None => &[],
     }
-    let title = String::from_str(alloc, text)?;
-    Ok(title)
 }
 
-/// The majority ratios of so many options.
-fn parse_ratios(alloc: Global, numbers: &[i64], count: usize) -> Result<Vec<u8>, PollFault>
-    ensures { Gives (λ ratios. ratios.items) result (ratios_in count numbers.now) }
+/// The numbers of a list that was found, or none.
+fn numbers_or_none(list: &Option<Vec<i64>>) -> &[i64]
+    ensures { result.now ≡ unwrap_or (numbers_view list.now) [] }
 {
-    if numbers.len() != count {
-        return Err(PollFault::Ratio);
+    match list {
+        Some(numbers) => numbers,
+        None => &[],
     }
+}
+
+/// Copies of the names of options.
+fn copies_of(alloc: Global, names: &[&str]) -> Result<Vec<String>, AllocError>
+    ensures { IfOk result (λ copies. map string_bytes copies.items ≡ texts names.now) }
+{
+    let mut copies = Vec::new(alloc);
+    for name in names {
+        copies.push(String::from_str(alloc, name)?)?;
+    }
+    Ok(copies)
+}
+
+/// The roll of voters, none of whose names is bad. The number of a voter is the place of the name.
+fn roll_of(alloc: Global, names: &[&str]) -> Result<IndexSet<String>, AllocError>
+    requires { first_bad is_voter_name (texts names.now) ≡ None }
+    ensures { IfOk result (λ roll. map string_bytes roll.keys ≡ texts names.now) }
+{
+    let mut roll = IndexSet::with_capacity(alloc, names.len())?;
+    for name in names {
+        roll.insert(String::from_str(alloc, name)?)?;
+    }
+    Ok(roll)
+}
+
+/// The majority ratios that whole numbers are, each of which is one.
+fn ratios_of(alloc: Global, numbers: &[i64]) -> Result<Vec<u8>, AllocError>
+    requires { list_all (is_integer_within 1 MAX_RATIO) numbers.now ≡ true }
+    ensures { IfOk result (λ ratios. ratios.items ≡ map nat_abs numbers.now) }
+{
     let mut ratios = Vec::new(alloc);
     for number in numbers {
-        if *number < 1 || *number > i64::from(MAX_RATIO) {
-            return Err(PollFault::Ratio);
-        }
-        ratios.push(*number as u8)?;
+        ratios.push(parse_ratio(*number).unwrap_or(1))?;
     }
     Ok(ratios)
 }
 
-/// The multiple of Q that is the quorum.
-fn parse_quorum(number: i64) -> Result<u8, PollFault>
-    ensures { Gives (λ multiple. multiple) result (quorum_in number) }
+/// The multiple of Q, where the key gives one.
+fn quorum_of(number: Option<i64>) -> u8
+    ensures { IfSome number (λ z. IfOk (quorum_in z) (λ multiple. result ≡ multiple)) }
 {
-    if number < 0 || number > i64::from(MAX_QUORUM_MULTIPLE) {
-        return Err(PollFault::Quorum);
+    match number {
+        Some(number) => parse_quorum(number).unwrap_or(0),
+        None => 0,
     }
-    Ok(number as u8)
 }
 
-/// What an option has to reach: the majority ratios of so many options, and the multiple of Q that is the quorum.
-fn parse_thresholds(
-    alloc: Global,
-    ratios: &[i64],
-    count: usize,
-    quorum: i64,
-) -> Result<(Vec<u8>, u8), PollFault>
-    ensures { Gives (λ thresholds. (thresholds.0.items, thresholds.1)) result (thresholds_in count ratios.now quorum) }
+/// The last envelope that is not late, where the key gives one.
+fn last_envelope_of(number: Option<i64>) -> Option<u32>
+    ensures { IfOk (last_envelope_in number) (λ last. result ≡ last) }
 {
-    let ratios = parse_ratios(alloc, ratios, count)?;
-    let quorum_multiple = parse_quorum(quorum)?;
-    Ok((ratios, quorum_multiple))
-}
-
-/// The last envelope that is not late, where there is one.
-fn parse_last_envelope(number: Option<i64>) -> Result<Option<u32>, PollFault>
-    ensures { Gives (λ last. last) result (last_envelope_in number) }
-{
-    let Some(number) = number else {
-        return Ok(None);
-    };
-    if number < 0 || number > MAX_LINES as i64 {
-        return Err(PollFault::LastEnvelope);
+    match number {
+        Some(number) => parse_last_envelope(number),
+        None => None,
     }
-    Ok(Some(number as u32))
 }
 
-/// The rules that a poll file may leave out: the last envelope that is not late, and the wording of a majority.
-fn parse_optional_rules(
-    last_envelope: Option<i64>,
-    wording: Option<&str>,
-) -> Result<(Option<u32>, Wording), PollFault>
-    ensures { Gives (λ rules. rules) result (optional_rules_in last_envelope (option_copied wording.entry)) }
+/// The wording that the key gives, and the Constitution's where there is no key.
+fn wording_of(text: Option<&str>) -> Wording
+    ensures { IfOk (wording_in (option_copied text.entry)) (λ wording. result ≡ wording) }
 {
-    let last_envelope = parse_last_envelope(last_envelope)?;
-    let wording = parse_wording(wording)?;
-    Ok((last_envelope, wording))
-}
-
-/// The roll of voters, and the rules that a poll file may leave out.
-fn parse_roll_and_rules(
-    alloc: Global,
-    roll: &[&str],
-    last_envelope: Option<i64>,
-    wording: Option<&str>,
-) -> Result<(IndexSet<String>, (Option<u32>, Wording)), PollFault>
-    ensures { Gives (λ parts. (map string_bytes parts.0.keys, parts.1)) result (roll_and_rules_in (map (λ name. name.now) roll.now) last_envelope (option_copied wording.entry)) }
-{
-    let roll = parse_voter_names(alloc, roll)?;
-    let rules = parse_optional_rules(last_envelope, wording)?;
-    Ok((roll, rules))
-}
-
-/// The poll that the keys of a poll file give, or the first of its faults. Each key is judged where those before it are right.
-fn parse_poll(alloc: Global, fields: &Fields<'_>) -> Result<Poll, PollFault>
-    ensures { Gives (λ poll. poll) result (poll_of (fields_view fields.now)) }
-{
-    let title = parse_title(alloc, fields.title)?;
-    let options = parse_option_names(alloc, &fields.options, fields.default_option)?;
-    let ratio_count = fields.options.len();
-    let (ratios, quorum_multiple) = parse_thresholds(
-        alloc,
-        &fields.ratios,
-        ratio_count,
-        fields.quorum,
-    )?;
-    let (roll, (last_envelope, wording)) = parse_roll_and_rules(
-        alloc,
-        &fields.roll,
-        fields.last_envelope,
-        fields.wording,
-    )?;
-    Ok(Poll {
-        title,
-        options,
-        ratios,
-        quorum_multiple,
-        roll,
-        last_envelope,
-        wording,
-    })
+    match text {
+        Some(text) => parse_wording(text).unwrap_or(Wording::AtLeast),
+        None => Wording::AtLeast,
+    }
 }
 
 impl Poll {
-    /// The poll that the keys of a poll file give, or the first of its faults.
+    /// The poll that the keys of a poll file give, with which nothing is wrong.
+    fn of_keys(alloc: Global, keys: &FoundKeys<'_>) -> Result<Poll, AllocError>
+        requires { (poll : PollContent) × IsPollOf (found_view keys.now) poll }
+        ensures { IfOk result (λ poll. IsOnlyPollOf (found_view keys.now) poll) }
+    {
+        let option_names = keys.option_names(alloc)?;
+        Ok(Poll {
+            title: String::from_str(alloc, keys.title.unwrap_or(""))?,
+            options: copies_of(alloc, texts_or_none(&option_names))?,
+            ratios: ratios_of(alloc, numbers_or_none(&keys.ratios))?,
+            quorum_multiple: quorum_of(keys.quorum),
+            roll: roll_of(alloc, texts_or_none(&keys.roll))?,
+            last_envelope: last_envelope_of(keys.last_envelope),
+            wording: wording_of(keys.wording),
+        })
+    }
+
+    /// The poll that the keys of a poll file give, or the first of its faults, all of which were found
+    /// (`FoundKeys::key_faults`, [`push_faults`](crate::push_faults)).
     ///
     /// # Errors
     ///
-    /// The first [`PollFault`] that holds, in the order of that type, each just where it holds, but for
-    /// [`PollFault::Syntax`] and [`PollFault::Key`]; or [`PollFault::Memory`].
-    pub fn from_fields(alloc: Global, fields: Fields<'_>) -> Result<Poll, PollFault>
-        ensures { Gives (λ poll. poll) result (poll_of (fields_view fields.entry)) }
+    /// The first of the faults, if there is one; or [`PollFault::Memory`].
+    pub fn unless_faulty(
+        alloc: Global,
+        keys: &FoundKeys<'_>,
+        faults: &[PollFault],
+    ) -> Result<Poll, PollFault>
+        requires { (table : Members) × IsJudged table (found_view keys.now) faults.now }
+        ensures { GivesPollOrFirst (found_view keys.now) faults.now result }
     {
-        parse_poll(alloc, &fields)
+        match faults.first() {
+            Some(fault) => Err(*fault),
+            None => Ok(Poll::of_keys(alloc, keys)?),
+        }
     }
 
     /// The poll that the text of a poll file means, or the first of its faults. The text is TOML. Its table has the keys of
@@ -155,19 +146,21 @@ impl Poll {
     ///
     /// # Errors
     ///
-    /// The first [`PollFault`] that holds, in the order of that type, each just where it holds; or
+    /// The first [`PollFault`] that holds, in the order of that type, each exactly when it holds; or
     /// [`PollFault::Memory`].
     #[tactic(auto, unfolding(crate::specs::PollFile::poll_in))]
     pub fn from_text(alloc: Global, text: &[u8]) -> Result<Poll, PollFault>
         ensures { Gives (λ poll. poll) result (poll_in text.now) }
     {
         let table = document(alloc, text)?;
-        let fields = fields_of(alloc, &table)?;
-        Poll::from_fields(alloc, fields)
+        let keys = FoundKeys::of_table(alloc, &table)?;
+        let mut faults = keys.key_faults(alloc, &table)?;
+        push_faults(alloc, &mut faults, &keys)?;
+        Poll::unless_faulty(alloc, &keys, &faults)
     }
 }
 
-/// A law: the fault that [`Poll::from_text`] answers is the first of all faults of its text, and it answers a poll just where
+/// A law: the fault that [`Poll::from_text`] returns is the first of all faults of its text, and it returns a poll exactly when
 /// there is none.
 #[tactic(auto, using(crate::proofs::PollFaultsLaws::first_is_told))]
 pub fn first_fault_is_told()

@@ -1,14 +1,17 @@
-//! Where an option stands whose rank a ballot line spells, by two look-ups in place of tests: which way a test of a
-//! rank's length goes is a coin toss, and a processor that guesses wrong loses the time of several ranks.
+//! Where an option stands whose rank a ballot line spells, by two look-ups in place of tests: which
+//! way a test of a rank's length goes is a coin toss, and a processor that guesses wrong loses the
+//! time of several ranks.
 ghost use Rattle.std.specs.Prelude.{◌≡◌, [], ◌∷◌, if◌then◌else◌, ◌==◌, IfSome, Some, option_map};
 ghost use Rattle.std.specs.Str.{byte};
 ghost use Rattle.vote_poll.specs.Parsing.{kind_of};
 ghost use Rattle.vote_poll.specs.Readings.{rank_in};
 ghost use Rattle.vote_poll.specs.SortKeys.{rank_of_key};
+ghost use Rattle.vote_poll.specs.Spelling.{rank_bytes};
 
 use crate::UNRANKED;
 
-/// What each byte is in a list of ranks: a digit is its value, a comma 10, a hyphen 11, and any other byte 12.
+/// What each byte is in a list of ranks: a digit is its value, a comma 10, a hyphen 11, and any
+/// other byte 12.
 const KINDS: [u8; 256] = [
     12, 12, 12, 12, 12, 12, 12, 12, 12, 12, 12, 12, 12, 12, 12, 12, 12, 12, 12, 12, 12, 12, 12, 12,
     12, 12, 12, 12, 12, 12, 12, 12, 12, 12, 12, 12, 12, 12, 12, 12, 12, 12, 12, 12, 10, 11, 12, 12,
@@ -23,8 +26,9 @@ const KINDS: [u8; 256] = [
     12, 12, 12, 12, 12, 12, 12, 12, 12, 12, 12, 12, 12, 12,
 ];
 
-/// Where an option stands whose rank two bytes spell, at sixteen times the first byte's kind and the second's kind
-/// more. A second byte that is a comma is no part of the rank. There is a 0 where they spell none.
+/// Where an option stands whose rank two bytes spell, at sixteen times the first byte's kind and
+/// the second's kind more. A second byte that is a comma is no part of the rank. There is a 0 where
+/// they spell none.
 const KEYS: [u8; 208] = [
     0, 0, 0, 0, 0, 0, 0, 0, 0, 0, 0, 0, 0, 0, 0, 0, 10, 11, 12, 13, 14, 15, 16, 17, 18, 19, 1, 0,
     0, 0, 0, 0, 20, 21, 22, 23, 24, 25, 26, 27, 28, 29, 2, 0, 0, 0, 0, 0, 30, 31, 32, 33, 34, 35,
@@ -36,8 +40,9 @@ const KEYS: [u8; 208] = [
     0, 0, 0, 0, 0, 0, 0, 0, 0, 0, 0, 0, 0, 0, 0, 0, 0, 0, 0,
 ];
 
-/// The two bytes by which a text tells the rank of an option that stands here, as the first and 256 times the second; the
-/// second is the comma behind a rank of one byte. There is a number that no two bytes make where no rank is.
+/// The two bytes by which a text tells the rank of an option that stands here, as the first and 256
+/// times the second; the second is the comma after a rank of one byte. There is a number that no
+/// two bytes make where no rank is.
 const PAIRS: [u32; 256] = [
     65536, 11313, 11314, 11315, 11316, 11317, 11318, 11319, 11320, 11321, 12337, 12593, 12849,
     13105, 13361, 13617, 13873, 14129, 14385, 14641, 12338, 12594, 12850, 13106, 13362, 13618,
@@ -80,19 +85,20 @@ fn kind_of(byte: u8) -> u8
     KINDS[byte as usize]
 }
 
-/// Where an option stands whose rank is spelled by one byte and a comma behind it, or else by both bytes.
+/// Where an option stands whose rank is spelled by one byte and a comma after it, or else by both
+/// bytes.
 pub(crate) fn spelled_key(first: u8, second: u8) -> Option<u8>
-    ensures { option_map rank_of_key result ≡ rank_in (if second == byte "," then first ∷ [] else first ∷ second ∷ []) }
+    ensures { option_map rank_of_key result ≡ rank_in (rank_bytes first second) }
 {
     let key = KEYS[16 * kind_of(first) as usize + kind_of(second) as usize];
     if key == 0 { None } else { Some(key) }
 }
 
-/// How many bytes spell the rank of an option that stands here, where a text with these two bytes in front may begin with this
-/// rank and a comma.
+/// How many bytes spell the rank of an option that stands here, if a text that begins with these
+/// two bytes may begin with this rank and a comma.
 pub(crate) fn spelled_length(first: u8, second: u8, key: u8) -> Option<usize>
     ensures length { IfSome result (λ length. length ≡ (if second == byte "," then 1 else 2)) }
-    ensures rank { IfSome result (λ length. rank_in (if second == byte "," then first ∷ [] else first ∷ second ∷ []) ≡ Some (rank_of_key key)) }
+    ensures rank { IfSome result (λ _. rank_in (rank_bytes first second) ≡ Some (rank_of_key key)) }
 {
     if u32::from(first) + 256 * u32::from(second) != PAIRS[key as usize] {
         return None;

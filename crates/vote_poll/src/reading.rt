@@ -3,9 +3,10 @@ ghost use Rattle.std.specs.Prelude.{◌≡◌, ◌==◌, ◌<◌, ◌≤◌, ◌
 ghost use Rattle.std.specs.List.{before_first, after_first};
 ghost use Rattle.std.specs.Str.{byte};
 ghost use Rattle.vote_poll.specs.Comparisons.{is_same_reading};
-ghost use Rattle.vote_text.specs.Names.{is_voter_name};
+ghost use Rattle.vote_poll_text.specs.Names.{is_voter_name};
 ghost use Rattle.vote_poll.specs.Parsing.{kept_and_count, voter_kept_and_count, parts_in, reading_from};
-ghost use Rattle.vote_poll.specs.SortKeys.{rank_of_key, row_of};
+ghost use Rattle.vote_poll.specs.SortKeys.{rank_of_key};
+ghost use Rattle.vote_poll.specs.Spelling.{KeepsKey, ListsFirst, ReadingsAreUnique};
 ghost use Rattle.vote_poll.specs.PollContent.{PollContent, elector_count, option_count};
 ghost use Rattle.vote_poll.specs.Readings.{IsReading, ReadingFits, reading, rank_in, ranks_in, is_space};
 ghost use Rattle.vote_poll.specs.declared.reading.Reading.TheVariants.{Ballot};
@@ -16,22 +17,24 @@ use crate::poll::Poll;
 use crate::rank_key::{spelled_key, spelled_length};
 use crate::ranks::Ranks;
 use crate::{MAX_LINE, MAX_OPTIONS};
-use vote_text::is_voter_name;
+use vote_poll_text::is_voter_name;
 
-/// What a poll reads in a line. Two readings are the same for `==` just where they are equal for contracts.
+/// What a poll reads in a line. Two readings are the same for `==` exactly when they are equal for
+/// contracts.
 #[derive(Clone, Copy)]
 pub enum Reading {
-    /// A ballot of the voter at this place of the roll (from 0), with a rank or none for each option of the poll.
+    /// A ballot of the voter at this place of the roll (from 0), with a rank or none for each
+    /// option of the poll.
     Ballot { voter: usize, ranks: Ranks },
     /// No ballot of this poll, for the first reason that holds.
     Bad(LineFault),
 }
 
-/// Why a line is no ballot. Where several hold, the first in this order is answered.
+/// Why a line is no ballot. If several hold, the first in this order is returned.
 #[derive(Clone, Copy, Debug, PartialEq, Eq)]
 pub enum LineFault {
-    /// The line has more than [`MAX_LINE`] bytes, or is not a voter's name, one space, and ranks from 1 to
-    /// [`MAX_RANK`](crate::MAX_RANK) or hyphens with a comma between each two.
+    /// The line has more than [`MAX_LINE`] bytes, or is not a voter's name, one space, and ranks
+    /// from 1 to [`MAX_RANK`](crate::MAX_RANK) or hyphens with a comma between each two.
     Shape,
     /// The line has more or fewer ranks than there are options.
     RankCount,
@@ -39,8 +42,8 @@ pub enum LineFault {
     Roll,
 }
 
-/// Where an option stands whose rank a text spells: one byte, as if a comma stood behind it, or two of which the second is no
-/// comma.
+/// Where an option stands whose rank a text spells: one byte, as if a comma came after it, or two
+/// of which the second is no comma.
 fn parse_rank(text: &[u8]) -> Option<u8>
     ensures { option_map rank_of_key result ≡ rank_in text.now }
 {
@@ -53,10 +56,11 @@ fn parse_rank(text: &[u8]) -> Option<u8>
     spelled_key(text[0], text[1])
 }
 
-/// Where the option of the first rank in a text stands, and the text behind the comma after this rank.
+/// Where the option of the first rank in a text stands, and the text after the comma that ends this
+/// rank.
 fn first_key(text: &[u8]) -> Option<(u8, &[u8])>
     requires { 3 ≤ length text.now }
-    ensures first { IfSome result (λ first. ranks_in text.now ≡ option_map (λ ranks. rank_of_key first.0 ∷ ranks) (ranks_in first.1.now)) }
+    ensures first { IfSome result (λ first. ListsFirst text.now first.0 first.1.now) }
     ensures shorter { IfSome result (λ first. length first.1.now < length text.now) }
     ensures none { IfNone result (ranks_in text.now ≡ None) }
 {
@@ -71,14 +75,15 @@ fn first_key(text: &[u8]) -> Option<(u8, &[u8])>
 
 /// Writes where the next option stands into a row, where there is room for it.
 fn keep(row: &mut [u8; MAX_OPTIONS], count: usize, key: u8)
-    ensures { (keys : List ℕ) → length keys ≡ count → row.old ≡ row_of keys → row.new ≡ row_of (keys ++ key ∷ []) }
+    ensures { KeepsKey row.old count key row.new }
 {
     if count < MAX_OPTIONS {
         row[count] = key;
     }
 }
 
-/// The ranks that a text lists, of which as many are kept as a poll can have options, and how many there are.
+/// The ranks that a text lists, of which as many are kept as a poll can have options, and how many
+/// there are.
 fn ranks_of(text: &[u8]) -> Option<(Ranks, usize)>
     requires { length text.now ≤ MAX_LINE }
     ensures { result ≡ option_map kept_and_count (ranks_in text.now) }
@@ -100,7 +105,8 @@ fn ranks_of(text: &[u8]) -> Option<(Ranks, usize)>
 
 /// The texts before and after the first space, where there is one.
 fn split_at_space(line: &[u8]) -> Option<(&[u8], &[u8])>
-    ensures found { IfSome result (λ parts. (parts.0.now ≡ before_first is_space line.now) × (parts.1.now ≡ after_first is_space line.now)) }
+    ensures before { IfSome result (λ parts. parts.0.now ≡ before_first is_space line.now) }
+    ensures after { IfSome result (λ parts. parts.1.now ≡ after_first is_space line.now) }
     ensures none { IfNone result (after_first is_space line.now ≡ []) }
 {
     for end in 0..line.len() {
@@ -121,7 +127,8 @@ struct BallotLine<'t> {
     count: usize,
 }
 
-/// The parts of a line, where it is a ballot line if the text before the first space is a voter's name.
+/// The parts of a line, where it is a ballot line if the text before the first space is a voter's
+/// name.
 fn parse(line: &[u8]) -> Option<BallotLine<'_>>
     ensures { option_map (λ parts. (parts.voter.now, parts.ranks, parts.count)) result ≡ option_map voter_kept_and_count (parts_in line.now) }
 {
@@ -137,8 +144,8 @@ fn parse(line: &[u8]) -> Option<BallotLine<'_>>
     })
 }
 
-/// The ballot that a line gives, as the voter's place on the roll and the ranks. What is on the roll is a voter's name,
-/// so only what is not is tested for one.
+/// The ballot that a line gives, as the voter's place on the roll and the ranks. What is on the
+/// roll is a voter's name, so only what is not is tested for one.
 fn ballot(poll: &Poll, line: &[u8]) -> Result<(usize, Ranks), LineFault>
     ensures { reading_from result ≡ reading poll.now line.now }
 {
@@ -158,9 +165,9 @@ fn ballot(poll: &Poll, line: &[u8]) -> Result<(usize, Ranks), LineFault>
     Ok((voter, parts.ranks))
 }
 
-/// What the poll reads in a line, which is given without its line feed. Each line has a reading, whatever its bytes.
-/// A ballot gives the `k`-th rank to option `k`; by A.5 of the Constitution's Appendix A what it leaves unranked is
-/// below all that it ranks.
+/// What the poll reads in a line, which is given without its line feed. Each line has a reading,
+/// whatever its bytes. A ballot gives the `k`-th rank to option `k`; by A.5 of the Constitution's
+/// Appendix A what it leaves unranked is below all that it ranks.
 #[tactic(auto, using(crate::proofs::GrammarLaws::reading_laws))]
 pub fn read_line(poll: &Poll, line: &[u8]) -> Reading
     ensures same { result ≡ reading poll.now line.now }
@@ -173,11 +180,13 @@ pub fn read_line(poll: &Poll, line: &[u8]) -> Reading
     }
 }
 
-/// The text behind a rank and its comma, where a text begins with the rank of an option that stands here.
+/// The text after a rank and its comma, if a text begins with the rank of an option that stands
+/// here.
 ///
-/// How long the rank is, is known from where the option stands, so no look at the text has to wait for the one before.
+/// How long the rank is, is known from where the option stands, so no look at the text has to wait
+/// for the one before.
 fn behind_rank(text: &[u8], key: u8) -> Option<&[u8]>
-    ensures { IfSome result (λ rest. ranks_in text.now ≡ option_map (λ ranks. rank_of_key key ∷ ranks) (ranks_in rest.now)) }
+    ensures { IfSome result (λ rest. ListsFirst text.now key rest.now) }
 {
     if text.len() < 3 {
         return None;
@@ -206,7 +215,7 @@ fn lists_ranks(text: &[u8], ranks: &Ranks) -> bool
     parse_rank(left) == Some(*last)
 }
 
-/// The text behind a name and a space.
+/// The text after a name and a space.
 fn behind_name<'t>(line: &'t [u8], name: &[u8]) -> Option<&'t [u8]>
     ensures { IfSome result (λ text. line.now ≡ name.now ++ byte " " ∷ text.now) }
 {
@@ -229,8 +238,9 @@ fn spells(poll: &Poll, line: &[u8], voter: usize, ranks: &Ranks) -> bool
     }
 }
 
-/// Whether this is what the poll reads in a line, so what [`read_line`] answers. A ballot is compared with the line by the
-/// name at the voter's place on the roll, which takes no look-up, and by how its ranks are spelled.
+/// Whether this is what the poll reads in a line, so what [`read_line`] returns. A ballot is
+/// compared with the line by the name at the voter's place on the roll, which takes no look-up, and
+/// by how its ranks are spelled.
 pub fn is_reading(poll: &Poll, line: &[u8], answer: &Reading) -> bool
     ensures { IsTrue result ↔ (answer.now ≡ reading poll.now line.now) }
 {
@@ -242,16 +252,16 @@ pub fn is_reading(poll: &Poll, line: &[u8], answer: &Reading) -> bool
     read_line(poll, line) == *answer
 }
 
-/// Each line reads as something by the grammar: as what [`read_line`] answers.
+/// Each line reads as something by the grammar: as what [`read_line`] returns.
 #[tactic(auto, using(crate::proofs::GrammarLaws::reading_is))]
 pub fn each_line_is_read()
     ensures { (poll : PollContent) (line : List ℕ) → IsReading poll line (reading poll line) }
 {}
 
-/// A law: a poll reads one thing in a line, so what [`read_line`] answers is the only reading.
+/// A law: a poll reads one thing in a line, so what [`read_line`] returns is the only reading.
 #[tactic(auto, using(crate::proofs::OneReading::readings_are_one))]
 pub fn readings_are_unique()
-    ensures { (poll : PollContent) (line : List ℕ) (a b : Reading) → IsReading poll line a → IsReading poll line b → a ≡ b }
+    ensures { ReadingsAreUnique }
 {}
 
 impl PartialEq for Reading {

@@ -1,9 +1,8 @@
 //! How a poll words the majority that an option needs.
-ghost use Rattle.std.specs.Option.{option_copied};
-ghost use Rattle.vote_keys.specs.Keys.{Gives};
+ghost use Rattle.std.specs.Prelude.{◌≡◌, Some};
+ghost use Rattle.std.specs.Option.{ok_or};
+ghost use Rattle.vote_poll_keys.specs.declared.fault.PollFault.TheVariants as fault;
 ghost use Rattle.vote_poll.specs.PollFile.{wording_in};
-
-use vote_keys::PollFault;
 
 /// How many voters have to prefer an option to the default option, where its majority ratio is r. They are measured by
 /// those who prefer the default option to it.
@@ -16,13 +15,13 @@ pub enum Wording {
     MoreThan,
 }
 
-/// The wording that a text names, and the Constitution's where there is no text.
-pub(crate) fn parse_wording(text: Option<&str>) -> Result<Wording, PollFault>
-    ensures { Gives (λ wording. wording) result (wording_in (option_copied text.entry)) }
+/// The wording that a text names, if it names one.
+pub(crate) fn parse_wording(text: &str) -> Option<Wording>
+    ensures { ok_or result fault.Wording ≡ wording_in (Some text.now) }
 {
     match text {
-        None | Some("at_least") => Ok(Wording::AtLeast),
-        Some("more_than") => Ok(Wording::MoreThan),
-        Some(_) => Err(PollFault::Wording),
+        "at_least" => Some(Wording::AtLeast),
+        "more_than" => Some(Wording::MoreThan),
+        _ => None,
     }
 }

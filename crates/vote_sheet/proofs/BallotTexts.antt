@@ -10,14 +10,14 @@ use Rattle.std.proofs.lemmas.List.Sums.{AllPass-from_list_all}
 use Rattle.std.proofs.lemmas.Str.{IsUtf8-from_ascii}
 use Rattle.std.proofs.lemmas.Str.Ascii.{IsAscii-from_all}
 use Rattle.vote_poll.specs.BallotLine.{rank_text}
-use Rattle.vote_text.specs.Lines.{line_feed, text_of_lines}
-use Rattle.vote_text.specs.Names.{is_voter_byte, is_voter_name, is_within}
+use Rattle.vote_poll_text.specs.Lines.{line_feed, text_of_lines}
+use Rattle.vote_poll_text.specs.Names.{is_voter_byte, is_voter_name, is_within}
 use Rattle.vote_poll.specs.Ranks.{rank_of}
-use Rattle.vote_text.specs.declared.TheConstants.{MAX_VOTER_NAME}
+use Rattle.vote_poll_text.specs.declared.TheConstants.{MAX_VOTER_NAME}
 use Rattle.vote_poll.proofs.OptionLaws.{at_option-next}
 use Rattle.vote_sheet.specs.Standing.{ballot_line, ballot_lines}
 
--- one more text behind a comma
+-- one more text after a comma
 join_push : (comma : ℕ) (texts : List (List ℕ)) (text : List ℕ) → 1 ≤ length texts → join_with_byte comma (texts ++ text ∷ []) ≡ join_with_byte comma texts ++ comma ∷ text
 join_push comma [] text some = absurd (omega arith)
 join_push comma (first ∷ []) text some = refl
@@ -42,8 +42,8 @@ pub first_rank : (ranks : List (Option ℕ)) (rank : Option ℕ) → 1 ≤ lengt
 first_rank [] rank some is = absurd (omega arith)
 first_rank (first ∷ ranks) rank some is = ap rank_text (is ∙ at_option-next (first ∷ ranks) 0 None)
 
-pub behind_comma : (t0 t1 t2 t3 front comma last whole : List ℕ) → t1 ≡ t0 ++ front → t2 ≡ t1 ++ comma → t3 ≡ t2 ++ last → whole ≡ (front ++ comma) ++ last → t3 ≡ t0 ++ whole
-behind_comma t0 t1 t2 t3 front comma last whole e1 e2 e3 e = rw (e3, e2, e1, e) (simp append_assoc)
+pub after_comma : (t0 t1 t2 t3 front comma last whole : List ℕ) → t1 ≡ t0 ++ front → t2 ≡ t1 ++ comma → t3 ≡ t2 ++ last → whole ≡ (front ++ comma) ++ last → t3 ≡ t0 ++ whole
+after_comma t0 t1 t2 t3 front comma last whole e1 e2 e3 e = rw (e3, e2, e1, e) (simp append_assoc)
 
 -- the line of one voter, and the lines of those that are left
 pub one_ballot_more : (voters : List (List ℕ)) (ballots : List (Option (List (Option ℕ)))) (k : ℕ) → k < length voters → k < length ballots

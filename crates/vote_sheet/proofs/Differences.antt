@@ -5,9 +5,9 @@ use Rattle.std.specs.List.{All}
 use Rattle.std.proofs.lemmas.Bool.{cases_eq, eq-eqb, ne_eqb}
 use Rattle.std.proofs.lemmas.List.Elements.{All-cons, All-head, All-nil, All-tail}
 use Rattle.std.proofs.lemmas.List.Sums.{sum_by-cons}
-use Rattle.vote_text.specs.Lines.{IsUnbroken, text_of_lines}
+use Rattle.vote_poll_text.specs.Lines.{IsUnbroken, text_of_lines}
 use Rattle.vote_sheet.specs.Sheet.{Text}
-use Rattle.vote_sheet.specs.Verify.{DifferFirstBehind, NamesTheFirstLine, agreement, common_lines, first_line}
+use Rattle.vote_sheet.specs.Verify.{DifferFirstAfter, NamesTheFirstLine, agreement, common_lines, first_line}
 
 abbrev is_feed : ℕ → Bool
 is_feed byte = byte == 10
@@ -17,6 +17,12 @@ one t = cond {A = ℕ} t 1 0
 
 count-cons : (b : ℕ) (bs : Text) → count_by is_feed (b ∷ bs) ≡ one (is_feed b) + count_by is_feed bs
 count-cons b bs = sum_by-cons (λ y. one (is_feed y)) b bs
+
+-- the first byte is the same
+pub common_more : (b : ℕ) (bs cs : Text) → common_lines (b ∷ bs) (b ∷ cs) ≡ one (is_feed b) + common_lines bs cs
+common_more b bs cs =
+    let agree : agreement (b ∷ bs) (b ∷ cs) ≡ agreement bs cs + 1 = rw (eq-eqb b b refl) refl in
+    ap (λ m. count_by is_feed (take m (b ∷ bs))) agree ∙ rw add-one (count-cons b (take (agreement bs cs) bs))
 
 line_of_feed : (b : ℕ) (bs : Text) → b ≡ 10 → first_line (b ∷ bs) ≡ b ∷ []
 line_of_feed b bs is = rw (eq-eqb b 10 is) refl
@@ -32,7 +38,7 @@ no_line : (b : ℕ) (bs : Text) → first_line (b ∷ bs) ≢ []
 no_line b bs none = let first : b ∷ (begins b bs).0 ≡ [] = sym (begins b bs).1 ∙ none in cc
 
 -- the first lines differ at once
-at_once : (text sheet : Text) → first_line text ≢ first_line sheet → DifferFirstBehind text sheet 0
+at_once : (text sheet : Text) → first_line text ≢ first_line sheet → DifferFirstAfter text sheet 0
 at_once text sheet differ = record {
   lines = [];
   unbroken = All-nil IsUnbroken;
@@ -44,9 +50,9 @@ at_once text sheet differ = record {
   differ = differ;
 }
 
--- behind a line feed that both have
-behind_feed : (b c : ℕ) (bs cs : Text) (n : ℕ) → DifferFirstBehind bs cs n → b ≡ 10 → c ≡ 10 → DifferFirstBehind (b ∷ bs) (c ∷ cs) (n + 1)
-behind_feed b c bs cs n later is_b is_c = record {
+-- after a line feed that both have
+after_feed : (b c : ℕ) (bs cs : Text) (n : ℕ) → DifferFirstAfter bs cs n → b ≡ 10 → c ≡ 10 → DifferFirstAfter (b ∷ bs) (c ∷ cs) (n + 1)
+after_feed b c bs cs n later is_b is_c = record {
   lines = [] ∷ later.lines;
   unbroken = All-cons IsUnbroken [] later.lines (All-nil (λ x. x ≢ 10)) later.unbroken;
   count = omega (arith, later.count);
@@ -57,16 +63,16 @@ behind_feed b c bs cs n later is_b is_c = record {
   differ = later.differ;
 }
 
--- behind another byte that both have
-behind_byte : (b c : ℕ) (bs cs : Text) (n : ℕ) (lines : List Text) → All IsUnbroken lines → length lines ≡ n → (rest other : Text)
-    → bs ≡ text_of_lines lines ++ rest → cs ≡ text_of_lines lines ++ other → first_line rest ≢ first_line other → b ≡ c → b ≢ 10 → DifferFirstBehind (b ∷ bs) (c ∷ cs) n
-behind_byte b c bs cs n [] unbroken count rest other is_text is_sheet differ same no_feed =
+-- after another byte that both have
+after_byte : (b c : ℕ) (bs cs : Text) (n : ℕ) (lines : List Text) → All IsUnbroken lines → length lines ≡ n → (rest other : Text)
+    → bs ≡ text_of_lines lines ++ rest → cs ≡ text_of_lines lines ++ other → first_line rest ≢ first_line other → b ≡ c → b ≢ 10 → DifferFirstAfter (b ∷ bs) (c ∷ cs) n
+after_byte b c bs cs n [] unbroken count rest other is_text is_sheet differ same no_feed =
     let apart : first_line (b ∷ bs) ≢ first_line (c ∷ cs) = λ e.
     (let both : b ∷ first_line bs ≡ c ∷ first_line cs = sym (line_of_other b bs no_feed) ∙ e ∙ line_of_other c cs (λ feed. no_feed (same ∙ feed)) in
     let lines : first_line bs ≡ first_line cs = cc in
     differ (ap first_line (sym is_text) ∙ lines ∙ ap first_line is_sheet)) in
-    subst (DifferFirstBehind (b ∷ bs) (c ∷ cs)) count (at_once (b ∷ bs) (c ∷ cs) apart)
-behind_byte b c bs cs n (line ∷ lines) unbroken count rest other is_text is_sheet differ same no_feed = record {
+    subst (DifferFirstAfter (b ∷ bs) (c ∷ cs)) count (at_once (b ∷ bs) (c ∷ cs) apart)
+after_byte b c bs cs n (line ∷ lines) unbroken count rest other is_text is_sheet differ same no_feed = record {
   lines = (b ∷ line) ∷ lines;
   unbroken = All-cons IsUnbroken (b ∷ line) lines (All-cons (λ x. x ≢ 10) b line no_feed (All-head IsUnbroken line lines unbroken)) (All-tail IsUnbroken line lines unbroken);
   count = count;
@@ -92,11 +98,11 @@ names_the_first_line (b ∷ bs) (c ∷ cs) apart =
           elim (cases_eq b 10) [
             | inl feed ↦
                 let here : common_lines (b ∷ bs) (c ∷ cs) ≡ n + 1 = omega (arith, count, ap one (eq-eqb b 10 feed)) in
-                subst (DifferFirstBehind (b ∷ bs) (c ∷ cs)) (sym here) (behind_feed b c bs cs n later feed (sym same ∙ feed))
+                subst (DifferFirstAfter (b ∷ bs) (c ∷ cs)) (sym here) (after_feed b c bs cs n later feed (sym same ∙ feed))
             | inr other ↦
                 let here : common_lines (b ∷ bs) (c ∷ cs) ≡ n = omega (arith, count, ap one (ne_eqb b 10 other)) in
-                subst (DifferFirstBehind (b ∷ bs) (c ∷ cs)) (sym here)
-                (behind_byte b c bs cs n later.lines later.unbroken later.count later.rest later.other later.is_text later.is_sheet later.differ same other)
+                subst (DifferFirstAfter (b ∷ bs) (c ∷ cs)) (sym here)
+                (after_byte b c bs cs n later.lines later.unbroken later.count later.rest later.other later.is_text later.is_sheet later.differ same other)
           ]
       | inr other ↦
           let agree : agreement (b ∷ bs) (c ∷ cs) ≡ 0 = rw (ne_eqb b c other) refl in
@@ -105,5 +111,5 @@ names_the_first_line (b ∷ bs) (c ∷ cs) apart =
           (let both : b ∷ (begins b bs).0 ≡ c ∷ (begins c cs).0 = sym (begins b bs).1 ∙ e ∙ (begins c cs).1 in
           let same : b ≡ c = cc in
           other same) in
-          subst (DifferFirstBehind (b ∷ bs) (c ∷ cs)) (sym here) (at_once (b ∷ bs) (c ∷ cs) apart_lines)
+          subst (DifferFirstAfter (b ∷ bs) (c ∷ cs)) (sym here) (at_once (b ∷ bs) (c ∷ cs) apart_lines)
     ]

@@ -93,7 +93,7 @@ refused_lines poll lines others differ =
 
 -- ---- a refused line at the end
 module _ (poll : PollContent) (line : Text) where
-  -- the line is refused, where so many lines are in time and it comes behind these
+  -- the line is refused, where so many lines are in time and it comes after these
   abbrev IsRefused : ℕ → List Text → Type 0
   IsRefused n lines = (n ≤ length lines) ⊎ (is_ballot (reading poll line) ≡ false)
 
@@ -103,33 +103,33 @@ module _ (poll : PollContent) (line : Text) where
   alone : (n : ℕ) → IsRefused (suc n) [] → is_ballot (reading poll line) ≡ false
   alone n refused = elim refused [ inl late ↦ absurd (omega (arith, late)) | inr bad ↦ bad ]
 
-  last_behind : (n : ℕ) (lines : List Text) → IsRefused n lines → (v : ℕ) → last_ballot (take n (readings poll (lines ++ line ∷ []))) v ≡ last_ballot (take n (readings poll lines)) v
-  last_behind zero lines refused v = refl
-  last_behind (suc zero) [] refused v = no_ballot v (reading poll line) (alone 0 refused)
-  last_behind (suc (suc n)) [] refused v = no_ballot v (reading poll line) (alone (suc n) refused)
-  last_behind (suc n) (first ∷ lines) refused v = ap (λ o. option_or o (ranks_read v (reading poll first))) (last_behind n lines (refused_later n first lines refused) v)
+  last_after : (n : ℕ) (lines : List Text) → IsRefused n lines → (v : ℕ) → last_ballot (take n (readings poll (lines ++ line ∷ []))) v ≡ last_ballot (take n (readings poll lines)) v
+  last_after zero lines refused v = refl
+  last_after (suc zero) [] refused v = no_ballot v (reading poll line) (alone 0 refused)
+  last_after (suc (suc n)) [] refused v = no_ballot v (reading poll line) (alone (suc n) refused)
+  last_after (suc n) (first ∷ lines) refused v = ap (λ o. option_or o (ranks_read v (reading poll first))) (last_after n lines (refused_later n first lines refused) v)
 
-  valid_behind : (n : ℕ) (lines : List Text) → IsRefused n lines → count_by is_ballot (take n (readings poll (lines ++ line ∷ []))) ≡ count_by is_ballot (take n (readings poll lines))
-  valid_behind zero lines refused = refl
-  valid_behind (suc n) [] refused = omega (arith, count-cons is_ballot (reading poll line) (take n []), ap one (alone n refused), none_of n)
+  valid_after : (n : ℕ) (lines : List Text) → IsRefused n lines → count_by is_ballot (take n (readings poll (lines ++ line ∷ []))) ≡ count_by is_ballot (take n (readings poll lines))
+  valid_after zero lines refused = refl
+  valid_after (suc n) [] refused = omega (arith, count-cons is_ballot (reading poll line) (take n []), ap one (alone n refused), none_of n)
     where
       none_of : (n : ℕ) → count_by is_ballot (take n []) ≡ 0
       none_of zero = refl
       none_of (suc n) = refl
-  valid_behind (suc n) (first ∷ lines) refused =
+  valid_after (suc n) (first ∷ lines) refused =
       omega (
         arith,
         count-cons is_ballot (reading poll first) (take n (readings poll (lines ++ line ∷ []))),
         count-cons is_ballot (reading poll first) (take n (readings poll lines)),
-        valid_behind n lines (refused_later n first lines refused),
+        valid_after n lines (refused_later n first lines refused),
       )
 
-pub refused_line_behind : RefusedLinesAreOnlyCounted
-refused_line_behind poll lines line casting s refused is =
+pub refused_line_after : RefusedLinesAreOnlyCounted
+refused_line_after poll lines line casting s refused is =
     let n = last_in_time poll in
     let long = length-append lines (line ∷ []) in
-    let valid = valid_behind poll line n lines refused in
-    let last = same_last (readings_in_time poll (lines ++ line ∷ [])) (readings_in_time poll lines) (elector_count poll) (last_behind poll line n lines refused) in
+    let valid = valid_after poll line n lines refused in
+    let last = same_last (readings_in_time poll (lines ++ line ∷ [])) (readings_in_time poll lines) (elector_count poll) (last_after poll line n lines refused) in
     record {
       title = is.title;
       electors = is.electors;
@@ -176,9 +176,9 @@ module _ (poll : PollContent) (elector : ℕ) (between after : List Text) (line 
       let found = has_later n lines (omega (arith, short)) in
       (found.0, ap (λ o. option_or o (ranks_read elector (reading poll first))) found.1)
 
-  same_behind : (n v : ℕ) → length between < n → let rest = last_ballot (take n (readings poll (between ++ later ∷ after))) v in
+  same_after : (n v : ℕ) → length between < n → let rest = last_ballot (take n (readings poll (between ++ later ∷ after))) v in
       option_or rest (ranks_read v (reading poll line)) ≡ option_or rest (ranks_read v (reading poll other))
-  same_behind n v short =
+  same_after n v short =
       let rest = last_ballot (take n (readings poll (between ++ later ∷ after))) v in
       let of_line = read_of elector v is_line.0 (reading poll line) is_line.1 in
       let of_other = read_of elector v is_other.0 (reading poll other) is_other.1 in
@@ -195,7 +195,7 @@ module _ (poll : PollContent) (elector : ℕ) (between after : List Text) (line 
   last_outdated : (n v : ℕ) (before : List Text) → length (before ++ line ∷ between) < n
       → last_ballot (take n (readings poll (before ++ line ∷ between ++ later ∷ after))) v ≡ last_ballot (take n (readings poll (before ++ other ∷ between ++ later ∷ after))) v
   last_outdated zero v before short = absurd (omega (arith, short))
-  last_outdated (suc n) v [] short = same_behind n v (omega (arith, short))
+  last_outdated (suc n) v [] short = same_after n v (omega (arith, short))
   last_outdated (suc n) v (first ∷ before) short = ap (λ o. option_or o (ranks_read v (reading poll first))) (last_outdated n v before (omega (arith, short)))
 
   valid_outdated : (n : ℕ) (before : List Text)

@@ -6,6 +6,8 @@ pub mod SheetLaws
 pub mod BallotTexts
 pub mod Quoting
 pub mod FileLines
+pub mod Parts
+pub mod Winners
 pub mod Verifying
 pub mod Differences
 pub mod StandingLemmas

@@ -14,13 +14,13 @@ use Rattle.std.proofs.lemmas.List.Quantifiers.{position-Some}
 use Rattle.std.proofs.lemmas.List.Sums.{sum_by-cons, AllPass-from_list_all}
 use mathlib.Core.List.{append-nil}
 use Rattle.vote_poll.specs.BallotLine.{IsBallotLine, IsRank, line_text, rank_text}
-use Rattle.vote_text.specs.Lines.{AreLines, IsUnbroken, line_feed, text_of_lines, with_last_feed}
-use Rattle.vote_text.specs.Names.{is_voter_byte, is_voter_name, is_within}
+use Rattle.vote_poll_text.specs.Lines.{AreLines, IsUnbroken, line_feed, text_of_lines, with_last_feed}
+use Rattle.vote_poll_text.specs.Names.{is_voter_byte, is_voter_name, is_within}
 use Rattle.vote_poll.specs.PollContent.{PollContent, elector_count, last_in_time}
 use Rattle.vote_poll.specs.Readings.{IsReading, is_ballot, reading, readings}
 use Rattle.vote_poll.specs.declared.Reading.{Reading}
 use Rattle.vote_poll.specs.declared.Reading.TheVariants.{Ballot, Bad}
-use Rattle.vote_text.specs.declared.TheConstants.{MAX_VOTER_NAME}
+use Rattle.vote_poll_text.specs.declared.TheConstants.{MAX_VOTER_NAME}
 use Rattle.vote_steps.specs.Recasts.{last_ballot, last_ballots, ranks_read}
 use Rattle.vote_sheet.specs.LastBallots.{last_valid_ballots, readings_in_time, refused_count, valid_count, voter_count}
 use Rattle.vote_count.specs.Ballots.{entry_prefers}

@@ -1,5 +1,5 @@
 -- A poll, its lines and the casting vote have one sheet.
-use Rattle.std.proofs.Common.{◌≡◌, ℕ, zero, suc, ◌+◌, ◌↔◌, Bool, eqb, cond, List, [], ◌∷◌, ◌++◌, Option, length, refl, sym, ap, ◌∙◌, arith, codes, decimal}
+use Rattle.std.proofs.Common.{◌≡◌, ℕ, zero, suc, ◌+◌, ◌↔◌, Bool, eqb, cond, List, [], ◌∷◌, ◌++◌, Option, None, Some, inl, inr, length, refl, sym, ap, ◌∙◌, arith, codes, decimal}
 use Rattle.std.specs.Prelude.{nat_lt}
 use Rattle.std.specs.Cmp.{both_ways}
 use Rattle.std.specs.List.{concat}
@@ -10,8 +10,8 @@ use Rattle.vote_count.specs.declared.Decision.{Decision}
 use Rattle.vote_count.specs.declared.Decision.TheVariants.{CastingOutside, Tie, Winner}
 use Rattle.vote_count.specs.declared.Round.{Round}
 use Rattle.vote_count.specs.Votes.{Votes, votes}
-use Rattle.vote_count.specs.Sets.{In, Pairs, has, has_pair, size}
-use Rattle.vote_count.specs.Rounds.{AreSameRounds, IsDecision, IsSameRound, VerdictState, cause_of, final_set}
+use Rattle.vote_count.specs.Sets.{In, IsAlone, Pairs, has, has_pair, size}
+use Rattle.vote_count.specs.Rounds.{AreSameRounds, IsByCasting, IsDecision, IsSameRound, VerdictState, cause_of, final_set}
 use Rattle.vote_count.specs.Laws.{AreSameOutcomes, DecisionsAreDetermined, HaveSameVotes, OutcomesAreDetermined}
 use Rattle.vote_sheet.specs.Sheet.{Sheet, Text, casting_note, causes_text, count_text, counted_text, decision_text, defeat_line, defeat_lines, defeats_by, defeats_text, drop_line, dropped_line, dropped_text, drops_of, each, ending, head_text, line, name_of, numbers, options_text, or_none, right, round_text, rounds_from, row_text, sheet_text, table_head_text, table_text, tie_text, totals_text, votes_text, when, winner_text}
 use Rattle.vote_sheet.specs.SheetOf.{IsSheetOf, SheetIsUnique}
@@ -115,6 +115,31 @@ final_same (r ∷ []) (s ∷ []) h o = h.0.set o
 final_same (r ∷ []) (s ∷ next ∷ later) h o = absurd h.1
 final_same (r ∷ next ∷ later) (s ∷ []) h o = absurd h.1
 final_same (r ∷ next ∷ later) (s ∷ next' ∷ later') h o = final_same (next ∷ later) (next' ∷ later') h.1 o
+
+-- sheets of one poll and its lines have the same options in their final sets, whatever the casting votes
+pub final_sets_are_same : OutcomesAreDetermined → (poll : PollContent) (lines : List Text) (casting other : Option ℕ) (s t : Sheet) → IsSheetOf poll lines casting s → IsSheetOf poll lines other t
+    → (o : ℕ) → In (final_set s.outcome.rounds) o ↔ In (final_set t.outcome.rounds) o
+final_sets_are_same outcomes poll lines casting other s t is_s is_t =
+    let same : HaveSameVotes (option_count poll) s.matrix t.matrix = λ a b is_a is_b. is_s.counted a b is_a is_b ∙ sym (is_t.counted a b is_a is_b) in
+    final_same s.outcome.rounds t.outcome.rounds (outcomes poll s.matrix t.matrix s.outcome t.outcome same is_s.outcome is_t.outcome).rounds
+
+alone_of_same : (s t : List Bool) → ((o : ℕ) → In s o ↔ In t o) → (o : ℕ) → IsAlone t o → IsAlone s o
+alone_of_same s t same o alone p = (λ is. (alone p).0 ((same p).0 is), λ is. (same p).1 ((alone p).1 is))
+
+by_casting_of_same : (s t : List Bool) → ((o : ℕ) → In s o ↔ In t o) → (casting : Option ℕ) (d : Decision) → IsByCasting s casting d → IsByCasting t casting d
+by_casting_of_same s t same None d is = is
+by_casting_of_same s t same (Some choice) d is =
+    elim is [
+      | inl inside ↦ inl ((same choice).0 inside.0, inside.1)
+      | inr outside ↦ inr ((λ is_in. outside.0 ((same choice).1 is_in)), outside.1)
+    ]
+
+-- what is decided with one of two sets of the same options is decided with the other
+pub decision_of_same : (s t : List Bool) → ((o : ℕ) → In s o ↔ In t o) → (casting : Option ℕ) (d : Decision) → IsDecision s casting d → IsDecision t casting d
+decision_of_same s t same casting d is = record {
+  alone = λ o alone. is.alone o (alone_of_same s t same o alone);
+  several = λ several. by_casting_of_same s t same casting d (is.several (λ o alone. several o (alone_of_same t s (λ p. ((same p).1, (same p).0)) o alone)));
+}
 
 casting_note_same : (s t : List Bool) → size s ≡ size t → casting_note s ≡ casting_note t
 unfolding casting_note

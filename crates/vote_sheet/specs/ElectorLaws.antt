@@ -26,7 +26,7 @@ NobodyCountsTwice = (poll : PollContent) (lines : List Text) (casting : Option �
 
 -- ---- files with the same sheets
 
--- for each casting vote a text is a sheet of the first poll and file exactly where it is one of the second
+-- for each casting vote a text is a sheet of the first poll and file exactly when it is one of the second
 abbrev pub HaveSameSheets : PollContent → List Text → PollContent → List Text → Type 0
 HaveSameSheets poll lines again others = (casting : Option ℕ) (text : Text) → IsSheet poll lines casting text ↔ IsSheet again others casting text
 
@@ -45,9 +45,9 @@ pub record DifferInRefusedLines (poll : PollContent) (lines others : List Text) 
 abbrev pub RefusedLinesHaveNoInfluence : Type 0
 RefusedLinesHaveNoInfluence = (poll : PollContent) (lines others : List Text) → DifferInRefusedLines poll lines others → HaveSameSheets poll lines poll others
 
--- the line is refused behind these: it is late there, or no ballot
-abbrev pub IsRefusedBehind : PollContent → List Text → Text → Type 0
-IsRefusedBehind poll lines line = (last_in_time poll ≤ length lines) ⊎ (is_ballot (reading poll line) ≡ false)
+-- the line is refused after these: it is late there, or no ballot
+abbrev pub IsRefusedAfter : PollContent → List Text → Text → Type 0
+IsRefusedAfter poll lines line = (last_in_time poll ≤ length lines) ⊎ (is_ballot (reading poll line) ≡ false)
 
 -- the sheet with one line more, which is refused
 abbrev pub with_refused_line : Sheet → Sheet
@@ -57,7 +57,7 @@ with_refused_line s = record s { line_count = s.line_count + 1; refused = s.refu
 abbrev pub RefusedLinesAreOnlyCounted : Type 0
 RefusedLinesAreOnlyCounted =
     (poll : PollContent) (lines : List Text) (line : Text) (casting : Option ℕ) (s : Sheet) →
-    IsRefusedBehind poll lines line → IsSheetOf poll lines casting s → IsSheetOf poll (lines ++ line ∷ []) casting (with_refused_line s)
+    IsRefusedAfter poll lines line → IsSheetOf poll lines casting s → IsSheetOf poll (lines ++ line ∷ []) casting (with_refused_line s)
 
 -- ---- outdated lines
 

@@ -3,6 +3,7 @@ pub mod LastBallots
 pub mod Steps
 pub mod Sheet
 pub mod SheetOf
+pub mod Counted
 pub mod SheetLaws
 pub mod ElectorLaws
 pub mod Standing

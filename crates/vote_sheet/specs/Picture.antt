@@ -1,6 +1,7 @@
 -- The text of a picture: the outcome of a sheet as a graph, in the language of Graphviz.
-use Rattle.std.specs.Prelude.{◌≡◌, ℕ, ◌+◌, Bool, ◌==◌, ◌||◌, if◌then◌else◌, List, [], ◌∷◌, ◌++◌, length, Option, Some, None, codes, decimal}
+use Rattle.std.specs.Prelude.{◌≡◌, ℕ, ◌+◌, Bool, ◌==◌, ◌||◌, if◌then◌else◌, List, [], ◌∷◌, ◌++◌, length, Option, Some, None, codes, decimal, string_bytes}
 use Rattle.std.specs.List.{concat, flat_map}
+use Rattle.std.specs.declared.string.String.{String}
 use Rattle.vote_count.specs.Votes.{Votes, votes}
 use Rattle.vote_count.specs.Sets.{has, has_pair}
 use Rattle.vote_count.specs.Rounds.{VerdictState, cause_of, final_set}
@@ -54,12 +55,12 @@ label_text names outcome o =
 unfoldable pub style_text : VerdictState → Decision → ℕ → Text
 style_text outcome decision o = dropped_style (cause_of outcome o) ++ decided_style (final_set outcome.rounds) decision o
 
-unfoldable pub option_line : List Text → VerdictState → Decision → ℕ → Text
-option_line names outcome decision o =
+unfoldable pub node_of : List Text → VerdictState → Decision → ℕ → Text
+node_of names outcome decision o =
     line (codes "  " ∷ decimal o ∷ codes " [label=" ∷ label_text names outcome o ∷ style_text outcome decision o ∷ codes "];" ∷ [])
 
-unfoldable pub option_lines : List Text → VerdictState → Decision → Text
-option_lines names outcome decision = each (length names) (option_line names outcome decision)
+unfoldable pub node_lines : List Text → VerdictState → Decision → Text
+node_lines names outcome decision = each (length names) (node_of names outcome decision)
 
 -- ---- defeats
 
@@ -89,7 +90,7 @@ edge_lines matrix outcome = each matrix.options (edges_by matrix outcome)
 abbrev pub picture_text : Sheet → Text
 picture_text s = concat (
     graph_head s.title
-    ∷ option_lines s.names s.outcome s.decision
+    ∷ node_lines s.names s.outcome s.decision
     ∷ edge_lines s.matrix s.outcome
     ∷ line (codes "}" ∷ [])
     ∷ [])
@@ -97,3 +98,7 @@ picture_text s = concat (
 -- the text is the picture of a sheet of the poll, the lines and the casting vote, and this is what the sheet decides
 abbrev pub IsPictureAndDecision : PollContent → List Text → Option ℕ → Text → Decision → Type 0
 IsPictureAndDecision poll lines casting text decision = (s : Sheet) × IsSheetOf poll lines casting s × (text ≡ picture_text s) × (decision ≡ s.decision)
+
+-- the picture of a sheet of the poll, the lines and the casting vote was printed, and this is what the sheet decides
+abbrev pub PrintsPicture : {Z : Type 0} → PollContent → List Text → Option ℕ → String Z × Decision → Type 0
+PrintsPicture poll lines casting printed = IsPictureAndDecision poll lines casting (string_bytes printed.0) printed.1

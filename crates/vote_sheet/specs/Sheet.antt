@@ -43,12 +43,12 @@ abbrev pub each : ℕ → (ℕ → Text) → Text
 each zero text = []
 each (suc n) text = each n text ++ text (suc n)
 
--- the text, where the test holds
+-- the text, if the test holds
 abbrev pub when : Bool → Text → Text
 when true text = text
 when false text = []
 
--- the lines, or where there are none, a line that says so
+-- the lines, or if there are none, a line that says so
 abbrev pub or_none : Text → Text
 or_none [] = line (codes "  none" ∷ [])
 or_none (byte ∷ bytes) = byte ∷ bytes
@@ -62,7 +62,7 @@ numbers n set = each n (λ o. when (has set o) (codes " " ++ decimal o))
 
 -- ---- the parts of a sheet, in order
 
--- how the majority is worded, where it is not as the Constitution words it
+-- how the majority is worded, if it is not as the Constitution words it
 unfoldable pub wording_text : Wording → Text
 wording_text AtLeast = []
 wording_text MoreThan = line (codes "Majority: more than" ∷ [])
@@ -75,7 +75,7 @@ head_text title electors multiple votes wording = concat (
     ∷ wording_text wording
     ∷ [])
 
--- the number above which a line is late, where the poll has one
+-- the number above which a line is late, if the poll has one
 unfoldable pub last_text : Option ℕ → Text
 last_text None = []
 last_text (Some last) = line (codes "Last envelope: " ∷ decimal last ∷ [])
@@ -103,7 +103,7 @@ options_text names ratios = concat (
     ∷ default_text names
     ∷ [])
 
--- the votes for a over b, or a dash where b is a
+-- the votes for a over b, or a dash if b is a
 unfoldable pub votes_text : Votes → ℕ → ℕ → Text
 votes_text matrix a b = right 6 (if a == b then codes "-" else decimal (votes matrix a b))
 
@@ -138,8 +138,12 @@ defeat_line matrix a b = line (
     right 3 (decimal a) ∷ codes " over " ∷ decimal b
     ∷ codes " by " ∷ decimal (votes matrix a b) ∷ codes " to " ∷ decimal (votes matrix b a) ∷ [])
 
+-- the line of the defeat of b by a, if there is one
+abbrev pub defeat_text : Votes → List (List Bool) → ℕ → ℕ → Text
+defeat_text matrix defeats a b = when (has_pair defeats a b) (defeat_line matrix a b)
+
 unfoldable pub defeats_by : Votes → List (List Bool) → ℕ → Text
-defeats_by matrix defeats a = each matrix.options (λ b. when (has_pair defeats a b) (defeat_line matrix a b))
+defeats_by matrix defeats a = each matrix.options (defeat_text matrix defeats a)
 
 unfoldable pub defeat_lines : Votes → List (List Bool) → Text
 defeat_lines matrix defeats = each matrix.options (defeats_by matrix defeats)
@@ -202,13 +206,4 @@ sheet_text s = concat (
     ∷ totals_text s.line_count s.last_envelope s.valid s.refused s.voters
     ∷ options_text s.names s.ratios
     ∷ count_text s.names s.matrix s.outcome s.decision
-    ∷ [])
-
--- all lines but the last, which alone depends on the casting vote
-abbrev pub shared_text : Sheet → Text
-shared_text s = concat (
-    head_text s.title s.electors s.quorum_multiple s.quorum_votes s.wording
-    ∷ totals_text s.line_count s.last_envelope s.valid s.refused s.voters
-    ∷ options_text s.names s.ratios
-    ∷ counted_text (length s.names) s.matrix s.outcome
     ∷ [])

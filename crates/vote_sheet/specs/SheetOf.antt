@@ -1,12 +1,12 @@
 -- Which sheet a poll, its lines and the casting vote have. No history, desk or reply occurs in it.
-use Rattle.std.specs.Prelude.{◌≡◌, ℕ, ◌≤◌, List, Option, length}
+use Rattle.std.specs.Prelude.{◌≡◌, ℕ, ◌≤◌, List, Option, length, string_bytes}
+use Rattle.std.specs.declared.string.String.{String}
 use Rattle.vote_poll.specs.Options.{IsOption}
 use Rattle.vote_poll.specs.PollContent.{PollContent, elector_count, option_count}
-use Rattle.vote_count.specs.Votes.{Votes, votes}
+use Rattle.vote_count.specs.Votes.{votes}
 use Rattle.vote_count.specs.Rules.{MeetsQuorum}
-use Rattle.vote_count.specs.Rounds.{IsDecision, IsOutcome, VerdictState, final_set}
+use Rattle.vote_count.specs.Rounds.{IsDecision, IsOutcome, final_set}
 use Rattle.vote_count.specs.declared.Decision.{Decision}
-use Rattle.vote_steps.specs.declared.Totals.{Totals}
 use Rattle.vote_sheet.specs.LastBallots.{refused_count, valid_count, voter_count, votes_for}
 use Rattle.vote_sheet.specs.Sheet.{Sheet, Text, sheet_text}
 
@@ -33,29 +33,13 @@ pub record IsSheetOf (poll : PollContent) (lines : List Text) (casting : Option 
   pub outcome : IsOutcome poll s.matrix s.outcome
   pub decision : IsDecision (final_set s.outcome.rounds) casting s.decision
 
--- the sheet of a poll and so many lines, where these are the least votes of the quorum, the totals, and what is counted and decided
-abbrev pub sheet_with : PollContent → ℕ → ℕ → Totals → Votes → VerdictState → Decision → Sheet
-sheet_with poll line_count quorum_votes totals matrix outcome decision = record {
-  title = poll.title;
-  electors = elector_count poll;
-  quorum_multiple = poll.quorum_multiple;
-  quorum_votes = quorum_votes;
-  wording = poll.wording;
-  line_count = line_count;
-  last_envelope = poll.last_envelope;
-  valid = totals.valid;
-  refused = totals.refused;
-  voters = totals.voters;
-  names = poll.options;
-  ratios = poll.ratios;
-  matrix = matrix;
-  outcome = outcome;
-  decision = decision;
-}
-
 -- the text is a sheet of the poll, the lines and the casting vote, and this is what the sheet decides
 abbrev pub IsSheetAndDecision : PollContent → List Text → Option ℕ → Text → Decision → Type 0
 IsSheetAndDecision poll lines casting text decision = (s : Sheet) × IsSheetOf poll lines casting s × (text ≡ sheet_text s) × (decision ≡ s.decision)
+
+-- a sheet of the poll, the lines and the casting vote was printed, and this is what it decides
+abbrev pub PrintsSheet : {Z : Type 0} → PollContent → List Text → Option ℕ → String Z × Decision → Type 0
+PrintsSheet poll lines casting printed = IsSheetAndDecision poll lines casting (string_bytes printed.0) printed.1
 
 -- the text is a sheet of the poll, the lines and the casting vote
 abbrev pub IsSheet : PollContent → List Text → Option ℕ → Text → Type 0

@@ -1,16 +1,24 @@
 -- What `standing` writes: of each elector with a ballot that stands the line that spells this ballot.
-use Rattle.std.specs.Prelude.{◌≡◌, ℕ, List, [], ◌∷◌, ◌++◌, length, Option, Some, None, codes}
+use Rattle.std.specs.Prelude.{◌≡◌, ℕ, List, [], ◌∷◌, ◌++◌, length, Option, Some, None, codes, slice_index_or}
 use Rattle.vote_poll.specs.BallotLine.{line_text}
-use Rattle.vote_text.specs.Lines.{AreLines, text_of_lines}
+use Rattle.vote_poll_text.specs.Lines.{AreLines, text_of_lines}
 use Rattle.vote_poll.specs.PollContent.{PollContent}
 use Rattle.vote_sheet.specs.LastBallots.{last_valid_ballots, refused_count, valid_count, voter_count}
 use Rattle.vote_sheet.specs.SheetOf.{IsSheet}
 use Rattle.vote_sheet.specs.Texts.{Text}
 
--- the line of a voter's ballot, where there is one
+-- the name at a place of the roll
+abbrev pub voter_at : PollContent → ℕ → Text
+voter_at poll voter = slice_index_or poll.roll voter []
+
+-- the line of a voter's ballot, if there is one
 abbrev pub ballot_line : Text → Option (List (Option ℕ)) → List Text
 ballot_line voter None = []
 ballot_line voter (Some ranks) = line_text voter ranks ∷ []
+
+-- this line with its line feed
+abbrev pub ballot_text : Text → Option (List (Option ℕ)) → Text
+ballot_text voter ballot = text_of_lines (ballot_line voter ballot)
 
 -- the lines of all voters with a ballot, where each voter's entry stands at the voter's place
 abbrev pub ballot_lines : List Text → List (Option (List (Option ℕ))) → List Text
@@ -41,7 +49,7 @@ StandingSaysTheSame = (poll : PollContent) (lines again : List Text) → AreLine
 -- from the line `Voters:` on two texts are the same
 abbrev pub AreSameFromVoters : Text → Text → Type 0
 AreSameFromVoters text other =
-    (front : Text) × (other_front : Text) × (rest : Text) × (text ≡ front ++ codes "\nVoters: " ++ rest) × (other ≡ other_front ++ codes "\nVoters: " ++ rest)
+    (before : Text) × (other_before : Text) × (rest : Text) × (text ≡ before ++ codes "\nVoters: " ++ rest) × (other ≡ other_before ++ codes "\nVoters: " ++ rest)
 
 -- a law: for every casting vote the sheet of a ballot file and the sheet of its text of `standing` are the same from the line `Voters:` on
 abbrev pub StandingHasTheSameSheet : Type 0

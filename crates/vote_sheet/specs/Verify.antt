@@ -1,16 +1,19 @@
 -- What comparing a text with the sheets of a poll and its lines says.
-use Rattle.std.specs.Prelude.{◌≡◌, ◌≢◌, ℕ, zero, suc, ◌+◌, ◌<◌, ◌≤◌, ◌==◌, if◌then◌else◌, List, [], ◌∷◌, ◌++◌, length, count_by, take, Option, Some, None, slice_get, codes, decimal}
+use Rattle.std.specs.Prelude.{◌≡◌, ◌≢◌, ℕ, ◌+◌, ◌<◌, ◌≤◌, ◌==◌, if◌then◌else◌, List, [], ◌∷◌, ◌++◌, length, take, Option, Some, None, IfSome, slice_get, string_bytes, codes, decimal}
 use Rattle.std.specs.List.{All, concat}
-use Rattle.vote_text.specs.Lines.{IsUnbroken, lines_of, text_of_lines}
+use Rattle.std.specs.declared.string.String.{String}
+use Rattle.vote_poll_text.specs.Lines.{IsUnbroken, feed_count, lines_of, text_of_lines}
+use Rattle.vote_poll_text.specs.Shown.{shown}
 use Rattle.vote_poll.specs.Options.{IsOption}
 use Rattle.vote_poll.specs.PollContent.{PollContent, option_count}
-use Rattle.vote_text.specs.Shown.{shown}
-use Rattle.vote_count.specs.Rounds.{IsDecision, VerdictState, final_set}
-use Rattle.vote_count.specs.declared.Decision.{Decision}
-use Rattle.vote_sheet.specs.Sheet.{decision_text, name_of}
+use Rattle.vote_sheet.specs.Counted.{IsLastLine}
+use Rattle.vote_sheet.specs.Sheet.{name_of}
 use Rattle.vote_sheet.specs.SheetOf.{IsSheet}
 use Rattle.vote_sheet.specs.Texts.{Text, line}
-use Rattle.vote_sheet.specs.declared.TheConstants.{MOST_SHOWN}
+use Rattle.vote_sheet.specs.declared.TheConstants.{MAX_SHOWN}
+use Rattle.vote_sheet.specs.declared.sheet.Count.{Count}
+use Rattle.vote_sheet.specs.declared.verify.Found.{Found}
+use Rattle.vote_sheet.specs.declared.verify.Found.TheVariants.{Closest, Same}
 use Rattle.vote_sheet.specs.declared.verify.Verification.{Verification}
 use Rattle.vote_sheet.specs.declared.verify.Verification.TheVariants.{Matches, MatchesCasting, Differs}
 
@@ -24,51 +27,69 @@ IsVerification poll lines text Differs =
 
 -- ---- the sheet that agrees longest
 
--- the casting votes by number: 0 is none, and another number that of the option with this number
-abbrev pub casting_vote : ℕ → Option ℕ
-casting_vote zero = None
-casting_vote (suc o) = Some (suc o)
+-- no casting vote, or that of one of the options
+abbrev pub IsCasting : PollContent → Option ℕ → Type 0
+IsCasting poll casting = IfSome casting (IsOption (option_count poll))
 
--- how many bytes at their fronts two texts have in common
+-- no casting vote comes before that of any option, and the casting votes of options come in the order of their numbers
+abbrev pub ComesBefore : Option ℕ → Option ℕ → Type 0
+ComesBefore None None = ⊥
+ComesBefore None (Some o) = Unit {0}
+ComesBefore (Some p) None = ⊥
+ComesBefore (Some p) (Some o) = p < o
+
+-- how many bytes the common prefix of two texts has
 abbrev pub agreement : Text → Text → ℕ
 agreement [] other = 0
 agreement (b ∷ bs) [] = 0
 agreement (b ∷ bs) (c ∷ cs) = if b == c then agreement bs cs + 1 else 0
 
--- how many lines at their fronts two texts have in common, each with its line feed
+-- how many lines the common prefix of two texts has, each with its line feed
 abbrev pub common_lines : Text → Text → ℕ
-common_lines text other = count_by (λ byte. byte == 10) (take (agreement text other) text)
+common_lines text other = feed_count (take (agreement text other) text)
 
--- the text is this sheet, or it is not, and so many lines at their fronts agree
+-- The text is none of the sheets, one for each casting vote, of which this is one. No other has more lines in common with the text, and none with an earlier casting vote as many.
+pub record AgreesLongest (poll : PollContent) (IsSheetFor : Option ℕ → Text → Type 0) (text : Text) (casting : Option ℕ) (sheet : Text) : Type 0 where
+  pub vote : IsCasting poll casting
+  pub is_sheet : IsSheetFor casting sheet
+  pub longest : (other : Option ℕ) (another : Text) → IsCasting poll other → IsSheetFor other another → common_lines text another ≤ common_lines text sheet
+  pub first : (earlier : Option ℕ) (another : Text) → IsCasting poll earlier → ComesBefore earlier casting → IsSheetFor earlier another → common_lines text another < common_lines text sheet
+
+-- ---- the search
+
+-- the text is this line, or it is not, and they have so many lines in common
 abbrev pub IsComparison : Text → Text → Option ℕ → Type 0
-IsComparison text sheet None = text ≡ sheet
-IsComparison text sheet (Some agrees) = (text ≢ sheet) × (agrees ≡ common_lines text sheet)
+IsComparison text line None = text ≡ line
+IsComparison text line (Some agrees) = (text ≢ line) × (agrees ≡ common_lines text line)
 
--- It is a sheet of the poll and the lines, with the casting vote of this number. None agrees with the text for more lines, and none with a smaller number for as many.
-pub record AgreesLongest (poll : PollContent) (lines : List Text) (text : Text) (number : ℕ) (sheet : Text) : Type 0 where
-  pub option : number ≤ option_count poll
-  pub is_sheet : IsSheet poll lines (casting_vote number) sheet
-  pub longest : (n : ℕ) (other : Text) → n ≤ option_count poll → IsSheet poll lines (casting_vote n) other → common_lines text other ≤ common_lines text sheet
-  pub first : (n : ℕ) (other : Text) → n < number → IsSheet poll lines (casting_vote n) other → common_lines text other < common_lines text sheet
+-- the text is so compared with the last line of the sheet with this casting vote
+abbrev pub IsComparedWith : PollContent → Count → Option ℕ → Text → Option ℕ → Type 0
+IsComparedWith poll count casting text agrees = (last : Text) × IsLastLine poll count casting last × IsComparison text last agrees
 
--- the texts that begin with these shared lines are the sheets of the poll and the lines, each with what is decided with its casting vote
-abbrev pub AreSheets : PollContent → List Text → VerdictState → Text → Type 0
-AreSheets poll lines outcome shared =
-    (number : ℕ) (decision : Decision) → IsDecision (final_set outcome.rounds) (casting_vote number) decision
-    → IsSheet poll lines (casting_vote number) (shared ++ decision_text poll.options (final_set outcome.rounds) decision)
+-- It is the sheet with this casting vote, and with no earlier one; or it is none of the sheets, and the one with this casting vote agrees longest.
+abbrev pub IsFound : PollContent → (Option ℕ → Text → Type 0) → Text → Found → Type 0
+IsFound poll IsSheetFor text (Same casting) =
+    IsCasting poll casting × IsSheetFor casting text × ((earlier : Option ℕ) → IsCasting poll earlier → ComesBefore earlier casting → ¬ IsSheetFor earlier text)
+IsFound poll IsSheetFor text (Closest casting) =
+    ((other : Option ℕ) → IsCasting poll other → ¬ IsSheetFor other text) × ((sheet : Text) → IsSheetFor casting sheet → AgreesLongest poll IsSheetFor text casting sheet)
 
 -- ---- the words
 
-unfoldable pub verified_text : List Text → ℕ → Text
-verified_text names zero = codes "verified\n"
-verified_text names (suc o) = line (codes "verified, casting vote " ∷ decimal (suc o) ∷ codes " " ∷ name_of names (suc o) ∷ [])
+-- what a text is that is the sheet with this casting vote
+abbrev pub matching : Option ℕ → Verification
+matching None = Matches
+matching (Some o) = MatchesCasting o
+
+unfoldable pub verified_text : List Text → Option ℕ → Text
+verified_text names None = codes "verified\n"
+verified_text names (Some o) = line (codes "verified, casting vote " ∷ decimal o ∷ codes " " ∷ name_of names o ∷ [])
 
 -- the first bytes of a line, or that the text has ended
 abbrev pub shown_line : Option Text → Text
 shown_line None = codes "(end)"
-shown_line (Some text) = shown MOST_SHOWN text
+shown_line (Some text) = shown MAX_SHOWN text
 
--- the first line, from 1, in which the text leaves the sheet, and this line of both; a last line that lacks its line feed is another
+-- the first line, from 1, in which the text differs from the sheet, and this line of both; a last line without its line feed is another line
 unfoldable pub difference_text : Text → Text → Text
 difference_text text sheet =
     let before = common_lines text sheet in
@@ -78,13 +99,13 @@ difference_text text sheet =
     ∷ line (codes "count: " ∷ shown_line (slice_get (lines_of sheet) before) ∷ [])
     ∷ [])
 
--- the first line of a text, with its line feed where it has one
+-- the first line of a text, with its line feed if it has one
 abbrev pub first_line : Text → Text
 first_line [] = []
 first_line (b ∷ bs) = if b == 10 then b ∷ [] else b ∷ first_line bs
 
--- Two texts have so many lines in common at their fronts, and the next line of one is not that of the other: it has another byte, or lacks the line feed, or is not there.
-pub record DifferFirstBehind (text sheet : Text) (before : ℕ) : Type 0 where
+-- The common prefix of two texts has so many lines, and the next line of one is not that of the other: it has another byte, or lacks the line feed, or is not there.
+pub record DifferFirstAfter (text sheet : Text) (before : ℕ) : Type 0 where
   pub lines : List Text
   pub unbroken : All IsUnbroken lines
   pub count : length lines ≡ before
@@ -96,10 +117,15 @@ pub record DifferFirstBehind (text sheet : Text) (before : ℕ) : Type 0 where
 
 -- a law: the lines that two texts have in common are all those before the first in which they differ
 abbrev pub NamesTheFirstLine : Type 0
-NamesTheFirstLine = (text sheet : Text) → text ≢ sheet → DifferFirstBehind text sheet (common_lines text sheet)
+NamesTheFirstLine = (text sheet : Text) → text ≢ sheet → DifferFirstAfter text sheet (common_lines text sheet)
 
--- the words say so, and where it is none of the sheets, how the text differs from the one that agrees longest with it
+-- the words say so, and if it is none of the sheets, how the text differs from the one that agrees longest with it
 abbrev pub AreVerificationWords : PollContent → List Text → Text → Verification → Text → Type 0
-AreVerificationWords poll lines text Matches words = words ≡ verified_text poll.options 0
-AreVerificationWords poll lines text (MatchesCasting o) words = words ≡ verified_text poll.options o
-AreVerificationWords poll lines text Differs words = (number : ℕ) × (sheet : Text) × AgreesLongest poll lines text number sheet × (words ≡ difference_text text sheet)
+AreVerificationWords poll lines text Matches words = words ≡ verified_text poll.options None
+AreVerificationWords poll lines text (MatchesCasting o) words = words ≡ verified_text poll.options (Some o)
+AreVerificationWords poll lines text Differs words =
+    (casting : Option ℕ) × (sheet : Text) × AgreesLongest poll (IsSheet poll lines) text casting sheet × (words ≡ difference_text text sheet)
+
+-- the words of what was said of a text are those of the sheet that it is, or of how it differs
+abbrev pub SaysInWords : {Z : Type 0} → PollContent → List Text → Text → String Z × Verification → Type 0
+SaysInWords poll lines text said = AreVerificationWords poll lines text said.1 (string_bytes said.0)

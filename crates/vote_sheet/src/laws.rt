@@ -13,7 +13,7 @@ use vote_count::{
 };
 use vote_poll::{each_line_is_read, lines_are_unique};
 
-/// Monotonicity: where the electors come to like an option more and change nothing else, it stays in the last round.
+/// Monotonicity: if the electors come to like an option more and change nothing else, it stays in the last round.
 pub fn liked_options_stay()
     ensures { LikedOptionsStay }
 {
@@ -30,7 +30,8 @@ pub fn liked_winners_stay()
     winners_are_in_the_set();
 }
 
-/// Pareto's criterion: an option to which each last valid ballot prefers another that is not dropped is not left, and does not win.
+/// Pareto's criterion: if each last valid ballot prefers a kept option to another one, the other is not left in the last round, and
+/// does not win.
 pub fn unanimity_rules()
     ensures { UnanimityRules }
 {
@@ -38,7 +39,7 @@ pub fn unanimity_rules()
     winners_are_in_the_set();
 }
 
-/// A Condorcet winner of the options that are not dropped is the winner that the sheet names, whatever the casting vote.
+/// A Condorcet winner among the kept options is the winner that the sheet names, whatever the casting vote.
 pub fn condorcet_winners_are_named()
     ensures { CondorcetWinnersAreNamed }
 {
@@ -82,8 +83,8 @@ pub fn refused_lines_have_no_influence()
     ensures added { RefusedLinesAreOnlyCounted }
 {}
 
-/// Of an elector with several valid ballots only the last one counts: where another ballot of this elector stands in the place of
-/// an earlier one, the sheet is the same, byte for byte.
+/// Of an elector with several valid ballots only the last one counts: if another ballot of this elector takes the place of an
+/// earlier one, the sheet is the same, byte for byte.
 pub fn only_the_last_ballot_counts()
     ensures { OnlyTheLastBallotCounts }
 {}
@@ -94,7 +95,7 @@ pub fn one_ballot_moves_each_count_by_one()
     ensures { OneBallotMovesEachCountByOne }
 {}
 
-/// The sheet knows no names: where the electors of a poll have other names, or stand in another order on its roll, and the lines say
+/// The sheet knows no names: if the electors of a poll have other names, or stand in another order on its roll, and the lines say
 /// the same of them, the sheet is the same, byte for byte, for each casting vote.
 pub fn names_do_not_matter()
     ensures { NamesDoNotMatter }
@@ -102,7 +103,7 @@ pub fn names_do_not_matter()
     each_line_is_read();
 }
 
-/// The limit of what is shown of a line is the one that `docs/FORMATS.md` writes.
+/// The limit of what is shown of a line is the one in `docs/FORMATS.md`.
 pub fn limits_are_as_written()
     ensures { LimitsAreAsWritten }
 {}

@@ -12,7 +12,7 @@
 //! - [`picture_of_box`] gives what the sheet of the same box says as a graph in the language of Graphviz.
 //! - [`check_text`] gives the line of a poll that is in order, and [`reply_words`] the words of a reply.
 //! - The functions of [`laws`] bring laws of the count to what people see: ballot files, and the winner that a sheet names. They
-//!   also have what an elector can rely on: the sheet knows no names and counts nobody twice, and refused and outdated lines have
+//!   also say what an elector can rely on: the sheet knows no names and counts nobody twice, and refused and outdated lines have
 //!   no influence on it.
 //!
 //! Nothing here knows a file, a thread or a device: each call makes a text in memory, or runs out of it. The modules: `sheet`,
@@ -34,4 +34,4 @@ pub use steps::{check_text, reply_words, steps_are_determined, steps_text};
 pub use verify::{Verification, verify_sheet};
 
 /// The most bytes of a line that [`verify_sheet`] shows.
-pub const MOST_SHOWN: usize = 120;
+pub const MAX_SHOWN: usize = 120;

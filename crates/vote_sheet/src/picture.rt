@@ -1,16 +1,17 @@
 //! The outcome of a sheet as a graph, in the language of Graphviz. Each function adds its part at the end of the text.
 
-ghost use Rattle.std.specs.Prelude.{◌≡◌, [], ◌∷◌, ◌++◌, ◌≤◌, IfOk, IfSome, OnOk, codes, string_bytes};
-ghost use Rattle.std.specs.List.{concat};
+ghost use Rattle.std.specs.Prelude.{◌≡◌, [], ◌∷◌, ◌≤◌, IfOk, IfSome};
 ghost use Rattle.std.specs.Char.{encode_utf8};
+ghost use Rattle.vote_poll_text.specs.Adding.{Adds};
 ghost use Rattle.vote_poll.specs.Options.{IsOption};
 ghost use Rattle.vote_poll.specs.declared.TheConstants.{MAX_OPTIONS};
 ghost use Rattle.vote_poll.specs.PollContent.{option_count};
 ghost use Rattle.vote_count.specs.Sets.{has_pair};
 ghost use Rattle.vote_count.specs.Rounds.{cause_of, final_set};
 ghost use Rattle.vote_steps.specs.Casting.{HoldsLines};
+ghost use Rattle.vote_sheet.specs.Counted.{as_sheet};
 ghost use Rattle.vote_sheet.specs.Sheet.{line, when};
-ghost use Rattle.vote_sheet.specs.Picture.{IsPictureAndDecision, cause_label, decided_style, dropped_style, edge_line, edge_lines, edges_by, graph_head, option_line, option_lines, quoted, removal_text, removing_round};
+ghost use Rattle.vote_sheet.specs.Picture.{PrintsPicture, cause_label, decided_style, dropped_style, edge_line, edge_lines, edges_by, graph_head, node_of, node_lines, picture_text, quoted, removal_text, removing_round};
 
 use crate::sheet::{Count, count_of_box};
 use crate::sheet_text::{option_name, when};
@@ -22,7 +23,7 @@ use vote_steps::BallotBox;
 /// A character of a name within quotes.
 #[tactic(auto, using(crate::proofs::Quoting::quoting))]
 fn push_quoted_char(text: &mut String, character: char) -> Result<(), AllocError>
-    ensures { OnOk result (string_bytes text.new ≡ string_bytes text.old ++ quoted (encode_utf8 character)) }
+    ensures { Adds result text.old (quoted (encode_utf8 character)) text.new }
 {
     if character == '"' {
         return text.push_str("\\\"");
@@ -36,7 +37,7 @@ fn push_quoted_char(text: &mut String, character: char) -> Result<(), AllocError
 /// A name within quotes. The title of a poll and the names of its options have printable ASCII bytes alone, so nothing else
 /// needs a backslash.
 fn push_quoted(text: &mut String, name: &str) -> Result<(), AllocError>
-    ensures { OnOk result (string_bytes text.new ≡ string_bytes text.old ++ quoted name.now) }
+    ensures { Adds result text.old (quoted name.now) text.new }
 {
     for character in name.chars() {
         push_quoted_char(text, character)?;
@@ -47,7 +48,7 @@ fn push_quoted(text: &mut String, name: &str) -> Result<(), AllocError>
 /// The first lines: the title of the poll is the name of the graph, and then comes how it is drawn.
 #[tactic(auto, unfolding(crate::specs::Picture::graph_head, crate::specs::Picture::graph_style))]
 fn push_graph_head(text: &mut String, poll: &Poll) -> Result<(), AllocError>
-    ensures { OnOk result (string_bytes text.new ≡ string_bytes text.old ++ graph_head poll.now.title) }
+    ensures { Adds result text.old (graph_head poll.now.title) text.new }
 {
     text.push_str("digraph \"")?;
     push_quoted(text, poll.title())?;
@@ -85,9 +86,9 @@ fn decided_style(set: &OptionSet, decision: Decision, option: u8) -> &'static st
     }
 }
 
-/// The line of an option: its label, and its border.
-#[tactic(auto, unfolding(crate::specs::Picture::option_line, crate::specs::Picture::label_text, crate::specs::Picture::style_text))]
-fn push_option_line(
+/// The node of an option: its label, and its border.
+#[tactic(auto, unfolding(crate::specs::Picture::node_of, crate::specs::Picture::label_text, crate::specs::Picture::style_text))]
+fn push_node(
     text: &mut String,
     poll: &Poll,
     verdict: &Verdict,
@@ -96,7 +97,7 @@ fn push_option_line(
 ) -> Result<(), AllocError>
     requires option { IsOption (option_count poll.now) option }
     requires most { option ≤ MAX_OPTIONS }
-    ensures { OnOk result (string_bytes text.new ≡ string_bytes text.old ++ option_line poll.now.options verdict.now decision option) }
+    ensures { Adds result text.old (node_of poll.now.options verdict.now decision option) text.new }
 {
     let cause = verdict.dropped(option);
     let label = cause_label(cause);
@@ -107,18 +108,18 @@ fn push_option_line(
     writeln!(text, "{label}\"{dropped}{decided}];")
 }
 
-/// The lines of all options.
-#[tactic(auto, using(crate::proofs::Texts::each_one_more), unfolding(crate::specs::Picture::option_lines))]
-fn push_option_lines(
+/// The nodes of all options.
+#[tactic(auto, using(crate::proofs::Texts::each_one_more), unfolding(crate::specs::Picture::node_lines))]
+fn push_nodes(
     text: &mut String,
     poll: &Poll,
     verdict: &Verdict,
     decision: Decision,
 ) -> Result<(), AllocError>
-    ensures { OnOk result (string_bytes text.new ≡ string_bytes text.old ++ option_lines poll.now.options verdict.now decision) }
+    ensures { Adds result text.old (node_lines poll.now.options verdict.now decision) text.new }
 {
     for before in 0..poll.options() {
-        push_option_line(text, poll, verdict, decision, before + 1)?;
+        push_node(text, poll, verdict, decision, before + 1)?;
     }
     Ok(())
 }
@@ -135,9 +136,9 @@ fn removing_round(rounds: &[Round], a: u8, b: u8) -> Option<usize>
     None
 }
 
-/// What the line of a defeat says behind the votes.
+/// What the line of a defeat says after the votes.
 fn push_removal(text: &mut String, round: Option<usize>) -> Result<(), AllocError>
-    ensures { OnOk result (string_bytes text.new ≡ string_bytes text.old ++ line (removal_text round ∷ [])) }
+    ensures { Adds result text.old (line (removal_text round ∷ [])) text.new }
 {
     match round {
         Some(round) => writeln!(text, ", round {round}\", style=dashed];"),
@@ -156,7 +157,7 @@ fn push_edge_line(
 ) -> Result<(), AllocError>
     requires a { IsOption matrix.now.options a }
     requires b { IsOption matrix.now.options b }
-    ensures { OnOk result (string_bytes text.new ≡ string_bytes text.old ++ edge_line matrix.now rounds.now a b) }
+    ensures { Adds result text.old (edge_line matrix.now rounds.now a b) text.new }
 {
     let won = matrix.votes(a, b);
     let lost = matrix.votes(b, a);
@@ -173,7 +174,7 @@ fn push_edges_by(
     a: u8,
 ) -> Result<(), AllocError>
     requires { IsOption matrix.now.options a }
-    ensures { OnOk result (string_bytes text.new ≡ string_bytes text.old ++ edges_by matrix.now verdict.now a) }
+    ensures { Adds result text.old (edges_by matrix.now verdict.now a) text.new }
 {
     let defeats = verdict.defeats();
     for before in 0..matrix.options() {
@@ -187,7 +188,7 @@ fn push_edges_by(
 /// The lines of the defeats before any removal.
 #[tactic(auto, using(crate::proofs::Texts::each_one_more), unfolding(crate::specs::Picture::edge_lines))]
 fn push_edges(text: &mut String, matrix: &Matrix, verdict: &Verdict) -> Result<(), AllocError>
-    ensures { OnOk result (string_bytes text.new ≡ string_bytes text.old ++ edge_lines matrix.now verdict.now) }
+    ensures { Adds result text.old (edge_lines matrix.now verdict.now) text.new }
 {
     for before in 0..matrix.options() {
         push_edges_by(text, matrix, verdict, before + 1)?;
@@ -202,10 +203,10 @@ fn push_picture(
     count: &Count,
     decision: Decision,
 ) -> Result<(), AllocError>
-    ensures { OnOk result (string_bytes text.new ≡ string_bytes text.old ++ concat (graph_head poll.now.title ∷ option_lines poll.now.options count.now.verdict decision ∷ edge_lines count.now.matrix count.now.verdict ∷ line (codes "}" ∷ []) ∷ [])) }
+    ensures { Adds result text.old (picture_text (as_sheet poll.now count.now decision)) text.new }
 {
     push_graph_head(text, poll)?;
-    push_option_lines(text, poll, &count.verdict, decision)?;
+    push_nodes(text, poll, &count.verdict, decision)?;
     push_edges(text, &count.matrix, &count.verdict)?;
     text.push_str("}\n")
 }
@@ -222,7 +223,7 @@ pub fn picture_of_box(
 ) -> Result<(String, Decision), AllocError>
     requires held { HoldsLines poll.now lines.now ballot_box.now }
     requires casting { IfSome casting (IsOption (option_count poll.now)) }
-    ensures { IfOk result (λ printed. IsPictureAndDecision poll.now lines.now casting (string_bytes printed.0) printed.1) }
+    ensures { IfOk result (PrintsPicture poll.now lines.now casting) }
 {
     let count = count_of_box(alloc, poll, lines, ballot_box)?;
     let decision = decide(&count.verdict, casting);

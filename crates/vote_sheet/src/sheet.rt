@@ -1,14 +1,13 @@
 //! The result sheet.
 
-ghost use Rattle.std.specs.Prelude.{◌≡◌, ℕ, ◌++◌, IfOk, IfSome, OnOk, Option, length, string_bytes};
+ghost use Rattle.std.specs.Prelude.{◌≡◌, IfOk, IfSome};
+ghost use Rattle.vote_poll_text.specs.Adding.{Adds};
 ghost use Rattle.vote_poll.specs.Options.{IsOption};
 ghost use Rattle.vote_poll.specs.PollContent.{option_count};
-ghost use Rattle.vote_count.specs.Rounds.{IsDecision, final_set};
-ghost use Rattle.vote_count.specs.Rules.{IsKept};
-ghost use Rattle.vote_count.specs.Sets.{In};
 ghost use Rattle.vote_steps.specs.Casting.{HoldsLines};
-ghost use Rattle.vote_sheet.specs.Sheet.{shared_text, sheet_text};
-ghost use Rattle.vote_sheet.specs.SheetOf.{IsSheetAndDecision, IsSheetOf, SheetIsUnique, sheet_with};
+ghost use Rattle.vote_sheet.specs.Counted.{FinalSetIsKept, IsCountOf, WinnerIsOption, shared_text, as_sheet};
+ghost use Rattle.vote_sheet.specs.Sheet.{sheet_text};
+ghost use Rattle.vote_sheet.specs.SheetOf.{PrintsSheet, SheetIsUnique};
 
 use crate::sheet_text::{push_counted, push_decision, push_head, push_options, push_totals};
 use std::alloc::{AllocError, Global};
@@ -23,6 +22,8 @@ use vote_steps::{BallotBox, Totals};
 /// What the lines of a poll come to: all that its sheets say, but the poll's own words and the decision.
 #[derive(Drop)]
 pub(crate) struct Count {
+    /// The number of lines.
+    pub(crate) lines: usize,
     /// The least number of votes that meets the quorum.
     pub(crate) quorum_votes: u64,
     pub(crate) totals: Totals,
@@ -38,14 +39,15 @@ pub(crate) fn count_of_box(
     ballot_box: &BallotBox,
 ) -> Result<Count, AllocError>
     requires { HoldsLines poll.now lines.now ballot_box.now }
-    ensures sheets { IfOk result (λ count. (casting : Option ℕ) (decision : Decision) → IsDecision (final_set count.verdict.rounds) casting decision → IsSheetOf poll.now lines.now casting (sheet_with poll.now (length lines.now) count.quorum_votes count.totals count.matrix count.verdict decision)) }
+    ensures sheets { IfOk result (IsCountOf poll.now lines.now) }
     ensures options { IfOk result (λ count. count.matrix.options ≡ option_count poll.now) }
-    ensures kept { IfOk result (λ count. (o : ℕ) → In (final_set count.verdict.rounds) o → IsKept poll.now count.matrix o) }
+    ensures kept { IfOk result (FinalSetIsKept poll.now) }
 {
     lines_are_counted();
     let matrix = ballot_box.matrix();
     let verdict = outcome(alloc, poll, &matrix)?;
     Ok(Count {
+        lines: lines.len(),
         quorum_votes: quorum_votes(poll),
         totals: ballot_box.totals(),
         matrix,
@@ -54,16 +56,11 @@ pub(crate) fn count_of_box(
 }
 
 /// All lines but the last, which alone depends on the casting vote.
-pub(crate) fn push_shared(
-    text: &mut String,
-    poll: &Poll,
-    lines: &Lines<'_>,
-    count: &Count,
-) -> Result<(), AllocError>
-    ensures { (decision : Decision) → OnOk result (string_bytes text.new ≡ string_bytes text.old ++ shared_text (sheet_with poll.now (length lines.now) count.now.quorum_votes count.now.totals count.now.matrix count.now.verdict decision)) }
+pub(crate) fn push_shared(text: &mut String, poll: &Poll, count: &Count) -> Result<(), AllocError>
+    ensures { Adds result text.old (shared_text poll.now count.now) text.new }
 {
     push_head(text, poll, count.quorum_votes)?;
-    push_totals(text, poll, lines.len(), &count.totals)?;
+    push_totals(text, poll, count.lines, &count.totals)?;
     push_options(text, poll)?;
     push_counted(text, poll.options(), &count.matrix, &count.verdict)
 }
@@ -72,14 +69,13 @@ pub(crate) fn push_shared(
 fn push_sheet(
     text: &mut String,
     poll: &Poll,
-    lines: &Lines<'_>,
     count: &Count,
     decision: Decision,
 ) -> Result<(), AllocError>
-    requires { (o : ℕ) → decision ≡ Decision.Winner o → IsOption (option_count poll.now) o }
-    ensures { OnOk result (string_bytes text.new ≡ string_bytes text.old ++ sheet_text (sheet_with poll.now (length lines.now) count.now.quorum_votes count.now.totals count.now.matrix count.now.verdict decision)) }
+    requires { WinnerIsOption poll.now decision }
+    ensures { Adds result text.old (sheet_text (as_sheet poll.now count.now decision)) text.new }
 {
-    push_shared(text, poll, lines, count)?;
+    push_shared(text, poll, count)?;
     push_decision(text, poll, &count.verdict.final_set(), decision)
 }
 
@@ -96,12 +92,12 @@ pub fn sheet_of_box(
 ) -> Result<(String, Decision), AllocError>
     requires held { HoldsLines poll.now lines.now ballot_box.now }
     requires casting { IfSome casting (IsOption (option_count poll.now)) }
-    ensures { IfOk result (λ printed. IsSheetAndDecision poll.now lines.now casting (string_bytes printed.0) printed.1) }
+    ensures { IfOk result (PrintsSheet poll.now lines.now casting) }
 {
     let count = count_of_box(alloc, poll, lines, ballot_box)?;
     let decision = decide(&count.verdict, casting);
     let mut text = String::new(alloc);
-    push_sheet(&mut text, poll, lines, &count, decision)?;
+    push_sheet(&mut text, poll, &count, decision)?;
     Ok((text, decision))
 }
 

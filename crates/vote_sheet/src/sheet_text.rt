@@ -1,26 +1,28 @@
 //! The text of a result sheet, part by part. Each function adds its part at the end of the text.
 
-ghost use Rattle.std.specs.Prelude.{◌≡◌, ℕ, ◌++◌, ◌+◌, ◌-◌, ◌≤◌, ◌<◌, OnOk, length, string_bytes};
+ghost use Rattle.std.specs.Prelude.{◌≡◌, ◌≤◌, ◌<◌};
+ghost use Rattle.vote_poll_text.specs.Adding.{Adds};
 ghost use Rattle.vote_poll.specs.Options.{IsOption};
 ghost use Rattle.vote_poll.specs.declared.TheConstants.{MAX_OPTIONS};
-ghost use Rattle.vote_poll.specs.PollContent.{elector_count, option_count};
+ghost use Rattle.vote_poll.specs.PollContent.{option_count};
 ghost use Rattle.vote_count.specs.Sets.{has, has_pair};
 ghost use Rattle.vote_count.specs.Rounds.{cause_of};
-ghost use Rattle.vote_sheet.specs.Sheet.{casting_note, cause_name, causes_text, counted_text, decision_text, default_text, defeat_line, defeat_lines, defeats_text, defeats_by, drop_line, drops_of, each, ending, tie_text, winner_text, dropped_line, dropped_text, head_text, last_text, name_of, numbers, option_text, options_text, round_text, rounds_from, row_text, table_head_text, table_text, totals_text, votes_text, when, wording_text};
+ghost use Rattle.vote_sheet.specs.Counted.{WinnerIsOption, head_of, totals_of};
+ghost use Rattle.vote_sheet.specs.Sheet.{casting_note, cause_name, causes_text, counted_text, decision_text, default_text, defeat_lines, defeat_text, defeats_text, defeats_by, drop_line, drops_of, each, ending, tie_text, winner_text, dropped_line, dropped_text, last_text, name_of, numbers, option_text, options_text, round_text, rounds_from, row_text, table_head_text, table_text, votes_text, when, wording_text};
 
 use std::alloc::AllocError;
 use vote_count::{Cause, Decision, Defeats, Matrix, OptionSet, Round, Verdict};
 use vote_poll::{Poll, Wording};
 use vote_steps::Totals;
 
-/// The words, where something holds, and no words else.
+/// The words if the test holds, and else no words.
 pub(crate) fn when(holds: bool, words: &'static str) -> &'static str
     ensures { result.now ≡ when holds words.now }
 {
     if holds { words } else { "" }
 }
 
-/// How the majority is worded, where it is not as the Constitution words it.
+/// How the majority is worded, if it is not as the Constitution words it.
 #[tactic(auto, unfolding(crate::specs::Sheet::wording_text))]
 fn wording_text(wording: Wording) -> &'static str
     ensures { result.now ≡ wording_text wording }
@@ -34,7 +36,7 @@ fn wording_text(wording: Wording) -> &'static str
 /// The title, the electors, the quorum and the majority.
 #[tactic(auto, unfolding(crate::specs::Sheet::head_text))]
 pub(crate) fn push_head(text: &mut String, poll: &Poll, votes: u64) -> Result<(), AllocError>
-    ensures { OnOk result (string_bytes text.new ≡ string_bytes text.old ++ head_text poll.now.title (elector_count poll.now) poll.now.quorum_multiple votes poll.now.wording) }
+    ensures { Adds result text.old (head_of poll.now votes) text.new }
 {
     let title = poll.title();
     let electors = poll.electors();
@@ -46,10 +48,10 @@ pub(crate) fn push_head(text: &mut String, poll: &Poll, votes: u64) -> Result<()
     )
 }
 
-/// The last envelope, where the poll has one.
+/// The last envelope, if the poll has one.
 #[tactic(auto, unfolding(crate::specs::Sheet::last_text))]
 fn push_last(text: &mut String, last: Option<u32>) -> Result<(), AllocError>
-    ensures { OnOk result (string_bytes text.new ≡ string_bytes text.old ++ last_text last) }
+    ensures { Adds result text.old (last_text last) text.new }
 {
     match last {
         Some(last) => writeln!(text, "Last envelope: {last}"),
@@ -65,7 +67,7 @@ pub(crate) fn push_totals(
     lines: usize,
     totals: &Totals,
 ) -> Result<(), AllocError>
-    ensures { OnOk result (string_bytes text.new ≡ string_bytes text.old ++ totals_text lines poll.now.last_envelope totals.now.valid totals.now.refused totals.now.voters) }
+    ensures { Adds result text.old (totals_of poll.now lines totals.now) text.new }
 {
     writeln!(text, "Lines: {lines}")?;
     push_last(text, poll.last_envelope())?;
@@ -85,7 +87,7 @@ pub(crate) fn option_name(poll: &Poll, option: u8) -> &str
 /// The line of the default option.
 #[tactic(auto, using(crate::proofs::Padding::number_in_3), unfolding(crate::specs::Sheet::default_text))]
 fn push_default(text: &mut String, poll: &Poll) -> Result<(), AllocError>
-    ensures { OnOk result (string_bytes text.new ≡ string_bytes text.old ++ default_text poll.now.options) }
+    ensures { Adds result text.old (default_text poll.now.options) text.new }
 {
     let option = poll.options();
     writeln!(text, "{option:>3} default {}", option_name(poll, option))
@@ -96,7 +98,7 @@ fn push_default(text: &mut String, poll: &Poll) -> Result<(), AllocError>
 fn push_option(text: &mut String, poll: &Poll, option: u8) -> Result<(), AllocError>
     requires least { 1 ≤ option }
     requires below_default { option < option_count poll.now }
-    ensures { OnOk result (string_bytes text.new ≡ string_bytes text.old ++ option_text poll.now.options poll.now.ratios option) }
+    ensures { Adds result text.old (option_text poll.now.options poll.now.ratios option) text.new }
 {
     let ratio = poll.ratio(option);
     let name = option_name(poll, option);
@@ -106,7 +108,7 @@ fn push_option(text: &mut String, poll: &Poll, option: u8) -> Result<(), AllocEr
 /// The options and their ratios.
 #[tactic(auto, using(crate::proofs::Texts::each_one_more), unfolding(crate::specs::Sheet::options_text))]
 pub(crate) fn push_options(text: &mut String, poll: &Poll) -> Result<(), AllocError>
-    ensures { OnOk result (string_bytes text.new ≡ string_bytes text.old ++ options_text poll.now.options poll.now.ratios) }
+    ensures { Adds result text.old (options_text poll.now.options poll.now.ratios) text.new }
 {
     text.push_str("Options:\n")?;
     for before in 0..poll.options() - 1 {
@@ -120,7 +122,7 @@ pub(crate) fn push_options(text: &mut String, poll: &Poll) -> Result<(), AllocEr
 fn push_votes(text: &mut String, matrix: &Matrix, a: u8, b: u8) -> Result<(), AllocError>
     requires a { IsOption matrix.now.options a }
     requires b { IsOption matrix.now.options b }
-    ensures { OnOk result (string_bytes text.new ≡ string_bytes text.old ++ votes_text matrix.now a b) }
+    ensures { Adds result text.old (votes_text matrix.now a b) text.new }
 {
     if a == b {
         text.push_str("     -")
@@ -133,7 +135,7 @@ fn push_votes(text: &mut String, matrix: &Matrix, a: u8, b: u8) -> Result<(), Al
 #[tactic(auto, using(crate::proofs::Texts::each_one_more, crate::proofs::Padding::number_in_3), unfolding(crate::specs::Sheet::row_text))]
 fn push_row(text: &mut String, matrix: &Matrix, a: u8) -> Result<(), AllocError>
     requires { IsOption matrix.now.options a }
-    ensures { OnOk result (string_bytes text.new ≡ string_bytes text.old ++ row_text matrix.now a) }
+    ensures { Adds result text.old (row_text matrix.now a) text.new }
 {
     write!(text, "{a:>3}")?;
     for before in 0..matrix.options() {
@@ -145,7 +147,7 @@ fn push_row(text: &mut String, matrix: &Matrix, a: u8) -> Result<(), AllocError>
 /// The head of the table of votes.
 #[tactic(auto, using(crate::proofs::Texts::each_one_more, crate::proofs::Padding::number_in_6), unfolding(crate::specs::Sheet::table_head_text, crate::specs::Sheet::column_text))]
 fn push_table_head(text: &mut String, options: u8) -> Result<(), AllocError>
-    ensures { OnOk result (string_bytes text.new ≡ string_bytes text.old ++ table_head_text options) }
+    ensures { Adds result text.old (table_head_text options) text.new }
 {
     text.push_str("Votes:\n   ")?;
     for before in 0..options {
@@ -157,7 +159,7 @@ fn push_table_head(text: &mut String, options: u8) -> Result<(), AllocError>
 /// The table of votes.
 #[tactic(auto, using(crate::proofs::Texts::each_one_more), unfolding(crate::specs::Sheet::table_text))]
 fn push_table(text: &mut String, matrix: &Matrix) -> Result<(), AllocError>
-    ensures { OnOk result (string_bytes text.new ≡ string_bytes text.old ++ table_text matrix.now) }
+    ensures { Adds result text.old (table_text matrix.now) text.new }
 {
     push_table_head(text, matrix.options())?;
     for before in 0..matrix.options() {
@@ -179,7 +181,7 @@ fn cause_name(cause: Cause) -> &'static str
 /// The line of an option that was dropped.
 #[tactic(auto, using(crate::proofs::Padding::number_in_3), unfolding(crate::specs::Sheet::dropped_line))]
 fn push_cause(text: &mut String, option: u8, cause: Option<Cause>) -> Result<(), AllocError>
-    ensures { OnOk result (string_bytes text.new ≡ string_bytes text.old ++ dropped_line option cause) }
+    ensures { Adds result text.old (dropped_line option cause) text.new }
 {
     match cause {
         Some(cause) => writeln!(text, "{option:>3} {}", cause_name(cause)),
@@ -191,7 +193,7 @@ fn push_cause(text: &mut String, option: u8, cause: Option<Cause>) -> Result<(),
 #[tactic(auto, using(crate::proofs::Texts::each_one_more), unfolding(crate::specs::Sheet::causes_text))]
 fn push_causes(text: &mut String, options: u8, verdict: &Verdict) -> Result<(), AllocError>
     requires { options ≤ MAX_OPTIONS }
-    ensures { OnOk result (string_bytes text.new ≡ string_bytes text.old ++ causes_text options verdict.now) }
+    ensures { Adds result text.old (causes_text options verdict.now) text.new }
 {
     for before in 0..options {
         push_cause(text, before + 1, verdict.dropped(before + 1))?;
@@ -203,7 +205,7 @@ fn push_causes(text: &mut String, options: u8, verdict: &Verdict) -> Result<(), 
 #[tactic(auto, unfolding(crate::specs::Sheet::dropped_text))]
 fn push_dropped(text: &mut String, options: u8, verdict: &Verdict) -> Result<(), AllocError>
     requires { options ≤ MAX_OPTIONS }
-    ensures { OnOk result (string_bytes text.new ≡ string_bytes text.old ++ dropped_text options verdict.now) }
+    ensures { Adds result text.old (dropped_text options verdict.now) text.new }
 {
     text.push_str("Dropped:\n")?;
     let start = text.len();
@@ -225,7 +227,7 @@ fn push_defeat(
 ) -> Result<(), AllocError>
     requires a { IsOption matrix.now.options a }
     requires b { IsOption matrix.now.options b }
-    ensures { OnOk result (string_bytes text.new ≡ string_bytes text.old ++ when (has_pair defeats.now a b) (defeat_line matrix.now a b)) }
+    ensures { Adds result text.old (defeat_text matrix.now defeats.now a b) text.new }
 {
     if defeats.has(a, b) {
         let won = matrix.votes(a, b);
@@ -244,7 +246,7 @@ fn push_defeats_by(
     a: u8,
 ) -> Result<(), AllocError>
     requires { IsOption matrix.now.options a }
-    ensures { OnOk result (string_bytes text.new ≡ string_bytes text.old ++ defeats_by matrix.now defeats.now a) }
+    ensures { Adds result text.old (defeats_by matrix.now defeats.now a) text.new }
 {
     for before in 0..matrix.options() {
         push_defeat(text, matrix, defeats, a, before + 1)?;
@@ -259,7 +261,7 @@ fn push_defeat_lines(
     matrix: &Matrix,
     defeats: &Defeats,
 ) -> Result<(), AllocError>
-    ensures { OnOk result (string_bytes text.new ≡ string_bytes text.old ++ defeat_lines matrix.now defeats.now) }
+    ensures { Adds result text.old (defeat_lines matrix.now defeats.now) text.new }
 {
     for before in 0..matrix.options() {
         push_defeats_by(text, matrix, defeats, before + 1)?;
@@ -270,7 +272,7 @@ fn push_defeat_lines(
 /// The defeats before any removal.
 #[tactic(auto, unfolding(crate::specs::Sheet::defeats_text))]
 fn push_defeats(text: &mut String, matrix: &Matrix, defeats: &Defeats) -> Result<(), AllocError>
-    ensures { OnOk result (string_bytes text.new ≡ string_bytes text.old ++ defeats_text matrix.now defeats.now) }
+    ensures { Adds result text.old (defeats_text matrix.now defeats.now) text.new }
 {
     text.push_str("Defeats:\n")?;
     let start = text.len();
@@ -284,7 +286,7 @@ fn push_defeats(text: &mut String, matrix: &Matrix, defeats: &Defeats) -> Result
 /// The numbers of the options of a set.
 #[tactic(auto, using(crate::proofs::Texts::each_one_more))]
 fn push_numbers(text: &mut String, options: u8, set: &OptionSet) -> Result<(), AllocError>
-    ensures { OnOk result (string_bytes text.new ≡ string_bytes text.old ++ numbers options set.now) }
+    ensures { Adds result text.old (numbers options set.now) text.new }
 {
     for before in 0..options {
         if set.has(before + 1) {
@@ -297,7 +299,7 @@ fn push_numbers(text: &mut String, options: u8, set: &OptionSet) -> Result<(), A
 /// The line of the defeat of `b` by `a`, if it is removed.
 #[tactic(auto, unfolding(crate::specs::Sheet::drop_line))]
 fn push_drop(text: &mut String, removed: &Defeats, a: u8, b: u8) -> Result<(), AllocError>
-    ensures { OnOk result (string_bytes text.new ≡ string_bytes text.old ++ when (has_pair removed.now a b) (drop_line a b)) }
+    ensures { Adds result text.old (when (has_pair removed.now a b) (drop_line a b)) text.new }
 {
     if removed.has(a, b) {
         return writeln!(text, "  drop {a} over {b}");
@@ -308,7 +310,7 @@ fn push_drop(text: &mut String, removed: &Defeats, a: u8, b: u8) -> Result<(), A
 /// The lines of the removed defeats by `a`.
 #[tactic(auto, using(crate::proofs::Texts::each_one_more), unfolding(crate::specs::Sheet::drops_of))]
 fn push_drops_of(text: &mut String, options: u8, removed: &Defeats, a: u8) -> Result<(), AllocError>
-    ensures { OnOk result (string_bytes text.new ≡ string_bytes text.old ++ drops_of options removed.now a) }
+    ensures { Adds result text.old (drops_of options removed.now a) text.new }
 {
     for before in 0..options {
         push_drop(text, removed, a, before + 1)?;
@@ -319,7 +321,7 @@ fn push_drops_of(text: &mut String, options: u8, removed: &Defeats, a: u8) -> Re
 /// The lines of all removed defeats.
 #[tactic(auto, using(crate::proofs::Texts::each_one_more))]
 fn push_drops(text: &mut String, options: u8, removed: &Defeats) -> Result<(), AllocError>
-    ensures { OnOk result (string_bytes text.new ≡ string_bytes text.old ++ each options (drops_of options removed.now)) }
+    ensures { Adds result text.old (each options (drops_of options removed.now)) text.new }
 {
     for before in 0..options {
         push_drops_of(text, options, removed, before + 1)?;
@@ -335,7 +337,7 @@ fn push_round(
     number: usize,
     round: &Round,
 ) -> Result<(), AllocError>
-    ensures { OnOk result (string_bytes text.new ≡ string_bytes text.old ++ round_text options number round.now) }
+    ensures { Adds result text.old (round_text options number round.now) text.new }
 {
     write!(text, "Round {number}:")?;
     push_numbers(text, options, &round.set)?;
@@ -345,7 +347,7 @@ fn push_round(
 
 /// The rounds, numbered from 1.
 fn push_rounds(text: &mut String, options: u8, rounds: &[Round]) -> Result<(), AllocError>
-    ensures { OnOk result (string_bytes text.new ≡ string_bytes text.old ++ rounds_from options 1 rounds.now) }
+    ensures { Adds result text.old (rounds_from options 1 rounds.now) text.new }
 {
     for (index, round) in rounds.iter().enumerate() {
         push_round(text, options, index + 1, round)?;
@@ -353,7 +355,7 @@ fn push_rounds(text: &mut String, options: u8, rounds: &[Round]) -> Result<(), A
     Ok(())
 }
 
-/// That the casting vote decided, which it does only among several options.
+/// That the casting vote decided: it does so only among several options.
 #[tactic(auto, unfolding(crate::specs::Sheet::casting_note))]
 fn casting_note(set: &OptionSet) -> &'static str
     ensures { result.now ≡ casting_note set.now }
@@ -370,7 +372,7 @@ fn push_winner(
     option: u8,
 ) -> Result<(), AllocError>
     requires { IsOption (option_count poll.now) option }
-    ensures { OnOk result (string_bytes text.new ≡ string_bytes text.old ++ winner_text poll.now.options set.now option) }
+    ensures { Adds result text.old (winner_text poll.now.options set.now option) text.new }
 {
     let name = option_name(poll, option);
     let note = casting_note(set);
@@ -380,7 +382,7 @@ fn push_winner(
 /// The options of a tie.
 #[tactic(auto, unfolding(crate::specs::Sheet::tie_text))]
 fn push_tie(text: &mut String, options: u8, set: &OptionSet) -> Result<(), AllocError>
-    ensures { OnOk result (string_bytes text.new ≡ string_bytes text.old ++ tie_text options set.now) }
+    ensures { Adds result text.old (tie_text options set.now) text.new }
 {
     text.push_str("Tie:")?;
     push_numbers(text, options, set)
@@ -393,8 +395,8 @@ fn push_ending(
     set: &OptionSet,
     decision: Decision,
 ) -> Result<(), AllocError>
-    requires { (o : ℕ) → decision ≡ Decision.Winner o → IsOption (option_count poll.now) o }
-    ensures { OnOk result (string_bytes text.new ≡ string_bytes text.old ++ ending poll.now.options set.now decision) }
+    requires { WinnerIsOption poll.now decision }
+    ensures { Adds result text.old (ending poll.now.options set.now decision) text.new }
 {
     match decision {
         Decision::Winner(option) => push_winner(text, poll, set, option),
@@ -414,8 +416,8 @@ pub(crate) fn push_decision(
     set: &OptionSet,
     decision: Decision,
 ) -> Result<(), AllocError>
-    requires { (o : ℕ) → decision ≡ Decision.Winner o → IsOption (option_count poll.now) o }
-    ensures { OnOk result (string_bytes text.new ≡ string_bytes text.old ++ decision_text poll.now.options set.now decision) }
+    requires { WinnerIsOption poll.now decision }
+    ensures { Adds result text.old (decision_text poll.now.options set.now decision) text.new }
 {
     push_ending(text, poll, set, decision)?;
     text.push_str("\n")
@@ -430,7 +432,7 @@ pub(crate) fn push_counted(
     verdict: &Verdict,
 ) -> Result<(), AllocError>
     requires { options ≤ MAX_OPTIONS }
-    ensures { OnOk result (string_bytes text.new ≡ string_bytes text.old ++ counted_text options matrix.now verdict.now) }
+    ensures { Adds result text.old (counted_text options matrix.now verdict.now) text.new }
 {
     push_table(text, matrix)?;
     push_dropped(text, options, verdict)?;

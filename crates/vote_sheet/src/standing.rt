@@ -1,21 +1,21 @@
 //! The ballots that stand, as a ballot file.
 
-ghost use Rattle.std.specs.Prelude.{◌≡◌, ℕ, [], ◌++◌, ◌<◌, ◌≤◌, IfOk, OnOk, length, map, slice_index_or, string_bytes};
+ghost use Rattle.std.specs.Prelude.{◌≡◌, ◌<◌, ◌≤◌, IfOk, length, map, string_bytes};
 ghost use Rattle.std.specs.List.{join_with_byte};
+ghost use Rattle.vote_poll_text.specs.Adding.{Adds};
 ghost use Rattle.vote_poll.specs.BallotLine.{rank_text};
-ghost use Rattle.vote_text.specs.Lines.{text_of_lines};
 ghost use Rattle.vote_poll.specs.PollContent.{elector_count, option_count};
 ghost use Rattle.vote_count.specs.Ballots.{IsBallotOf};
-ghost use Rattle.vote_sheet.specs.Standing.{ballot_line, standing_text};
+ghost use Rattle.vote_sheet.specs.Standing.{ballot_text, standing_text, voter_at};
 
 use std::alloc::{AllocError, Global};
 use vote_poll::{Lines, Poll, Ranks};
 use vote_steps::cast_all;
 use vote_steps::laws::last_lines_stand;
 
-/// A rank, or a hyphen where an option is left unranked.
+/// A rank, or a hyphen for an option that is left unranked.
 fn push_rank(text: &mut String, rank: Option<u8>) -> Result<(), AllocError>
-    ensures { OnOk result (string_bytes text.new ≡ string_bytes text.old ++ rank_text rank) }
+    ensures { Adds result text.old (rank_text rank) text.new }
 {
     match rank {
         Some(rank) => write!(text, "{rank}"),
@@ -27,7 +27,7 @@ fn push_rank(text: &mut String, rank: Option<u8>) -> Result<(), AllocError>
 fn push_ranks(text: &mut String, options: u8, ranks: &Ranks) -> Result<(), AllocError>
     requires some { 1 ≤ options }
     requires options { length ranks.now ≡ options }
-    ensures { OnOk result (string_bytes text.new ≡ string_bytes text.old ++ join_with_byte 44 (map rank_text ranks.now)) }
+    ensures { Adds result text.old (join_with_byte 44 (map rank_text ranks.now)) text.new }
 {
     push_rank(text, ranks.rank(1))?;
     for before in 1..options {
@@ -40,7 +40,7 @@ fn push_ranks(text: &mut String, options: u8, ranks: &Ranks) -> Result<(), Alloc
 /// The name of the voter at a place of the roll.
 fn voter_name(poll: &Poll, voter: usize) -> &str
     requires { voter < elector_count poll.now }
-    ensures { result.now ≡ slice_index_or poll.now.roll voter [] }
+    ensures { result.now ≡ voter_at poll.now voter }
 {
     let Some(name) = poll.voter_name(voter) else {
         unreachable!()
@@ -51,7 +51,7 @@ fn voter_name(poll: &Poll, voter: usize) -> &str
     name
 }
 
-/// The line of a voter's ballot, where there is one. Voters are numbered from 0, by their place on the roll.
+/// Adds the line of a voter's ballot, if there is one. Voters are numbered from 0, by their place on the roll.
 fn push_ballot(
     text: &mut String,
     poll: &Poll,
@@ -60,7 +60,7 @@ fn push_ballot(
 ) -> Result<(), AllocError>
     requires voter { voter < elector_count poll.now }
     requires ballot { IsBallotOf (option_count poll.now) ballot }
-    ensures { OnOk result (string_bytes text.new ≡ string_bytes text.old ++ text_of_lines (ballot_line (slice_index_or poll.now.roll voter []) ballot)) }
+    ensures { Adds result text.old (ballot_text (voter_at poll.now voter) ballot) text.new }
 {
     match ballot {
         Some(ranks) => {
@@ -72,8 +72,8 @@ fn push_ballot(
     }
 }
 
-/// The text of `standing`: of each elector with a ballot that stands, in the order of the roll, the line that spells it, where one
-/// desk casts the lines in their order.
+/// The text of `standing`, for which one desk casts the lines in their order: for each elector with a ballot that stands, in the
+/// order of the roll, the line that spells it.
 ///
 /// It is a ballot file of the same poll, and says of the voters what the lines say (`laws`).
 pub fn standing_text(alloc: Global, poll: &Poll, lines: &Lines<'_>) -> Result<String, AllocError>

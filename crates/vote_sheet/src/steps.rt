@@ -1,6 +1,7 @@
 //! The texts of `steps` and `check`: a line for each envelope, and the line of a poll that is in order.
 
-ghost use Rattle.std.specs.Prelude.{◌≡◌, ◌++◌, IfOk, OnOk, string_bytes};
+ghost use Rattle.std.specs.Prelude.{◌≡◌, IfOk, string_bytes};
+ghost use Rattle.vote_poll_text.specs.Adding.{Adds};
 ghost use Rattle.vote_sheet.specs.Steps.{IsStepsText, StepsAreDetermined, check_text, reply_words, step_line, step_lines};
 
 use std::alloc::{AllocError, Global};
@@ -27,7 +28,7 @@ pub fn reply_words(reply: Reply) -> &'static str
 /// Appends the line of a step.
 #[tactic(auto, unfolding(crate::specs::Steps::step_line))]
 fn push_step(text: &mut String, step: &Step) -> Result<(), AllocError>
-    ensures { OnOk result (string_bytes text.new ≡ string_bytes text.old ++ step_line step.now) }
+    ensures { Adds result text.old (step_line step.now) text.new }
 {
     match step {
         Step::Cast { stamp, reply, .. } => writeln!(text, "{stamp} {}", reply_words(*reply)),
@@ -46,7 +47,7 @@ fn step_lines(alloc: Global, steps: &[Step]) -> Result<String, AllocError>
     Ok(text)
 }
 
-/// The text of `steps`: the reply of the box to each line, where one desk casts the lines in their order.
+/// The text of `steps`, for which one desk casts the lines in their order: the reply of the box to each line.
 pub fn steps_text(alloc: Global, poll: &Poll, lines: &Lines<'_>) -> Result<String, AllocError>
     ensures { IfOk result (λ text. IsStepsText poll.now lines.now (string_bytes text)) }
 {

@@ -1,23 +1,19 @@
 //! Comparing a text with the sheets of a poll and its lines.
 
-ghost use Rattle.std.specs.Prelude.{◌≡◌, ℕ, ◌∷◌, [], ◌++◌, ◌<◌, ◌≤◌, ◌==◌, IfNone, IfOk, IfSome, List, OnOk, count_by, length, option_map, position, slice_get, string_bytes};
-ghost use Rattle.std.specs.List.{slice_split};
-ghost use Rattle.vote_text.specs.Lines.{lines_of, without_last_feed};
-ghost use Rattle.vote_poll.specs.Options.{IsOption};
-ghost use Rattle.vote_poll.specs.PollContent.{option_count};
-ghost use Rattle.vote_count.specs.Rounds.{IsDecision, final_set};
-ghost use Rattle.vote_count.specs.Rules.{IsKept};
-ghost use Rattle.vote_count.specs.Sets.{In};
+ghost use Rattle.std.specs.Prelude.{◌≡◌, ◌<◌, ◌≤◌, IfOk, OnOk, length, option_map, slice_get, string_bytes};
+ghost use Rattle.vote_poll_text.specs.Adding.{Adds};
+ghost use Rattle.vote_poll_text.specs.Lines.{lines_of};
 ghost use Rattle.vote_steps.specs.Casting.{HoldsLines};
-ghost use Rattle.vote_sheet.specs.Sheet.{Text, decision_text};
-ghost use Rattle.vote_sheet.specs.Verify.{AreSheets, AreVerificationWords, IsComparison, IsVerification, agreement, casting_vote, common_lines, difference_text, shown_line, verified_text};
+ghost use Rattle.vote_sheet.specs.Counted.{AddsLastLine, FinalSetIsKept, IsLastLine, IsWhole};
+ghost use Rattle.vote_sheet.specs.Verify.{IsCasting, IsComparedWith, IsFound, IsVerification, SaysInWords, agreement, common_lines, difference_text, matching, shown_line, verified_text};
 
-use crate::MOST_SHOWN;
+use crate::MAX_SHOWN;
 use crate::sheet::{Count, count_of_box, push_shared, sheet_is_unique};
 use crate::sheet_text::{option_name, push_decision};
 use std::alloc::{AllocError, Global};
-use vote_count::{Decision, decide};
-use vote_poll::{Lines, Poll, push_shown};
+use vote_count::{decide, decisions_are_determined, outcomes_are_determined};
+use vote_poll::{Lines, Poll};
+use vote_poll_text::{count_feeds, push_shown, split_at_feed, without_last_feed};
 use vote_steps::BallotBox;
 
 /// Whether a text is one of the sheets of a poll and its lines, and of which casting vote.
@@ -31,7 +27,7 @@ pub enum Verification {
     Differs,
 }
 
-/// How many bytes at their fronts two texts have in common.
+/// How many bytes the common prefix of two texts has.
 fn agreement(text: &[u8], other: &[u8]) -> usize
     ensures agree { result ≡ agreement text.now other.now }
     ensures at_most { result ≤ length text.now }
@@ -43,50 +39,14 @@ fn agreement(text: &[u8], other: &[u8]) -> usize
     count
 }
 
-/// How many line feeds a text has.
-fn count_feeds(text: &[u8]) -> usize
-    ensures { result ≡ count_by (λ byte. byte == 10) text.now }
-{
-    let mut feeds = 0;
-    for byte in text {
-        if *byte == b'\n' {
-            feeds += 1;
-        }
-    }
-    feeds
-}
-
-/// How many lines at their fronts two texts have in common, each with its line feed.
+/// How many lines the common prefix of two texts has, each with its line feed.
 fn common_lines(text: &[u8], other: &[u8]) -> usize
     ensures { result ≡ common_lines text.now other.now }
 {
     count_feeds(&text[..agreement(text, other)])
 }
 
-/// The text without a line feed at its end.
-fn without_last_feed(text: &[u8]) -> &[u8]
-    ensures { result.now ≡ without_last_feed text.now }
-{
-    text.strip_suffix(b"\n").unwrap_or(text)
-}
-
-/// The place of the first line feed.
-fn first_feed(text: &[u8]) -> Option<usize>
-    ensures { result ≡ position (λ byte. byte == 10) text.now }
-{
-    text.iter().position(|byte| *byte == b'\n')
-}
-
-/// The texts before and after the first line feed, where there is one.
-fn split_at_feed(text: &[u8]) -> Option<(&[u8], &[u8])>
-    ensures found { IfSome result (λ parts. slice_split (λ byte. byte == 10) text.now ≡ parts.0.now ∷ slice_split (λ byte. byte == 10) parts.1.now) }
-    ensures none { IfNone result (slice_split (λ byte. byte == 10) text.now ≡ text.now ∷ []) }
-{
-    let end = first_feed(text)?;
-    Some((&text[..end], &text[end + 1..]))
-}
-
-/// The line at a place, from 0, where there is one.
+/// The line at a place, from 0, if there is one.
 fn line_at(text: &[u8], place: usize) -> Option<&[u8]>
     ensures { option_map (λ line. line.now) result ≡ slice_get (lines_of text.now) place }
 {
@@ -95,8 +55,8 @@ fn line_at(text: &[u8], place: usize) -> Option<&[u8]>
     }
     let mut rest = without_last_feed(text);
     for _ in 0..place {
-        let (_, behind) = split_at_feed(rest)?;
-        rest = behind;
+        let (_, after) = split_at_feed(rest)?;
+        rest = after;
     }
     match split_at_feed(rest) {
         Some((line, _)) => Some(line),
@@ -104,20 +64,20 @@ fn line_at(text: &[u8], place: usize) -> Option<&[u8]>
     }
 }
 
-/// The start of the line at a place of the text, from 0, or that the text has ended.
+/// The first bytes of the line at a place of the text, from 0, or that the text has ended.
 fn push_shown_line(words: &mut String, text: &[u8], place: usize) -> Result<(), AllocError>
-    ensures { OnOk result (string_bytes words.new ≡ string_bytes words.old ++ shown_line (slice_get (lines_of text.now) place)) }
+    ensures { Adds result words.old (shown_line (slice_get (lines_of text.now) place)) words.new }
 {
     match line_at(text, place) {
-        Some(line) => push_shown(words, line, MOST_SHOWN),
+        Some(line) => push_shown(words, line, MAX_SHOWN),
         None => words.push_str("(end)"),
     }
 }
 
-/// The first line, from 1, in which a text leaves a sheet, and this line of both.
+/// The first line, from 1, in which a text differs from a sheet, and this line of both.
 #[tactic(auto, unfolding(crate::specs::Verify::difference_text))]
 fn push_difference(words: &mut String, text: &[u8], sheet: &[u8]) -> Result<(), AllocError>
-    ensures { OnOk result (string_bytes words.new ≡ string_bytes words.old ++ difference_text text.now sheet.now) }
+    ensures { Adds result words.old (difference_text text.now sheet.now) words.new }
 {
     let before = common_lines(text, sheet);
     write!(words, "differs at line {}\nsheet: ", before + 1)?;
@@ -127,158 +87,168 @@ fn push_difference(words: &mut String, text: &[u8], sheet: &[u8]) -> Result<(), 
     words.push_str("\n")
 }
 
-/// The words for a text that is the sheet with the casting vote of this number.
-#[tactic(auto, using(crate::proofs::Verifying::words_without, crate::proofs::Verifying::words_with))]
-fn verified_text(alloc: Global, poll: &Poll, number: u8) -> Result<String, AllocError>
-    requires { number ≤ option_count poll.now }
-    ensures { IfOk result (λ words. string_bytes words ≡ verified_text poll.now.options number) }
+/// The words for a text that is the sheet with this casting vote.
+#[tactic(auto, unfolding(crate::specs::Verify::verified_text))]
+fn verified_text(alloc: Global, poll: &Poll, casting: Option<u8>) -> Result<String, AllocError>
+    requires { IsCasting poll.now casting }
+    ensures { IfOk result (λ words. string_bytes words ≡ verified_text poll.now.options casting) }
 {
-    if number == 0 {
-        return format!(in alloc; "verified\n");
-    }
-    let name = option_name(poll, number);
-    format!(in alloc; "verified, casting vote {number} {name}\n")
-}
-
-/// That a text is the sheet with the casting vote of this number.
-fn matches_vote(number: u8) -> Verification
-    ensures without { number ≡ 0 → result ≡ Verification.Matches }
-    ensures with { 0 < number → result ≡ Verification.MatchesCasting number }
-{
-    if number == 0 {
-        Verification::Matches
-    } else {
-        Verification::MatchesCasting(number)
+    match casting {
+        Some(option) => {
+            let name = option_name(poll, option);
+            format!(in alloc; "verified, casting vote {option} {name}\n")
+        }
+        None => format!(in alloc; "verified\n"),
     }
 }
 
-/// The casting vote of this number: 0 is none, and another number that of the option with this number.
-#[tactic(auto, using(crate::proofs::Verifying::vote_of_option))]
-fn casting_vote(number: u8) -> Option<u8>
-    ensures { result ≡ casting_vote number }
+/// That a text is the sheet with this casting vote.
+fn matching(casting: Option<u8>) -> Verification
+    ensures { result ≡ matching casting }
 {
-    if number == 0 { None } else { Some(number) }
+    match casting {
+        Some(option) => Verification::MatchesCasting(option),
+        None => Verification::Matches,
+    }
 }
 
-/// The sheet with the casting vote of this number, of which the shared lines are made.
-fn sheet_with_vote(
-    alloc: Global,
+/// Adds the last line of the sheet with this casting vote.
+fn push_last_line(
+    text: &mut String,
     poll: &Poll,
     count: &Count,
-    shared: &str,
-    number: u8,
-) -> Result<String, AllocError>
-    requires { (o : ℕ) → In (final_set count.now.verdict.rounds) o → IsOption (option_count poll.now) o }
-    ensures { IfOk result (λ sheet. (decision : Decision) × IsDecision (final_set count.now.verdict.rounds) (casting_vote number) decision × (string_bytes sheet ≡ shared.now ++ decision_text poll.now.options (final_set count.now.verdict.rounds) decision)) }
+    casting: Option<u8>,
+) -> Result<(), AllocError>
+    requires { FinalSetIsKept poll.now count.now }
+    ensures { OnOk result (AddsLastLine poll.now count.now casting text.old text.new) }
 {
-    let decision = decide(&count.verdict, casting_vote(number));
-    let mut sheet = String::from_str(alloc, shared)?;
-    push_decision(&mut sheet, poll, &count.verdict.final_set(), decision)?;
-    Ok(sheet)
+    let decision = decide(&count.verdict, casting);
+    push_decision(text, poll, &count.verdict.final_set(), decision)
 }
 
-/// For how many lines the text agrees with the sheet with the casting vote of this number, or none where the text is that sheet.
+/// How many lines a text has in common with the last line of the sheet with this casting vote, or none if it is that line.
 fn compare(
     alloc: Global,
     poll: &Poll,
     count: &Count,
-    shared: &str,
-    number: u8,
+    casting: Option<u8>,
     text: &[u8],
 ) -> Result<Option<usize>, AllocError>
-    requires { (o : ℕ) → In (final_set count.now.verdict.rounds) o → IsOption (option_count poll.now) o }
-    ensures { IfOk result (λ agrees. (decision : Decision) × IsDecision (final_set count.now.verdict.rounds) (casting_vote number) decision × IsComparison text.now (shared.now ++ decision_text poll.now.options (final_set count.now.verdict.rounds) decision) agrees) }
+    requires { FinalSetIsKept poll.now count.now }
+    ensures { IfOk result (IsComparedWith poll.now count.now casting text.now) }
 {
-    let sheet = sheet_with_vote(alloc, poll, count, shared, number)?;
-    if sheet.as_bytes() == text {
+    let mut last = String::new(alloc);
+    push_last_line(&mut last, poll, count, casting)?;
+    if last.as_bytes() == text {
         return Ok(None);
     }
-    Ok(Some(common_lines(text, sheet.as_bytes())))
+    Ok(Some(common_lines(text, last.as_bytes())))
 }
 
-/// Of the sheets so far the first that agrees longest with the text: the number of its casting vote, and how many lines agree.
+/// A casting vote, and how many lines its sheet has in common with a text.
 #[derive(Clone, Copy)]
-struct Closest {
-    number: u8,
-    agrees: usize,
+struct Candidate {
+    casting: Option<u8>,
+    lines: usize,
 }
 
-/// The sheet of this number where it agrees longer, and else the closest so far.
-fn closer(closest: Closest, number: u8, agrees: usize) -> Closest
-    ensures longer { closest.agrees < agrees → (result.number ≡ number) × (result.agrees ≡ agrees) }
-    ensures no_longer { agrees ≤ closest.agrees → (result.number ≡ closest.number) × (result.agrees ≡ closest.agrees) }
+/// The sheet with this casting vote if it has more lines in common with the text, and else the closest so far.
+fn closer(closest: Candidate, casting: Option<u8>, lines: usize) -> Candidate
+    ensures longer { closest.lines < lines → result ≡ record { casting = casting; lines = lines } }
+    ensures no_longer { lines ≤ closest.lines → result ≡ closest }
 {
-    if agrees > closest.agrees {
-        Closest { number, agrees }
+    if lines > closest.lines {
+        Candidate { casting, lines }
     } else {
         closest
     }
 }
 
-/// The words for a text that is none of the sheets: where it leaves the one with the casting vote of this number.
-fn differing_words(
+/// What is found of a text among the sheets with all casting votes, in their order: none, and then each option by its number.
+#[derive(Clone, Copy)]
+enum Found {
+    /// It is the sheet with this casting vote, and with no earlier one.
+    Same(Option<u8>),
+    /// It is none of the sheets. The one with this casting vote agrees longest, and none with an earlier one as long.
+    Closest(Option<u8>),
+}
+
+/// Finds a text among the last lines of the sheets.
+fn find_last(alloc: Global, poll: &Poll, count: &Count, text: &[u8]) -> Result<Found, AllocError>
+    requires { FinalSetIsKept poll.now count.now }
+    ensures { IfOk result (IsFound poll.now (IsLastLine poll.now count.now) text.now) }
+{
+    decisions_are_determined();
+    let Some(lines) = compare(alloc, poll, count, None, text)? else {
+        return Ok(Found::Same(None));
+    };
+    let mut closest = Candidate {
+        casting: None,
+        lines,
+    };
+    for before in 0..poll.options() {
+        let casting = Some(before + 1);
+        match compare(alloc, poll, count, casting, text)? {
+            Some(lines) => closest = closer(closest, casting, lines),
+            None => return Ok(Found::Same(casting)),
+        }
+    }
+    Ok(Found::Closest(closest.casting))
+}
+
+/// Finds a text among the sheets with these shared lines. A text without them agrees with all sheets alike.
+fn find_sheet(
     alloc: Global,
     poll: &Poll,
     count: &Count,
     shared: &str,
-    number: u8,
     text: &[u8],
-) -> Result<String, AllocError>
-    requires { (o : ℕ) → In (final_set count.now.verdict.rounds) o → IsOption (option_count poll.now) o }
-    ensures { IfOk result (λ words. (decision : Decision) × IsDecision (final_set count.now.verdict.rounds) (casting_vote number) decision × (string_bytes words ≡ difference_text text.now (shared.now ++ decision_text poll.now.options (final_set count.now.verdict.rounds) decision))) }
+) -> Result<Found, AllocError>
+    requires { FinalSetIsKept poll.now count.now }
+    ensures { IfOk result (IsFound poll.now (IsWhole poll.now count.now shared.now) text.now) }
 {
-    let sheet = sheet_with_vote(alloc, poll, count, shared, number)?;
+    match text.strip_prefix(shared.as_bytes()) {
+        Some(rest) => find_last(alloc, poll, count, rest),
+        None => Ok(Found::Closest(None)),
+    }
+}
+
+/// The words for a text that differs from the sheet that agrees longest with it.
+fn differing_words(alloc: Global, text: &[u8], sheet: &[u8]) -> Result<String, AllocError>
+    ensures { IfOk result (λ words. string_bytes words ≡ difference_text text.now sheet.now) }
+{
     let mut words = String::new(alloc);
-    push_difference(&mut words, text, sheet.as_bytes())?;
+    push_difference(&mut words, text, sheet)?;
     Ok(words)
 }
 
-/// Compares a text with all sheets that have these shared lines: with the one without a casting vote, and with those with each
-/// option as the casting vote.
-fn verify_among(
-    alloc: Global,
-    poll: &Poll,
-    count: &Count,
-    shared: &str,
-    text: &[u8],
-) -> Result<(String, Verification), AllocError>
-    requires { (o : ℕ) → In (final_set count.now.verdict.rounds) o → IsKept poll.now count.now.matrix o }
-    ensures verification { IfOk result (λ answer. (lines : List Text) → AreSheets poll.now lines count.now.verdict shared.now → IsVerification poll.now lines text.now answer.1) }
-    ensures words { IfOk result (λ answer. (lines : List Text) → AreSheets poll.now lines count.now.verdict shared.now → AreVerificationWords poll.now lines text.now answer.1 (string_bytes answer.0)) }
-{
-    sheet_is_unique();
-    let mut closest = Closest {
-        number: 0,
-        agrees: 0,
-    };
-    for number in 0..poll.options() + 1 {
-        match compare(alloc, poll, count, shared, number, text)? {
-            Some(agrees) => closest = closer(closest, number, agrees),
-            None => return Ok((verified_text(alloc, poll, number)?, matches_vote(number))),
-        }
-    }
-    let words = differing_words(alloc, poll, count, shared, closest.number, text)?;
-    Ok((words, Verification::Differs))
-}
-
 /// Compares a text with the sheets of a closed box that holds the lines of the poll: with the one without a casting vote, and
-/// with those with each option as the casting vote. The words say which of them it is, or in which line it leaves the one that
-/// agrees longest with it. Options are numbered from 1.
+/// with those with each option as the casting vote. The words say which of them it is, or in which line it first differs from
+/// the one that agrees longest with it. Options are numbered from 1.
 ///
-/// The votes are counted once, and what the sheets share is made once.
+/// The votes are counted once. What the sheets share is made and compared once, and then their last lines.
 pub fn verify_sheet(
     alloc: Global,
     poll: &Poll,
     lines: &Lines<'_>,
     ballot_box: &BallotBox,
-    sheet: &[u8],
+    text: &[u8],
 ) -> Result<(String, Verification), AllocError>
     requires { HoldsLines poll.now lines.now ballot_box.now }
-    ensures verification { IfOk result (λ answer. IsVerification poll.now lines.now sheet.now answer.1) }
-    ensures words { IfOk result (λ answer. AreVerificationWords poll.now lines.now sheet.now answer.1 (string_bytes answer.0)) }
+    ensures verification { IfOk result (λ said. IsVerification poll.now lines.now text.now said.1) }
+    ensures words { IfOk result (SaysInWords poll.now lines.now text.now) }
 {
+    outcomes_are_determined();
+    sheet_is_unique();
     let count = count_of_box(alloc, poll, lines, ballot_box)?;
-    let mut shared = String::new(alloc);
-    push_shared(&mut shared, poll, lines, &count)?;
-    verify_among(alloc, poll, &count, shared.as_str(), sheet)
+    let mut sheet = String::new(alloc);
+    push_shared(&mut sheet, poll, &count)?;
+    match find_sheet(alloc, poll, &count, sheet.as_str(), text)? {
+        Found::Same(casting) => Ok((verified_text(alloc, poll, casting)?, matching(casting))),
+        Found::Closest(casting) => {
+            push_last_line(&mut sheet, poll, &count, casting)?;
+            let words = differing_words(alloc, text, sheet.as_bytes())?;
+            Ok((words, Verification::Differs))
+        }
+    }
 }

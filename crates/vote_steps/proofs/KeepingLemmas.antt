@@ -16,7 +16,7 @@ use Rattle.vote_steps.specs.declared.step.Step.TheVariants.{Cast, Close}
 use Rattle.vote_steps.specs.Receiving.{after_ballot}
 use Rattle.vote_steps.specs.History.{is_closed, is_used, standing, reply_beside, reply_in_time, reply_while_open, reply_to, roll, valid, refused}
 use Rattle.vote_poll.specs.Readings.{ReadingFits}
-use Rattle.vote_text.specs.declared.lines.TheConstants.{MAX_LINES}
+use Rattle.vote_poll_text.specs.declared.lines.TheConstants.{MAX_LINES}
 use Rattle.vote_steps.specs.declared.TheConstants.{MAX_DESKS}
 use Rattle.vote_steps.specs.Boxes.{MayBeCast}
 use Rattle.vote_steps.specs.Keeping.{state_of, Keeps}

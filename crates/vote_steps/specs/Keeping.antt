@@ -1,6 +1,6 @@
 -- How a ballot box keeps its history: what its fields are to the steps.
 use Rattle.std.specs.Prelude.{◌≡◌, ℕ, ◌+◌, ◌<◌, ◌≤◌, false, slice_index_or, vec_len, vec_capacity}
-use Rattle.vote_text.specs.declared.lines.TheConstants.{MAX_LINES}
+use Rattle.vote_poll_text.specs.declared.lines.TheConstants.{MAX_LINES}
 use Rattle.vote_steps.specs.History.{is_closed, is_used, roll, valid, refused}
 use Rattle.vote_steps.specs.Boxes.{BoxState, IsLegal}
 use Rattle.vote_steps.specs.declared.ballot_box.BallotBox.TheInside.{Inside}

@@ -1,6 +1,8 @@
 -- what the contracts of public calls say
+pub mod Desks
 pub mod History
 pub mod Boxes
+pub mod Totals
 pub mod Recasts
 pub mod Laws
 pub mod Casting

@@ -1,11 +1,10 @@
 //! The ballot box.
-ghost use Rattle.std.specs.Prelude.{◌≡◌, ℕ, ◌+◌, ◌<◌, ◌≤◌, ◌↔◌, ◌∷◌, ◌++◌, [], true, length, Ok, Err, vec_len, vec_capacity, if◌then◌else◌, ◌⊎◌, IsTrue, IfOk, OnOk, OnErr};
-ghost use Rattle.vote_poll.specs.Options.{IsOption};
+ghost use Rattle.std.specs.Prelude.{◌≡◌, ◌+◌, ◌<◌, ◌≤◌, ◌↔◌, ◌∷◌, ◌++◌, [], length, Err, vec_len, vec_capacity, IsTrue, IfOk, OnOk, OnErr};
 ghost use Rattle.vote_count.specs.Ballots.{IsBallotOf};
-ghost use Rattle.vote_count.specs.Votes.{votes};
-ghost use Rattle.vote_steps.specs.History.{is_closed, is_used, is_valid, reply_to, standing_ranks, valid, refused, voters, standing_votes};
+ghost use Rattle.vote_steps.specs.History.{is_closed, standing_ranks};
 ghost use Rattle.vote_poll.specs.Readings.{ReadingFits};
-ghost use Rattle.vote_steps.specs.Boxes.{IsLegal, UsesAll, box_of};
+ghost use Rattle.vote_steps.specs.Boxes.{AddsCast, AddsClose, CountsRefused, CountsValid, HasUsed, HasVotesOf, IsLegal, IsOutOfRange, UsesAll, box_of, empty_box, refused_in, reply_in, valid_in};
+ghost use Rattle.vote_steps.specs.Totals.{totals_of};
 
 use crate::MAX_DESKS;
 use crate::kept::KeptReading;
@@ -13,7 +12,7 @@ use crate::roll::Roll;
 use crate::step::{Received, Reply, Step};
 use std::alloc::{AllocError, Global};
 use std::marker::Model;
-use vote_count::Matrix;
+use vote_count::{Matrix, RunningMatrix};
 use vote_poll::{MAX_ELECTORS, MAX_LINES, MAX_OPTIONS, Poll, Ranks, Reading};
 
 /// Why a cast is refused. No step is made, and nothing changes.
@@ -84,7 +83,7 @@ impl BallotBox {
         requires electors { (1 ≤ electors) × (electors ≤ MAX_ELECTORS) }
         requires limit { limit ≤ MAX_LINES }
         requires last_in_time { last_in_time ≤ MAX_LINES }
-        ensures { IfOk result (λ b. b ≡ record { options = options; electors = electors; limit = limit; last_in_time = last_in_time; steps = [] }) }
+        ensures { IfOk result (λ b. b ≡ empty_box options electors limit last_in_time) }
     {
         let ballots = vec![in alloc; None; electors]?;
         let used = vec![in alloc; false; limit as usize]?;
@@ -95,7 +94,7 @@ impl BallotBox {
             roll: Roll {
                 ballots,
                 voters: 0,
-                matrix: Matrix::zero(options),
+                matrix: RunningMatrix::zero(options),
             },
             used,
             steps,
@@ -130,14 +129,14 @@ impl BallotBox {
         requires reading { ReadingFits self.old.options self.old.electors reading }
 
         // An envelope that is taken makes one step, with the reply that the steps before it call for.
-        ensures reply { IfOk result (λ reply. reply ≡ reply_to self.old.last_in_time self.old.steps stamp reading) }
-        ensures step { IfOk result (λ reply. self.new ≡ record self.old { steps = self.old.steps ++ Step.Cast desk stamp reading reply ∷ [] }) }
-        ensures valid { IfOk result (λ reply. valid self.new.last_in_time self.new.steps ≡ valid self.old.last_in_time self.old.steps + (if is_valid reply then 1 else 0)) }
-        ensures refused { IfOk result (λ reply. refused self.new.last_in_time self.new.steps ≡ refused self.old.last_in_time self.old.steps + (if is_valid reply then 0 else 1)) }
+        ensures reply { IfOk result (λ reply. reply ≡ reply_in self.old stamp reading) }
+        ensures step { IfOk result (AddsCast self.old self.new desk stamp reading) }
+        ensures valid { IfOk result (CountsValid self.old self.new) }
+        ensures refused { IfOk result (CountsRefused self.old self.new) }
 
         // When each refusal comes.
-        ensures range { (result ≡ Err StepFault.StampRange) ↔ ((stamp ≡ 0) ⊎ (self.old.limit < stamp)) }
-        ensures used { (result ≡ Err StepFault.StampUsed) ↔ ((1 ≤ stamp) × (stamp ≤ self.old.limit) × IsTrue (is_used self.old.steps stamp)) }
+        ensures range { (result ≡ Err StepFault.StampRange) ↔ IsOutOfRange self.old stamp }
+        ensures used { (result ≡ Err StepFault.StampUsed) ↔ HasUsed self.old stamp }
         ensures err { OnErr result (self.new ≡ self.old) }
     {
         if stamp == 0 || stamp > self.limit {
@@ -179,9 +178,9 @@ impl BallotBox {
 
     /// Closes the box, which makes a step. `AlreadyClosed` comes where the box was closed before, and changes nothing.
     pub fn close(&mut self) -> Result<(), AlreadyClosed>
-        ensures ok { OnOk result (self.new ≡ record self.old { steps = self.old.steps ++ Step.Close ∷ [] }) }
-        ensures valid { OnOk result (valid self.new.last_in_time self.new.steps ≡ valid self.old.last_in_time self.old.steps) }
-        ensures refused { OnOk result (refused self.new.last_in_time self.new.steps ≡ refused self.old.last_in_time self.old.steps) }
+        ensures ok { OnOk result (AddsClose self.old self.new) }
+        ensures valid { OnOk result (valid_in self.new ≡ valid_in self.old) }
+        ensures refused { OnOk result (refused_in self.new ≡ refused_in self.old) }
         ensures closed { IsTrue (is_closed self.new.steps) }
         ensures legal { IsLegal self.new }
         ensures already { (result ≡ Err record {}) ↔ IsTrue (is_closed self.old.steps) }
@@ -205,17 +204,17 @@ impl BallotBox {
     }
 
     /// How many voters prefer each option to each other option, by the ballots that stand. Options are numbered from 1. This
-    /// copies the matrix that the box keeps, and counts nothing.
+    /// reads the matrix that the box keeps, and no ballot.
     pub fn matrix(&self) -> Matrix
         ensures options { result.options ≡ self.now.options }
-        ensures votes { (a b : ℕ) → IsOption self.now.options a → IsOption self.now.options b → votes result a b ≡ standing_votes self.now.last_in_time self.now.steps self.now.electors a b }
+        ensures votes { HasVotesOf self.now result }
     {
-        self.roll.matrix
+        self.roll.matrix.matrix()
     }
 
     /// How many lines counted and how many did not, and how many voters have a ballot that stands.
     pub fn totals(&self) -> Totals
-        ensures { result ≡ record { valid = valid self.now.last_in_time self.now.steps; refused = refused self.now.last_in_time self.now.steps; voters = voters self.now.last_in_time self.now.steps self.now.electors } }
+        ensures { result ≡ totals_of self.now }
     {
         Totals {
             valid: self.valid,

@@ -1,9 +1,9 @@
 //! One desk that casts the lines of a ballot file.
 
-ghost use Rattle.std.specs.Prelude.{◌≡◌, ◌≤◌, ◌∷◌, ◌++◌, [], false, IfOk};
+ghost use Rattle.std.specs.Prelude.{◌≡◌, ◌≤◌, false, IfOk};
 ghost use Rattle.vote_poll.specs.Readings.{ReadingFits, readings};
-ghost use Rattle.vote_steps.specs.History.{is_used, reply_to};
-ghost use Rattle.vote_steps.specs.declared.step.Step.TheVariants.{Cast};
+ghost use Rattle.vote_steps.specs.History.{is_used};
+ghost use Rattle.vote_steps.specs.Boxes.{after_cast};
 ghost use Rattle.vote_steps.specs.Casting.{AreCastInOrder, HoldsLines};
 
 use crate::ballot_box::BallotBox;
@@ -15,7 +15,7 @@ fn cast_at_desk_1(ballot_box: &mut BallotBox, stamp: u32, reading: Reading)
     requires stamp { (1 ≤ stamp) × (stamp ≤ ballot_box.old.limit) }
     requires unused { is_used ballot_box.old.steps stamp ≡ false }
     requires reading { ReadingFits ballot_box.old.options ballot_box.old.electors reading }
-    ensures { ballot_box.new ≡ record ballot_box.old { steps = ballot_box.old.steps ++ Cast 1 stamp reading (reply_to ballot_box.old.last_in_time ballot_box.old.steps stamp reading) ∷ [] } }
+    ensures { ballot_box.new ≡ after_cast ballot_box.old 1 stamp reading }
 {
     let Ok(_) = ballot_box.cast(1, stamp, reading) else {
         unreachable!()
@@ -26,7 +26,7 @@ fn cast_at_desk_1(ballot_box: &mut BallotBox, stamp: u32, reading: Reading)
 /// is its number, from 1.
 pub fn cast_all(alloc: Global, poll: &Poll, lines: &Lines<'_>) -> Result<BallotBox, AllocError>
     ensures held { IfOk result (HoldsLines poll.now lines.now) }
-    ensures in_order { IfOk result (λ ballot_box. AreCastInOrder (readings poll.now lines.now) ballot_box.steps) }
+    ensures in_order { IfOk result (λ b. AreCastInOrder (readings poll.now lines.now) b.steps) }
 {
     let mut ballot_box = BallotBox::for_poll(alloc, poll, lines.len() as u32)?;
     for place in 0..lines.len() {

@@ -1,4 +1,4 @@
--- What an attempt to take a place answers.
+-- What an attempt to take a place returns.
 use Rattle.std.specs.Prelude.{◌≡◌, ◌<◌}
 use Rattle.vote_tray.specs.declared.Take.{Take}
 use Rattle.vote_tray.specs.declared.Take.TheVariants.{Empty, Got, Lost}

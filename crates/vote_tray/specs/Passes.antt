@@ -1,5 +1,6 @@
 -- What contracts see of a tray and of a pass.
-use Rattle.std.specs.Prelude.{ℕ, ◌+◌, ◌<◌, ◌≤◌, max, List, [], ◌∷◌, ◌++◌, Contains}
+use Rattle.std.specs.Prelude.{◌≡◌, ℕ, ◌+◌, ◌<◌, ◌≤◌, max, List, [], ◌∷◌, ◌++◌, Contains, map}
+use Rattle.std.specs.List.{range_with_len}
 use Rattle.atomic_table.specs.Seated.{TableId}
 use Rattle.vote_tray.specs.Numbers.{AtMostOnce}
 
@@ -20,6 +21,18 @@ pub record PassState : Type 0 where
 abbrev pub new_pass : TrayId → ℕ → PassState
 new_pass t part = record { tray = t; seen = 0; places = []; parts = part ∷ [] }
 
+-- the passes of a new tray with so many: the one at position j, from 0, has the part j alone
+abbrev pub new_passes : TrayId → ℕ → List PassState
+new_passes t passes = map (new_pass t) (range_with_len 0 passes)
+
+-- these are so many, and they are those of a new tray
+abbrev pub AreNewPasses : TrayId → ℕ → ℕ → List PassState → Type 0
+AreNewPasses t passes count dealt = (count ≡ passes) × (dealt ≡ new_passes t passes)
+
+-- the pass that has all parts, before it is cut
+abbrev pub whole_pass : TrayId → ℕ → PassState
+whole_pass t passes = record { tray = t; seen = 0; places = []; parts = range_with_len 0 passes }
+
 -- the pass once it has seen this many places taken
 abbrev pub with_seen : PassState → ℕ → PassState
 with_seen p word = record p { seen = word }
@@ -27,6 +40,10 @@ with_seen p word = record p { seen = word }
 -- the pass once it has taken this place
 abbrev pub with_place : PassState → ℕ → PassState
 with_place p place = record p { seen = place + 1; places = p.places ++ place ∷ [] }
+
+-- the pass took this place of the tray, below which the places are that it had seen taken
+abbrev pub TakesPlace : TrayId → PassState → ℕ → PassState → Type 0
+TakesPlace t p place q = (p.seen ≤ place) × (place < t.size) × (q ≡ with_place p place)
 
 -- the places of the first and then those of the second, the parts of both, and the greater of the two numbers seen
 abbrev pub joined : PassState → PassState → PassState

@@ -12,7 +12,7 @@
 //! all passes keep between any two steps.
 //!
 //! **What is promised.** Each place below the word was taken by one pass, once, and no other place
-//! was taken. `take` returns a place, or that none is left, and tries again only where another pass
+//! was taken. `take` returns a place, or that none is left, and tries again only if another pass
 //! took a place meanwhile. A pass that all passes were joined into has taken all places below the
 //! number that `finish` returns. No call takes a `Wait`, so none can wait for another thread: a
 //! tray behind a `Mutex` does not compile under these signatures.
@@ -30,10 +30,9 @@
 //! place and no part was in both passes. The number that it reads is not used.
 #![tactic(auto)]
 
-ghost use Rattle.std.specs.Prelude.{◌≡◌, ◌≢◌, ◌↔◌, ◌<◌, ◌≤◌, [], length, map, take, drop, vec_len, All, IfOk, IfSome, IfNone, Err};
-ghost use Rattle.std.specs.List.{range_with_len};
+ghost use Rattle.std.specs.Prelude.{◌≡◌, ◌≢◌, ◌↔◌, ◌<◌, ◌≤◌, [], length, take, drop, vec_len, All, IfOk, IfSome, IfNone, Err};
 ghost use Rattle.vote_tray.specs.Numbers.{EachOnce, AtMostOnce, AreApart};
-ghost use Rattle.vote_tray.specs.Passes.{new_pass, with_seen, with_place, joined, IsSound, HasAllParts};
+ghost use Rattle.vote_tray.specs.Passes.{AreNewPasses, HasAllParts, IsSound, TakesPlace, joined, whole_pass, with_seen};
 ghost use Rattle.vote_tray.specs.Attempts.{Attempts};
 
 mod rule;
@@ -134,7 +133,7 @@ impl Tray {
         ensures too_many { (result ≡ Err TrayFault.TooMany) ↔ (MAX_PLACES < size) }
         ensures memory { result ≡ Err TrayFault.Memory → size ≤ MAX_PLACES }
         ensures tray { IfOk result (λ t. (t.0.size ≡ size) × (t.0.passes ≡ passes)) }
-        ensures passes { IfOk result (λ t. (vec_len t.1 ≡ passes) × (t.1.items ≡ map (new_pass t.0) (range_with_len 0 passes))) }
+        ensures passes { IfOk result (λ t. AreNewPasses t.0 passes (vec_len t.1) t.1.items) }
         ensures sound { IfOk result (λ t. All IsSound t.1.items) }
     {
         if size > MAX_PLACES {
@@ -148,8 +147,8 @@ impl Tray {
 
     // Cuts the pass that has all parts into passes of one part each.
     fn deal(&self, alloc: Global, mut rest: Pass, passes: u8) -> Result<Vec<Pass>, AllocError>
-        requires { (1 ≤ passes) × (rest ≡ record { tray = self.now; seen = 0; places = []; parts = range_with_len 0 passes }) }
-        ensures { IfOk result (λ v. (vec_len v ≡ passes) × (v.items ≡ map (new_pass self.now) (range_with_len 0 passes))) }
+        requires { (1 ≤ passes) × (rest ≡ whole_pass self.now passes) }
+        ensures { IfOk result (λ dealt. AreNewPasses self.now passes (vec_len dealt) dealt.items) }
     {
         let mut dealt = Vec::with_capacity(alloc, passes as usize)?;
         for _ in 1..passes {
@@ -176,7 +175,8 @@ impl Tray {
     // Loads the word.
     fn look(&self, pass: &mut Pass)
         requires { pass.old.tray ≡ self.now }
-        ensures seen { (pass.old.seen ≤ pass.new.seen) × (pass.new ≡ with_seen pass.old pass.new.seen) }
+        ensures seen { pass.old.seen ≤ pass.new.seen }
+        ensures kept { pass.new ≡ with_seen pass.old pass.new.seen }
         ensures sound { IsSound pass.new }
     {
         pass.seen = self.table.shared.load::<Look>(&mut pass.seat, 0);
@@ -184,7 +184,7 @@ impl Tray {
 
     /// Tries once to take the place that is next as far as the pass has seen.
     ///
-    /// It makes one compare-exchange, or none where the pass has seen all places taken.
+    /// It makes one compare-exchange, or none if the pass has seen all places taken.
     pub fn try_take(&self, pass: &mut Pass) -> Take
         requires { pass.old.tray ≡ self.now }
         ensures answer { Attempts pass.old result pass.new }
@@ -209,13 +209,13 @@ impl Tray {
         }
     }
 
-    /// Takes the first place that is left. None is answered only where no place is left.
+    /// Takes the first place that is left. It returns `None` only if no place is left.
     ///
     /// It looks at the word once and then tries until an attempt is not lost. It waits for nobody: it takes no `Wait`, and without
     /// one a body that waits does not compile.
     pub fn take(&self, pass: &mut Pass) -> Option<u64>
         requires { pass.old.tray ≡ self.now }
-        ensures some { IfSome result (λ place. (pass.old.seen ≤ place) × (place < self.now.size) × (pass.new ≡ with_place pass.old place)) }
+        ensures some { IfSome result (λ place. TakesPlace self.now pass.old place pass.new) }
         ensures none { IfNone result (pass.new ≡ with_seen pass.old self.now.size) }
         ensures kept { (pass.new.tray ≡ pass.old.tray) × (pass.new.parts ≡ pass.old.parts) }
         ensures sound { IsSound pass.new }
@@ -248,9 +248,9 @@ impl Tray {
         first
     }
 
-    /// Ends the tray with one of its passes, and answers how many places all passes took.
+    /// Ends the tray with one of its passes, and returns how many places all passes took.
     ///
-    /// Where every pass was joined into this one, it has taken each place below that number.
+    /// If every pass was joined into this one, it has taken each place below that number.
     pub fn finish(self, pass: Pass) -> u64
         requires { pass.tray ≡ self }
         ensures word { (pass.seen ≤ result) × (result ≤ self.size) }

@@ -5,4 +5,4 @@ pub returns-in-Ok : goal.returns-in-Ok
 returns-in-Ok g c = inl (c.in-Ok.task, c.carry_out.result, c.in-Ok.ensures.ok, c.carry_out.ensures, c.report.ensures)
 
 pub returns-in-Err : goal.returns-in-Err
-returns-in-Err g c = inr (c.in-Err.fault, (c.in-Err.ensures.help, c.in-Err.ensures.refused), c.explain.ensures)
+returns-in-Err g c = inr (c.in-Err.fault, c.in-Err.ensures.no_task, c.report_no_task.ensures)

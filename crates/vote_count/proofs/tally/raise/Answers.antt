@@ -1,8 +1,12 @@
-use Rattle.std.proofs.Common.{arith}
+use Rattle.std.proofs.Common.{nat_lt, get_or, inl, inr, arith}
+use Rattle.std.proofs.lemmas.Bool.{cases_Bool, ltb-true}
 use Rattle.vote_count.proofs.tally.raise.Goals as goal
 
-pub raise_from-requires-clause-room : goal.raise_from-requires-clause-room
-raise_from-requires-clause-room c k _ high behind = c.requires.room k (omega (arith, high)) behind
-
-pub raise_from-requires-then-options-gt-PASS-clause-room : goal.raise_from-requires-then-options-gt-PASS-clause-room
-raise_from-requires-then-options-gt-PASS-clause-room c k low high behind = rw (c.raise_from.ensures.behind k low) (c.requires.room k high behind)
+pub overflow_add-row : goal.overflow_add-row
+overflow_add-row c =
+    let option = c.loop-option.option in
+    let same = c.loop-option.invariant.waiting option (omega arith) in
+    elim (cases_Bool (nat_lt c.args.key (get_or c.args.keys.now option 0))) [
+      | inl behind ↦ let one = rw behind at c.from.ensures in let room = c.requires.room option (omega arith) (ltb-true _ _ behind) in omega arith
+      | inr not_behind ↦ let none = rw not_behind at c.from.ensures in omega arith
+    ]

@@ -1,9 +1,9 @@
-use Rattle.std.proofs.Common.{◌≡◌, ◌↔◌, List, Result, Ok, Err, map, ap, ◌∙◌, subst, vec_items, rules}
+use Rattle.std.proofs.Common.{◌≡◌, ◌↔◌, Bool, true, false, List, Result, Ok, Err, map, ap, ◌∙◌, subst, vec_items}
 use Rattle.vote_steps.specs.Boxes.{BoxState}
-use Rattle.vote_shared.specs.declared.Slip.{Slip}
-use Rattle.vote_shared.specs.Desks.{SealedState}
+use Rattle.vote_desks_box.specs.declared.Slip.{Slip}
+use Rattle.vote_desks_box.specs.Desks.{SealedState}
 use Rattle.vote_desks.specs.declared.fault.AuditFault.{AuditFault}
-use Rattle.vote_desks.specs.Audit.{IsFaultOf}
+use Rattle.vote_desks.specs.Audit.{IsAudited, IsFaultOf}
 use Rattle.vote_desks.proofs.AuditLemmas.{ok_moved, err_moved}
 use Rattle.vote_desks.proofs.auditing.audit.Goals as goal
 
@@ -14,7 +14,11 @@ same : (s : SealedState) (b : BoxState) (sheets : List (List Slip)) → b ≡ s.
 same s b sheets its_box its_sheets = ap (λ x. state x sheets) its_box ∙ ap (state s.ballot_box) its_sheets
 
 pub returns-in-Err-clause-ok : goal.returns-in-Err-clause-ok
-returns-in-Err-clause-ok g c = search rules
+returns-in-Err-clause-ok g c =
+    let sheets = map vec_items c.sheets.result.now in
+    let is = same c.args.sealed c.ballot_box.result.now sheets c.ballot_box.ensures.box_is c.sheets.ensures.sheets in
+    let P : SealedState → Type 0 = λ s. ◌≡◌ {A = Bool} false true ↔ IsAudited c.args.poll.now c.args.lines.now s.ballot_box s.sheets in
+    subst P is c.in-Err.ensures.ok
 
 pub returns-in-Ok-clause-fault : goal.returns-in-Ok-clause-fault
 returns-in-Ok-clause-fault g c = λ fault.

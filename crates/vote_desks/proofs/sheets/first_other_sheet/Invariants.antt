@@ -1,6 +1,6 @@
 use Rattle.std.proofs.Common.{◌≡◌, ℕ, ◌<◌, ◌≤◌, map, vec_items}
-use Rattle.vote_shared.specs.Slips.{slips}
-use Rattle.vote_shared.specs.Desks.{sheet_at}
+use Rattle.vote_desks_box.specs.Slips.{slips}
+use Rattle.vote_desks_box.specs.Desks.{sheet_at}
 use Rattle.vote_desks.proofs.sheets.first_other_sheet.Given as goal
 
 abbrev pub invariant-loop-desk : goal.invariant-loop-desk

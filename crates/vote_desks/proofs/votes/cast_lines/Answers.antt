@@ -1,14 +1,14 @@
-use Rattle.std.proofs.Common.{◌≡◌, length, map, sym, ap, ◌∙◌, arith}
+use Rattle.std.proofs.Common.{◌≡◌, length, map, sym, ap, ◌∙◌, vec_len, arith}
 use Rattle.std.specs.List.{range_with_len}
 use Rattle.vote_tray.specs.Passes.{HasAllParts, new_pass}
-use Rattle.vote_shared.specs.Desks.{fresh_desk}
+use Rattle.vote_desks_box.specs.Desks.{fresh_desks}
 use Rattle.vote_desks.proofs.BackLemmas.{Contains-range}
 use Rattle.vote_desks.proofs.votes.cast_lines.Goals as goal
 
 pub cast_all-requires-clause-desks : goal.cast_all-requires-clause-desks
 cast_all-requires-clause-desks g c =
-    let all : c.args.opened.items ≡ map (fresh_desk (length c.args.lines.now)) (range_with_len 1 c.in-Ok.made.0.passes) =
-    c.requires.fresh ∙ ap (λ n. map (fresh_desk (length c.args.lines.now)) (range_with_len 1 n)) (sym c.in-Ok.ensures.tray.1) in λ _ _. all
+    let all : c.args.opened.items ≡ fresh_desks (length c.args.lines.now) (vec_len c.args.opened) =
+    c.requires.fresh ∙ ap (fresh_desks (length c.args.lines.now)) (sym c.requires.opened) in λ _ _. all
 
 pub cast_all-requires-clause-passes : goal.cast_all-requires-clause-passes
 cast_all-requires-clause-passes g c =

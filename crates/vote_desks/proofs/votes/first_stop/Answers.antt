@@ -1,7 +1,7 @@
 use Rattle.std.proofs.Common.{Some, length, ap, ◌∙◌, subst, sym, arith}
 use Rattle.vote_desks.specs.Faults.{CanStopVotes, IsOfDesk}
 use Rattle.vote_desks.specs.Stops.{stop_fault}
-use Rattle.vote_shared.proofs.Ranges.{at_range}
+use Rattle.vote_desks_box.proofs.Ranges.{at_range}
 use Rattle.vote_desks.proofs.StopLemmas.{least_stop, can_stop, of_desk}
 use Rattle.vote_desks.proofs.votes.first_stop.Goals as goal
 

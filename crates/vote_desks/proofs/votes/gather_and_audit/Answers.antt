@@ -1,8 +1,8 @@
 use Rattle.std.proofs.Common.{◌≡◌, length, refl, sym, subst, arith}
 use Rattle.std.specs.List.{All}
 use Rattle.std.proofs.lemmas.Result.{IfOk-weaker, IfErr-weaker}
-use Rattle.vote_shared.specs.Slips.{Rises}
-use Rattle.vote_shared.specs.Desks.{SealedState}
+use Rattle.vote_desks_box.specs.Slips.{Rises}
+use Rattle.vote_desks_box.specs.Desks.{SealedState}
 use Rattle.vote_desks.proofs.BackLemmas.{gathered_count, gathered_rise, has_sizes}
 use Rattle.vote_desks.proofs.StopLemmas.{can_stop_audit, audit_of_desk}
 use Rattle.vote_desks.proofs.votes.gather_and_audit.Goals as goal
@@ -22,8 +22,8 @@ returns-clause-fault g c =
     let casts = c.in-Ok.ensures.casts in
     let all = gathered_count c.args.desks.items c.in-Ok.sealed.sheets c.in-Ok.ensures.sheets in
     let sizes = has_sizes c.args.poll.now c.args.lines.now c.args.shared.opened c.in-Ok.sealed.ballot_box (length c.args.lines.now) refl c.requires.opened c.in-Ok.ensures.opened in
-    IfErr-weaker c.audit_votes.result _ _ (λ fault. can_stop_audit c.args.poll.now c.args.lines.now c.in-Ok.sealed.ballot_box c.in-Ok.sealed.sheets fault sizes (omega arith)) c.audit_votes.ensures.fault
+    IfErr-weaker c.audit_votes.result _ _ (λ fault. can_stop_audit c.args.poll.now c.args.lines.now c.in-Ok.sealed fault sizes (omega arith)) c.audit_votes.ensures.fault
 
 pub returns-clause-desk : goal.returns-clause-desk
 returns-clause-desk g c =
-    IfErr-weaker c.audit_votes.result _ _ (audit_of_desk c.args.shared.desks c.args.poll.now c.args.lines.now c.in-Ok.sealed.ballot_box c.in-Ok.sealed.sheets) c.audit_votes.ensures.fault
+    IfErr-weaker c.audit_votes.result _ _ (audit_of_desk c.args.shared.desks c.args.poll.now c.args.lines.now c.in-Ok.sealed) c.audit_votes.ensures.fault

@@ -1,7 +1,7 @@
 use Rattle.std.proofs.Common.{◌≡◌, ◌+◌, ◌-◌, length, map, ◌∷◌, [], ◌++◌, sym, ap, ◌∙◌, subst, arith}
 use Rattle.std.specs.Vec.Iter.{into_iter_items}
 use Rattle.vote_tray.specs.Passes.{PassState}
-use Rattle.vote_shared.specs.Desks.{DeskState}
+use Rattle.vote_desks_box.specs.Desks.{DeskState}
 use Rattle.vote_desks.specs.Back.{AreBackFrom, AreHandedIn}
 use Rattle.vote_desks.proofs.BackLemmas.{first_back, handed_one, handed_more}
 use Rattle.vote_desks.proofs.votes.hand_in.Goals as goal

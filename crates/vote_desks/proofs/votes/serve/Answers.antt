@@ -1,5 +1,5 @@
 use Rattle.std.proofs.Common.{◌≡◌, IfOk, IfErr, length, ap, subst}
-use Rattle.vote_shared.specs.Desks.{SharedState}
+use Rattle.vote_desks_box.specs.Desks.{SharedState}
 use Rattle.vote_desks.specs.Faults.{IsOfDesk}
 use Rattle.vote_desks.proofs.votes.serve.Goals as goal
 

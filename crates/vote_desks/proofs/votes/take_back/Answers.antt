@@ -5,7 +5,7 @@ use Rattle.std.proofs.lemmas.Result.{IfErr-weaker}
 use Rattle.vote_desks.specs.declared.worked.Stop.{Stop}
 use Rattle.vote_desks.specs.Faults.{IsOfDesk}
 use Rattle.vote_desks.specs.Work.{HasCastAll}
-use Rattle.vote_shared.proofs.Ranges.{length_range}
+use Rattle.vote_desks_box.proofs.Ranges.{length_range}
 use Rattle.vote_desks.proofs.BackLemmas.{back_from}
 use Rattle.vote_desks.proofs.votes.take_back.Goals as goal
 

@@ -1,5 +1,5 @@
 use Rattle.std.proofs.Common.{◌≡◌, ◌+◌, ◌++◌, take, length}
-use Rattle.vote_shared.specs.Slips.{stamps_of}
+use Rattle.vote_desks_box.specs.Slips.{stamps_of}
 use Rattle.vote_desks.proofs.work.cast_each.Given as goal
 
 abbrev pub invariant-loop-place : goal.invariant-loop-place

@@ -4,7 +4,7 @@ use Rattle.std.specs.List.{AllByRecursion, remove}
 use Rattle.std.proofs.lemmas.Bool.{eqb-true}
 use Rattle.std.proofs.lemmas.List.{append-nil, length-map, map-append}
 use Rattle.vote_tray.specs.Passes.{PassState}
-use Rattle.vote_shared.specs.Desks.{DeskState}
+use Rattle.vote_desks_box.specs.Desks.{DeskState}
 use Rattle.vote_desks.specs.Work.{IsFresh, IsUnused}
 use Rattle.vote_desks.proofs.work.start_all.Goals as goal
 
@@ -55,9 +55,9 @@ loop-desks-preserved g c =
       unused = (subst unused pass kept.unused).1;
       desks = moved (λ h. h.promise.number) c.loop-desks.handles.items c.push.new.self.items c.in_ok-start.field-0 (map (λ (d : DeskState). d.number) c.loop-desks.desks.items)
           (map (λ (d : DeskState). d.number) c.remove-desk.new.self.items) (map (λ (d : DeskState). d.number) c.args.desks.items) c.remove-desk.result.number
-          (ap (map (λ (d : DeskState). d.number)) desk) c.in_ok-push.ensures.items c.in_ok-start.ensures.ok.0 kept.desks;
+          (ap (map (λ (d : DeskState). d.number)) desk) c.in_ok-push.ensures.items c.in_ok-start.ensures.desk kept.desks;
       passes = moved (λ h. h.promise.pass.value) c.loop-desks.handles.items c.push.new.self.items c.in_ok-start.field-0 c.loop-desks.passes.items c.remove-pass.new.self.items
-          c.args.passes.items c.remove-pass.result pass c.in_ok-push.ensures.items c.in_ok-start.ensures.ok.1 kept.passes;
+          c.args.passes.items c.remove-pass.result pass c.in_ok-push.ensures.items c.in_ok-start.ensures.pass kept.passes;
     }
 
 -- once none is left, all are done

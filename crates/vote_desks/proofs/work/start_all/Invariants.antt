@@ -1,6 +1,6 @@
 use Rattle.std.proofs.Common.{◌≡◌, ◌++◌, map, vec_len, length}
 use Rattle.std.specs.List.{AllByRecursion}
-use Rattle.vote_shared.specs.Desks.{DeskState}
+use Rattle.vote_desks_box.specs.Desks.{DeskState}
 use Rattle.vote_desks.specs.Work.{IsFresh, IsUnused}
 use Rattle.vote_desks.proofs.work.start_all.Given as goal
 

@@ -26,5 +26,4 @@ ranks_of-requires c = grind (arith, common_steps, elements, moves, pieces)
 
 pub returns : goal.returns
 returns c =
-    let parts = c.in_ok-voter.ensures.found in
-    parts_read c.args.line.now c.in_ok-voter.voter.now c.in_ok-voter.ranks.now c.in_ok-ranks.ranks c.in_ok-ranks.count c.if-line-gt-MAX_LINE.false parts.0 parts.1 c.in_ok-ranks.ensures
+    parts_read c.args.line.now c.in_ok-voter.voter.now c.in_ok-voter.ranks.now c.in_ok-ranks.ranks c.in_ok-ranks.count c.if-line-gt-MAX_LINE.false c.in_ok-voter.ensures.before c.in_ok-voter.ensures.after c.in_ok-ranks.ensures

@@ -6,12 +6,19 @@ use Rattle.vote_poll.proofs.FirstFound.{found-at, found-nowhere, none-more}
 use Rattle.vote_poll.proofs.ReadingLaws.{position-found, position-none}
 use Rattle.vote_poll.proofs.reading.split_at_space.Goals as goal
 
-pub returns-then-line-end-eq32-clause-found : goal.returns-then-line-end-eq32-clause-found
-returns-then-line-end-eq32-clause-found c =
+pub returns-then-line-end-eq32-clause-before : goal.returns-then-line-end-eq32-clause-before
+returns-then-line-end-eq32-clause-before c =
     let line = c.args.line.now in
     let end = c.loop-end.end in
     let at = position-found is_space line end (found-at is_space line end 0 c.loop-end-test.true c.loop-end.invariant (eq-eqb _ 32 c.if-line-end-eq32.true)) in
-    (ap (λ n. take n line) (sym at.0), take_rest line (end + 1) ∙ ap (λ n. drop (n + 1) line) (sym at.0))
+    ap (λ n. take n line) (sym at.0)
+
+pub returns-then-line-end-eq32-clause-after : goal.returns-then-line-end-eq32-clause-after
+returns-then-line-end-eq32-clause-after c =
+    let line = c.args.line.now in
+    let end = c.loop-end.end in
+    let at = position-found is_space line end (found-at is_space line end 0 c.loop-end-test.true c.loop-end.invariant (eq-eqb _ 32 c.if-line-end-eq32.true)) in
+    take_rest line (end + 1) ∙ ap (λ n. drop (n + 1) line) (sym at.0)
 
 pub loop-end-preserved : goal.loop-end-preserved
 loop-end-preserved c = none-more is_space c.args.line.now c.loop-end.end 0 c.loop-end-test.true c.loop-end.invariant (ne_eqb _ 32 c.if-line-end-eq32.false)

@@ -2,7 +2,7 @@ use Rattle.std.proofs.Common.{◌≡◌, ℕ, ◌+◌, ◌++◌, [], None, appen
 use mathlib.Core.List.{append-nil}
 use Rattle.std.proofs.lemmas.List.{drop_all}
 use Rattle.std.proofs.lemmas.List.FromFn.{get_or-map-range_with_len, length-map-range_with_len}
-use Rattle.vote_text.specs.Lines.{text_of_lines}
+use Rattle.vote_poll_text.specs.Lines.{text_of_lines}
 use Rattle.vote_poll.specs.PollContent.{elector_count}
 use Rattle.vote_poll.specs.Readings.{readings}
 use Rattle.vote_count.specs.Ballots.{IsBallotOf}

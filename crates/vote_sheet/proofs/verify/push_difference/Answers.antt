@@ -1,6 +1,6 @@
 use Rattle.std.proofs.Common.{◌≡◌, ◌++◌, append_assoc, codes, decimal, ◌+◌, rules, string_bytes}
 use Rattle.std.specs.Prelude.{slice_get}
-use Rattle.vote_text.specs.Lines.{lines_of}
+use Rattle.vote_poll_text.specs.Lines.{lines_of}
 use Rattle.vote_sheet.specs.Sheet.{Text}
 use Rattle.vote_sheet.specs.Verify.{common_lines, difference_text, shown_line}
 use Rattle.vote_sheet.proofs.verify.push_difference.Goals as goal

@@ -1,5 +1,5 @@
 use Rattle.std.proofs.Common.{ap, ◌∙◌}
-use Rattle.vote_shared.specs.Desks.{SealedState, sheet_at}
+use Rattle.vote_desks_box.specs.Desks.{SealedState, sheet_at}
 use Rattle.vote_desks.proofs.auditing.Audited.sheet_of.Goals as goal
 
 pub returns : goal.returns

@@ -12,10 +12,18 @@ use Rattle.vote_steps.proofs.ballot_box.BallotBox.new.Goals as goal
 none_some : {x : Received} → None ≡ Some x → ⊥
 none_some is = cc
 
+-- what is a clone of None is None, so all entries are
+only_none : (is_clone : Option Received → Type 0) → ((x : Received) → ¬ is_clone (Some x)) → (y : Option Received) → is_clone y → y ≡ None
+only_none is_clone never None is = refl
+only_none is_clone never (Some x) is = absurd (never x is)
+
+all_none : (items wanted : List (Option Received)) (is_clone : Option Received → Type 0) → (((y : Option Received) → is_clone y → y ≡ None) → items ≡ wanted) → ((x : Received) → ¬ is_clone (Some x)) → items ≡ wanted
+all_none items wanted is_clone each never = each (only_none is_clone never)
+
 pub invariant_of-result-2 : goal.invariant_of-result-2
 invariant_of-result-2 c =
     keeps_new _ c.in_ok-steps.ensures.items c.in_ok-steps.ensures.capacity refl refl refl
-    (c.in_ok-used.ensures.items_if_clones_equal (λ y e. e)) (c.in_ok-ballots.ensures.items_if_clones_equal (λ y e. search rules) ∙ ap (λ n. replicate n None) (sym c.in_ok-ballots.ensures.len)) c.in_ok-used.ensures.len c.requires.limit c.requires.last_in_time
+    (c.in_ok-used.ensures.items_if_clones_equal (λ y e. e)) (all_none _ _ _ c.in_ok-ballots.ensures.items_if_clones_equal (λ x is. is) ∙ ap (λ n. replicate n None) (sym c.in_ok-ballots.ensures.len)) c.in_ok-used.ensures.len c.requires.limit c.requires.last_in_time
 
 none_counted : (p : Option Received → Bool) (ballots : List (Option Received)) (n : ℕ) → ballots ≡ replicate n None → p None ≡ false → count_by p ballots ≡ 0
 none_counted p ballots n is none = ap (count_by p) is ∙ sum_by-replicate (λ o. cond (p o) 1 0) n None ∙ ap (λ (b : Bool). n * cond b 1 0) none ∙ omega arith
@@ -28,7 +36,7 @@ pub invariant_of-result : goal.invariant_of-result
 invariant_of-result c =
     let ballots = c.in_ok-ballots.ballots in
     let n = c.args.electors in
-    let is : ballots.items ≡ replicate n None = c.in_ok-ballots.ensures.items_if_clones_equal (λ y e. search rules) in
+    let is : ballots.items ≡ replicate n None = all_none _ _ _ c.in_ok-ballots.ensures.items_if_clones_equal (λ x is. is) in
     record {
       few = omega (arith, c.in_ok-ballots.ensures.len, c.requires.electors.1);
       fit = λ k x stands. absurd (none_some (sym (none_stands ballots.items n k is) ∙ stands));

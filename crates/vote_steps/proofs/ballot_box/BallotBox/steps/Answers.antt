@@ -1,5 +1,5 @@
 use Rattle.std.proofs.Common.{◌+◌, ◌≤◌, length, ap, subst, arith}
-use Rattle.vote_text.specs.declared.lines.TheConstants.{MAX_LINES}
+use Rattle.vote_poll_text.specs.declared.lines.TheConstants.{MAX_LINES}
 use Rattle.vote_steps.specs.Boxes.{BoxState, UsesAll}
 use Rattle.vote_steps.specs.Keeping.{state_of}
 use Rattle.vote_steps.proofs.LegalLemmas.{has_room_for_all_lem, each_stamp_is_used_lem}

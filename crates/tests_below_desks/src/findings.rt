@@ -1,0 +1,69 @@
+//! What is found in a poll file, with the memory of the call refused in turn (tests/refused-memory).
+
+use crate::same::assert_same;
+use std::alloc::{AllocError, Global};
+use std::test::Fail;
+use vote_poll::{PollFault, PollKey};
+use vote_poll_findings::explain_poll;
+
+/// A poll with faults, and with keys that are not read.
+const FAULTY: &str =
+    "title = 3\noptions = [\"A\", \"B \"]\nratios = [1, 12]\ndefault = \"A\"\nquorum = 11\nrol = 1\nwording = \"most\"\n[more]\nroll = [\"v0\"]\n[rest]\nx = 1\ny = 2\n";
+
+/// What is wrong with it.
+const FINDINGS: &str = "poll: key title: an integer, and a text is wanted\n\
+    poll: key roll: it is missing; it is inside [more]; put it before the first table\n\
+    poll: name of option 2: \"B \" ends with a space\n\
+    poll: name of option 3: \"A\" is option 1 too\n\
+    poll: ratios: 12 is not from 1 to 10\n\
+    poll: quorum: 11 is not from 0 to 10\n\
+    poll: wording: \"most\" is neither at_least nor more_than\n\
+    poll: key more.roll is not read; it is inside [more]; put it before the first table\n\
+    poll: key rest is not read\n\
+    poll: key rol is not read; did you mean roll?\n";
+
+/// The findings of a text, and its fault if it is no poll.
+fn explained(alloc: Global, text: &[u8]) -> Result<(String, Option<PollFault>), AllocError> {
+    let explained = explain_poll(alloc, text)?;
+    Ok((explained.findings, explained.outcome.err()))
+}
+
+#[test]
+fn memory_of_explain_poll(rt: HostRuntime) -> Result<(), Fail> {
+    match explained(rt.alloc(), FAULTY.as_bytes()) {
+        Ok((findings, fault)) => {
+            assert_same(&rt, fault, Some(PollFault::Key(PollKey::Title)));
+            assert_same(&rt, findings.as_str(), FINDINGS);
+            Ok(())
+        }
+        Err(AllocError) => Err(Fail::from("refused")),
+    }
+}
+
+/// A poll whose roll has one name too many.
+fn crowded(alloc: Global) -> Result<String, AllocError> {
+    let mut text = String::from_str(
+        alloc,
+        "title = \"T\"\noptions = [\"A\"]\nratios = [1]\ndefault = \"None\"\nquorum = 0\nroll = [",
+    )?;
+    for voter in 0..10_001 {
+        write!(text, "\"v{voter}\",")?;
+    }
+    text.push_str("]\n")?;
+    Ok(text)
+}
+
+/// What is wrong with it.
+fn crowd(alloc: Global) -> Result<(String, Option<PollFault>), AllocError> {
+    let text = crowded(alloc)?;
+    explained(alloc, text.as_bytes())
+}
+
+#[test]
+fn a_roll_with_one_name_too_many(rt: HostRuntime) -> Result<(), Fail> {
+    let (findings, fault) = crowd(rt.alloc())?;
+    assert_same(&rt, fault, Some(PollFault::RollSize));
+    let most = "poll: size of roll: 10001 names, 10000 are the most\n";
+    assert_same(&rt, findings.as_str(), most);
+    Ok(())
+}

@@ -1,0 +1,73 @@
+//! What is said of a ballot file, with the memory of the call refused in turn (tests/refused-memory).
+
+use crate::inputs::{assert_same, lines_of, poll_of};
+use std::alloc::{AllocError, Global};
+use std::process::Abort;
+use std::test::Fail;
+use vote_ballot_findings::{Explained, explain_ballots};
+use vote_poll::Poll;
+
+const POLL: &str =
+    "title = \"A poll\"\noptions = [\"A\", \"B\"]\nratios = [1, 1]\ndefault = \"None\"\nquorum = 0\nroll = [\"ada\", \"ben\", \"bob\", \"cleo\"]\nlast_envelope = 9\n";
+
+/// A file with a line for each hint and for each line on the whole file, and what is said of it. No line feed ends it.
+const LINES: &str =
+    "ada 1,2,3\nada 1,2,\x0B\nada 1,2\nbo 1,2,3\ndaniela -,-,1\ncloe 1,2,3\nada 3,2,1\ndan 1,\"\n\u{feff}ben 1,2,3\nben 1,2,3\ntitle = 1";
+
+/// A file from Windows with a byte-order mark, and a last line without a line feed.
+const OF_WINDOWS: &str = "\u{feff}ada 1,2,3\r\nben 1,2,3\r\nben 1,2,3cleo 1,2,3";
+
+const SAID_OF_WINDOWS: &str =
+    "ballots:1: bad shape: column 1: byte-order mark\nballots:2: bad shape: column 10: carriage return\nballots:3: bad shape: column 10: \"c\"; two ballots on one line?\na ballot line of this poll: ada 1,2,3\nlines of bad shape end with a carriage return: the file comes from Windows; take it out with tr -d '\\r' < ballots > ballots.new\n3 lines: 0 valid, 3 refused, 0 of them late; 0 of 4 electors have a ballot\n";
+
+const FINDINGS: &str =
+    "the ballot file looks like a poll: are the files exchanged?\nballots:2: bad shape: column 9: byte 0x0B\nballots:3: bad rank count: 2 ranks, the poll has 3 options\nballots:4: bad not on roll: bo is not on the roll; did you mean bob?\nballots:5: bad not on roll: daniela is not on the roll\nballots:6: bad not on roll: cloe is not on the roll; did you mean cleo?\nballots:8: bad shape: column 7: \"\"\"\nballots:9: bad shape: column 1: byte-order mark\nballots:10: late: the last envelope is 9\nballots:11: late: the last envelope is 9\na ballot line of this poll: ada 1,2,3\n11 lines: 2 valid, 9 refused, 2 of them late; 1 of 4 electors have a ballot\n";
+
+/// What is said of a ballot file for a poll.
+fn explained_for(
+    rt: &impl Abort,
+    alloc: Global,
+    poll: &Poll,
+    text: &str,
+) -> Result<Explained, AllocError> {
+    let lines = lines_of(rt, alloc, text)?;
+    let found = explain_ballots(alloc, poll, &lines, text.as_bytes().ends_with(b"\n"));
+    drop(lines);
+    found
+}
+
+/// What is said of a ballot file for the poll.
+fn explained(rt: &impl Abort, alloc: Global, text: &str) -> Result<Explained, AllocError> {
+    let poll = poll_of(rt, alloc, POLL)?;
+    let found = explained_for(rt, alloc, &poll, text);
+    drop(poll);
+    found
+}
+
+/// That so many lines of a ballot file are refused, and just this is said of it.
+fn assert_explained(
+    rt: &impl Abort,
+    alloc: Global,
+    text: &str,
+    refused: u64,
+    findings: &str,
+) -> Result<(), Fail> {
+    match explained(rt, alloc, text) {
+        Ok(found) => {
+            assert_same(rt, found.refused, refused);
+            assert!(rt; found.text.as_str() == findings, "{}", found.text);
+            Ok(())
+        }
+        Err(AllocError) => Err(Fail::from("refused")),
+    }
+}
+
+#[test]
+fn memory_of_explain_ballots(rt: HostRuntime) -> Result<(), Fail> {
+    assert_explained(&rt, rt.alloc(), LINES, 9, FINDINGS)
+}
+
+#[test]
+fn memory_of_explain_ballots_from_windows(rt: HostRuntime) -> Result<(), Fail> {
+    assert_explained(&rt, rt.alloc(), OF_WINDOWS, 3, SAID_OF_WINDOWS)
+}

@@ -1,0 +1,303 @@
+//! What `report` tells of a run: the line of each fault, and its status; and nothing of a run that came to its end.
+
+use crate::inputs::assert_same;
+use std::alloc::{AllocError, Global};
+use std::cell::Cell;
+use std::fmt::Display;
+use std::io;
+use std::test::Fail;
+use vote_desks::{AuditFault, DeskFault, EnterFault, VoteFault};
+use vote_job_files::report;
+use vote_jobs::{Ended, InputFault, RunFault};
+use vote_poll::{LinesFault, PollFault, PollKey};
+
+/// A standard error that keeps the last line, and counts them.
+#[derive(Drop)]
+struct Heard {
+    alloc: Global,
+    last: Cell<Option<String>>,
+    lines: Cell<u8>,
+}
+
+impl Heard {
+    fn new(alloc: Global) -> Heard {
+        Heard {
+            alloc,
+            last: Cell::new(None),
+            lines: Cell::new(0),
+        }
+    }
+
+    /// The last line, if any, and how many there were.
+    fn into_told(self) -> (Option<String>, u8) {
+        let Heard {
+            alloc: _,
+            last,
+            lines,
+        } = self;
+        (last.into_inner(), lines.into_inner())
+    }
+}
+
+impl Eprint for Heard {
+    /// What ends no line is no fault line.
+    fn eprint<D: Display + Drop>(&self, _value: D) -> io::Result<()> {
+        self.lines.set(u8::MAX);
+        Ok(())
+    }
+
+    fn eprintln<D: Display + Drop>(&self, value: D) -> io::Result<()> {
+        let line = value.to_string(self.alloc)?;
+        self.last.set(Some(line));
+        self.lines.set(self.lines.get().saturating_add(1));
+        Ok(())
+    }
+}
+
+/// Whether this line is told of a run, and no other, or nothing where there is none; and the status.
+fn reported(alloc: Global, outcome: Result<Ended, RunFault>, line: Option<&str>) -> (bool, u8) {
+    let heard = Heard::new(alloc);
+    let status = report(&heard, &outcome);
+    let (last, lines) = heard.into_told();
+    let is_told = match (&last, line) {
+        (None, None) => lines == 0,
+        (Some(last), Some(line)) => lines == 1 && last.as_str() == line,
+        _ => false,
+    };
+    (is_told, status)
+}
+
+/// Each fault of a run, its line and its status.
+const FAULTS: &[(RunFault, &str, u8)] = &[
+    (
+        RunFault::Input(InputFault::PollUnreadable),
+        "debvote: poll unreadable",
+        3,
+    ),
+    (
+        RunFault::Input(InputFault::PollTooLong),
+        "debvote: poll too long",
+        3,
+    ),
+    (
+        RunFault::Input(InputFault::BallotsUnreadable),
+        "debvote: ballots unreadable",
+        4,
+    ),
+    (
+        RunFault::Input(InputFault::BallotsTooLong),
+        "debvote: ballots too long",
+        4,
+    ),
+    (
+        RunFault::Input(InputFault::SheetUnreadable),
+        "debvote: sheet unreadable",
+        10,
+    ),
+    (
+        RunFault::Input(InputFault::SheetTooLong),
+        "debvote: sheet too long",
+        10,
+    ),
+    (
+        RunFault::Poll(PollFault::Syntax),
+        "debvote: poll refused: syntax",
+        3,
+    ),
+    (
+        RunFault::Poll(PollFault::Key(PollKey::Title)),
+        "debvote: poll refused: key title",
+        3,
+    ),
+    (
+        RunFault::Poll(PollFault::Key(PollKey::Options)),
+        "debvote: poll refused: key options",
+        3,
+    ),
+    (
+        RunFault::Poll(PollFault::Key(PollKey::Ratios)),
+        "debvote: poll refused: key ratios",
+        3,
+    ),
+    (
+        RunFault::Poll(PollFault::Key(PollKey::DefaultOption)),
+        "debvote: poll refused: key default",
+        3,
+    ),
+    (
+        RunFault::Poll(PollFault::Key(PollKey::Quorum)),
+        "debvote: poll refused: key quorum",
+        3,
+    ),
+    (
+        RunFault::Poll(PollFault::Key(PollKey::Roll)),
+        "debvote: poll refused: key roll",
+        3,
+    ),
+    (
+        RunFault::Poll(PollFault::Key(PollKey::LastEnvelope)),
+        "debvote: poll refused: key last_envelope",
+        3,
+    ),
+    (
+        RunFault::Poll(PollFault::Key(PollKey::Wording)),
+        "debvote: poll refused: key wording",
+        3,
+    ),
+    (
+        RunFault::Poll(PollFault::Title),
+        "debvote: poll refused: title",
+        3,
+    ),
+    (
+        RunFault::Poll(PollFault::OptionCount),
+        "debvote: poll refused: number of options",
+        3,
+    ),
+    (
+        RunFault::Poll(PollFault::OptionName(2)),
+        "debvote: poll refused: name of option 2",
+        3,
+    ),
+    (
+        RunFault::Poll(PollFault::Ratio),
+        "debvote: poll refused: ratios",
+        3,
+    ),
+    (
+        RunFault::Poll(PollFault::Quorum),
+        "debvote: poll refused: quorum",
+        3,
+    ),
+    (
+        RunFault::Poll(PollFault::RollSize),
+        "debvote: poll refused: size of roll",
+        3,
+    ),
+    (
+        RunFault::Poll(PollFault::VoterName(0)),
+        "debvote: poll refused: voter at position 0",
+        3,
+    ),
+    (
+        RunFault::Poll(PollFault::LastEnvelope),
+        "debvote: poll refused: last envelope",
+        3,
+    ),
+    (
+        RunFault::Poll(PollFault::Wording),
+        "debvote: poll refused: wording",
+        3,
+    ),
+    (
+        RunFault::Poll(PollFault::Memory),
+        "debvote: out of memory",
+        5,
+    ),
+    (
+        RunFault::NoSuchOption,
+        "debvote: casting option is not in the poll",
+        8,
+    ),
+    (
+        RunFault::Lines(LinesFault::TooMany),
+        "debvote: ballots refused: too many lines",
+        4,
+    ),
+    (
+        RunFault::Lines(LinesFault::Memory),
+        "debvote: out of memory",
+        5,
+    ),
+    (
+        RunFault::Vote(VoteFault::Memory),
+        "debvote: out of memory",
+        5,
+    ),
+    (
+        RunFault::Vote(VoteFault::Thread),
+        "debvote: a desk could not be started",
+        5,
+    ),
+    (
+        RunFault::Vote(VoteFault::Gate(1)),
+        "debvote: desk 1 stopped at its gate",
+        6,
+    ),
+    (
+        RunFault::Vote(VoteFault::Gate(8)),
+        "debvote: desk 8 stopped at its gate",
+        6,
+    ),
+    (
+        RunFault::Vote(VoteFault::Enter(2, EnterFault::StampUsed)),
+        "debvote: desk 2 was refused by the box",
+        6,
+    ),
+    (
+        RunFault::Vote(VoteFault::Desk(DeskFault::MissingDesk)),
+        "debvote: the desks could not be gathered",
+        6,
+    ),
+    (
+        RunFault::Vote(VoteFault::Desk(DeskFault::Memory)),
+        "debvote: out of memory",
+        5,
+    ),
+    (
+        RunFault::Vote(VoteFault::Audit(AuditFault::SizeDiffers)),
+        "debvote: audit failed",
+        6,
+    ),
+    (
+        RunFault::Vote(VoteFault::Audit(AuditFault::CountDiffers)),
+        "debvote: audit failed",
+        6,
+    ),
+    (
+        RunFault::Vote(VoteFault::Audit(AuditFault::StepDiffers(1))),
+        "debvote: audit failed",
+        6,
+    ),
+    (
+        RunFault::Vote(VoteFault::Audit(AuditFault::SlipDiffers(1, 1))),
+        "debvote: audit failed",
+        6,
+    ),
+    (
+        RunFault::Vote(VoteFault::Audit(AuditFault::ClosedEarly(1))),
+        "debvote: audit failed",
+        6,
+    ),
+    (RunFault::Memory, "debvote: out of memory", 5),
+    (RunFault::Output, "debvote: output failed", 7),
+];
+
+#[test]
+fn each_fault_has_its_line(rt: HostRuntime) {
+    for row in FAULTS {
+        let (fault, line, status) = *row;
+        let found = reported(rt.alloc(), Err(fault), Some(line));
+        assert_same(&rt, (fault, found), (fault, (true, status)));
+    }
+}
+
+/// Each way in which a run comes to its end, and its status.
+const ENDS: &[(Ended, u8)] = &[
+    (Ended::Decided(1), 0),
+    (Ended::Tie, 1),
+    (Ended::CastingOutside(1), 8),
+    (Ended::Done, 0),
+    (Ended::PollRefused, 3),
+    (Ended::Found, 9),
+    (Ended::Differs, 9),
+];
+
+#[test]
+fn a_run_that_came_to_its_end_has_no_line(rt: HostRuntime) {
+    for row in ENDS {
+        let (end, status) = *row;
+        let found = reported(rt.alloc(), Ok(end), None);
+        assert_same(&rt, (end, found), (end, (true, status)));
+    }
+}

@@ -1,0 +1,383 @@
+//! What no clause says: that runs succeed. And writers that fail, gates that stop a desk, and memory and threads that may be
+//! refused.
+//!
+//! Each test `memory_of_perform_on_..` and `threads_of_perform_on_..` has `perform_on` do one job, on a writer with room. It ends well where the call gave its
+//! whole right answer, and says `refused` where the call answered its want of memory or of a thread, with nothing written. So
+//! whoever runs it with one growth or one start refused after another sees whether any other answer comes.
+
+ghost use Rattle.vote_steps.specs.Desks.{AreDesks};
+ghost use Rattle.vote_jobs.specs.Performing.{HasDesks};
+
+use crate::inputs::{BALLOTS, CYCLE, SHEET, assert_same, lines_of, poll_of};
+use std::alloc::{AllocError, Global};
+use std::io::{self, ErrorKind, Write};
+use std::process::Abort;
+use std::sync::Wait;
+use std::test::Fail;
+use std::thread::Threads;
+use vote_desks::{Gate, NoGate, Slip, VoteFault, take_votes};
+use vote_jobs::{Ended, Job, RunFault, perform_on, sheet, status};
+use vote_poll::{Lines, LinesFault, Poll, PollFault};
+
+/// A writer in memory that takes so many bytes at once, fails once it holds as many as its limit, and counts its flushes.
+#[derive(Drop)]
+struct Paper {
+    written: Vec<u8>,
+    at_once: usize,
+    limit: usize,
+    can_flush: bool,
+    flushes: u32,
+    /// Whether it was flushed after the last write.
+    is_flushed: bool,
+}
+
+impl Write for Paper {
+    fn write(&mut self, text: &[u8]) -> io::Result<usize> {
+        self.is_flushed = false;
+        let count = text.len().min(self.at_once);
+        if self.written.len() >= self.limit
+            || self.written.extend_from_slice(&text[..count]).is_err()
+        {
+            return Err(io::Error::from(ErrorKind::Other));
+        }
+        Ok(count)
+    }
+
+    fn flush(&mut self) -> io::Result<()> {
+        if !self.can_flush {
+            return Err(io::Error::from(ErrorKind::Other));
+        }
+        self.flushes = self.flushes.saturating_add(1);
+        self.is_flushed = true;
+        Ok(())
+    }
+}
+
+/// A paper that takes everything, with room for every text of these tests.
+fn endless(alloc: Global) -> Result<Paper, AllocError> {
+    Ok(Paper {
+        written: Vec::with_capacity(alloc, 4096)?,
+        at_once: usize::MAX,
+        limit: usize::MAX,
+        can_flush: true,
+        flushes: 0,
+        is_flushed: false,
+    })
+}
+
+/// A count of the cycle at one desk on such a paper: whether what is written is a front of the sheet, how long it is, how often the
+/// paper was flushed, whether it was flushed at last, and how the count ends.
+fn written_of_cycle<R: Threads + Wait + Sync>(
+    rt: &R,
+    alloc: Global,
+    at_once: usize,
+    limit: usize,
+    can_flush: bool,
+) -> Result<(bool, usize, (u32, bool), Result<Ended, RunFault>), AllocError> {
+    let mut paper = endless(alloc)?;
+    paper.at_once = at_once;
+    paper.limit = limit;
+    paper.can_flush = can_flush;
+    let job = Job::Count {
+        poll: CYCLE.as_bytes(),
+        ballots: BALLOTS.as_bytes(),
+        desks: 1,
+        casting: None,
+    };
+    let (paper, ended) = perform_on(rt, alloc, &job, &NoGate, paper);
+    let is_front = SHEET.as_bytes().starts_with(paper.written.as_slice());
+    let flushed = (paper.flushes, paper.is_flushed);
+    let len = paper.written.len();
+    drop(paper);
+    Ok((is_front, len, flushed, ended))
+}
+
+const WON: Result<Ended, RunFault> = Ok(Ended::Decided(1));
+
+const OUTPUT: Result<Ended, RunFault> = Err(RunFault::Output);
+
+/// How much a paper takes at once and at all, and whether it can be flushed; how much of the sheet is written then, if not all, the
+/// flushes, and how the count ends.
+const WRITES: &[(
+    usize,
+    usize,
+    bool,
+    Option<usize>,
+    (u32, bool),
+    Result<Ended, RunFault>,
+)] = &[
+    (usize::MAX, usize::MAX, true, None, (1, true), WON),
+    (1, usize::MAX, true, None, (1, true), WON),
+    (10, 10, true, Some(10), (0, false), OUTPUT),
+    (0, usize::MAX, true, Some(0), (0, false), OUTPUT),
+    (1, usize::MAX, false, None, (0, false), OUTPUT),
+];
+
+#[test]
+fn a_sheet_is_written_up_to_the_fault_and_flushed_once(rt: HostRuntime) -> Result<(), Fail> {
+    for write in WRITES {
+        let (at_once, limit, can_flush, len, flushed, end) = *write;
+        let found = written_of_cycle(&rt, rt.alloc(), at_once, limit, can_flush)?;
+        assert_same(&rt, found, (true, len.unwrap_or(SHEET.len()), flushed, end));
+    }
+    Ok(())
+}
+
+/// A byte a write, and each write the first that fails.
+#[test]
+fn any_write_of_a_sheet_may_fail(rt: HostRuntime) -> Result<(), Fail> {
+    let output = Err(RunFault::Output);
+    for limit in 0..SHEET.len() {
+        let found = written_of_cycle(&rt, rt.alloc(), 1, limit, true)?;
+        assert_same(&rt, found, (true, limit, (0, false), output));
+    }
+    Ok(())
+}
+
+/// A gate that stops at this envelope alone, or at each where there is none.
+#[derive(Clone, Copy)]
+struct StopsAt(Option<u32>);
+
+impl Gate for StopsAt {
+    fn before(&self, _desk: u8, stamp: u32) -> bool {
+        match self.0 {
+            Some(one) => stamp != one,
+            None => false,
+        }
+    }
+
+    fn after(&self, _desk: u8, _slip: &Slip) {}
+}
+
+/// Does a job on a paper with room: whether this text is written, how much is, and how the job ends.
+fn performed<G: Gate + Sync, R: Threads + Wait + Sync>(
+    rt: &R,
+    alloc: Global,
+    job: &Job<'_>,
+    gate: &G,
+    text: &str,
+) -> Result<(bool, usize, Result<Ended, RunFault>), AllocError>
+    requires { HasDesks job.now }
+{
+    let paper = endless(alloc)?;
+    let (paper, ended) = perform_on(rt, alloc, job, gate, paper);
+    let is_text = paper.written.as_slice() == text.as_bytes();
+    let len = paper.written.len();
+    drop(paper);
+    Ok((is_text, len, ended))
+}
+
+/// How a count of the cycle at so many desks ends through a gate, and how much is written.
+fn ended_through<R: Threads + Wait + Sync>(
+    rt: &R,
+    alloc: Global,
+    gate: StopsAt,
+    desks: u8,
+) -> Result<(usize, Result<Ended, RunFault>), AllocError>
+    requires { AreDesks desks }
+{
+    let job = Job::Count {
+        poll: CYCLE.as_bytes(),
+        ballots: BALLOTS.as_bytes(),
+        desks,
+        casting: None,
+    };
+    let (_, len, ended) = performed(rt, alloc, &job, &gate, SHEET)?;
+    Ok((len, ended))
+}
+
+#[test]
+fn a_gate_stops_a_count(rt: HostRuntime) -> Result<(), Fail> {
+    let stopped = Err(RunFault::Vote(VoteFault::Gate(1)));
+    let one = ended_through(&rt, rt.alloc(), StopsAt(Some(5)), 1)?;
+    assert_same(&rt, one, (0, stopped));
+    let all = ended_through(&rt, rt.alloc(), StopsAt(None), 8)?;
+    assert_same(&rt, all, (0, stopped));
+    Ok(())
+}
+
+fn is_of_memory(fault: RunFault) -> bool {
+    match fault {
+        RunFault::Poll(fault) => fault == PollFault::Memory,
+        RunFault::Lines(fault) => fault == LinesFault::Memory,
+        RunFault::Vote(fault) => fault == VoteFault::Memory,
+        RunFault::Memory => true,
+        _ => false,
+    }
+}
+
+/// The fault by which a job is refused, with nothing written and status 5, or none where it is done right.
+fn fault_of<R: Threads + Wait + Sync>(
+    rt: &R,
+    alloc: Global,
+    job: &Job<'_>,
+    text: &str,
+    end: Ended,
+) -> Result<Option<RunFault>, Fail>
+    requires { HasDesks job.now }
+{
+    let (is_text, len, ended) = performed(rt, alloc, job, &NoGate, text)?;
+    match ended {
+        Ok(found) if found == end && is_text => Ok(None),
+        Err(fault) if len == 0 && status(&ended) == 5 => Ok(Some(fault)),
+        _ => Err(Fail::from("another answer")),
+    }
+}
+
+/// Ends well where the job is done right, and says `refused` where memory was, and of what.
+fn walk<R: Threads + Wait + Abort + Sync>(
+    rt: &R,
+    alloc: Global,
+    job: &Job<'_>,
+    text: &str,
+    end: Ended,
+) -> Result<(), Fail>
+    requires { HasDesks job.now }
+{
+    match fault_of(rt, alloc, job, text, end)? {
+        None => Ok(()),
+        Some(RunFault::Memory) => Err(Fail::from("refused the text")),
+        Some(RunFault::Vote(VoteFault::Memory)) => Err(Fail::from("refused the votes")),
+        Some(RunFault::Vote(VoteFault::Thread)) => Err(Fail::from("refused a thread")),
+        Some(fault) => {
+            assert!(rt; is_of_memory(fault), "{}", fault);
+            Err(Fail::from("refused"))
+        }
+    }
+}
+
+/// The count of the cycle at two desks.
+fn walk_count<R: Threads + Wait + Abort + Sync>(rt: &R, alloc: Global) -> Result<(), Fail> {
+    let job = Job::Count {
+        poll: CYCLE.as_bytes(),
+        ballots: BALLOTS.as_bytes(),
+        desks: 2,
+        casting: None,
+    };
+    walk(rt, alloc, &job, SHEET, Ended::Decided(1))
+}
+
+#[test]
+fn memory_of_perform_on_count(rt: HostRuntime) -> Result<(), Fail> {
+    walk_count(&rt, rt.alloc())
+}
+
+#[test]
+fn threads_of_perform_on_count(rt: HostRuntime) -> Result<(), Fail> {
+    walk_count(&rt, rt.alloc())
+}
+
+#[test]
+fn memory_of_perform_on_steps(rt: HostRuntime) -> Result<(), Fail> {
+    let job = Job::Steps {
+        poll: CYCLE.as_bytes(),
+        ballots: b"v0 1,2\nv1 1,2,3,4\nv1 4,3,2,1",
+    };
+    let replies = "1 bad rank count\n2 counted\n3 replaced\n";
+    walk(&rt, rt.alloc(), &job, replies, Ended::Done)
+}
+
+#[test]
+fn memory_of_perform_on_standing(rt: HostRuntime) -> Result<(), Fail> {
+    let job = Job::Standing {
+        poll: CYCLE.as_bytes(),
+        ballots: b"v1 1,2,3,4\nv0 -,2,99,1\nv1 4,3,2,1",
+    };
+    let standing = "v0 -,2,99,1\nv1 4,3,2,1\n";
+    walk(&rt, rt.alloc(), &job, standing, Ended::Done)
+}
+
+/// The comparison of a sheet with the count of the cycle.
+fn verify(sheet: &'static [u8]) -> Job<'static>
+    ensures { HasDesks result }
+{
+    Job::Verify {
+        poll: CYCLE.as_bytes(),
+        ballots: BALLOTS.as_bytes(),
+        sheet,
+        desks: 1,
+    }
+}
+
+#[test]
+fn memory_of_perform_on_verify(rt: HostRuntime) -> Result<(), Fail> {
+    let words = "differs at line 1\nsheet: A sheet\ncount: Poll: A cycle\n";
+    walk(&rt, rt.alloc(), &verify(b"A sheet"), words, Ended::Differs)
+}
+
+#[test]
+fn memory_of_perform_on_explain(rt: HostRuntime) -> Result<(), Fail> {
+    let job = Job::Explain {
+        poll: CYCLE.as_bytes(),
+        ballots: Some(b"v0 1,2\nv1 1,2,3,4\n"),
+    };
+    let findings =
+        "ballots:1: bad rank count: 2 ranks, the poll has 4 options\n2 lines: 1 valid, 1 refused, 0 of them late; 1 of 9 electors have a ballot\n";
+    walk(&rt, rt.alloc(), &job, findings, Ended::Found)
+}
+
+#[test]
+fn memory_of_perform_on_check(rt: HostRuntime) -> Result<(), Fail> {
+    let job = Job::Check {
+        poll: CYCLE.as_bytes(),
+    };
+    let sizes = "poll ok: 4 options, 9 electors\n";
+    walk(&rt, rt.alloc(), &job, sizes, Ended::Done)
+}
+
+/// A poll and its ballots in one input.
+const JOINED: &[u8] =
+    b"title = \"Two electors\"\noptions = [\"A\", \"B\"]\nratios = [1, 1]\ndefault = \"None\"\nquorum = 0\nroll = [\"ann\", \"bob\"]\n%%\nann 1,2,3\nbob 2,1,3\nann 3,2,1\n";
+
+#[test]
+fn memory_of_perform_on_joined(rt: HostRuntime) -> Result<(), Fail> {
+    let job = Job::Joined { input: JOINED };
+    let replies = "1 counted\n2 counted\n3 replaced\n";
+    walk(&rt, rt.alloc(), &job, replies, Ended::Done)
+}
+
+/// The sheet of a poll and its lines, whose votes are taken at two desks.
+fn sheet_at_two<R: Threads + Wait + Sync>(
+    rt: &R,
+    alloc: Global,
+    poll: &Poll,
+    lines: &Lines<'_>,
+) -> Result<String, VoteFault> {
+    let audited = take_votes(rt, alloc, poll, lines, 2, &NoGate)?;
+    let text = sheet(alloc, poll, lines, &audited, None);
+    drop(audited);
+    match text {
+        Ok(text) => Ok(text),
+        Err(AllocError) => Err(VoteFault::Memory),
+    }
+}
+
+/// The sheet of the nine ballots for a poll.
+fn sheet_for<R: Threads + Wait + Abort + Sync>(
+    rt: &R,
+    alloc: Global,
+    poll: &Poll,
+) -> Result<String, VoteFault> {
+    let lines = lines_of(rt, alloc, BALLOTS)?;
+    let text = sheet_at_two(rt, alloc, poll, &lines);
+    drop(lines);
+    text
+}
+
+/// The sheet of the cycle.
+fn sheet_of_cycle<R: Threads + Wait + Abort + Sync>(
+    rt: &R,
+    alloc: Global,
+) -> Result<String, VoteFault> {
+    let poll = poll_of(rt, alloc, CYCLE)?;
+    let text = sheet_for(rt, alloc, &poll);
+    drop(poll);
+    text
+}
+
+#[test]
+fn memory_of_sheet(rt: HostRuntime) -> Result<(), Fail> {
+    let text = sheet_of_cycle(&rt, rt.alloc())?;
+    assert!(rt; text.as_str() == SHEET, "{}", text);
+    Ok(())
+}

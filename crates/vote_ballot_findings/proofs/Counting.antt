@@ -1,0 +1,65 @@
+-- How many lines are refused.
+use Rattle.std.proofs.Common.{◌≡◌, ◌+◌, ◌-◌, ◌++◌, ◌∙◌, ℕ, zero, suc, List, [], ◌∷◌, length, drop, take, refl, ap, Bool, true, false, not, arith, cond, count_by, filter, option_map, option_to_list}
+use Rattle.std.proofs.lemmas.Bool.Decides.{nat_tests}
+use Rattle.std.proofs.lemmas.List.{length-map}
+use Rattle.std.proofs.lemmas.List.Filters.{length-filter_both}
+use Rattle.std.proofs.lemmas.List.Sums.{length-filter}
+use Rattle.vote_poll.specs.PollContent.{PollContent, last_in_time}
+use Rattle.vote_poll.specs.Readings.{is_ballot, reading, readings}
+use Rattle.vote_poll.specs.declared.Reading.{Reading}
+use Rattle.vote_poll.specs.declared.Reading.TheVariants.{Ballot, Bad}
+use Rattle.vote_steps.specs.History.{is_late, refused, valid}
+use Rattle.vote_steps.specs.Boxes.{BoxState}
+use Rattle.vote_steps.specs.Casting.{HasSizes}
+use Rattle.vote_steps.specs.Standing.{CountsLines}
+use Rattle.vote_sheet.specs.LastBallots.{readings_in_time, refused_count}
+use Rattle.vote_sheet.specs.Texts.{Text}
+use Rattle.vote_ballot_findings.specs.Refusals.{EachRefusalIsListed, Refusal, bad_reply, refusals_from}
+
+-- ---- in the box
+-- those that pass a test and those that do not are all
+count-not : {X : Type 0} (p : X → Bool) (xs : List X) → count_by p xs + count_by (λ x. not (p x)) xs ≡ length xs
+count-not {X} p xs =
+    let q : X → Bool = λ x. not (p x) in
+    omega (arith, length-filter_both p q (λ x. refl) xs, length-filter p xs, length-filter q xs)
+
+-- what the first lines read as, and the lines that are left, are all
+taken_and_left : (poll : PollContent) (lines : List Text) (n : ℕ) → length (take n (readings poll lines)) + length (drop n lines) ≡ length lines
+taken_and_left poll [] zero = omega arith
+taken_and_left poll [] (suc n) = omega arith
+taken_and_left poll (line ∷ lines) zero = omega arith
+taken_and_left poll (line ∷ lines) (suc n) = omega (arith, taken_and_left poll lines n)
+
+pub refused_are : (poll : PollContent) (lines : List Text) (b : BoxState) → HasSizes poll lines b → CountsLines (readings poll lines) b → refused b.last_in_time b.steps ≡ refused_count poll lines
+refused_are poll lines b sizes counted =
+    let valid_are : valid b.last_in_time b.steps ≡ count_by is_ballot (readings_in_time poll lines) = counted.valid_is ∙ ap (λ n. count_by is_ballot (take n (readings poll lines))) sizes.3 in
+    omega (arith, counted.refused_is, length-map lines (reading poll), valid_are, count-not is_ballot (readings_in_time poll lines), taken_and_left poll lines (last_in_time poll))
+
+-- ---- in the list
+abbrev is_no_ballot : Reading → Bool
+is_no_ballot read = not (is_ballot read)
+
+-- how many of the first readings are no ballots
+abbrev first_bad : PollContent → ℕ → List Text → ℕ
+first_bad poll m lines = length (filter is_no_ballot (take m (readings poll lines)))
+
+-- one line more, by what it reads as
+one_more : (number : ℕ) (line : Text) (rest : List Refusal) (read : Reading) (bad : List Reading) (left : ℕ) → length rest ≡ length bad + left
+    → length (option_to_list (option_map (λ reply. record { number = number; bytes = line; reply = reply }) (bad_reply read)) ++ rest) ≡ length (cond (is_no_ballot read) (read ∷ bad) bad) + left
+one_more number line rest (Bad fault) bad left is = omega (arith, is)
+one_more number line rest (Ballot voter ranks) bad left is = is
+
+listed : (poll : PollContent) (m number : ℕ) (lines : List Text) → m ≡ last_in_time poll - number → length (refusals_from poll (number + 1) lines) ≡ first_bad poll m lines + length (drop m lines)
+listed poll zero number [] is = refl
+listed poll (suc m) number [] is = refl
+listed poll zero number (line ∷ lines) is =
+    let late : is_late (last_in_time poll) (number + 1) ≡ true = grind (arith, nat_tests) in
+    let more = listed poll zero (number + 1) lines (omega arith) in
+    rw late (omega (arith, more))
+listed poll (suc m) number (line ∷ lines) is =
+    let in_time : is_late (last_in_time poll) (number + 1) ≡ false = grind (arith, nat_tests) in
+    let more = listed poll m (number + 1) lines (omega arith) in
+    rw in_time (one_more (number + 1) line (refusals_from poll (number + 1 + 1) lines) (reading poll line) (filter is_no_ballot (take m (readings poll lines))) (length (drop m lines)) more)
+
+pub each_is_listed : EachRefusalIsListed
+each_is_listed poll lines = listed poll (last_in_time poll) 0 lines (omega arith) ∙ ap (λ n. n + length (drop (last_in_time poll) lines)) (length-filter is_no_ballot (readings_in_time poll lines))

@@ -1,0 +1,73 @@
+-- The poll and the lines leave no choice in what is said.
+use Rattle.std.proofs.Common.{◌≡◌, ◌<◌, ◌++◌, ◌∙◌, inl, inr, ℕ, zero, suc, List, [], ◌∷◌, refl, ap, ap₂, sym, Bool, Option, Some, None, arith, nat_lt, slice_get}
+use Rattle.std.proofs.lemmas.Bool.{cases_Bool}
+use Rattle.std.proofs.lemmas.Bool.Decides.{nat_tests}
+use Rattle.vote_poll.specs.PollContent.{PollContent}
+use Rattle.vote_poll.specs.declared.LineFault.TheVariants.{Shape, RankCount, Roll}
+use Rattle.vote_steps.specs.declared.Reply.{Reply}
+use Rattle.vote_steps.specs.declared.Reply.TheVariants.{BadLine, BoxClosed, Counted, Late, Replaced, Superseded}
+use Rattle.vote_sheet.specs.Texts.{Text}
+use Rattle.vote_ballot_findings.specs.Column.{IsColumnHint, column_words}
+use Rattle.vote_ballot_findings.specs.Explained.{IsExplained}
+use Rattle.vote_ballot_findings.specs.FileSigns.{advice_text, closing_text, exchanged_text, look_like_poll, unended_line}
+use Rattle.vote_ballot_findings.specs.Hints.{AreFindings, IsHint, IsStrangerHint, IsSuggested, finding_line, left_after, name_of, not_on_roll_words}
+use Rattle.vote_ballot_findings.specs.Refusals.{Refusal, refusals}
+use Rattle.vote_ballot_findings.specs.Nearest.{IsFound, IsNearest}
+use Rattle.vote_ballot_findings.proofs.LinePrefixes.{columns_are_one}
+use Rattle.vote_ballot_findings.specs.declared.TheConstants.{MOST_SEARCHES}
+
+-- ---- the nearest name
+not_before : (name : List ℕ) (roll : List (List ℕ)) (p q : ℕ) (near other : List ℕ) → IsNearest name roll p near → IsNearest name roll q other → p < q → ⊥
+not_before name roll p q near other one two before = omega (arith, two.first p near one.is_there before, one.least q other two.is_there)
+
+same_place : (name : List ℕ) (roll : List (List ℕ)) (p q : ℕ) (near other : List ℕ) → IsNearest name roll p near → IsNearest name roll q other → p ≡ q
+same_place name roll p q near other one two =
+    elim (cases_Bool (nat_lt p q)) [
+      | inl before ↦ absurd (not_before name roll p q near other one two (grind (arith, nat_tests)))
+      | inr not_less ↦ elim (cases_Bool (nat_lt q p)) [
+        | inl later ↦ absurd (not_before name roll q p other near two one (grind (arith, nat_tests)))
+        | inr not_more ↦ grind (arith, nat_tests)
+      ]
+    ]
+
+pub found_is_one : (name : List ℕ) (roll : List (List ℕ)) (a b : Option Text) → IsFound name roll a → IsFound name roll b → a ≡ b
+found_is_one name roll None None one two = refl
+found_is_one name roll None (Some other) one (q, two) = absurd (omega (arith, one q other two.is_there, two.is_near))
+found_is_one name roll (Some near) None (p, one) two = absurd (omega (arith, two p near one.is_there, one.is_near))
+found_is_one name roll (Some near) (Some other) (p, one) (q, two) =
+    let same : p ≡ q = same_place name roll p q near other one two in
+    sym one.is_there ∙ ap (slice_get roll) same ∙ two.is_there
+
+-- ---- a hint
+suggested_is_one : (poll : PollContent) (left : ℕ) (name : Text) (a b : Option Text) → IsSuggested poll left name a → IsSuggested poll left name b → a ≡ b
+suggested_is_one poll zero name a b one two = one ∙ sym two
+suggested_is_one poll (suc left) name a b one two = found_is_one name poll.roll a b one two
+
+stranger_is_one : (poll : PollContent) (left : ℕ) (name a b : Text) → IsStrangerHint poll left name a → IsStrangerHint poll left name b → a ≡ b
+stranger_is_one poll left name a b (near, is, text) (near', is', text') =
+    text ∙ ap (not_on_roll_words name) (suggested_is_one poll left name near near' is is') ∙ sym text'
+
+column_is_one : (poll : PollContent) (bytes a b : Text) → IsColumnHint poll bytes a → IsColumnHint poll bytes b → a ≡ b
+column_is_one poll bytes a b (column, is, text) (column', is', text') = text ∙ ap (column_words poll bytes) (columns_are_one bytes column column' is is') ∙ sym text'
+
+hint_is_one : (poll : PollContent) (left : ℕ) (bytes : Text) (reply : Reply) (a b : Text) → IsHint poll left bytes reply a → IsHint poll left bytes reply b → a ≡ b
+hint_is_one poll left bytes (BadLine Shape) a b one two = column_is_one poll bytes a b one two
+hint_is_one poll left bytes (BadLine RankCount) a b one two = one ∙ sym two
+hint_is_one poll left bytes (BadLine Roll) a b one two = stranger_is_one poll left (name_of bytes) a b one two
+hint_is_one poll left bytes Late a b one two = one ∙ sym two
+hint_is_one poll left bytes Counted a b one two = one ∙ sym two
+hint_is_one poll left bytes Replaced a b one two = one ∙ sym two
+hint_is_one poll left bytes Superseded a b one two = one ∙ sym two
+hint_is_one poll left bytes BoxClosed a b one two = one ∙ sym two
+
+-- ---- the whole
+findings_are_one : (poll : PollContent) (left : ℕ) (refusals : List Refusal) (a b : Text) → AreFindings poll left refusals a → AreFindings poll left refusals b → a ≡ b
+findings_are_one poll left [] a b one two = one ∙ sym two
+findings_are_one poll left (refusal ∷ refusals) a b (hint, others, is, are, text) (hint', others', is', are', text') =
+    text ∙ ap₂ (λ h t. finding_line refusal h ++ t) (hint_is_one poll left refusal.bytes refusal.reply hint hint' is is')
+    (findings_are_one poll (left_after refusal.reply left) refusals others others' are are') ∙ sym text'
+
+pub explained_is_one : (poll : PollContent) (lines : List Text) (all_ended : Bool) (a b : Text) → IsExplained poll lines all_ended a → IsExplained poll lines all_ended b → a ≡ b
+explained_is_one poll lines all_ended a b (findings, are, text) (findings', are', text') =
+    let rest = advice_text poll (unended_line lines all_ended) (refusals poll lines) ++ (closing_text poll lines ++ []) in
+    text ∙ ap (λ t. exchanged_text (look_like_poll lines) ++ (t ++ rest)) (findings_are_one poll MOST_SEARCHES (refusals poll lines) findings findings' are are') ∙ sym text'

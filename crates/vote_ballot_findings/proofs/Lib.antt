@@ -1,0 +1,13 @@
+pub mod Texts
+pub mod Distances
+pub mod Listing
+pub mod Signs
+pub mod BoxReplies
+pub mod Counting
+pub mod Determined
+pub mod Examples
+pub mod RankTexts
+pub mod Parts
+pub mod Steps
+pub mod NextStates
+pub mod LinePrefixes

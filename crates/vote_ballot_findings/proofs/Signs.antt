@@ -1,0 +1,36 @@
+-- What the refusals tell of a file, one after another.
+use Rattle.std.proofs.Common.{◌≡◌, ◌||◌, ◌&&◌, ◌++◌, ◌∙◌, ℕ, List, [], ◌∷◌, refl, ap, ap₂, sym, not, Bool, true, false}
+use Rattle.std.specs.List.{list_any}
+use Rattle.vote_poll.specs.PollContent.{PollContent}
+use Rattle.vote_ballot_findings.specs.Adding.{AddsSigns, AreSigns, advice_of}
+use Rattle.vote_ballot_findings.specs.FileSigns.{advice_text, example_text, has_return, is_bad_shape, lacks_return, windows_text}
+use Rattle.vote_ballot_findings.specs.Refusals.{Refusal}
+use Rattle.vote_ballot_findings.specs.declared.file_signs.FileSigns.{FileSigns}
+
+pub or_assoc : (a b c : Bool) → a || (b || c) ≡ (a || b) || c
+or_assoc true b c = refl
+or_assoc false b c = refl
+
+pub or_false : (a : Bool) → a || false ≡ a
+or_false true = refl
+or_false false = refl
+
+pub any_append : {X : Type 0} (p : X → Bool) (some others : List X) → list_any p (some ++ others) ≡ list_any p some || list_any p others
+any_append p [] others = refl
+any_append p (x ∷ some) others = ap (λ b. p x || b) (any_append p some others) ∙ or_assoc (p x) (list_any p some) (list_any p others)
+
+by_parts : (p : Refusal → Bool) (some others : List Refusal) (before after : Bool) → before ≡ list_any p some → after ≡ before || list_any p others → after ≡ list_any p (some ++ others)
+by_parts p some others before after one two = two ∙ ap (λ b. b || list_any p others) one ∙ sym (any_append p some others)
+
+pub signs_append : (unended : ℕ) (some others : List Refusal) (before after : FileSigns) → AreSigns unended some before → AddsSigns unended others before after → AreSigns unended (some ++ others) after
+signs_append unended some others before after are adds = record {
+  shape = by_parts is_bad_shape some others before.has_bad_shape after.has_bad_shape are.shape adds.shape;
+  return = by_parts has_return some others before.has_return after.has_return are.return adds.return;
+  lacking = by_parts (lacks_return unended) some others before.lacks_return after.lacks_return are.lacking adds.lacking;
+}
+
+-- what is advised by the signs is what is advised by the refusals
+pub advice_is : (poll : PollContent) (unended : ℕ) (refusals : List Refusal) (signs : FileSigns) → AreSigns unended refusals signs → advice_of poll signs ≡ advice_text poll unended refusals
+advice_is poll unended refusals signs are =
+    ap₂ (λ a b. a ++ b) (ap (λ b. example_text b poll) are.shape)
+    (ap windows_text (ap₂ (λ a b. a && not b) are.return are.lacking))

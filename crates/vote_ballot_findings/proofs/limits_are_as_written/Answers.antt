@@ -1,0 +1,5 @@
+use Rattle.std.proofs.Common.{refl}
+use Rattle.vote_ballot_findings.proofs.limits_are_as_written.Goals as goal
+
+pub returns : goal.returns
+returns c = record { shown = refl; edits = refl; short = refl; edits_of_short = refl; searches = refl; ahead = refl }

@@ -1,0 +1,11 @@
+-- The limits of what is said, as docs/FORMATS.md writes them.
+use Rattle.std.specs.Prelude.{◌≡◌}
+use Rattle.vote_ballot_findings.specs.declared.TheConstants.{LOOK_AHEAD, MOST_EDITS, MOST_EDITS_OF_SHORT, MOST_SEARCHES, MOST_SHOWN, SHORT_NAME}
+
+pub record LimitsAreAsWritten : Type 0 where
+  pub shown : MOST_SHOWN ≡ 60
+  pub edits : MOST_EDITS ≡ 2
+  pub short : SHORT_NAME ≡ 3
+  pub edits_of_short : MOST_EDITS_OF_SHORT ≡ 1
+  pub searches : MOST_SEARCHES ≡ 100
+  pub ahead : LOOK_AHEAD ≡ 40

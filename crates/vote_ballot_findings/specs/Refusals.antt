@@ -1,0 +1,46 @@
+-- Which lines of a ballot file are refused, and why.
+use Rattle.std.specs.Prelude.{◌≡◌, ℕ, ◌+◌, if◌then◌else◌, List, [], ◌∷◌, ◌++◌, length, drop, Option, Some, None, option_map, option_to_list}
+use Rattle.vote_poll.specs.PollContent.{PollContent, last_in_time}
+use Rattle.vote_poll.specs.Readings.{reading}
+use Rattle.vote_poll.specs.declared.Reading.{Reading}
+use Rattle.vote_poll.specs.declared.Reading.TheVariants.{Ballot, Bad}
+use Rattle.vote_steps.specs.History.{is_late}
+use Rattle.vote_steps.specs.declared.Reply.{Reply}
+use Rattle.vote_steps.specs.declared.Reply.TheVariants.{BadLine, Late}
+use Rattle.vote_sheet.specs.LastBallots.{refused_count}
+use Rattle.vote_sheet.specs.Texts.{Text}
+
+-- a line that is refused: the number of its envelope, from 1, its bytes, and its reply
+pub record Refusal : Type 0 where
+  pub number : ℕ
+  pub bytes : Text
+  pub reply : Reply
+
+abbrev pub bad_reply : Reading → Option Reply
+bad_reply (Bad fault) = Some (BadLine fault)
+bad_reply (Ballot voter ranks) = None
+
+-- the reply that refuses an envelope: a late one whatever its line reads as, and another where it is no ballot
+abbrev pub refusing_reply : ℕ → ℕ → Reading → Option Reply
+refusing_reply last number reading = if is_late last number then Some Late else bad_reply reading
+
+-- the refusal of a line by this reply, where there is one
+abbrev pub refusal_by : ℕ → Text → Option Reply → List Refusal
+refusal_by number bytes reply = option_to_list (option_map (λ reply. record { number = number; bytes = bytes; reply = reply }) reply)
+
+-- the lines that are refused, in their order, where the first has this number
+abbrev pub refusals_from : PollContent → ℕ → List Text → List Refusal
+refusals_from poll number [] = []
+refusals_from poll number (bytes ∷ lines) =
+    refusal_by number bytes (refusing_reply (last_in_time poll) number (reading poll bytes)) ++ refusals_from poll (number + 1) lines
+
+abbrev pub refusals : PollContent → List Text → List Refusal
+refusals poll lines = refusals_from poll 1 lines
+
+-- how many lines are late
+abbrev pub late_count : PollContent → List Text → ℕ
+late_count poll lines = length (drop (last_in_time poll) lines)
+
+-- as many lines are listed as the result sheet has refused lines
+abbrev pub EachRefusalIsListed : Type 0
+EachRefusalIsListed = (poll : PollContent) (lines : List Text) → length (refusals poll lines) ≡ refused_count poll lines

@@ -1,0 +1,71 @@
+//! What is wrong with the lines of a ballot file, and where.
+//!
+//! - [`explain_ballots`] gives a text with a line for each line of the file that is refused, in their order: its number, the
+//!   words that `steps` has for it, and a hint. Before them it says whether the file looks like a poll. After them it gives a
+//!   ballot line of the poll as an example, says whether the file comes from Windows, and at the end how many lines are valid,
+//!   refused and late, as the result sheet counts them.
+//! - [`column`] gives the column in which a line leaves the grammar of ballot lines: the bytes before it are the longest prefix
+//!   of the line that is also a prefix of a ballot line.
+//!
+//! **What is promised** (`specs/Explained.antt` and the files that it names):
+//!
+//! - Which lines are listed is said by the poll, the lines and the last envelope alone: those that are late, and of the others
+//!   those that are no ballot. As many are listed as the sheet has refused lines ([`each_refusal_is_listed`]), and they are those
+//!   that the box of `steps` refuses, each with its reply ([`refused_as_by_steps`]).
+//! - The column is that of the grammar (`IsBallotLine` of vote_poll), which knows no reading from the left. A line has one
+//!   ([`columns_are_unique`]).
+//! - The name that is suggested is the nearest on the roll, of equals the first, and at most two edits away, or one if the name
+//!   has three bytes at most.
+//! - The example is a ballot of the poll ([`examples_are_ballots`]).
+//! - The poll and the lines leave no choice in the text ([`findings_are_determined`]).
+//!
+//! The lines are cast at one desk, as `steps` casts them. A line that is no ballot is read once more, up to the byte after its
+//! first 200 and forty more, and no memory is taken for it but for the text. Whether a second ballot begins there takes one
+//! look-up on the roll. The search for a near name reads the whole roll and takes memory, so it is made for the first hundred
+//! names only.
+//!
+//! The modules: `explain` has the text, `findings` the lines of it, `hints` what is said of a line with a wrong number of ranks or
+//! of a late one, `prefixes` the column, `words` what stands in it, `characters` those that have a name, `nearest` the near name,
+//! and `file_signs` what is said of the whole file.
+#![tactic(auto)]
+
+ghost use Rattle.vote_ballot_findings.specs.Limits.{LimitsAreAsWritten};
+
+mod characters;
+mod explain;
+mod file_signs;
+mod findings;
+mod hints;
+mod nearest;
+mod prefixes;
+mod words;
+
+pub use explain::{
+    Explained, each_refusal_is_listed, explain_ballots, findings_are_determined,
+    refused_as_by_steps,
+};
+pub use file_signs::examples_are_ballots;
+pub use prefixes::{column, columns_are_unique};
+
+/// The most bytes of a voter's name that are shown.
+pub const MOST_SHOWN: usize = 60;
+
+/// The most edits between a name and one that is suggested for it. An edit adds, drops or changes a byte.
+pub const MOST_EDITS: usize = 2;
+
+/// The most bytes of a short name.
+pub const SHORT_NAME: usize = 3;
+
+/// The most edits between a short name and one that is suggested for it: with two, most short names are near to each other.
+pub const MOST_EDITS_OF_SHORT: usize = 1;
+
+/// For how many names a near one is searched: each search reads the whole roll.
+pub const MOST_SEARCHES: u8 = 100;
+
+/// In how many bytes, from the column in which a line leaves the grammar, a second ballot is looked for.
+pub const LOOK_AHEAD: usize = 40;
+
+/// A law: the limits of what is said of a line are those that `docs/FORMATS.md` writes.
+pub fn limits_are_as_written()
+    ensures { LimitsAreAsWritten }
+{}

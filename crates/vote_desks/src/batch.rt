@@ -1,0 +1,68 @@
+//! Batches of envelopes, which a worker takes at once.
+ghost use Rattle.std.specs.Prelude.{◌≡◌, ◌+◌, ◌<◌, ◌≤◌, ◌^◌, ◌++◌, All, IsTrue, length, take};
+ghost use Rattle.vote_poll.specs.PollContent.{elector_count, option_count};
+ghost use Rattle.vote_poll.specs.Readings.{ReadingFits};
+ghost use Rattle.vote_desks.specs.Work.{IsRising, IsStampOf, stamps_taken};
+
+use vote_poll::{Lines, Poll, Reading, read_line};
+use vote_tray::{Pass, Tray};
+
+/// The most envelopes of a batch. A desk that waits for its turn sleeps, and to wake it takes about
+/// as long as some hundred casts. So a batch takes longer than that.
+pub(crate) const BATCH: usize = 512;
+
+/// How many envelopes must be left for each further one of a batch: 8 desks together take at most
+/// about half of what is left.
+const LEFT_FOR_EACH: usize = 16;
+
+/// How many envelopes a worker takes at once if this many are left. It is one if its gate may wait
+/// for another desk. Towards the end batches get shorter, so that no desk has many to cast while
+/// others have none.
+pub(crate) fn batch_length(may_wait: bool, left: usize) -> usize
+    ensures range { (1 ≤ result) × (result ≤ BATCH) }
+    ensures one { IsTrue may_wait → result ≡ 1 }
+{
+    if may_wait {
+        1
+    } else if left / LEFT_FOR_EACH < BATCH {
+        left / LEFT_FOR_EACH + 1
+    } else {
+        BATCH
+    }
+}
+
+/// Takes the places of the next envelopes, and notes their stamps. There are fewer than wanted only
+/// if no place is left.
+pub(crate) fn take_batch(tray: &Tray, pass: &mut Pass, most: usize, stamps: &mut [u32]) -> usize
+    requires tray { (pass.old.tray ≡ tray.now) × (tray.now.size < 2 ^ 32) }
+    requires most { (1 ≤ most) × (most ≤ length stamps.old) }
+    requires rising { IsRising pass.old }
+    ensures kept { (pass.new.tray ≡ pass.old.tray) × (pass.new.parts ≡ pass.old.parts) }
+    ensures rising { IsRising pass.new }
+    ensures room { (result ≤ most) × (length stamps.new ≡ length stamps.old) }
+    ensures taken { stamps_taken pass.new ≡ stamps_taken pass.old ++ take result stamps.new }
+    ensures stamps { All (IsStampOf tray.now.size) (take result stamps.new) }
+    ensures further { pass.old.seen + result ≤ pass.new.seen }
+    ensures none { result ≡ 0 → pass.new.seen ≡ tray.now.size }
+{
+    for count in 0..most {
+        let Some(place) = tray.take(pass) else {
+            return count;
+        };
+        stamps[count] = place as u32 + 1;
+    }
+    most
+}
+
+/// Reads the lines of the envelopes with these stamps, each to the place that its stamp has.
+pub(crate) fn read_batch(poll: &Poll, lines: &Lines<'_>, stamps: &[u32], readings: &mut [Reading])
+    requires stamps { All (IsStampOf (length lines.now)) stamps.now }
+    requires room { length stamps.now ≤ length readings.old }
+    requires fit { All (ReadingFits (option_count poll.now) (elector_count poll.now)) readings.old }
+    ensures room { length readings.new ≡ length readings.old }
+    ensures fit { All (ReadingFits (option_count poll.now) (elector_count poll.now)) readings.new }
+{
+    for place in 0..stamps.len() {
+        readings[place] = read_line(poll, lines.line(stamps[place] as usize - 1));
+    }
+}

@@ -1,0 +1,40 @@
+use Rattle.std.proofs.Common.{◌≡◌, ℕ, ◌+◌, ◌<◌, List, [], ◌∷◌, length, sum_by, sym, ap, ◌∙◌, arith}
+use Rattle.std.specs.Prelude.{slice_index_or}
+use Rattle.std.specs.List.{remove}
+use Rattle.std.proofs.lemmas.List.Sums.{sum_by-cons}
+use Rattle.vote_steps.specs.History.{valid, refused}
+use Rattle.vote_desks_box.specs.Desks.{DeskState, HeldState}
+use Rattle.vote_desks_box.proofs.sealed.meet.Goals as goal
+
+-- what was taken off the front, and what is left
+first_of : {X : Type 0} (xs ys : List X) (x : X) → 0 < length xs → x ≡ slice_index_or xs 0 x → ys ≡ remove xs 0 → xs ≡ x ∷ ys
+first_of [] ys x some is rest = absurd (omega arith)
+first_of (z ∷ xs) ys x some is rest = let first : x ≡ z = is in let others : ys ≡ xs = rest in cc
+
+-- what the desks have is what the first of them has, with what the others have
+in_all : (f : DeskState → ℕ) (all others : List DeskState) (first : DeskState) (mine whole counted : ℕ)
+    → all ≡ first ∷ others → mine ≡ f first → whole ≡ mine + sum_by f others → whole ≡ counted → sum_by f all ≡ counted
+in_all f all others first mine whole counted is same sum counts =
+    ap (sum_by f) is ∙ sum_by-cons f first others ∙ ap (λ n. n + sum_by f others) (sym same) ∙ sym sum ∙ counts
+
+pub returns-clause-books : goal.returns-clause-books
+returns-clause-books g c =
+    let all = c.args.desks.items in
+    let others = c.remove.new.self.items in
+    let len = c.remove.ensures.len in
+    let some = c.requires.some in
+    let ok = c.args.desks.ok.0 in
+    let first = first_of all others c.remove.result (omega arith) c.remove.ensures.value c.remove.ensures.items in
+    let valid_cut = c.in_ok-merge_each.ensures.valid_cut in
+    let refused_cut = c.in_ok-merge_each.ensures.refused_cut in
+    let one = c.slips.invariant in
+    let valid_parts = c.requires.valid in
+    let refused_parts = c.requires.refused in
+    let valid_is = c.audit.ensures.whole (omega arith) ∙ c.held.invariant.1 ∙ ap (λ (h : HeldState). valid h.ballot_box.last_in_time h.ballot_box.steps) c.held.view_is in
+    let refused_is = c.audit-2.ensures.whole (omega arith) ∙ c.held.invariant.2 ∙ ap (λ (h : HeldState). refused h.ballot_box.last_in_time h.ballot_box.steps) c.held.view_is in
+    record {
+      valid_shares = in_all (λ d. d.valid_share) all others c.remove.result _ _ _ first (ap (λ (d : DeskState). d.valid_share) c.slips.view_is) c.in_ok-merge_each.ensures.valid valid_is;
+      refused_shares = in_all (λ d. d.refused_share) all others c.remove.result _ _ _ first (ap (λ (d : DeskState). d.refused_share) c.slips.view_is) c.in_ok-merge_each.ensures.refused refused_is;
+      valid_on_sheets = sym c.in_ok-merge_each.ensures.valid_slips ∙ valid_is;
+      refused_on_sheets = sym c.in_ok-merge_each.ensures.refused_slips ∙ refused_is;
+    }

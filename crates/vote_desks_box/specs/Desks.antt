@@ -1,0 +1,130 @@
+-- What desks, a box that they share and a sealed box are to their callers.
+use Rattle.std.specs.Prelude.{◌≡◌, ℕ, ◌+◌, ◌-◌, ◌<◌, if◌then◌else◌, List, [], ◌∷◌, ◌++◌, Option, length, map, sum_by, count_by, unwrap_or, slice_get, vec_items, IsPermutation}
+use Rattle.std.specs.List.{range_with_len, enumerate_from}
+use Rattle.std.specs.declared.vec.Vec.{Vec}
+use Rattle.vote_poll.specs.PollContent.{PollContent}
+use Rattle.vote_poll.specs.declared.Reading.{Reading}
+use Rattle.vote_poll.specs.Readings.{ReadingFits}
+use Rattle.vote_desks_box.specs.declared.slip.Slip.{Slip}
+use Rattle.vote_steps.specs.declared.Reply.{Reply}
+use Rattle.vote_steps.specs.declared.Step.TheVariants.{Cast, Close}
+use Rattle.vote_steps.specs.History.{is_cast, is_valid, reply_to, standing_ranks}
+use Rattle.vote_steps.specs.Boxes.{BoxState, box_of}
+
+-- a desk: its number, how many slips it has room for, its slips, and what it has of the books of valid and refused lines
+pub record DeskState : Type 0 where
+  pub number : ℕ
+  pub limit : ℕ
+  pub slips : List Slip
+  pub valid_share : ℕ
+  pub refused_share : ℕ
+
+-- a desk that has cast nothing
+abbrev pub fresh_desk : ℕ → ℕ → DeskState
+fresh_desk limit number = record { number = number; limit = limit; slips = []; valid_share = 0; refused_share = 0 }
+
+-- desks 1 to this number, which have cast nothing
+abbrev pub fresh_desks : ℕ → ℕ → List DeskState
+fresh_desks limit desks = map (fresh_desk limit) (range_with_len 1 desks)
+
+-- what a reply adds to the book of valid lines
+abbrev pub valid_by : Reply → ℕ
+valid_by reply = if is_valid reply then 1 else 0
+
+-- what a reply adds to the book of refused lines
+abbrev pub refused_by : Reply → ℕ
+refused_by reply = if is_valid reply then 0 else 1
+
+-- the desk once it has noted this slip
+abbrev pub with_slip : DeskState → Slip → DeskState
+with_slip desk slip =
+    record desk {
+      slips = desk.slips ++ slip ∷ [];
+      valid_share = desk.valid_share + valid_by slip.reply;
+      refused_share = desk.refused_share + refused_by slip.reply;
+    }
+
+-- the desk has room for one more slip
+abbrev pub HasRoom : DeskState → Type 0
+HasRoom desk = length desk.slips < desk.limit
+
+-- a box that desks share: how many they are, and the box as it was opened, with no steps
+pub record SharedState : Type 0 where
+  pub desks : ℕ
+  pub opened : BoxState
+
+-- the shared box of a poll as it is opened
+abbrev pub shared_for : PollContent → ℕ → ℕ → SharedState
+shared_for poll limit desks = record { desks = desks; opened = box_of poll limit [] }
+
+-- the box as it was opened, after some steps: its sizes, its limit and its last envelope never change
+abbrev pub IsLater : BoxState → BoxState → Type 0
+IsLater opened b = b ≡ record opened { steps = b.steps }
+
+-- a box with its books of valid and refused lines
+pub record HeldState : Type 0 where
+  pub ballot_box : BoxState
+  pub valid_book : ℕ
+  pub refused_book : ℕ
+
+-- a ballot is of a voter of the box, and has as many ranks as the box has options
+abbrev pub FitsBox : BoxState → Reading → Type 0
+FitsBox b reading = ReadingFits b.options b.electors reading
+
+-- the slip of the next cast: its step comes after those of the box, and its reply is the one that they call for
+abbrev pub next_slip : BoxState → ℕ → Reading → Slip
+next_slip b stamp reading = record {
+  number = length b.steps + 1;
+  stamp = stamp;
+  reply = reply_to b.last_in_time b.steps stamp reading;
+}
+
+-- the box and its books once a desk has made the cast that this slip notes
+abbrev pub with_cast : HeldState → DeskState → Reading → Slip → HeldState
+with_cast held desk reading slip =
+    record {
+      ballot_box = record held.ballot_box { steps = held.ballot_box.steps ++ Cast desk.number slip.stamp reading slip.reply ∷ [] };
+      valid_book = held.valid_book + valid_by slip.reply;
+      refused_book = held.refused_book + refused_by slip.reply;
+    }
+
+-- the box with its books once it is closed
+abbrev pub with_close : HeldState → HeldState
+with_close held = record held { ballot_box = record held.ballot_box { steps = held.ballot_box.steps ++ Close ∷ [] } }
+
+-- the ranks of a voter's ballot that stands in a box
+abbrev pub standing_in : BoxState → ℕ → Option (List (Option ℕ))
+standing_in b voter = standing_ranks b.last_in_time b.steps voter
+
+-- a box whose desks have handed in their slips, those of desk d at place d - 1
+pub record SealedState : Type 0 where
+  pub ballot_box : BoxState
+  pub sheets : List (List Slip)
+
+-- there are as many slips as casts
+abbrev pub HasSlipsForCasts : SealedState → Type 0
+HasSlipsForCasts s = sum_by length s.sheets ≡ count_by is_cast s.ballot_box.steps
+
+-- the slips of these desks, in their order
+abbrev pub slips_of : {Z : Type 0} → Vec DeskState Z → List (List Slip)
+slips_of desks = map (λ desk. desk.slips) desks.items
+
+-- the slips on these sheets, in their order
+abbrev pub slips_on : {Z : Type 0} → List (Vec Slip Z) → List (List Slip)
+slips_on sheets = map vec_items sheets
+
+-- the slips of these desks stand after those that were there
+abbrev pub AddsSlips : {Y Z : Type 0} → Vec DeskState Y → List (Vec Slip Z) → List (Vec Slip Z) → Type 0
+AddsSlips desks before after = slips_on after ≡ slips_on before ++ slips_of desks
+
+-- these are the slips of desks 1, 2 and so on, whatever the order in which the desks come
+abbrev pub AreSlipsInOrder : {Z : Type 0} → Vec DeskState Z → List (List Slip) → Type 0
+AreSlipsInOrder desks sheets = IsPermutation (map (λ desk. (desk.number, desk.slips)) desks.items) (enumerate_from 1 sheets)
+
+-- these are desks 1 to this number, each once, in any order
+abbrev pub AreAllDesks : {Z : Type 0} → Vec DeskState Z → ℕ → Type 0
+AreAllDesks desks count = IsPermutation (map (λ desk. desk.number) desks.items) (range_with_len 1 count)
+
+-- the sheet of a desk, which is empty where there is none
+abbrev pub sheet_at : List (List Slip) → ℕ → List Slip
+sheet_at sheets desk = unwrap_or (slice_get sheets (desk - 1)) []

@@ -1,0 +1,5 @@
+-- what the contracts of public calls say
+pub mod Slips
+pub mod Desks
+pub mod Entering
+pub mod Books

@@ -1,0 +1,46 @@
+-- What the desks note of their casts.
+use Rattle.std.specs.Prelude.{◌≡◌, ℕ, ◌+◌, ◌==◌, not, if◌then◌else◌, List, [], ◌∷◌, Option, Some, None, count_by, map}
+use Rattle.std.specs.List.{cons_option}
+use Rattle.std.specs.List.Sorted.{IsStrictlyIncreasing}
+use Rattle.vote_poll.specs.declared.Reading.{Reading}
+use Rattle.vote_desks_box.specs.declared.slip.Slip.{Slip}
+use Rattle.vote_steps.specs.declared.Reply.{Reply}
+use Rattle.vote_steps.specs.declared.Step.{Step}
+use Rattle.vote_steps.specs.declared.Step.TheVariants.{Cast, Close}
+use Rattle.vote_steps.specs.Boxes.{BoxState}
+use Rattle.vote_steps.specs.History.{is_valid, reply_to}
+
+-- the slip that a step of this number gives a desk
+abbrev pub slip_of : ℕ → ℕ → Step → Option Slip
+slip_of desk number Close = None
+slip_of desk number (Cast d stamp reading reply) = if d == desk then Some (record { number = number; stamp = stamp; reply = reply }) else None
+
+-- the slips of a desk, where the next step has this number
+abbrev pub slips_from : ℕ → List Step → ℕ → List Slip
+slips_from number [] desk = []
+slips_from number (step ∷ steps) desk = cons_option (slip_of desk number step) (slips_from (number + 1) steps desk)
+
+-- the slips that the casts of a desk give, in order
+abbrev pub slips : List Step → ℕ → List Slip
+slips steps desk = slips_from 1 steps desk
+
+-- how many slips say that the line is a valid ballot
+abbrev pub valid_slips : List Slip → ℕ
+valid_slips sheet = count_by (λ slip. is_valid slip.reply) sheet
+
+-- how many slips say that it is not, or that it was late or came after the close
+abbrev pub refused_slips : List Slip → ℕ
+refused_slips sheet = count_by (λ slip. not (is_valid slip.reply)) sheet
+
+-- the stamps of these slips, in their order
+abbrev pub stamps_of : List Slip → List ℕ
+stamps_of sheet = map (λ slip. slip.stamp) sheet
+
+-- these slips are of envelopes that were cast in the order of their stamps
+abbrev pub Rises : List Slip → Type 0
+Rises sheet = IsStrictlyIncreasing (stamps_of sheet)
+
+-- a reply that a box can give to an envelope with this stamp and this line, after whatever steps
+pub record CanReply (b : BoxState) (stamp : ℕ) (reading : Reading) (reply : Reply) : Type 0 where
+  pub steps : List Step
+  pub answered : reply ≡ reply_to b.last_in_time steps stamp reading

@@ -1,0 +1,48 @@
+//! Why a cast, an opening or a gathering ends without its result.
+ghost use Rattle.std.specs.Prelude.{◌≡◌};
+ghost use Rattle.vote_desks_box.specs.declared.fault.DeskFault.TheVariants.{Memory};
+
+use std::alloc::{AllocError, AllocFailed};
+
+/// Why a cast at a desk is refused. The first case that holds is returned, and nothing is changed.
+#[derive(Clone, Copy, Debug, PartialEq, Eq)]
+pub enum EnterFault {
+    /// The ballot is of a voter whom the box does not have, or has another number of ranks than the
+    /// box has options.
+    Sizes,
+    /// The desk has as many slips as its limit.
+    SheetFull,
+    /// The stamp is 0, or above the limit of the box.
+    StampRange,
+    /// An envelope with this stamp was cast before.
+    StampUsed,
+}
+
+/// The box has no voter of this number.
+#[derive(Clone, Copy, Debug, PartialEq, Eq)]
+pub struct NoVoter;
+
+/// Why desks are not opened or not gathered.
+#[derive(Clone, Copy, Debug, PartialEq, Eq)]
+pub enum DeskFault {
+    /// The desks' numbers are not 1 to the number opened, each once.
+    MissingDesk,
+    /// No memory was left.
+    Memory,
+}
+
+impl From<AllocError> for DeskFault {
+    ghost from_gives = { λ _ fault. fault ≡ Memory };
+
+    fn from(_error: AllocError) -> DeskFault {
+        DeskFault::Memory
+    }
+}
+
+impl<T: Drop> From<AllocFailed<T>> for DeskFault {
+    ghost from_gives = { λ _ fault. fault ≡ Memory };
+
+    fn from(_error: AllocFailed<T>) -> DeskFault {
+        DeskFault::Memory
+    }
+}

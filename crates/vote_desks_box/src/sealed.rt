@@ -1,0 +1,218 @@
+//! Gathering the desks and their slips round the closed box.
+ghost use Rattle.std.specs.Prelude.{◌≡◌, ◌+◌, ◌≤◌, ◌<◌, ◌↔◌, Err, length, map, IsTrue, IfOk, OnOk, vec_len};
+ghost use Rattle.std.specs.List.{range_with_len};
+ghost use Rattle.vote_steps.specs.Boxes.{IsLegal};
+ghost use Rattle.vote_steps.specs.History.{is_closed};
+ghost use Rattle.vote_desks_box.specs.Desks.{AddsSlips, AreAllDesks, AreSlipsInOrder, HasSlipsForCasts, IsLater, sheet_at, slips_of, slips_on};
+ghost use Rattle.vote_desks_box.specs.Books.{MeetsBooks, refused_at, refused_on, valid_at, valid_on};
+
+use crate::desk::{Desk, Held, Tally};
+use crate::fault::DeskFault;
+use crate::shared::{SharedBox, close};
+use crate::slip::Slip;
+use std::alloc::{AllocError, Global};
+use std::marker::Model;
+use std::sync::ledger::Share;
+use vote_steps::laws::each_cast_is_counted;
+use vote_steps::{BallotBox, MAX_DESKS};
+
+/// A closed box, with the slips of its desks.
+#[derive(Drop)]
+pub struct Sealed {
+    pub(crate) ballot_box: BallotBox,
+    pub(crate) sheets: Vec<Vec<Slip>>,
+}
+
+impl Model for Sealed {
+    ghost use Rattle.std.specs.Prelude.{◌≤◌, IsTrue, map, vec_items, vec_len};
+    ghost use Rattle.vote_steps.specs.History.{is_closed};
+    ghost use Rattle.vote_steps.specs.declared.TheConstants.{MAX_DESKS};
+    ghost use Rattle.vote_desks_box.specs.Desks.{SealedState};
+
+    ghost Value = { SealedState };
+
+    ghost view = { λ s. record {
+      ballot_box = s.ballot_box;
+      sheets = map vec_items s.sheets.items;
+    } };
+
+    ghost invariant = { λ s. IsTrue (is_closed s.ballot_box.steps)
+        × (vec_len s.sheets ≤ MAX_DESKS) };
+}
+
+impl Sealed {
+    /// The box.
+    pub fn ballot_box(&self) -> &BallotBox
+        ensures box_is { result.now ≡ self.now.ballot_box }
+        ensures closed { IsTrue (is_closed result.now.steps) }
+    {
+        &self.ballot_box
+    }
+
+    /// The slips of all desks, those of desk `d` at place `d - 1`.
+    pub fn sheets(&self) -> &[Vec<Slip>]
+        ensures sheets { slips_on result.now ≡ self.now.sheets }
+        ensures few { length result.now ≤ MAX_DESKS }
+    {
+        self.sheets.as_slice()
+    }
+
+    /// How many desks there were.
+    ///
+    /// For callers of the library; the program does not call it.
+    pub fn desks(&self) -> u8
+        ensures { result ≡ length self.now.sheets }
+    {
+        self.sheets.len() as u8
+    }
+
+    /// The slips of a desk, by its number from 1.
+    ///
+    /// For callers of the library; the program does not call it.
+    pub fn sheet_of(&self, desk: u8) -> &[Slip]
+        requires { (1 ≤ desk) × (desk ≤ length self.now.sheets) }
+        ensures { result.now ≡ sheet_at self.now.sheets desk }
+    {
+        self.sheets[usize::from(desk) - 1].as_slice()
+    }
+}
+
+/// Merges the shares of desks with those of the desks before them, and takes their slips after
+/// those of the desks before.
+fn merge_each<VL: Tally, RL: Tally>(
+    desks: &mut Vec<Desk<VL, RL>>,
+    valid: &mut Share<VL>,
+    refused: &mut Share<RL>,
+    sheets: &mut Vec<Vec<Slip>>,
+) -> Result<(), AllocError>
+    requires valid { valid.old.amount ≡ valid_on sheets.old.items }
+    requires refused { refused.old.amount ≡ refused_on sheets.old.items }
+    ensures valid_cut { OnOk result (valid.new.parts ≡ valid.old.parts + vec_len desks.old) }
+    ensures refused_cut { OnOk result (refused.new.parts ≡ refused.old.parts + vec_len desks.old) }
+    ensures valid { OnOk result (valid.new.amount ≡ valid.old.amount + valid_at desks.old) }
+    ensures refused { OnOk result (refused.new.amount ≡ refused.old.amount + refused_at desks.old) }
+    ensures valid_slips { OnOk result (valid.new.amount ≡ valid_on sheets.new.items) }
+    ensures refused_slips { OnOk result (refused.new.amount ≡ refused_on sheets.new.items) }
+    ensures sheets { OnOk result (AddsSlips desks.old sheets.old.items sheets.new.items) }
+{
+    while !desks.is_empty() {
+        let next = desks.remove(0);
+        valid.merge(next.valid_share);
+        refused.merge(next.refused_share);
+        sheets.push(next.slips)?;
+    }
+    Ok(())
+}
+
+/// Merges the shares of all desks, which are then what the books say, and takes their slips.
+fn meet<VL: Tally, RL: Tally>(
+    alloc: Global,
+    held: &mut Held<VL, RL>,
+    desks: Vec<Desk<VL, RL>>,
+) -> Result<Vec<Vec<Slip>>, AllocError>
+    requires some { 0 < vec_len desks }
+    requires valid { vec_len desks ≡ VL.parts }
+    requires refused { vec_len desks ≡ RL.parts }
+    ensures sheets { IfOk result (λ sheets. slips_on sheets.items ≡ slips_of desks) }
+    ensures books { IfOk result (λ all. MeetsBooks desks held.old.ballot_box (slips_on all.items)) }
+    ensures held { held.new ≡ held.old }
+{
+    let mut desks = desks;
+    let mut sheets = Vec::new(alloc);
+    let Desk {
+        number: _,
+        limit: _,
+        slips,
+        mut valid_share,
+        mut refused_share,
+    } = desks.remove(0);
+    sheets.push(slips)?;
+    merge_each(
+        &mut desks,
+        &mut valid_share,
+        &mut refused_share,
+        &mut sheets,
+    )?;
+    held.valid_book.audit(&mut valid_share);
+    held.refused_book.audit(&mut refused_share);
+    Ok(sheets)
+}
+
+/// Closes the box, if it is open, and meets the shares of all desks with the books.
+fn seal<VL: Tally, RL: Tally>(
+    alloc: Global,
+    held: Held<VL, RL>,
+    desks: Vec<Desk<VL, RL>>,
+) -> Result<Sealed, AllocError>
+    requires some { (0 < vec_len desks) × (vec_len desks ≤ MAX_DESKS) }
+    requires valid { vec_len desks ≡ VL.parts }
+    requires refused { vec_len desks ≡ RL.parts }
+    ensures legal { IfOk result (λ s. IsLegal s.ballot_box) }
+    ensures opened { IfOk result (λ s. IsLater VL.opened s.ballot_box) }
+    ensures closed { IfOk result (λ s. IsTrue (is_closed s.ballot_box.steps)) }
+    ensures sheets { IfOk result (λ s. s.sheets ≡ slips_of desks) }
+    ensures books { IfOk result (λ s. MeetsBooks desks s.ballot_box s.sheets) }
+{
+    let mut held = held;
+    let _ = close(&mut held);
+    let sheets = meet(alloc, &mut held, desks)?;
+    let Held {
+        ballot_box,
+        valid_book: _,
+        refused_book: _,
+    } = held;
+    Ok(Sealed { ballot_box, sheets })
+}
+
+/// Whether the desks are numbered from 1 to the number opened, in order.
+fn are_complete<VL: Tally, RL: Tally>(desks: &[Desk<VL, RL>], opened: u8) -> bool
+    ensures { IsTrue result ↔ (map (λ desk. desk.number) desks.now ≡ range_with_len 1 opened) }
+{
+    if desks.len() != usize::from(opened) {
+        return false;
+    }
+    for (place, desk) in desks.iter().enumerate() {
+        if usize::from(desk.number()) != place + 1 {
+            return false;
+        }
+    }
+    true
+}
+
+/// Closes the box, if it is open, and gathers the slips of all desks, which may come in any order.
+///
+/// `MissingDesk` is tested before any memory is taken. On a fault the box and the desks are given
+/// up.
+pub fn gather<VL: Tally, RL: Tally>(
+    alloc: Global,
+    shared: SharedBox<VL, RL>,
+    desks: Vec<Desk<VL, RL>>,
+) -> Result<Sealed, DeskFault>
+    requires valid { VL.desks ≡ VL.parts }
+    requires refused { RL.desks ≡ RL.parts }
+    ensures legal { IfOk result (λ s. IsLegal s.ballot_box) }
+    ensures opened { IfOk result (λ s. IsLater shared.opened s.ballot_box) }
+    ensures closed { IfOk result (λ s. IsTrue (is_closed s.ballot_box.steps)) }
+    ensures sheets { IfOk result (λ s. AreSlipsInOrder desks s.sheets) }
+    ensures desks { IfOk result (λ s. length s.sheets ≡ shared.desks) }
+    ensures books { IfOk result (λ s. MeetsBooks desks s.ballot_box s.sheets) }
+    ensures casts { IfOk result HasSlipsForCasts }
+    ensures missing { (result ≡ Err DeskFault.MissingDesk) ↔ ¬ AreAllDesks desks shared.desks }
+{
+    let SharedBox {
+        desks: opened,
+        held,
+    } = shared;
+    let mut desks = desks;
+    desks.sort_unstable_by_key(|desk| desk.number());
+    if !are_complete(&desks, opened) {
+        return Err(DeskFault::MissingDesk);
+    }
+    match seal(alloc, held.into_inner(), desks) {
+        Ok(sealed) => {
+            each_cast_is_counted();
+            Ok(sealed)
+        }
+        Err(_) => Err(DeskFault::Memory),
+    }
+}

@@ -1,8 +1,0 @@
-use Rattle.std.proofs.Common.{◌≡◌, true, take}
-use Rattle.std.specs.List.{list_all}
-use Rattle.vote_poll.specs.PollFile.{is_integer_within}
-use Rattle.vote_poll.specs.declared.TheConstants.{MAX_RATIO}
-use Rattle.vote_findings.proofs.findings.bad_ratio_hint.Given as goal
-
-abbrev pub invariant-loop-number : goal.invariant-loop-number
-invariant-loop-number l = list_all (is_integer_within 1 MAX_RATIO) (take l.number-index l.numbers) ≡ true

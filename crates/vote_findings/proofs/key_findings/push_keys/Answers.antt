@@ -1,8 +1,0 @@
-use Rattle.vote_findings.proofs.KeyLaws.{keys_all, keys_more}
-use Rattle.vote_findings.proofs.key_findings.push_keys.Goals as goal
-
-pub loop-key-preserved : goal.loop-key-preserved
-loop-key-preserved c = keys_more _ _ c.loop-key.key-index _ _ _ c.loop-key-test.true c.loop-key.invariant c.in_ok-push_key.ensures
-
-pub returns : goal.returns
-returns c = keys_all _ _ c.loop-key.key-index _ _ c.loop-key-test.false c.loop-key.invariant

@@ -1,0 +1,52 @@
+-- The files of a task, and its job once they are read.
+use Rattle.std.specs.Prelude.{◌≡◌, List, ℕ, Option, Some, None, option_copied, option_map}
+use Rattle.vote_job_words.specs.declared.Task.{Task}
+use Rattle.vote_job_words.specs.declared.Task.TheVariants as task
+use Rattle.vote_jobs.specs.declared.Job.{Job}
+use Rattle.vote_jobs.specs.declared.Job.TheVariants as job
+use Rattle.vote_job_files.specs.declared.inputs.Inputs.{Inputs}
+
+-- the name of the poll file
+abbrev pub poll_name : Task → List ℕ
+poll_name (task.Count poll ballots desks casting) = poll.now
+poll_name (task.Steps poll ballots) = poll.now
+poll_name (task.Check poll) = poll.now
+poll_name (task.Explain poll ballots) = poll.now
+poll_name (task.Standing poll ballots) = poll.now
+poll_name (task.Verify poll ballots sheet desks) = poll.now
+poll_name (task.Picture poll ballots desks casting) = poll.now
+
+-- the name of the ballot file, if the task has one
+abbrev pub ballots_name : Task → Option (List ℕ)
+ballots_name (task.Count poll ballots desks casting) = Some ballots.now
+ballots_name (task.Steps poll ballots) = Some ballots.now
+ballots_name (task.Check poll) = None
+ballots_name (task.Explain poll ballots) = option_copied ballots
+ballots_name (task.Standing poll ballots) = Some ballots.now
+ballots_name (task.Verify poll ballots sheet desks) = Some ballots.now
+ballots_name (task.Picture poll ballots desks casting) = Some ballots.now
+
+-- the bytes of the files that a task may name: its poll file, its ballot file and its published sheet
+pub record Files : Type 0 where
+  pub poll : List ℕ
+  pub ballots : List ℕ
+  pub sheet : List ℕ
+
+-- those that were read
+abbrev pub files_of : Inputs → Files
+files_of inputs = record { poll = inputs.poll.items; ballots = inputs.ballots.items; sheet = inputs.sheet.items }
+
+-- what the task asks for, with these bytes of its files, and with its desks and its casting vote
+abbrev pub IsJobOf : Task → Files → Job → Type 0
+IsJobOf (task.Count poll_name ballots_name asked named) files (job.Count poll ballots desks casting) =
+    (poll.now ≡ files.poll) × (ballots.now ≡ files.ballots) × (desks ≡ asked) × (option_copied casting ≡ option_copied named)
+IsJobOf (task.Steps poll_name ballots_name) files (job.Steps poll ballots) = (poll.now ≡ files.poll) × (ballots.now ≡ files.ballots)
+IsJobOf (task.Check poll_name) files (job.Check poll) = poll.now ≡ files.poll
+IsJobOf (task.Explain poll_name named) files (job.Explain poll ballots) =
+    (poll.now ≡ files.poll) × (option_copied ballots ≡ option_map (λ name. files.ballots) named)
+IsJobOf (task.Standing poll_name ballots_name) files (job.Standing poll ballots) = (poll.now ≡ files.poll) × (ballots.now ≡ files.ballots)
+IsJobOf (task.Verify poll_name ballots_name sheet_name asked) files (job.Verify poll ballots sheet desks) =
+    (poll.now ≡ files.poll) × (ballots.now ≡ files.ballots) × (sheet.now ≡ files.sheet) × (desks ≡ asked)
+IsJobOf (task.Picture poll_name ballots_name asked named) files (job.Picture poll ballots desks casting) =
+    (poll.now ≡ files.poll) × (ballots.now ≡ files.ballots) × (desks ≡ asked) × (option_copied casting ≡ option_copied named)
+IsJobOf asked files other = ⊥

@@ -1,0 +1,22 @@
+-- What the words after the program's name ask for, or why they are no task.
+use Rattle.std.specs.Prelude.{List, map}
+use Rattle.std.proofs.Common.{Bor}
+use Rattle.clap.specs.Faults.{fault_of}
+use Rattle.clap.specs.Words.{Text, subcommand_of}
+use Rattle.vote_job_words.specs.CommandLine.{debvote_command}
+use Rattle.vote_job_words.specs.Order.{AsksFor, HelpsIfAsked, RefusesIfAtFault}
+use Rattle.vote_job_words.specs.declared.command_line.OrderFault.{OrderFault}
+use Rattle.vote_job_words.specs.declared.command_line.Task.{Task}
+
+-- the bytes of the words
+abbrev pub texts_of : List (Bor Text) → List Text
+texts_of words = map (λ word. word.now) words
+
+-- they ask for this task, by what `clap` finds in them
+abbrev pub AskFor : List Text → Task → Type 0
+AskFor words task = AsksFor (subcommand_of debvote_command words) task
+
+-- they are no task for this reason, by the same
+abbrev pub AreNoTask : List Text → OrderFault → Type 0
+AreNoTask words fault =
+    HelpsIfAsked (fault_of debvote_command words) fault × RefusesIfAtFault (fault_of debvote_command words) (subcommand_of debvote_command words) fault

@@ -1,0 +1,470 @@
+//! The command line.
+
+ghost use Rattle.std.specs.Prelude.{◌≡◌, ◌≢◌, ℕ, IfErr, IfNone, IfOk, IfSome, OnOk, [], codes, false, option_copied};
+ghost use Rattle.clap.specs.Faults.{fault_of};
+ghost use Rattle.clap.specs.Values.{kind_of};
+ghost use Rattle.clap.specs.declared.builder.command.Command.TheViews.{out-Command as fields_of};
+ghost use Rattle.clap.specs.Words.{app_of, first_of, found_of, rows_of, rule_of, subcommand_rows_of};
+ghost use Rattle.vote_job_words.specs.CommandLine.{bare_command, debvote_command, desks_flag, flag, required_flag};
+ghost use Rattle.vote_job_words.specs.Order.{AsksFor, AsksForNone, DesksFit, HasDesks, IsFaultOfKind, IsTaskOf};
+ghost use Rattle.vote_job_words.specs.Subcommands.{flag_rule, flags_of, name_of, subcommand_app};
+ghost use Rattle.vote_job_words.specs.Words.{AreNoTask, AskFor, texts_of};
+ghost use Rattle.vote_job_words.specs.declared.command_line.OrderFault.TheVariants.{Help, Memory, NotUtf8};
+
+use crate::{MAX_DESKS, VERSION};
+use clap::error::ErrorKind;
+use clap::{Arg, ArgAction, ArgMatches, Command, Error};
+use std::alloc::{AllocError, Global};
+
+/// What the words ask for. Files are named.
+#[derive(Clone, Copy)]
+pub enum Task<'a> {
+    /// Count the ballots, and print the sheet.
+    Count {
+        poll: &'a str,
+        ballots: &'a str,
+        desks: u8,
+        casting: Option<&'a str>,
+    },
+    /// Print the reply to each ballot.
+    Steps {
+        poll: &'a str,
+        ballots: &'a str,
+    },
+    /// Check the poll file.
+    Check {
+        poll: &'a str,
+    },
+    /// Report every problem in the poll file, and in the ballots if they are given.
+    Explain {
+        poll: &'a str,
+        ballots: Option<&'a str>,
+    },
+    /// Print the ballots that count.
+    Standing {
+        poll: &'a str,
+        ballots: &'a str,
+    },
+    /// Count the ballots, and compare the result with a published sheet.
+    Verify {
+        poll: &'a str,
+        ballots: &'a str,
+        sheet: &'a str,
+        desks: u8,
+    },
+    /// Count the ballots, and print the result as a graph for Graphviz.
+    Picture {
+        poll: &'a str,
+        ballots: &'a str,
+        desks: u8,
+        casting: Option<&'a str>,
+    },
+}
+
+/// Why the words are no task.
+#[derive(Debug, Drop)]
+pub enum OrderFault {
+    /// They ask for help, and this is it.
+    Help(String),
+    /// They are refused, for this reason.
+    Refused(String),
+    /// One of them is not UTF-8, so [`order`] was not called.
+    NotUtf8,
+    /// Memory ran out.
+    Memory,
+}
+
+impl From<AllocError> for OrderFault {
+    ghost use Rattle.std.specs.Prelude.{◌≡◌};
+    ghost use Rattle.vote_job_words.specs.declared.command_line.OrderFault.TheVariants.{Memory};
+
+    ghost from_gives = { λ _ e. e ≡ Memory };
+
+    fn from(_fault: AllocError) -> OrderFault {
+        OrderFault::Memory
+    }
+}
+
+/// A flag with one value, and the line that says what it is.
+fn value_arg<'a>(alloc: Global, id: &'a str, value: &'a str, help: &'a str) -> Arg<'a>
+    ensures rule { rule_of result ≡ flag id.entry.now }
+    ensures local { result.global ≡ false }
+{
+    Arg::new(alloc, id)
+        .long(id)
+        .value_name(value)
+        .action(ArgAction::Set)
+        .help(help)
+}
+
+/// A flag with one file, which has to be given.
+fn file_arg<'a>(alloc: Global, id: &'a str, help: &'a str) -> Arg<'a>
+    ensures rule { rule_of result ≡ required_flag id.entry.now }
+    ensures local { result.global ≡ false }
+{
+    value_arg(alloc, id, "FILE", help).required(true)
+}
+
+/// What a ballot file is.
+const BALLOTS_HELP: &str = "The ballot file, one ballot a line: name 1,2,3";
+
+/// What the number of desks is.
+const DESKS_HELP: &str = "How many desks enter ballots at once, 1 to 8; the result is the same";
+
+/// A flag of the commands.
+#[derive(Clone, Copy)]
+enum Flag {
+    /// The poll file.
+    Poll,
+    /// The ballot file.
+    Ballots,
+    /// The ballot file, which may be left out.
+    BallotsIfGiven,
+    /// The published sheet.
+    Sheet,
+    /// How many desks enter ballots at once.
+    Desks,
+    /// The option that the casting vote chooses.
+    Casting,
+}
+
+/// The flag with the number of desks.
+fn desks_arg<'a>(alloc: Global) -> Arg<'a>
+    ensures rule { rule_of result ≡ desks_flag }
+    ensures local { result.global ≡ false }
+{
+    value_arg(alloc, "desks", "K", DESKS_HELP)
+        .value_parser(clap::value_parser!(u8).range(1..=i64::from(MAX_DESKS)))
+        .default_value("1")
+}
+
+/// The flag, as `clap` takes it.
+fn arg_of<'a>(alloc: Global, flag: Flag) -> Arg<'a>
+    ensures rule { rule_of result ≡ flag_rule flag }
+    ensures local { result.global ≡ false }
+{
+    match flag {
+        Flag::Poll => file_arg(alloc, "poll", "The poll file, in TOML"),
+        Flag::Ballots => file_arg(alloc, "ballots", BALLOTS_HELP),
+        Flag::BallotsIfGiven => value_arg(alloc, "ballots", "FILE", BALLOTS_HELP),
+        Flag::Sheet => file_arg(alloc, "sheet", "The sheet that was published"),
+        Flag::Desks => desks_arg(alloc),
+        Flag::Casting => value_arg(
+            alloc,
+            "casting",
+            "NAME",
+            "The option that the casting vote chooses in a tie (its exact name)",
+        ),
+    }
+}
+
+/// A command of the program, by its task.
+#[derive(Clone, Copy)]
+enum Subcommand {
+    Count,
+    Steps,
+    Check,
+    Explain,
+    Standing,
+    Verify,
+    Picture,
+}
+
+/// The commands, in the order in which help lists them.
+const SUBCOMMANDS: [Subcommand; 7] = [
+    Subcommand::Count,
+    Subcommand::Steps,
+    Subcommand::Check,
+    Subcommand::Explain,
+    Subcommand::Standing,
+    Subcommand::Verify,
+    Subcommand::Picture,
+];
+
+/// The flags of a command that reads the poll alone.
+const CHECK_FLAGS: [Flag; 1] = [Flag::Poll];
+
+/// The flags of a command on a poll and its ballots.
+const BALLOTS_FLAGS: [Flag; 2] = [Flag::Poll, Flag::Ballots];
+
+/// The flags of the command that says what is wrong.
+const EXPLAIN_FLAGS: [Flag; 2] = [Flag::Poll, Flag::BallotsIfGiven];
+
+/// The flags of a command that counts, where the casting vote may choose.
+const COUNT_FLAGS: [Flag; 4] = [Flag::Poll, Flag::Ballots, Flag::Desks, Flag::Casting];
+
+/// The flags of the command that compares with a sheet.
+const VERIFY_FLAGS: [Flag; 4] = [Flag::Poll, Flag::Ballots, Flag::Sheet, Flag::Desks];
+
+impl Subcommand {
+    /// The word that asks for the command.
+    fn name<'a>(self) -> &'a str
+        ensures { result.now ≡ name_of self }
+    {
+        match self {
+            Subcommand::Count => "count",
+            Subcommand::Steps => "steps",
+            Subcommand::Check => "check",
+            Subcommand::Explain => "explain",
+            Subcommand::Standing => "standing",
+            Subcommand::Verify => "verify",
+            Subcommand::Picture => "picture",
+        }
+    }
+
+    /// What help says of the command.
+    fn about<'a>(self) -> &'a str {
+        match self {
+            Subcommand::Count => "Counts the ballots and prints the result",
+            Subcommand::Steps => "Prints the reply to each ballot",
+            Subcommand::Check => "Checks a poll file",
+            Subcommand::Explain =>
+                "Reports every problem in a poll and its ballots, and where it is",
+            Subcommand::Standing => "Prints the ballots that count: each elector's last valid one",
+            Subcommand::Verify => {
+                "Counts the ballots and compares the result with a published sheet"
+            }
+            Subcommand::Picture => {
+                "Counts the ballots and prints the result as a graph for Graphviz"
+            }
+        }
+    }
+
+    /// The flags of the command, in the order in which help lists them.
+    fn flags(self) -> &'static [Flag]
+        ensures { result.now ≡ flags_of self }
+    {
+        match self {
+            Subcommand::Count | Subcommand::Picture => &COUNT_FLAGS,
+            Subcommand::Steps | Subcommand::Standing => &BALLOTS_FLAGS,
+            Subcommand::Check => &CHECK_FLAGS,
+            Subcommand::Explain => &EXPLAIN_FLAGS,
+            Subcommand::Verify => &VERIFY_FLAGS,
+        }
+    }
+}
+
+/// The command with its flags, as `clap` takes it.
+fn command_of<'a>(alloc: Global, subcommand: Subcommand) -> Result<Command<'a>, AllocError>
+    ensures app { IfOk result (λ c. app_of c ≡ subcommand_app subcommand) }
+    ensures local { IfOk result (λ c. (fields_of c).has_globals ≡ false) }
+{
+    let mut command = Command::new(alloc, subcommand.name()).about(subcommand.about());
+    for flag in subcommand.flags() {
+        command = command.arg(arg_of(alloc, *flag))?;
+    }
+    Ok(command)
+}
+
+/// What the exit statuses say.
+const STATUSES_HELP: &str = "Exit statuses:
+  0  success: there is a winner, no problem was found, or the sheet was verified
+  1  a tie, and no casting vote was given; the result is printed
+  2  the command line is refused
+  3  the poll file is refused or can't be read
+  4  the ballot file is refused or can't be read
+  5  out of memory, or a thread could not be started
+  6  the votes could not be taken, or their audit failed
+  7  the output failed
+  8  the casting vote is for an option that is not left, or not in the poll
+  9  something was found by explain, or differs by verify
+ 10  the sheet can't be read";
+
+/// The program without its subcommands. Its name is given, since the words come without it.
+fn bare_command<'a>(alloc: Global) -> Result<Command<'a>, AllocError>
+    ensures app { IfOk result (λ c. app_of c ≡ bare_command) }
+    ensures local { IfOk result (λ c. (fields_of c).has_globals ≡ false) }
+{
+    Command::new(alloc, "debvote")
+        .about("Counts votes by the Debian Constitution")
+        .version(VERSION)
+        .after_help(STATUSES_HELP)
+        .no_binary_name(true)
+        .subcommand_required(true)
+        .bin_name("debvote")
+}
+
+/// The program with its commands.
+fn debvote_command<'a>(alloc: Global) -> Result<Command<'a>, AllocError>
+    ensures app { IfOk result (λ c. app_of c ≡ debvote_command) }
+    ensures local { IfOk result (λ c. (fields_of c).has_globals ≡ false) }
+{
+    let mut program = bare_command(alloc)?;
+    for subcommand in SUBCOMMANDS {
+        let command = command_of(alloc, subcommand)?;
+        program = program.subcommand(command)?;
+    }
+    Ok(program)
+}
+
+/// The number of desks, if it is in range.
+fn desks_given(given: &ArgMatches<'_>) -> Option<u8>
+    ensures found { IfSome result (HasDesks (rows_of (found_of given.now))) }
+    ensures none { IfNone result ((desks : ℕ) → HasDesks (rows_of (found_of given.now)) desks → ⊥) }
+{
+    let desks = given.get_one::<u8>("desks")?;
+    if 1 <= desks && desks <= MAX_DESKS {
+        Some(desks)
+    } else {
+        None
+    }
+}
+
+/// The text that is given for a flag.
+#[tactic(auto, using(crate::proofs::Orders::first_value_rows))]
+fn text_given<'a>(given: &ArgMatches<'a>, id: &str) -> Option<&'a str>
+    ensures { option_copied result ≡ first_of id.now (rows_of (found_of given.now)) }
+{
+    given.get_str(id)
+}
+
+#[tactic(auto, using(crate::proofs::Orders::first_value_rows))]
+fn count_task<'a>(given: &ArgMatches<'a>) -> Option<Task<'a>>
+    ensures { IsTaskOf (codes "count") (rows_of (found_of given.now)) result }
+{
+    Some(Task::Count {
+        poll: text_given(given, "poll")?,
+        ballots: text_given(given, "ballots")?,
+        desks: desks_given(given)?,
+        casting: given.get_str("casting"),
+    })
+}
+
+fn steps_task<'a>(given: &ArgMatches<'a>) -> Option<Task<'a>>
+    ensures { IsTaskOf (codes "steps") (rows_of (found_of given.now)) result }
+{
+    Some(Task::Steps {
+        poll: text_given(given, "poll")?,
+        ballots: text_given(given, "ballots")?,
+    })
+}
+
+fn check_task<'a>(given: &ArgMatches<'a>) -> Option<Task<'a>>
+    ensures { IsTaskOf (codes "check") (rows_of (found_of given.now)) result }
+{
+    Some(Task::Check {
+        poll: text_given(given, "poll")?,
+    })
+}
+
+#[tactic(auto, using(crate::proofs::Orders::first_value_rows))]
+fn explain_task<'a>(given: &ArgMatches<'a>) -> Option<Task<'a>>
+    ensures { IsTaskOf (codes "explain") (rows_of (found_of given.now)) result }
+{
+    Some(Task::Explain {
+        poll: text_given(given, "poll")?,
+        ballots: given.get_str("ballots"),
+    })
+}
+
+fn standing_task<'a>(given: &ArgMatches<'a>) -> Option<Task<'a>>
+    ensures { IsTaskOf (codes "standing") (rows_of (found_of given.now)) result }
+{
+    Some(Task::Standing {
+        poll: text_given(given, "poll")?,
+        ballots: text_given(given, "ballots")?,
+    })
+}
+
+fn verify_task<'a>(given: &ArgMatches<'a>) -> Option<Task<'a>>
+    ensures { IsTaskOf (codes "verify") (rows_of (found_of given.now)) result }
+{
+    Some(Task::Verify {
+        poll: text_given(given, "poll")?,
+        ballots: text_given(given, "ballots")?,
+        sheet: text_given(given, "sheet")?,
+        desks: desks_given(given)?,
+    })
+}
+
+#[tactic(auto, using(crate::proofs::Orders::first_value_rows))]
+fn picture_task<'a>(given: &ArgMatches<'a>) -> Option<Task<'a>>
+    ensures { IsTaskOf (codes "picture") (rows_of (found_of given.now)) result }
+{
+    Some(Task::Picture {
+        poll: text_given(given, "poll")?,
+        ballots: text_given(given, "ballots")?,
+        desks: desks_given(given)?,
+        casting: given.get_str("casting"),
+    })
+}
+
+/// The task of the subcommand that is given.
+fn task_of<'a>(matches: &ArgMatches<'a>) -> Option<Task<'a>>
+    ensures found { IfSome result (AsksFor (subcommand_rows_of matches.now)) }
+    ensures none { IfNone result (AsksForNone (subcommand_rows_of matches.now)) }
+{
+    let (name, given) = matches.subcommand()?;
+    match name {
+        "count" => count_task(given),
+        "steps" => steps_task(given),
+        "check" => check_task(given),
+        "explain" => explain_task(given),
+        "standing" => standing_task(given),
+        "verify" => verify_task(given),
+        "picture" => picture_task(given),
+        _ => None,
+    }
+}
+
+/// What an error of `clap` is to the caller: help that was asked for, or a refusal, with `clap`'s text. Memory ran out where
+/// it can't hold that text.
+fn order_fault_of(alloc: Global, error: &Error) -> OrderFault
+    ensures { result ≢ Memory → IsFaultOfKind (kind_of error.now) result }
+{
+    let Ok(text) = error.to_string(alloc) else {
+        return OrderFault::Memory;
+    };
+    match error.kind() {
+        ErrorKind::DisplayHelp | ErrorKind::DisplayVersion => OrderFault::Help(text),
+        ErrorKind::OutOfMemory => OrderFault::Memory,
+        _ => OrderFault::Refused(text),
+    }
+}
+
+/// The refusal of words that `clap` takes and that are no task, with the program's usage. Memory ran out where
+/// it can't hold the usage.
+fn no_task(command: &mut Command<'_>) -> OrderFault
+    ensures refuses { (text : _) → result ≢ Help text }
+    ensures read { result ≢ NotUtf8 }
+{
+    match command.render_usage() {
+        Ok(usage) => OrderFault::Refused(usage),
+        Err(fault) => OrderFault::from(fault),
+    }
+}
+
+/// What the words ask for of this program's command line, which is lent, so that it is dropped in one place.
+fn order_of<'a>(
+    alloc: Global,
+    command: &mut Command<'a>,
+    words: &'a [&'a str],
+) -> Result<Task<'a>, OrderFault>
+    requires app { app_of command.old ≡ debvote_command }
+    ensures desks { IfOk result DesksFit }
+    ensures ok { IfOk result (AskFor (texts_of words.entry.now)) }
+    ensures no_task { IfErr result (AreNoTask (texts_of words.entry.now)) }
+    ensures accepted { OnOk result (fault_of debvote_command (texts_of words.entry.now) ≡ []) }
+{
+    let matches = match command.try_get_matches_from_mut(words) {
+        Ok(matches) => matches,
+        Err(error) => return Err(order_fault_of(alloc, &error)),
+    };
+    match task_of(&matches) {
+        Some(task) => Ok(task),
+        None => Err(no_task(command)),
+    }
+}
+
+/// What the words after the program's name ask for.
+pub fn order<'a>(alloc: Global, words: &'a [&'a str]) -> Result<Task<'a>, OrderFault>
+    ensures desks { IfOk result DesksFit }
+    ensures ok { IfOk result (AskFor (texts_of words.entry.now)) }
+    ensures no_task { IfErr result (AreNoTask (texts_of words.entry.now)) }
+    ensures accepted { OnOk result (fault_of debvote_command (texts_of words.entry.now) ≡ []) }
+{
+    match debvote_command(alloc) {
+        Ok(mut command) => order_of(alloc, &mut command, words),
+        Err(fault) => Err(OrderFault::from(fault)),
+    }
+}

@@ -1,0 +1,3 @@
+pub mod FirstPlace
+pub mod HeldLines
+pub mod JoinedLaws

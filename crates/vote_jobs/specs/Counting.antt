@@ -1,0 +1,92 @@
+-- What a count is refused for, what it tells, and how it ends.
+use Rattle.std.specs.Prelude.{◌≡◌, ◌≢◌, ◌+◌, ℕ, List, length, Option, Some, None, option_map, IfSome, Ok}
+use Rattle.vote_count.specs.declared.Decision.{Decision}
+use Rattle.vote_count.specs.declared.Decision.TheVariants as decision
+use Rattle.vote_poll_text.specs.Lines.{lines_of}
+use Rattle.vote_poll.specs.Names.{place_of}
+use Rattle.vote_poll.specs.Options.{IsOption}
+use Rattle.vote_poll.specs.PollContent.{PollContent, option_count}
+use Rattle.vote_poll.specs.PollFile.{poll_in}
+use Rattle.vote_steps.specs.Boxes.{BoxState}
+use Rattle.vote_desks_box.specs.declared.Slip.{Slip}
+use Rattle.vote_desks.specs.Audit.{IsAudited}
+use Rattle.vote_desks.specs.Faults.{CanStopVotes, IsOfDesk}
+use Rattle.vote_desks.specs.declared.VoteFault.{VoteFault}
+use Rattle.vote_sheet.specs.Picture.{IsPictureAndDecision}
+use Rattle.vote_sheet.specs.SheetOf.{IsSheetAndDecision}
+use Rattle.vote_sheet.specs.Texts.{Text}
+use Rattle.vote_sheet.specs.Verify.{AreVerificationWords, IsVerification}
+use Rattle.vote_sheet.specs.declared.Verification.{Verification}
+use Rattle.vote_sheet.specs.declared.Verification.TheVariants as found
+use Rattle.vote_jobs.specs.Inputs.{Inputs}
+use Rattle.vote_jobs.specs.Runs.{AnswersLines, AnswersPoll}
+use Rattle.vote_jobs.specs.Told.{Told}
+use Rattle.vote_jobs.specs.declared.fault.InputFault.{InputFault}
+use Rattle.vote_jobs.specs.declared.fault.Ended.{Ended}
+use Rattle.vote_jobs.specs.declared.fault.Ended.TheVariants as ended
+use Rattle.vote_jobs.specs.declared.counting.Purpose.{Purpose}
+use Rattle.vote_jobs.specs.declared.counting.Purpose.TheVariants as purpose
+use Rattle.vote_jobs.specs.declared.fault.RunFault.{RunFault}
+use Rattle.vote_jobs.specs.declared.fault.RunFault.TheVariants as run
+
+-- the option that a casting vote names, if there is a casting vote and an option of this name
+abbrev pub casting_option : PollContent → Option Text → Option ℕ
+casting_option poll None = None
+casting_option poll (Some name) = option_map (λ place. place + 1) (place_of name poll.options)
+
+-- a casting vote that names no option
+abbrev pub NamesNoOption : PollContent → Option Text → Type 0
+NamesNoOption poll None = ⊥
+NamesNoOption poll (Some name) = place_of name poll.options ≡ None
+
+-- the option of this poll that a casting vote names, if there is a casting vote
+pub record IsNamed (poll : PollContent) (named : Option Text) (option : Option ℕ) : Type 0 where
+  pub is_one : ¬ NamesNoOption poll named
+  pub option_is : option ≡ casting_option poll named
+  pub range : IfSome option (IsOption (option_count poll))
+
+-- once the poll is read, the casting vote is refused exactly when it names no option
+abbrev pub AnswersCasting : Inputs → Option RunFault → Type 0
+AnswersCasting inputs (Some (run.Poll fault)) = Unit {0}
+AnswersCasting inputs (Some run.NoSuchOption) = (poll : PollContent) × (poll_in inputs.poll ≡ Ok poll) × NamesNoOption poll inputs.casting
+AnswersCasting inputs stop = (poll : PollContent) × (poll_in inputs.poll ≡ Ok poll) × ¬ NamesNoOption poll inputs.casting
+
+-- the inputs are refused exactly when they are to be, in their order, memory aside; their votes are stopped only by a fault that they
+-- can have at so many desks; and no input is told to be unread
+pub record AnswersInputs (inputs : Inputs) (stop : Option RunFault) : Type 0 where
+  pub poll : AnswersPoll inputs.poll stop
+  pub casting : AnswersCasting inputs stop
+  pub lines : AnswersLines (lines_of inputs.ballots) stop
+  pub votes : (fault : VoteFault) → stop ≡ Some (run.Vote fault) → CanStopVotes fault × IsOfDesk inputs.desks fault
+  pub input : (fault : InputFault) → stop ≢ Some (run.Input fault)
+
+-- how a count ends that is decided so
+abbrev pub ended_by_decision : Decision → Ended
+ended_by_decision (decision.Winner option) = ended.Decided option
+ended_by_decision decision.Tie = ended.Tie
+ended_by_decision (decision.CastingOutside option) = ended.CastingOutside option
+
+-- a published sheet differs, or it is one of the count
+abbrev pub ended_by_verification : Verification → Ended
+ended_by_verification found.Differs = ended.Differs
+ended_by_verification found.Matches = ended.Done
+ended_by_verification (found.MatchesCasting option) = ended.Done
+
+-- the votes of the lines of the inputs are audited, with a sheet for each of their desks
+abbrev pub IsCountedAt : Inputs → Type 0
+IsCountedAt inputs =
+    (poll : PollContent) × (b : BoxState) × (sheets : List (List Slip)) × (poll_in inputs.poll ≡ Ok poll) × IsAudited poll (lines_of inputs.ballots) b sheets
+    × (length sheets ≡ inputs.desks)
+
+-- what is told of a count that is made for this, of the poll, the lines and the option of the casting vote
+abbrev pub IsMade : Purpose → PollContent → List Text → Option ℕ → Told → Type 0
+IsMade purpose.Picture poll lines casting told = (decision : Decision) × IsPictureAndDecision poll lines casting told.text decision × (told.end ≡ ended_by_decision decision)
+IsMade purpose.Sheet poll lines casting told = (decision : Decision) × IsSheetAndDecision poll lines casting told.text decision × (told.end ≡ ended_by_decision decision)
+IsMade (purpose.Verification sheet) poll lines casting told =
+    (verification : Verification) × IsVerification poll lines sheet.now verification × AreVerificationWords poll lines sheet.now verification told.text
+    × (told.end ≡ ended_by_verification verification)
+
+-- the same of the inputs
+abbrev pub IsCountFor : Purpose → Inputs → Told → Type 0
+IsCountFor made_for inputs told =
+    (poll : PollContent) × (poll_in inputs.poll ≡ Ok poll) × IsMade made_for poll (lines_of inputs.ballots) (casting_option poll inputs.casting) told

@@ -1,0 +1,11 @@
+-- what the contracts of public calls say
+pub mod Inputs
+pub mod Told
+pub mod Joined
+pub mod Runs
+pub mod Counting
+pub mod Taking
+pub mod Explaining
+pub mod Performing
+pub mod Status
+pub mod Words

@@ -1,0 +1,160 @@
+//! The runs that count: the sheet of a poll file and a ballot file, and what else is made of the same count.
+
+ghost use Rattle.std.specs.Prelude.{◌≡◌, ◌≢◌, ◌<◌, ◌↔◌, true, Err, IfOk, IsErrOf, OnOk};
+ghost use Rattle.std.specs.Result.{result_err};
+ghost use Rattle.vote_steps.specs.Desks.{AreDesks};
+ghost use Rattle.vote_jobs.specs.Counting.{AnswersInputs, IsCountFor, IsCountedAt, IsMade, ended_by_decision, ended_by_verification};
+ghost use Rattle.vote_jobs.specs.Inputs.{inputs_at};
+ghost use Rattle.vote_jobs.specs.Performing.{CountsTo};
+ghost use Rattle.vote_jobs.specs.Taking.{CanBeCounted};
+
+use crate::fault::{Ended, RunFault};
+use crate::output::{RunText, write_run};
+use crate::taking::{CountInputs, Taken, take_inputs};
+use std::alloc::{AllocError, Global};
+use std::sync::Wait;
+use std::thread::Threads;
+use vote_count::Decision;
+use vote_desks::Gate;
+use vote_files::Sink;
+use vote_sheet::{Verification, picture_of_box, sheet_of_box, verify_sheet};
+
+/// What a count is made for.
+#[derive(Clone, Copy)]
+pub enum Purpose<'s> {
+    /// The result sheet.
+    Sheet,
+    /// The outcome as a graph for Graphviz.
+    Picture,
+    /// Whether these bytes are a sheet of the count, whatever the casting vote.
+    Verification(&'s [u8]),
+}
+
+/// How a count ends that is decided so.
+fn ended_by_decision(decision: Decision) -> Ended
+    ensures { result ≡ ended_by_decision decision }
+{
+    match decision {
+        Decision::Winner(option) => Ended::Decided(option),
+        Decision::Tie => Ended::Tie,
+        Decision::CastingOutside(option) => Ended::CastingOutside(option),
+    }
+}
+
+/// How a run ends that finds this of a published sheet.
+fn ended_by_verification(found: Verification) -> Ended
+    ensures { result ≡ ended_by_verification found }
+{
+    match found {
+        Verification::Matches | Verification::MatchesCasting(_) => Ended::Done,
+        Verification::Differs => Ended::Differs,
+    }
+}
+
+/// The text that the votes were taken for.
+fn text_of_taken(
+    alloc: Global,
+    taken: &Taken<'_>,
+    purpose: Purpose<'_>,
+) -> Result<RunText, AllocError>
+    requires { CanBeCounted taken.now }
+    ensures { IfOk result (IsMade purpose.entry taken.now.poll taken.now.lines taken.now.casting) }
+{
+    let Taken {
+        poll,
+        lines,
+        casting,
+        audited,
+    } = taken;
+    let ballot_box = audited.ballot_box();
+    match purpose {
+        Purpose::Sheet => {
+            let (text, decision) = sheet_of_box(alloc, poll, lines, ballot_box, *casting)?;
+            let ended = ended_by_decision(decision);
+            Ok(RunText { text, ended })
+        }
+        Purpose::Picture => {
+            let (text, decision) = picture_of_box(alloc, poll, lines, ballot_box, *casting)?;
+            let ended = ended_by_decision(decision);
+            Ok(RunText { text, ended })
+        }
+        Purpose::Verification(sheet) => {
+            let (text, found) = verify_sheet(alloc, poll, lines, ballot_box, sheet)?;
+            let ended = ended_by_verification(found);
+            Ok(RunText { text, ended })
+        }
+    }
+}
+
+/// The text of a count of the inputs.
+fn count_inputs<G: Gate + Sync, R: Threads + Wait + Sync>(
+    rt: &R,
+    alloc: Global,
+    inputs: &CountInputs<'_>,
+    purpose: Purpose<'_>,
+    gate: &G,
+) -> Result<RunText, RunFault>
+    requires { AreDesks inputs.now.desks }
+    ensures counted { IfOk result (IsCountFor purpose.entry inputs.now) }
+    ensures desks { OnOk result (IsCountedAt inputs.now) }
+    ensures answers { AnswersInputs inputs.now (result_err result) }
+    ensures unwritten { result ≢ Err RunFault.Output }
+{
+    let taken = match take_inputs(rt, alloc, inputs, gate) {
+        Ok(taken) => taken,
+        Err(fault) => return Err(fault),
+    };
+    Ok(text_of_taken(alloc, &taken, purpose)?)
+}
+
+/// Takes the votes of a ballot file at so many desks, each in a thread of its own, and writes what they are taken for, with the
+/// option that the casting vote names. Nothing is written before the text is whole.
+pub fn count_for<G: Gate + Sync, W: Sink, R: Threads + Wait + Sync>(
+    rt: &R,
+    alloc: Global,
+    inputs: &CountInputs<'_>,
+    purpose: Purpose<'_>,
+    gate: &G,
+    sink: &mut W,
+) -> Result<Ended, RunFault>
+    requires { AreDesks inputs.now.desks }
+    ensures counts { CountsTo purpose.entry inputs.now W.contents sink.old sink.new result }
+    ensures output { IsErrOf result RunFault.Output ↔ (W.faults sink.old < W.faults sink.new) }
+    ensures flushed { OnOk result (W.flushed sink.new ≡ true) }
+{
+    let RunText { text, ended } = match count_inputs(rt, alloc, inputs, purpose, gate) {
+        Ok(counted) => counted,
+        Err(fault) => return Err(fault),
+    };
+    match write_run(sink, text.as_bytes()) {
+        Ok(()) => Ok(ended),
+        Err(fault) => Err(fault),
+    }
+}
+
+/// Takes the votes of a ballot file at so many desks, each in a thread of its own, and writes the sheet of the audited box,
+/// with the option that the casting vote names. Nothing is written before the sheet is whole.
+pub fn run<G: Gate + Sync, W: Sink, R: Threads + Wait + Sync>(
+    rt: &R,
+    alloc: Global,
+    poll_text: &[u8],
+    ballots: &[u8],
+    desks: u8,
+    casting: Option<&[u8]>,
+    gate: &G,
+    sink: &mut W,
+) -> Result<Ended, RunFault>
+    requires { AreDesks desks }
+    ensures counts { let inputs = inputs_at poll_text.entry ballots.entry desks casting.entry in
+        CountsTo Purpose.Sheet inputs W.contents sink.old sink.new result }
+    ensures output { IsErrOf result RunFault.Output ↔ (W.faults sink.old < W.faults sink.new) }
+    ensures flushed { OnOk result (W.flushed sink.new ≡ true) }
+{
+    let inputs = CountInputs {
+        poll: poll_text,
+        ballots,
+        desks,
+        casting,
+    };
+    count_for(rt, alloc, &inputs, Purpose::Sheet, gate, sink)
+}

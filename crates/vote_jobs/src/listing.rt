@@ -1,0 +1,119 @@
+//! The commands that list something of the ballots: `steps` and `standing`.
+
+ghost use Rattle.std.specs.Prelude.{◌≡◌, ◌≢◌, ◌<◌, ◌↔◌, true, Err, IfErr, IfOk, IsErrOf, OnOk};
+ghost use Rattle.std.specs.Result.{result_err};
+ghost use Rattle.vote_poll_text.specs.Lines.{lines_of};
+ghost use Rattle.vote_jobs.specs.Explaining.{IsGivenFault};
+ghost use Rattle.vote_jobs.specs.Performing.{ListsJoinedTo, ListsTo};
+ghost use Rattle.vote_jobs.specs.Runs.{AnswersFiles, AnswersLines, IsListed, IsListing, IsText};
+ghost use Rattle.vote_jobs.specs.declared.listing.Listing.TheVariants.{Steps};
+
+use crate::fault::RunFault;
+use crate::joined::split_joined;
+use crate::output::write_run;
+use std::alloc::{AllocError, Global};
+use vote_files::Sink;
+use vote_poll::{Lines, Poll};
+use vote_sheet::{standing_text, steps_text};
+
+/// What is listed of the ballots, which one desk casts in their order.
+#[derive(Clone, Copy)]
+pub enum Listing {
+    /// The reply to each ballot.
+    Steps,
+    /// The ballots that count: the last valid one of each elector.
+    Standing,
+}
+
+/// The text of a listing of a poll and its lines.
+fn list_lines(
+    alloc: Global,
+    poll: &Poll,
+    lines: &Lines<'_>,
+    listing: Listing,
+) -> Result<String, AllocError>
+    ensures { IfOk result (IsText (IsListed listing poll.now lines.now)) }
+{
+    match listing {
+        Listing::Steps => steps_text(alloc, poll, lines),
+        Listing::Standing => standing_text(alloc, poll, lines),
+    }
+}
+
+/// The text of a listing of a poll and a ballot file.
+fn list_ballots(
+    alloc: Global,
+    poll: &Poll,
+    ballots: &[u8],
+    listing: Listing,
+) -> Result<String, RunFault>
+    ensures listed { IfOk result (IsText (IsListed listing poll.now (lines_of ballots.now))) }
+    ensures lines { AnswersLines (lines_of ballots.now) (result_err result) }
+    ensures fault { IfErr result IsGivenFault }
+{
+    match Lines::split(alloc, ballots) {
+        Ok(lines) => Ok(list_lines(alloc, poll, &lines, listing)?),
+        Err(fault) => Err(RunFault::Lines(fault)),
+    }
+}
+
+/// The text of a listing of a poll file and a ballot file.
+fn list_files(
+    alloc: Global,
+    poll_text: &[u8],
+    ballots: &[u8],
+    listing: Listing,
+) -> Result<String, RunFault>
+    ensures listed { IfOk result (IsText (IsListing listing poll_text.now ballots.now)) }
+    ensures answers { AnswersFiles poll_text.now ballots.now (result_err result) }
+    ensures unwritten { result ≢ Err RunFault.Output }
+{
+    let poll = match Poll::from_text(alloc, poll_text) {
+        Ok(poll) => poll,
+        Err(fault) => return Err(RunFault::Poll(fault)),
+    };
+    list_ballots(alloc, &poll, ballots, listing)
+}
+
+/// Casts the lines in order at one desk, and writes what is to be listed. Nothing is written before all of it is there.
+pub fn print_listing<W: Sink>(
+    alloc: Global,
+    poll_text: &[u8],
+    ballots: &[u8],
+    listing: Listing,
+    sink: &mut W,
+) -> Result<(), RunFault>
+    ensures lists { ListsTo listing poll_text.now ballots.now W.contents sink.old sink.new result }
+    ensures output { IsErrOf result RunFault.Output ↔ (W.faults sink.old < W.faults sink.new) }
+    ensures flushed { OnOk result (W.flushed sink.new ≡ true) }
+{
+    let text = match list_files(alloc, poll_text, ballots, listing) {
+        Ok(text) => text,
+        Err(fault) => return Err(fault),
+    };
+    write_run(sink, text.as_bytes())
+}
+
+/// Writes the reply of the ballot box to each line.
+pub fn print_steps<W: Sink>(
+    alloc: Global,
+    poll_text: &[u8],
+    ballots: &[u8],
+    sink: &mut W,
+) -> Result<(), RunFault>
+    ensures lists { ListsTo Steps poll_text.now ballots.now W.contents sink.old sink.new result }
+    ensures output { IsErrOf result RunFault.Output ↔ (W.faults sink.old < W.faults sink.new) }
+    ensures flushed { OnOk result (W.flushed sink.new ≡ true) }
+{
+    print_listing(alloc, poll_text, ballots, Listing::Steps, sink)
+}
+
+/// `print_steps` for a poll and its ballots in one input, as [`split_joined`] parts it.
+pub fn steps_joined<W: Sink>(alloc: Global, input: &[u8], sink: &mut W) -> Result<(), RunFault>
+    ensures lists { ListsJoinedTo input.now W.contents sink.old sink.new result }
+    ensures output { IsErrOf result RunFault.Output ↔ (W.faults sink.old < W.faults sink.new) }
+    ensures flushed { OnOk result (W.flushed sink.new ≡ true) }
+{
+    let (poll_text, ballots) = split_joined(input);
+    print_steps(alloc, poll_text, ballots, sink)
+}

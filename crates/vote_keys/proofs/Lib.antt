@@ -1,3 +1,0 @@
-pub mod Gives
-mod KeysLaws
-mod PartsLaws

@@ -1,0 +1,5 @@
+mod EditLaws
+mod FindingLaws
+mod AddedLines
+mod PathLaws
+mod UnreadLaws

@@ -1,0 +1,6 @@
+-- what the contracts of public calls say
+pub mod Limits
+pub mod UnreadKeys
+pub mod Findings
+-- what types stand for, and what private functions say of their parts
+pub mod UnreadView

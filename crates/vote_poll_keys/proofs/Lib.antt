@@ -1,0 +1,3 @@
+pub mod Gives
+mod KeyLaws
+mod KeysLaws

@@ -1,0 +1,85 @@
+-- The keys of a poll file, each judged by itself: those that are there and of their kind, and the faults of the others.
+use Rattle.std.specs.Prelude.{ℕ, ℤ, List, [], ◌∷◌, ◌++◌, Bool, true, false, ◌&&◌, ◌||◌, if◌then◌else◌, Option, is_some, is_none, option_map, option_to_list}
+use Rattle.toml.specs.Data.{Members, as_str, as_integer}
+use Rattle.vote_poll_keys.specs.Keys.{found, list_of, value_at}
+use Rattle.vote_poll_keys.specs.declared.fault.PollKey.{PollKey}
+use Rattle.vote_poll_keys.specs.declared.fault.PollKey.TheVariants as key
+use Rattle.vote_poll_keys.specs.declared.fault.PollFault.{PollFault}
+use Rattle.vote_poll_keys.specs.declared.fault.PollFault.TheVariants as fault
+
+-- ---- what is found
+-- the keys, each where it is there and of its kind
+pub record FoundKeys : Type 0 where
+  pub title : Option (List ℕ)
+  pub options : Option (List (List ℕ))
+  pub ratios : Option (List ℤ)
+  pub default_option : Option (List ℕ)
+  pub quorum : Option ℤ
+  pub roll : Option (List (List ℕ))
+  pub last_envelope : Option ℤ
+  pub wording : Option (List ℕ)
+
+abbrev pub found_in : Members → FoundKeys
+found_in table = record {
+  title = found key.Title as_str table;
+  options = found key.Options (list_of as_str) table;
+  ratios = found key.Ratios (list_of as_integer) table;
+  default_option = found key.DefaultOption as_str table;
+  quorum = found key.Quorum as_integer table;
+  roll = found key.Roll (list_of as_str) table;
+  last_envelope = found key.LastEnvelope as_integer table;
+  wording = found key.Wording as_str table;
+}
+
+-- the names of the options as far as they were found, the default option after the others
+abbrev pub names_of_options : FoundKeys → Option (List (List ℕ))
+names_of_options f = option_map (λ options. options ++ option_to_list f.default_option) f.options
+
+-- ---- one fault
+abbrev pub fault_unless : Bool → PollFault → List PollFault
+fault_unless right e = if right then [] else e ∷ []
+
+-- a key that has to be there is missing or of the wrong kind
+abbrev pub of_key : {X : Type 0} → PollKey → Option X → List PollFault
+of_key name value = fault_unless (is_some value) (fault.Key name)
+
+-- a key that may be missing is of the wrong kind
+abbrev pub of_optional_key : {X : Type 0} → PollKey → Members → Option X → List PollFault
+of_optional_key name table value = fault_unless (is_none (value_at name table) || is_some value) (fault.Key name)
+
+-- ---- all keys
+unfoldable pub of_keys : Members → FoundKeys → List PollFault
+of_keys table f =
+    of_key key.Title f.title
+    ++ of_key key.Options f.options
+    ++ of_key key.Ratios f.ratios
+    ++ of_key key.DefaultOption f.default_option
+    ++ of_key key.Quorum f.quorum
+    ++ of_key key.Roll f.roll
+    ++ of_optional_key key.LastEnvelope table f.last_envelope
+    ++ of_optional_key key.Wording table f.wording
+
+-- ---- one key after another
+-- the key is there and of its kind
+abbrev pub has : FoundKeys → PollKey → Bool
+has f key.Title = is_some f.title
+has f key.Options = is_some f.options
+has f key.Ratios = is_some f.ratios
+has f key.DefaultOption = is_some f.default_option
+has f key.Quorum = is_some f.quorum
+has f key.Roll = is_some f.roll
+has f key.LastEnvelope = is_some f.last_envelope
+has f key.Wording = is_some f.wording
+
+abbrev pub may_be_missing : PollKey → Bool
+may_be_missing key.LastEnvelope = true
+may_be_missing key.Wording = true
+may_be_missing other = false
+
+-- the key may be missing and is so, or is there and of its kind
+abbrev pub is_right : Members → FoundKeys → PollKey → Bool
+is_right table f name = (may_be_missing name && is_none (value_at name table)) || has f name
+
+-- the fault of a key, which stands at its place in `of_keys`
+abbrev pub fault_of_key : Members → FoundKeys → PollKey → List PollFault
+fault_of_key table f name = fault_unless (is_right table f name) (fault.Key name)

@@ -1,0 +1,7 @@
+-- what the contracts of public calls say
+pub mod Adding
+pub mod Limits
+pub mod Lines
+pub mod FaultWords
+pub mod Names
+pub mod Shown

@@ -1,5 +1,0 @@
-pub mod ExplainedTexts
-pub mod FirstPlace
-pub mod HeldLines
-pub mod JoinedLaws
-pub mod Written

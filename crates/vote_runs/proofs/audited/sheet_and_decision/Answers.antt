@@ -1,6 +1,0 @@
-use Rattle.vote_runs.proofs.HeldLines.{audited_holds}
-use Rattle.vote_runs.proofs.audited.sheet_and_decision.Goals as goal
-
-pub sheet_of_box-requires-clause-held : goal.sheet_of_box-requires-clause-held
-sheet_of_box-requires-clause-held c =
-    audited_holds c.args.poll.now c.args.lines.now c.ballot_box.result.now c.args.audited.now.ballot_box c.args.audited.now.sheets c.ballot_box.ensures c.requires.audited

@@ -1,5 +1,0 @@
-use Rattle.std.proofs.Common.{refl}
-use Rattle.vote_runs.proofs.counting.ended_by.Goals as goal
-
-pub returns-in-Differs : goal.returns-in-Differs
-returns-in-Differs c = rw c.in-Differs.is refl

@@ -1,5 +1,0 @@
-use Rattle.std.proofs.Common.{rules}
-use Rattle.vote_runs.proofs.listing.list.Goals as goal
-
-pub returns-in-Steps : goal.returns-in-Steps
-returns-in-Steps c = rw c.in-Steps.is (search rules)

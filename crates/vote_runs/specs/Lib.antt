@@ -1,9 +1,0 @@
--- what the contracts of public calls say
-pub mod Joined
-pub mod Runs
-pub mod Counting
-pub mod Taking
-pub mod Explaining
-pub mod Performing
-pub mod Status
-pub mod Words

@@ -1,7 +1,0 @@
-use Rattle.std.proofs.Common.{length, sym, ap, ◌∙◌, vec_items}
-use Rattle.std.proofs.lemmas.List.{length-map}
-use Rattle.vote_shared.specs.Desks.{SealedState}
-use Rattle.vote_shared.proofs.sealed.Sealed.desks.Goals as goal
-
-pub returns : goal.returns
-returns c = c.len.ensures ∙ c.self.inside.sheets.ok.0 ∙ sym (length-map c.self.inside.sheets.items vec_items) ∙ ap (λ (s : SealedState). length s.sheets) c.self.view_is

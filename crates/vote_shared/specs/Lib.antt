@@ -1,4 +1,0 @@
--- what the contracts of public calls say
-pub mod Slips
-pub mod Desks
-pub mod Books

@@ -1,0 +1,82 @@
+-- What the program counts before anything is decided, and the sheets that this gives.
+use Rattle.std.specs.Prelude.{◌≡◌, ℕ, List, [], ◌∷◌, ◌++◌, Option, string_bytes}
+use Rattle.std.specs.List.{concat}
+use Rattle.std.specs.declared.string.String.{String}
+use Rattle.vote_poll.specs.Options.{IsOption}
+use Rattle.vote_poll.specs.PollContent.{PollContent, elector_count, option_count}
+use Rattle.vote_count.specs.Rules.{IsKept}
+use Rattle.vote_count.specs.Rounds.{IsDecision, final_set}
+use Rattle.vote_count.specs.Sets.{In}
+use Rattle.vote_count.specs.declared.Decision.{Decision}
+use Rattle.vote_count.specs.declared.Decision.TheVariants.{Winner}
+use Rattle.vote_steps.specs.declared.Totals.{Totals}
+use Rattle.vote_sheet.specs.Sheet.{Sheet, Text, counted_text, decision_text, head_text, options_text, totals_text}
+use Rattle.vote_sheet.specs.SheetOf.{IsSheetOf}
+use Rattle.vote_sheet.specs.declared.sheet.Count.{Count}
+
+-- the sheet of a poll, of what its lines come to, and of what is decided
+abbrev pub as_sheet : PollContent → Count → Decision → Sheet
+as_sheet poll count decision = record {
+  title = poll.title;
+  electors = elector_count poll;
+  quorum_multiple = poll.quorum_multiple;
+  quorum_votes = count.quorum_votes;
+  wording = poll.wording;
+  line_count = count.lines;
+  last_envelope = poll.last_envelope;
+  valid = count.totals.valid;
+  refused = count.totals.refused;
+  voters = count.totals.voters;
+  names = poll.options;
+  ratios = poll.ratios;
+  matrix = count.matrix;
+  outcome = count.verdict;
+  decision = decision;
+}
+
+-- the lines come to this count: with each decision of its final set it is a sheet of the poll, the lines and the casting vote
+abbrev pub IsCountOf : PollContent → List Text → Count → Type 0
+IsCountOf poll lines count =
+    (casting : Option ℕ) (decision : Decision) → IsDecision (final_set count.verdict.rounds) casting decision
+    → IsSheetOf poll lines casting (as_sheet poll count decision)
+
+-- each option of the final set is kept
+abbrev pub FinalSetIsKept : PollContent → Count → Type 0
+FinalSetIsKept poll count = (o : ℕ) → In (final_set count.verdict.rounds) o → IsKept poll count.matrix o
+
+-- a winner is one of the options of the poll
+abbrev pub WinnerIsOption : PollContent → Decision → Type 0
+WinnerIsOption poll decision = (o : ℕ) → decision ≡ Winner o → IsOption (option_count poll) o
+
+-- ---- the parts of these sheets
+
+-- the head, where so many votes are the least that meet the quorum
+abbrev pub head_of : PollContent → ℕ → Text
+head_of poll quorum_votes = head_text poll.title (elector_count poll) poll.quorum_multiple quorum_votes poll.wording
+
+-- the numbers of lines and of voters
+abbrev pub totals_of : PollContent → ℕ → Totals → Text
+totals_of poll lines totals = totals_text lines poll.last_envelope totals.valid totals.refused totals.voters
+
+-- all lines but the last, which alone depends on the casting vote
+abbrev pub shared_text : PollContent → Count → Text
+shared_text poll count = concat (
+    head_of poll count.quorum_votes
+    ∷ totals_of poll count.lines count.totals
+    ∷ options_text poll.options poll.ratios
+    ∷ counted_text (option_count poll) count.matrix count.verdict
+    ∷ [])
+
+-- this is the last line of the sheet with this casting vote
+abbrev pub IsLastLine : PollContent → Count → Option ℕ → Text → Type 0
+IsLastLine poll count casting last =
+    let set = final_set count.verdict.rounds in
+    (decision : Decision) × IsDecision set casting decision × (last ≡ decision_text poll.options set decision)
+
+-- these shared lines, and the last line of the sheet with this casting vote
+abbrev pub IsWhole : PollContent → Count → Text → Option ℕ → Text → Type 0
+IsWhole poll count shared casting sheet = (last : Text) × IsLastLine poll count casting last × (sheet ≡ shared ++ last)
+
+-- the last line of the sheet with this casting vote was added to the text
+abbrev pub AddsLastLine : {Z : Type 0} → PollContent → Count → Option ℕ → String Z → String Z → Type 0
+AddsLastLine poll count casting before after = IsWhole poll count (string_bytes before) casting (string_bytes after)

@@ -1,7 +1,0 @@
-use Rattle.std.proofs.Common.{All}
-use Rattle.vote_poll.specs.PollContent.{option_count}
-use Rattle.vote_count.specs.Ballots.{IsBallotOf}
-use Rattle.vote_tests.proofs.count.push_ballots.Given as goal
-
-abbrev pub invariant-loop-line : goal.invariant-loop-line
-invariant-loop-line l = All (IsBallotOf (option_count l.poll)) l.ballots.items

@@ -1,7 +1,0 @@
-use Rattle.std.proofs.Common.{◌≡◌, true, take}
-use Rattle.std.specs.List.{list_all}
-use Rattle.vote_text.specs.Names.{is_voter_byte}
-use Rattle.vote_text.proofs.names.are_voter_bytes.Given as goal
-
-abbrev pub invariant-loop-byte : goal.invariant-loop-byte
-invariant-loop-byte l = list_all is_voter_byte (take l.byte-index l.text) ≡ true

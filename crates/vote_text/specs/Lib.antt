@@ -1,6 +1,0 @@
--- what the contracts of public calls say
-pub mod Limits
-pub mod Lines
-pub mod FaultWords
-pub mod Names
-pub mod Shown
