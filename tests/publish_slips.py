@@ -19,10 +19,9 @@ EVEN_SO = " (or publish it as it is, with --even-so)"
 WHY = "ask why: debvote explain --poll poll.toml --ballots ballots"
 NOBODY = "No elector has a ballot that stands: nobody's vote has decided this."
 AS_POLL = "The file that was given as the ballots reads as a poll: the ballots themselves may be elsewhere."
-FROM_WINDOWS = (
-    "ballots: all refused lines end with a carriage return, as those of a file from Windows do; "
-    "take it out, and give the file that this makes: tr -d '\\r' < ballots > ballots.unix"
-)
+RETURNS = "ballots: all refused lines end with a carriage return, as those of a file from Windows do; "
+FROM_WINDOWS = RETURNS + "take it out, and give the file that this makes: tr -d '\\r' < ballots > ballots.unix"
+FROM_WINDOWS_IN_ELECTION = RETURNS + "take it out of the file: sed -i 's/\\r$//' ballots"
 FROM_WINDOWS_SHOWN = (
     "All refused lines end with a carriage return, as those of a file from Windows do: "
     "they may be ballots that were meant to count."
@@ -175,13 +174,12 @@ SLIPS = [
         "keys of its own",
         [
             "poll.toml: key a.<b> is not read; put it right or take it out",
-            "poll.toml: key a.last_envelope is not read; it stands below [a], and is read above all tables only, so "
-            "put it right or take it out",
+            "poll.toml: key a.last_envelope is not read; it is inside [a]; put it before the first table, "
+            "or take it out",
         ],
         [
             "The key a.<b> of the poll file is not read: what it says has not counted.",
-            "The key a.last_envelope of the poll file is not read (it stands below [a], and is read above all tables only): "
-            "what it says has not counted.",
+            "The key a.last_envelope of the poll file is not read (it is inside [a]): what it says has not counted.",
         ],
         poll=PLAIN_POLL + '[a]\nlast_envelope = 2\n"<b>" = 1\n',
     ),
@@ -320,7 +318,7 @@ SLIPS = [
     Slip(
         "several at once",
         [
-            FROM_WINDOWS,
+            FROM_WINDOWS_IN_ELECTION,
             UNENDED,
             "poll.toml: key last-envelope is not read; did you mean last_envelope? put it right or take it out",
             OPEN,

@@ -1,9 +1,10 @@
 # Completion of debvote-election for fish.
-set -l commands new roll check call add desk status close count publish
+set -l commands new roll check codes call add desk status close count publish
 complete -c debvote-election -f
 complete -c debvote-election -n "not __fish_seen_subcommand_from $commands" -a new -d "Make the folder of an election"
 complete -c debvote-election -n "not __fish_seen_subcommand_from $commands" -a roll -d "Write the roll from the list of members"
 complete -c debvote-election -n "not __fish_seen_subcommand_from $commands" -a check -d "Say what is wrong with the poll"
+complete -c debvote-election -n "not __fish_seen_subcommand_from $commands" -a codes -d "Make a secret code for each elector"
 complete -c debvote-election -n "not __fish_seen_subcommand_from $commands" -a call -d "Make the call for votes"
 complete -c debvote-election -n "not __fish_seen_subcommand_from $commands" -a add -d "Add ballots from files"
 complete -c debvote-election -n "not __fish_seen_subcommand_from $commands" -a desk -d "Enter ballots by hand"
@@ -24,3 +25,7 @@ complete -c debvote-election -n "__fish_seen_subcommand_from add" -l ranks -x -d
 complete -c debvote-election -n "__fish_seen_subcommand_from add" -l even-so -d "Add although no line is a ballot, or they came before"
 complete -c debvote-election -n "__fish_seen_subcommand_from count publish" -l casting -x -d "The option of the casting vote"
 complete -c debvote-election -n "__fish_seen_subcommand_from publish" -l even-so -d "Publish although something looks wrong"
+complete -c debvote-election -n "__fish_seen_subcommand_from publish" -l secret -d "Publish a secret vote under aliases"
+complete -c debvote-election -n "__fish_seen_subcommand_from publish" -l voters -d "List who voted, in a secret vote"
+complete -c debvote-election -n "__fish_seen_subcommand_from publish" -l labels -r -F -d "What title and options are called on the page"
+complete -c debvote-election -n "__fish_seen_subcommand_from publish" -l about -r -F -d "A text for the page"

@@ -29,6 +29,10 @@ class Fault(Exception):
         self.status = status
 
 
+# what the page of a secret vote says of a doubt that would tell a name, a line or a number of a line
+UNNAMED = "There is a doubt about the files of this vote; what it is would tell more than a secret vote may."
+
+
 @dataclasses.dataclass(frozen=True)
 class Doubt:
     """A reason to stop: file, reason and cure for the one who publishes, and a sentence for the readers of the page."""
@@ -37,6 +41,8 @@ class Doubt:
     reason: str
     cure: str
     sentence: str
+    # the sentence on the page of a secret vote; it is the general one unless the doubt names nobody
+    in_secret: str = UNNAMED
 
     def line(self) -> str:
         return f"{self.file}: {self.reason}; {self.cure}"

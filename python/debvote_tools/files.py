@@ -59,6 +59,15 @@ def write_whole(file: pathlib.Path, data: bytes, mode: int = 0o644) -> None:
     sync_folder(file.parent)
 
 
+def write_public(file: pathlib.Path, data: bytes) -> None:
+    """Writes a new file that everybody may read, whatever the umask, and brings it to the disk. Raises OSError."""
+    with open(file, "xb") as target:
+        target.write(data)
+        target.flush()
+        os.fchmod(target.fileno(), 0o644)
+        os.fsync(target.fileno())
+
+
 def umask() -> int:
     """The bits that new files do not get. The system tells them only where they are set."""
     mask = os.umask(0o077)
@@ -101,12 +110,12 @@ def end_of_lines(handle: int) -> int:
     return 0
 
 
-def write_new(folder: pathlib.Path, name: str, data: bytes) -> pathlib.Path:
+def write_new(folder: pathlib.Path, name: str, data: bytes, mode: int = 0o644) -> pathlib.Path:
     """Writes a file into a folder of numbered files, as `0007-poll.toml`, whole; the folder is made where it is not there."""
     folder.mkdir(exist_ok=True)
     numbers = [int(found[1]) for file in folder.iterdir() if (found := re.match(r"(\d+)-", file.name))]
     file = folder / f"{max(numbers, default=0) + 1:04}-{name}"
-    write_whole(file, data)
+    write_whole(file, data, mode)
     return file
 
 

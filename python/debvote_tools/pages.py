@@ -3,6 +3,8 @@
 What is given to these functions is HTML already: a name or a text goes through `html.escape` first.
 """
 
+import base64
+import hashlib
 from collections.abc import Iterable
 from html import escape
 
@@ -45,8 +47,17 @@ pre { background: var(--shade); padding: 0.6rem 0.8rem; white-space: pre-wrap; }
 code { font-family: ui-monospace, monospace; }
 """
 
-# what a page without scripts may load: nothing but what stands in it
-POLICY = "default-src 'none'; style-src 'unsafe-inline'"
+# behind it, the style of a page on which something is typed or chosen
+FIELDS_STYLE = """
+[hidden] { display: none !important; }
+.field label { display: block; margin-bottom: 0.3rem; padding: 0; font-weight: 600; }
+input, select, button, .letter { box-sizing: border-box; min-height: 2.75rem; padding: 0.4rem 0.7rem; font: inherit;
+  color: var(--ink); background: var(--paper); border: 1px solid var(--line); border-radius: 0.3rem; }
+input { width: 100%; max-width: 40rem; }
+button, .letter { display: inline-flex; align-items: center; background: var(--shade); cursor: pointer;
+  text-decoration: none; font-weight: 600; }
+input:focus-visible, select:focus-visible, button:focus-visible { outline: 3px solid var(--link); outline-offset: 2px; }
+"""
 
 PAGE = """<!DOCTYPE html>
 <html lang="en">
@@ -61,14 +72,28 @@ PAGE = """<!DOCTYPE html>
 <main>
 <h1>{heading}</h1>
 {sections}</main>
-{behind}</body>
+{script}</body>
 </html>
 """
 
 
-def page(head: str, heading: str, sections: str, *, style: str = STYLE, policy: str = POLICY, behind: str = "") -> str:
-    """A whole page. `head` is what the window is called; `behind` stands behind all parts, as a script does."""
-    return PAGE.format(policy=policy, head=head, style=style, heading=heading, sections=sections, behind=behind)
+def page(head: str, heading: str, sections: str, *, style: str = STYLE, script: str = "") -> str:
+    """A whole page. `head` is what the window is called. It loads nothing, and runs its own script alone, where it has one."""
+    shown = f"<script>{script}</script>\n" if script else ""
+    return PAGE.format(
+        policy=policy_of(style, script), head=head, style=style, heading=heading, sections=sections, script=shown
+    )
+
+
+def policy_of(style: str, script: str) -> str:
+    """What a page may load and run: its style and its script, each by its sum, and nothing else."""
+    scripts = f"script-src {source_of(script)}; " if script else ""
+    return f"default-src 'none'; {scripts}style-src {source_of(style)}; base-uri 'none'; form-action 'none'"
+
+
+def source_of(text: str) -> str:
+    """How the policy of a page allows a script or a style that stands in it."""
+    return f"'sha256-{base64.b64encode(hashlib.sha256(text.encode()).digest()).decode()}'"
 
 
 def part(heading: str, *blocks: str) -> str:

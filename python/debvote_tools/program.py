@@ -83,7 +83,7 @@ def casting_words(name: str | None) -> list[str]:
 # ---------------------------------------------------------------- answers, read by FORMATS
 FINDING = re.compile(r"ballots:(\d+): (late|bad shape|bad rank count|bad not on roll): (.*)")
 TOTALS = re.compile(r"(\d+) lines: (\d+) valid, (\d+) refused, (\d+) of them late; (\d+) of (\d+) electors have a ballot")
-WINDOWS = "all refused lines end with a carriage return"
+WINDOWS = "lines of bad shape end with a carriage return"
 
 
 def findings_in(text: str) -> Findings:

@@ -280,8 +280,7 @@ class Changed(AddTest):
         )
         self.assertIn(
             "3 bad shape  Gsu 1,2,4,3: column 1: capital letter\n"
-            "  it went in as it came; written as `gsu 1,2,4,3` it is refused too: bad not on roll: gsu is not on the roll; "
-            "did you mean gus?\n",
+            "  it went in as it came; written as `gsu 1,2,4,3` it is refused too: bad not on roll: gsu is not on the roll\n",
             output,
         )
         self.assertIn(f"{RIGHT}\nAdded 3 lines (2 bad shape, 1 counted).\n", output)
@@ -291,9 +290,9 @@ class Changed(AddTest):
         came = "“ada” 1,2,4,3\nben\u00a01,2,4,3\ncleo 1,2,–,3\nA>B>C\ndan 1.\neve 1.,2,3,4\n1,2,3,4\n"
         output = self.election("add", "--even-so", given=came).output
         for told in (
-            '1 bad shape  “ada” 1,2,4,3: column 1: byte 0xE2 (it has quotation marks; a ballot has none)\n',
-            "2 bad shape  ben\\u00A01,2,4,3: column 4: byte 0xC2 (it has a no-break space; a plain space belongs there)\n",
-            "3 bad shape  cleo 1,2,–,3: column 10: byte 0xE2 (a long dash stands where a hyphen belongs)\n",
+            '1 bad shape  “ada” 1,2,4,3: column 1: curly quote (it has quotation marks; a ballot has none)\n',
+            "2 bad shape  ben\\u00A01,2,4,3: column 4: no-break space (it has a no-break space; a plain space belongs there)\n",
+            "3 bad shape  cleo 1,2,–,3: column 10: en dash (a long dash stands where a hyphen belongs)\n",
             "4 bad shape  A>B>C: column 1: capital letter "
             "(it has the sign >; a ballot has numbers with commas between, a rank for each option)\n",
             '5 bad shape  dan 1.: column 6: "." (a rank is a number alone, without a point or a bracket behind it)\n',
@@ -315,7 +314,7 @@ class Changed(AddTest):
         self.election("add", "--even-so", given="nobodynear 1,2,3,4\n" * 150)
         self.election("close")
         output = self.election("add", given="gsu 1,2,3,4\n").output
-        self.assertIn("151 late  gsu 1,2,3,4: bad not on roll: gsu is not on the roll; did you mean gus?\n", output)
+        self.assertIn("151 late  gsu 1,2,3,4: bad not on roll: gsu is not on the roll\n", output)
 
 
 class RefusedWhole(AddTest):

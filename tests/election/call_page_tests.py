@@ -151,7 +151,7 @@ class CallPageTest(support.ElectionTest):
     def called(self, name: str, poll: str, *words: str) -> pathlib.Path:
         """The page of the call for a poll."""
         folder = self.scratch / name
-        folder.mkdir()
+        folder.mkdir(exist_ok=True)
         (folder / "poll.toml").write_text(poll)
         ended = self.election("--folder", folder, "call", *words)
         self.assertEqual((ended.status, ended.faults), (0, ""))
@@ -264,6 +264,25 @@ class CallPageTest(support.ElectionTest):
         for name, result in zip(said, unlisted["results"], strict=True):
             self.assertNotRegex(result["said"], "Did you mean|roll of this poll")
             self.assertEqual(bool(result["line"]), re.fullmatch("[A-Za-z0-9.-]+", name) is not None, name)
+
+    def test_a_secret_vote_takes_no_code_for_a_name(self) -> None:
+        folder = self.scratch / "secret"
+        folder.mkdir()
+        (folder / "poll.toml").write_text(support.POLL)
+        self.assertEqual(self.election("--folder", folder, "codes").status, 0)
+        page = self.called("secret", support.POLL)
+        names = ["ada", "Ada ", "", "0123456789abcdef" * 2, "stranger"]
+        choices = [{"name": name, "ranks": list("1234")} for name in names]
+        (found,), console = browse(self.scratch, [{"page": page.as_uri(), "width": 360, "choices": choices}])
+        self.assertEqual((console, found["offered"], found["violations"], found["wide"]), ("", [], [], 360))
+        lines = [result["line"] for result in found["results"]]
+        self.assertEqual(lines, ["ada 1,2,3,4", "ada 1,2,3,4", "", "", "stranger 1,2,3,4"])
+        self.assertIn("Type your name as it stands on the slip with your code.", found["results"][2]["missing"])
+        self.assertIn("This looks like a code.", found["results"][3]["said"])
+        # in an open vote such a name may stand on the roll
+        page = self.called("open", support.POLL.replace('"ada"', json.dumps(names[3])))
+        (found,), _ = browse(self.scratch, [{"page": page.as_uri(), "width": 360, "choices": choices[3:4]}])
+        self.assertEqual(found["results"][0]["line"], f"{names[3]} 1,2,3,4")
 
     def test_words(self) -> None:
         ranks = ["21-3", "1111", "1---", "1-1-", "99--", "2112"]

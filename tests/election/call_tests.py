@@ -182,6 +182,10 @@ class MadeTest(CallTest):
             self.assertIn(sum_of(POLL.encode()), text)
             self.assertNotIn("cleo", text)
             self.assertNotIn("href=\"poll.toml\"", text)
+        # a call anew does not tell the roll unasked
+        self.assertIn("The poll stays out of the folder, as in the earlier call.\n", self.call())
+        self.assert_whole(has_poll=False)
+        shutil.rmtree(self.folder / "call")
         self.call()
         self.assert_whole()
         self.call("--no-roll")
@@ -405,6 +409,22 @@ class ChangedTest(CallTest):
         self.assertIn("Until when: tomorrow", self.read("call/call.txt").decode())
         self.assertEqual(self.acts(), ["call", "call"])
         self.assertEqual((self.leftovers(), sorted(os.listdir(self.folder / "backup"))), ([], ["poll.toml.called"]))
+
+    def test_called_again_it_keeps_time_and_address(self) -> None:
+        until = "Friday & 'Saturday' <b>18:00</b> \u05d0 until when: now"
+        self.call("--until", until, "--to", ADDRESS)
+        before = {name: self.read(f"call/{name}") for name in ALL}
+        said = self.call()
+        self.assertIn(f"Until when is as in the earlier call: {until}\nThe address is as in the earlier call: {ADDRESS}\n", said)
+        self.assertIn("To call without what was kept, first remove the folder call.\n", said)
+        self.assertTrue(said.splitlines()[-1].startswith("Next: "))
+        self.assertEqual({name: self.read(f"call/{name}") for name in ALL}, before)
+        said = self.call("--to", "other@club.example")
+        self.assertIn(f"Until when is as in the earlier call: {until}\nTo call without", said)
+        self.assertIn("Send your ballot to: other@club.example", self.read("call/call.txt").decode())
+        said = self.call("--until", "tomorrow", "--to", ADDRESS)
+        self.assertNotIn("earlier", said)
+        self.assertIn("Until when: tomorrow", self.read("call/call.txt").decode())
 
     def test_two_calls_make_the_same_bytes(self) -> None:
         before = {name: self.read(f"call/{name}") for name in ALL}

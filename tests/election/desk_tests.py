@@ -107,7 +107,7 @@ class AtATerminal(DeskTest):
         desk.until("Ballot: ")
         desk.type("gsu 1,2,3,4\n")
         shown = desk.until("It would count for nothing. Cast it all the same? [y/n] ")
-        words = "It would be refused: gsu 1,2,3,4: bad not on roll: gsu is not on the roll; did you mean gus?\n"
+        words = "It would be refused: gsu 1,2,3,4: bad not on roll: gsu is not on the roll\n"
         self.assertIn(f"{words}A right line in this poll: ada 1,2,3,4 ", shown)
         desk.type("y\n")
         self.assertIn("1 bad not on roll  gsu 1,2,3,4: ", desk.until("Ballot: "))
@@ -119,7 +119,7 @@ class AtATerminal(DeskTest):
         desk = Terminal(self)
         desk.until("Ballot: ")
         for line, words in {
-            "Gsu 1,2,3,4": "Gsu 1,2,3,4: bad not on roll: gsu is not on the roll; did you mean gus?",
+            "Gsu 1,2,3,4": "Gsu 1,2,3,4: bad not on roll: gsu is not on the roll",
             "Ada 1,,3,4": "Ada 1,,3,4: bad shape: column 7: comma "
             "(the second rank is missing; who does not want to rank an option writes a hyphen)",
             "Ada 1,2": "Ada 1,2: bad rank count: 2 ranks, the poll has 4 options",
@@ -250,7 +250,7 @@ class FromAPipe(DeskTest):
         self.assertIn("desk:2: it is empty, and was left out\n", output)
         words = "(it is one word; a ballot has a name, a space and the ranks)"
         self.assertIn(f"2 bad shape  q: column 2: end of line {words}\n", output)
-        self.assertIn("did you mean gus?\nA right line in this poll: ", output)
+        self.assertIn("gsu is not on the roll\nA right line in this poll: ", output)
         self.assertEqual(self.read("ballots"), b"ada 1,2,4,3\nq\ny\ngsu 1,2,4,3\n")
         self.assertEqual(self.read("received/0001-desk"), came)
 

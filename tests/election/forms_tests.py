@@ -18,6 +18,19 @@ class FormTest(support.ElectionTest):
         self.assertEqual(sorted(self.contents()), ["form.csv", "poll.toml"])
 
 
+class Quotes(FormTest):
+    def test_heads_without_quotes(self) -> None:
+        """The shell cuts them at their spaces, and what is left of them looks like files."""
+        self.write("form.csv", "n,The lake,Town hall,c,d\nada,1,2,3,4\n")
+        cure = "type the name of the file, and the heads between single quotes where a space is in them"
+        for words, found in [
+            (["--name", "n", "--ranks", "The", "lake,Town", "hall,c,d", "form.csv"], "--csv: there is no file lake,Town; "),
+            (["--name", "n", "--ranks", "The lake,Town hall,", "c,d", "form.csv"], "--csv: there is no file c,d; "),
+            (["--name", "n", "--ranks", "a,b,c,", "form.csv"], "--csv: the list ends with a comma: a,b,c,; "),
+        ]:
+            self.assert_refused(self.election("add", "--csv", *words), 2, f"{found}nothing was added: {cure}")
+
+
 class Rows(FormTest):
     def test_rows_are_ballots(self) -> None:
         came = f'{HEAD}\r\n"1.2.2026 18:04","ada","1","2","4","3"\r\n"1.2.2026 18:05"," Ben ","2","1","-","3"\r\n'

@@ -40,7 +40,7 @@ class New(support.ElectionTest):
         ended = self.election("--folder", "spring", "check")
         said = [
             "poll: key quorum: it is missing", "poll: title: it is empty",
-            "poll: number of options: the default alone, 2 are the least",
+            "poll: number of options: only the default option; at least 2 options are needed",
             "poll: name of option 1: it is empty", "poll: size of roll: no name, 1 is the least",
         ]  # fmt: skip
         self.assertEqual(ended.output.splitlines(), said)

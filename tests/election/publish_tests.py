@@ -42,7 +42,8 @@ class PublishTest(support.ElectionTest):
         """The folder has the files of the election, its page and the sheet."""
         self.assertTrue((folder / "index.html").exists())
         self.assertEqual((folder / "poll.toml").read_bytes(), self.read("poll.toml"))
-        self.assertIn(b"Voters: ", b"".join(file.read_bytes() for file in folder.glob("sheet*")))
+        self.assertEqual((folder / "ballots.txt").read_bytes(), self.read("ballots"))
+        self.assertIn(b"Voters: ", (folder / "sheet.txt").read_bytes())
 
 
 def support_sum(data: bytes) -> str:
@@ -86,6 +87,23 @@ class Publish(PublishTest):
         self.assertEqual(self.election(*typed[1:], cwd=self.scratch).status, 0)
         self.assert_published(self.scratch / "our result-2")
 
+    def test_labels_and_a_text_of_the_user(self) -> None:
+        """They are found from where the user is, and stand in the command that is proposed too."""
+        (self.scratch / "labels").write_text("1\tAm See\n")
+        (self.scratch / "about").write_text("Geprüft von Anna.\n")
+        words = ["--folder", "election", "publish", "--labels", "labels", "--about", "about"]
+        ended = self.election(*words, cwd=self.scratch)
+        self.assertEqual((ended.faults, ended.status), ("", 0))
+        page = (self.folder / "result" / "index.html").read_text()
+        self.assertIn("<b>1 <bdi>Am See</bdi></b> has won.", page)
+        self.assertIn("Geprüft von Anna.", page)
+        again = self.election(*words, cwd=self.scratch)
+        self.assert_fault(again, 2, "publish --labels=labels --about=about election/result-2\n")
+        (self.scratch / "labels").write_text("9\tAm See\n")
+        ended = self.election(*words, "other", cwd=self.scratch)
+        self.assertEqual((ended.status, ended.output), (2, ""))
+        self.assertIn("debvote-publish: labels:1: the poll has no option 9", ended.faults)
+
     def test_an_empty_folder_is_taken(self) -> None:
         (self.folder / "result").mkdir()
         self.assertEqual(self.election("publish").status, 0)
@@ -108,6 +126,11 @@ class Publish(PublishTest):
             "Tie: 1 2\nverified\nNext: it is a tie: put the folder result on the web site, ask for the casting vote", ended.output
         )
         self.assertTrue(ended.output.endswith(": debvote-election publish --casting=NAME result-2\n"))
+        ended = self.election("publish", "tie")
+        self.assertTrue(ended.output.endswith(": debvote-election publish --casting=NAME result-2\n"))
+        shutil.rmtree(self.folder / "result")
+        ended = self.election("publish", "tie-2")
+        self.assertTrue(ended.output.endswith(": debvote-election publish --casting=NAME\n"))
         ended = self.election("publish", "--casting", "In the town hall", "result-2")
         self.assertEqual((ended.output.splitlines()[0], ended.status), ("Winner: 2 In the town hall by casting vote", 0))
 
@@ -131,6 +154,16 @@ class Publish(PublishTest):
         self.close()
         ended = self.election("publish", "--casting=--even-so")
         self.assertEqual((ended.output.splitlines()[0], ended.status), ("Winner: 2 --even-so by casting vote", 0))
+
+    def test_lines_from_windows_have_a_cure_that_can_be_typed(self) -> None:
+        self.write("ballots", WON + "dan 1,2,3,4\r\n")
+        self.close()
+        ended = self.election("publish")
+        cure = "take it out of the file: sed -i 's/\\r$//' ballots (or publish"
+        self.assert_fault(ended, 9, "debvote-publish: ballots: all refused lines end with a carriage return", cure)
+        subprocess.run(["sh", "-c", ended.faults.partition("of the file: ")[2].partition(" (or")[0]], cwd=self.folder, check=True)
+        self.assertEqual(self.read("ballots"), (WON + "dan 1,2,3,4\n").encode())
+        self.assertEqual(self.election("publish").status, 0)
 
     def test_a_poll_that_is_refused_makes_nothing(self) -> None:
         self.write("poll.toml", support.POLL.replace("quorum = 1", "quorum = 11"))
@@ -185,6 +218,8 @@ class Words(PublishTest):
         self.assertEqual(self.asked("publish")[1], [*files, "result"])
         self.assertEqual(self.asked("publish", "--even-so", "x y")[1], [*files, "--even-so", "x y"])
         self.assertEqual(self.asked("publish", "--casting", "At the lake")[1], [*files, "--casting", "At the lake", "result"])
+        given = ["--labels=my labels", "--about=--even-so"]
+        self.assertEqual(self.asked("publish", "--about=--even-so", "--labels", "my labels")[1], [*files, *given, "result"])
         where = ["--poll", "election/poll.toml", "--ballots", "election/ballots", "election/result"]
         self.assertEqual(self.asked("--folder", "election", "publish", cwd=self.scratch)[1], where)
 

@@ -57,9 +57,9 @@ class Writes(RollTest):
         self.write("members.csv", "name,who,mail\n" + "".join(f"n{i},,\n" for i in range(100)))
         output = self.election("roll").output
         self.assertIn("has 100 electors:\n  n0\n  n1\n", output)
-        self.assertIn("\n  n9\n  and 90 more\nQuorum: 5 votes (1Q): at least 5 electors must", output)
+        self.assertIn("\n  n98\n  n99\nQuorum: 5 votes (1Q): at least 5 electors must", output)
         self.write("poll.toml", support.POLL.replace("quorum = 1", "quorum = 0"))
-        self.assertIn("  and 90 more\nQuorum: none\n", self.election("roll").output)
+        self.assertIn("  n99\nQuorum: none\n", self.election("roll").output)
 
     def test_a_poll_that_is_not_in_order_yet(self) -> None:
         self.write("poll.toml", "# x\ntitle = ''\nroll = [ # to be written\n]\n")
@@ -119,7 +119,7 @@ class Writes(RollTest):
         self.write("members.csv", "name,who,mail\n" + "".join(f"n{i},N. {i},n{i}@x\n" for i in range(10_000)))
         ended = self.election("roll")
         self.assertIn("has 10000 electors:\n  n0: N. 0\n", ended.output)
-        self.assertIn("\n  n9: N. 9\n  and 9990 more\nQuorum: 50 votes", ended.output)
+        self.assertIn("\n  n199: N. 199\n  and 9800 more, in members.csv\nQuorum: 50 votes", ended.output)
         self.write("members.csv", "name,who,mail\n" + "".join(f"n{i},,\n" for i in range(10_001)))
         before = self.contents()
         self.assert_fault(self.election("roll"), 9, "members.csv: the roll would have 10001 names, 10000 are the most")
@@ -146,10 +146,15 @@ class Proposes(RollTest):
         self.assertEqual(self.roll_of(), ["muller-zoe", "ben", "li"])
         self.assertEqual(self.read("members.csv").decode(), after)
 
-    def test_of_many_names_the_first_are_shown(self) -> None:
+    def test_all_names_are_shown(self) -> None:
         self.write("members.csv", "name,who,mail\n" + "".join(f",N {i},\n" for i in range(25)))
         said = self.election("roll").output.splitlines()
-        self.assertEqual((len(said), said[1], said[-1]), (12, "  n-0: N 0 (line 2)", "  and 15 more"))
+        self.assertEqual((len(said), said[1], said[-1]), (26, "  n-0: N 0 (line 2)", "  n-24: N 24 (line 26)"))
+
+    def test_of_a_great_many_names_the_first_are_shown(self) -> None:
+        self.write("members.csv", "name,who,mail\n" + "".join(f",N {i},\n" for i in range(203)))
+        said = self.election("roll").output.splitlines()
+        self.assertEqual((len(said), said[-2], said[-1]), (202, "  n-199: N 199 (line 201)", "  and 3 more, in members.csv"))
 
     def test_where_nothing_is_left(self) -> None:
         self.write("members.csv", "name,who,mail\n,李明,\n,Ada,\n,明,明@x\n")
@@ -255,7 +260,7 @@ class AfterTheCall(RollTest):
         self.write("members.csv", GOOD + "cleo,,\n")
         before = self.contents()
         ended = self.election("roll")
-        self.assert_fault(ended, 9, "poll.toml: the call for votes was made with another roll", "first remove the folder call")
+        self.assert_fault(ended, 9, "members.csv: the call for votes was made with another roll than this list has: new are cleo; put the list back", "first remove the folder call")
         self.assert_unchanged(before)
 
     def test_another_roll_where_ballots_are_in_the_box(self) -> None:
@@ -263,7 +268,7 @@ class AfterTheCall(RollTest):
         self.write("ballots", "ada 1,2,3,4\n")
         before = self.contents()
         ended = self.election("roll")
-        self.assert_fault(ended, 9, "with another roll", "ballots has 1 line already", "a new election in a new folder")
+        self.assert_fault(ended, 9, "with another roll", "ballots has 1 line already", "put the list right", "a new election in a new folder")
         self.assertNotIn("remove the folder", ended.faults)
         self.assert_unchanged(before)
 

@@ -24,14 +24,17 @@ def call_command(election: Election) -> str:
     return f'{command(election, "call")} --until "TEXT" --to ADDRESS ({both})'
 
 
-def given_already(election: Election, files: Files) -> str | None:
-    """That ballots were given already, and so what is to be done for another poll; none where there are no lines."""
+def given_already(election: Election, files: Files, what: str = "this") -> str | None:
+    """That ballots were given already, and so what is to be done for another poll; none where there are no lines.
+
+    `what` is what has to be put right.
+    """
     ballots = files.ballots or b""
     lines = ballots.count(b"\n") + (not ballots.endswith(b"\n") and ballots != b"")
     if not lines:
         return None
     given = "1 line already that was" if lines == 1 else f"{lines} lines already that were"
-    right = f"put this right (the poll that was called is {election.called_poll})"
+    right = f"put {what} right (the poll that was called is {election.called_poll})"
     anew = "or hold a new election in a new folder: debvote-election new FOLDER"
     return f"{election.ballots} has {given} given for that poll; {right}, {anew}"
 

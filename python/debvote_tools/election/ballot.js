@@ -7,12 +7,16 @@
   // mail programs break longer lines at their space
   const MAIL_LIMIT = 72;
   const UNRANKED = "-";
+  // what an elector has in a secret vote, and does not send
+  const CODE = /^[0-9a-f]{32}$/;
+  const CODE_TYPED = "This looks like a code. Type the name that stands with it, and send the code to nobody.";
   // so many names that are near a typed one are shown
   const NEAR_LIMIT = 5;
 
   const byId = (id) => document.getElementById(id);
   const form = byId("ballot");
   const nameInput = byId("name");
+  const isSecret = "secret" in form.dataset;
   const selects = [...form.querySelectorAll("select")];
   // the names on the roll, where the page shows them
   const roll = [...document.querySelectorAll("#roll li")].map((item) => item.textContent);
@@ -72,7 +76,8 @@
 
   // Why no elector can have this name, or nothing.
   function oddity(name) {
-    if (name === "") return "Type your name as it stands on the roll.";
+    if (name === "") return `Type your name as it stands ${form.dataset.place}.`;
+    if (isSecret && CODE.test(name)) return CODE_TYPED;
     const odd = [...name].find((character) => !/[a-z0-9.-]/.test(character));
     if (odd !== undefined) {
       const shown = /\s/.test(odd) ? "a space" : `“${odd}”`;

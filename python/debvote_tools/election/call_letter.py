@@ -26,7 +26,7 @@ def letter(call: Call) -> str:
         wrapped(call.default_words()),
         wrapped(call.quorum_words()),
         heading("How a ballot is written"),
-        wrapped(call_words.HOW),
+        wrapped(call.how_words()),
         wrapped(call_words.RANKS),
         "For example:\n",
         copied(call.example()),
@@ -34,19 +34,19 @@ def letter(call: Call) -> str:
         wrapped(call_words.AGAIN),
         *roll(call),
         heading("What will be public"),
-        wrapped(call_words.PUBLIC),
+        wrapped(call.public_words()),
         heading("The poll"),
         wrapped(call.poll_words(f"is {PLACE}")),
         copied(call.poll_sum),
         wrapped(call.compare_words()),
-        copied(call_words.COMPARE),
-        wrapped(call_words.LATER),
+        copied(call.compare),
+        wrapped(call.later_words()),
     ]
     return "\n".join(parts)
 
 
 def roll(call: Call) -> list[str]:
-    """The names on the roll, or where they stand; nothing where the call has no roll."""
+    """The names on the roll, or where they stand; nothing where the call has no names."""
     if call.roll is None:
         return []
     if len(call.roll) > NAMES_LIMIT:

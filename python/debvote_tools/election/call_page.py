@@ -1,10 +1,9 @@
 """The page of the call for votes: it can be read without scripts, and with its one script it makes the line of a ballot."""
 
-import base64
-import hashlib
 import pathlib
+import re
 import urllib.parse
-from html import escape
+from html import escape, unescape
 
 from debvote_tools import pages
 from debvote_tools.election import call_words
@@ -17,22 +16,14 @@ SCRIPT = pathlib.Path(__file__).with_name("ballot.js")
 NAMES_LIMIT = 2_000
 
 STYLE = """
-[hidden] { display: none !important; }
 h3 { font-size: 1.05rem; margin: 1.5rem 0 0.3rem; }
 fieldset { margin: 1.25rem 0; padding: 0; border: 0; min-width: 0; }
-legend, .field label { padding: 0; font-weight: 600; }
+legend { padding: 0; font-weight: 600; }
 fieldset p { margin: 0.2rem 0 0.6rem; }
-.field label { display: block; margin-bottom: 0.3rem; }
 .rank { display: grid; grid-template-columns: minmax(0, 1fr) auto; gap: 0.25rem 1rem; align-items: center;
   padding: 0.35rem 0; border-top: 1px solid var(--line); max-width: 40rem; }
 .rank:last-child { border-bottom: 1px solid var(--line); }
-input, select, button, .letter { box-sizing: border-box; min-height: 2.75rem; padding: 0.4rem 0.7rem; font: inherit;
-  color: var(--ink); background: var(--paper); border: 1px solid var(--line); border-radius: 0.3rem; }
-input { width: 100%; max-width: 40rem; }
 select { width: 8.5rem; }
-button, .letter { display: inline-flex; align-items: center; background: var(--shade); cursor: pointer;
-  text-decoration: none; font-weight: 600; }
-input:focus-visible, select:focus-visible, button:focus-visible { outline: 3px solid var(--link); outline-offset: 2px; }
 #line { display: block; padding: 0.6rem 0.8rem; background: var(--shade); border-left: 0.4rem solid var(--link);
   font: 1.15rem/1.5 ui-monospace, monospace; word-break: break-all; }
 #line:empty { display: none; }
@@ -47,7 +38,7 @@ summary:focus-visible { outline: 3px solid var(--link); outline-offset: 2px; }
 """
 
 FORM = """<div class="field">
-<label for="name">Your name, as it stands on the roll</label>
+<label for="name">Your name, as it stands {place}</label>
 <input id="name" type="text" autocomplete="off" spellcheck="false" aria-describedby="name-said">
 <p id="name-said" class="said" role="status"></p>
 </div>
@@ -77,19 +68,10 @@ Look at the letter before you send it: it has to be one line.</p>
 def html(call: Call) -> str:
     """The page. It loads nothing, and runs its own script alone."""
     script = SCRIPT.read_text(encoding="utf-8")
-    style = pages.STYLE + STYLE
-    policy = (
-        f"default-src 'none'; script-src {source_of(script)}; style-src {source_of(style)}; base-uri 'none'; form-action 'none'"
-    )
-    parts = [head(call), options(call), form(call), roll(call), how(call), public(), poll(call)]
+    style = pages.STYLE + pages.FIELDS_STYLE + STYLE
+    parts = [head(call), options(call), form(call), roll(call), how(call), public(call), poll(call)]
     title = escape(call.title)
-    behind = f"<script>{script}</script>\n"
-    return pages.page(f"Vote: {title}", title, "".join(parts), style=style, policy=policy, behind=behind)
-
-
-def source_of(text: str) -> str:
-    """How the policy of a page allows a script or a style that stands in it."""
-    return f"'sha256-{base64.b64encode(hashlib.sha256(text.encode()).digest()).decode()}'"
+    return pages.page(f"Vote: {title}", title, "".join(parts), style=style, script=script)
 
 
 def head(call: Call) -> str:
@@ -108,6 +90,14 @@ def to(call: Call) -> str:
     return f'Send your ballot to: <a href="{escape(mail_to(call))}">{escape(call.to)}</a>'
 
 
+def said_in(page: str) -> tuple[str | None, str | None]:
+    """Until when one can vote and where ballots are sent, as a page of a call says it that was made here."""
+    head = page.partition("</section>")[0]
+    time = re.search(r"<p>Until when: <b><bdi>(.*?)</bdi></b></p>", head)
+    address = re.search(r'<p>Send your ballot to: <a href="[^"]*">(.*?)</a></p>', head)
+    return (unescape(time[1]) if time else None, unescape(address[1]) if address else None)
+
+
 def mail_to(call: Call) -> str:
     """The address of a letter, without its subject; nothing where there is none."""
     return "" if call.to is None else f"mailto:{urllib.parse.quote(call.to, safe='@')}"
@@ -124,8 +114,9 @@ def form(call: Call) -> str:
     """What the script works on. It stays hidden where there is none."""
     ranks = "".join(rank(option, name, len(call.sheet.names)) for option, name in call.sheet.names.items())
     letter = '<a id="letter" class="letter">Write a letter with it</a>\n' if call.to else ""
-    filled = FORM.format(ranks=ranks, letter=letter, to=to(call))
-    data = f'data-title="{escape(call.title)}" data-to="{escape(mail_to(call))}"'
+    filled = FORM.format(ranks=ranks, letter=letter, to=to(call), place=call.place)
+    data = f'data-title="{escape(call.title)}" data-to="{escape(mail_to(call))}" data-place="{call.place}"'
+    data += " data-secret" if call.is_secret else ""
     return f'<div id="ballot" {data} hidden>\n{part("Your ballot", filled)}</div>\n'
 
 
@@ -139,7 +130,7 @@ def rank(option: int, name: str, count: int) -> str:
 
 
 def roll(call: Call) -> str:
-    """The names on the roll, which the script reads here, or where they stand; nothing where the call has no roll."""
+    """The names on the roll, which the script reads here, or where they stand; nothing where the call has no names."""
     if call.roll is None:
         return ""
     if len(call.roll) > NAMES_LIMIT:
@@ -152,19 +143,19 @@ def roll(call: Call) -> str:
 
 def how(call: Call) -> str:
     example = command_block("For example:", call.example())
-    said = [call_words.HOW, call_words.RANKS]
+    said = [call.how_words(), call_words.RANKS]
     blocks = [*map(paragraph, said), example, paragraph(escape(call.example_words())), paragraph(call_words.AGAIN)]
     return part("How a ballot is written", *blocks)
 
 
-def public() -> str:
-    return part("What will be public", paragraph(call_words.PUBLIC))
+def public(call: Call) -> str:
+    return part("What will be public", paragraph(call.public_words()))
 
 
 def poll(call: Call) -> str:
     """The sum of the poll, and how it is compared."""
     beside = [paragraph('The file: <a href="poll.toml">poll.toml</a>')] if call.has_poll else []
     shown = f"<pre><code>{call.poll_sum}</code></pre>"
-    compare = command_block(call.compare_words(), call_words.COMPARE)
+    compare = command_block(call.compare_words(), call.compare)
     said = paragraph(call.poll_words("lies beside this page"))
-    return part("The poll", said, shown, *beside, compare, paragraph(call_words.LATER))
+    return part("The poll", said, shown, *beside, compare, paragraph(call.later_words()))

@@ -12,9 +12,10 @@ TIMES = {2: "twice", 3: "three times", 4: "four times", 5: "five times", 6: "six
 TIMES |= {8: "eight times", 9: "nine times", 10: "ten times"}
 
 HOW = (
-    "A ballot is one line: your name as it stands on the roll, a space, and a rank for each option in the order of their "
+    "A ballot is one line: your name as it stands {place}, a space, and a rank for each option in the order of their "
     "numbers, the default option last. Between the ranks stand commas, and no spaces."
 )
+NO_CODE = "Your code is no part of it: keep it, and send it to nobody."
 RANKS = (
     "1 is your first preference: an option with a smaller rank is preferred to one with a greater rank. Options that you give "
     "the same rank are equal to you. A hyphen stands for an option that you do not rank: it is behind all others."
@@ -29,6 +30,13 @@ PUBLIC = (
     "After the vote all ballots are published, each with the name of its elector, so that everybody can count again. So "
     "everybody sees how you voted. Lines that were refused or came late are published too."
 )
+PUBLIC_OF_SECRET = (
+    "The vote is secret. After it each ballot that counts is published under an alias, which is made of its elector's name and "
+    "secret code. So everybody can count again, and nobody sees whose ballot it is; with your code you find your own. "
+    "The secretary knows how each elector voted, whoever shows their code shows their vote, and with few voters the sum of the "
+    "votes may tell. Of lines that were refused or came late their number alone is published. A list of the electors who have "
+    "voted, without their votes, may be published too."
+)
 COMPARE = "grep -v '^last_envelope' poll.toml | sha256sum"
 LATER = (
     "The poll is not changed any more, but for one line that it may get when the vote closes, last_envelope: it says how many "
@@ -36,12 +44,17 @@ LATER = (
 )
 
 
+# in a secret vote the poll of the call never changes
+COMPARE_SECRET = "sha256sum poll.toml"
+LATER_SECRET = "The poll has aliases in place of the names, and the result has the same poll, byte for byte."
+
+
 @dataclasses.dataclass(frozen=True)
 class Call:
     """What is called for: the sheet of the poll without ballots, and the sum of the poll without its last envelope.
 
-    `until` and `to` are none where the secretary announces them otherwise, and `roll` is none where the call has neither the poll
-    nor a name of its roll.
+    `until` and `to` are none where the secretary announces them otherwise. `roll` has the names under which electors vote; it is
+    none where the call has no poll, and in a secret vote, in which the poll has a roll of aliases.
     """
 
     sheet: Sheet
@@ -49,10 +62,30 @@ class Call:
     until: str | None
     to: str | None
     roll: list[str] | None
+    has_poll: bool
+    is_secret: bool
 
     @property
-    def has_poll(self) -> bool:
-        return self.roll is not None
+    def place(self) -> str:
+        """Where electors find the name under which they vote."""
+        return "on the slip with your code" if self.is_secret else "on the roll"
+
+    @property
+    def compare(self) -> str:
+        """The command that answers the sum of the poll."""
+        return COMPARE_SECRET if self.is_secret else COMPARE
+
+    def how_words(self) -> str:
+        """How a ballot is written."""
+        return HOW.format(place=self.place) + (f" {NO_CODE}" if self.is_secret else "")
+
+    def public_words(self) -> str:
+        """What will be public."""
+        return PUBLIC_OF_SECRET if self.is_secret else PUBLIC
+
+    def later_words(self) -> str:
+        """What becomes of the poll."""
+        return LATER_SECRET if self.is_secret else LATER
 
     @property
     def title(self) -> str:
@@ -116,8 +149,9 @@ class Call:
     def poll_words(self, place: str) -> str:
         """What the sum is for. The place is where the poll of a call that has it is, as `lies beside this page`."""
         where = place if self.has_poll else "is published with the result"
+        roll = "an alias for each elector" if self.is_secret else "roll"
         return (
-            f"All that decides stands in the file poll.toml: title, options, ratios, quorum and roll. It {where}. "
+            f"All that decides stands in the file poll.toml: title, options, ratios, quorum and {roll}. It {where}. "
             "So that nobody can change it unseen, this is its sum (SHA-256):"
         )
 

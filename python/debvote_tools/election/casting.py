@@ -9,7 +9,7 @@ from debvote_tools.election import poll_file
 from debvote_tools.election.asking import NO_BALLOTS, refused
 from debvote_tools.election.folder import Election, Files
 from debvote_tools.election.lines import Line, differences, shown
-from debvote_tools.election.shapes import plain_words
+from debvote_tools.election.shapes import plainly
 from debvote_tools.election.telling import count_of, tell
 from debvote_tools.faults import Fault, Status
 from debvote_tools.files import in_memory, uninterrupted
@@ -208,7 +208,7 @@ def ballot_words(ballot: Ballot, names: list[str]) -> str:
     """The ballot in words, or the line and why debvote refuses it."""
     if ballot.finding is not None:
         word = "" if ballot.finding.word == ballot.reply else f"{ballot.finding.word}: "
-        plain = "" if has_other_cause(ballot) else plainly(ballot, ballot.finding)
+        plain = "" if has_other_cause(ballot) else plainly(ballot.line.changed, ballot.finding)
         return f"{shown(ballot.text)}: {word}{ballot.finding.hint}{plain}"
     voter, ranks = ballot.text.decode("ascii").split(" ")
     return f"{voter}: {in_words(ranks, names)}"
@@ -218,26 +218,20 @@ def cause_words(ballot: Ballot) -> Iterator[str]:
     """Why debvote refuses the changed line too, where that is another cause."""
     if has_other_cause(ballot):
         other = ballot.finding_of_changed
-        why = f"{other.word}: {other.hint}{plainly(ballot, other)}"
+        why = f"{other.word}: {other.hint}{plainly(ballot.line.changed, other)}"
         yield f"  it went in as it came; written as `{shown(ballot.line.changed)}` it is refused too: {why}"
 
 
 def would_words(ballot: Ballot) -> str:
     """A line that is not cast yet, as it would go in, and the one cause that would stay after the changes that are allowed."""
     finding = ballot.finding_of_changed
-    return f"{shown(ballot.text)}: {finding.word}: {finding.hint}{plainly(ballot, finding)}"
+    return f"{shown(ballot.text)}: {finding.word}: {finding.hint}{plainly(ballot.line.changed, finding)}"
 
 
 def has_other_cause(ballot: Ballot) -> bool:
     """Whether debvote refuses the changed line for another cause than the line as it came."""
     finding, other = ballot.finding, ballot.finding_of_changed
     return other is not None and (other.word, other.hint) != (finding.word, finding.hint)
-
-
-def plainly(ballot: Ballot, finding: Finding) -> str:
-    """What is plainly wrong with the shape of a line, to be said behind the words of debvote."""
-    words = plain_words(ballot.line.changed) if finding.word == "bad shape" else None
-    return "" if words is None else f" ({words})"
 
 
 def right_words(batch: Batch) -> str:

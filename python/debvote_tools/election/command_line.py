@@ -14,7 +14,7 @@ from debvote_tools.faults import Fault, Status
 PROGRAM = "debvote-election"
 
 # the modules of the commands, in the order in which an election needs them; each has `NAME`, `HELP`, `options` and `run`
-COMMANDS = ("new", "roll", "check", "call", "add", "desk", "status", "close", "count", "publish")
+COMMANDS = ("new", "roll", "check", "codes", "call", "add", "desk", "status", "close", "count", "publish")
 
 
 def parser() -> argparse.ArgumentParser:

@@ -7,7 +7,7 @@ import functools
 import pathlib
 from collections.abc import Iterator
 
-from debvote_tools import closed, journal
+from debvote_tools import closed, journal, secret
 from debvote_tools.election import poll_file
 from debvote_tools.faults import Fault, Status
 from debvote_tools.files import BALLOTS_LIMIT, POLL_LIMIT, locked, read_at_most, write_new, write_whole
@@ -43,6 +43,10 @@ class Election:
         self.called_poll = self.backup / "poll.toml.called"
         self.closed_ballots = folder / closed.KEPT
         self.result = folder / "result"
+        self.private = folder / secret.PRIVATE
+        self.codes = self.private / secret.CODES
+        self.slips = self.private / secret.SLIPS
+        self.called_aliases = self.private / secret.CALLED
         self.journal = folder / journal.NAME
         self.lock = folder / ".lock"
         self.beside = beside
@@ -86,6 +90,9 @@ class Election:
                 file.unlink()
         for folder in (self.received, self.backup):
             for file in [*folder.glob(".[0-9]*"), *folder.glob(f".{self.closed_ballots.name}.*")]:
+                file.unlink()
+        for name in (self.codes.name, self.slips.name, self.called_aliases.name, "[0-9]*"):
+            for file in self.private.glob(f".{name}.*"):
                 file.unlink()
         begun = journal.begun(self.journal)
         is_undone = begun is not None and begun.sums != files.sums
@@ -182,6 +189,11 @@ class Election:
             return []
         counted = closed.Counted(str(self.poll), str(self.ballots), files.ballots or b"", sheet)
         return [doubt.line() for doubt in closed.changed_since(close, self.folder, counted)]
+
+    # ------------------------------------------------------------ secrecy
+    def is_secret(self) -> bool:
+        """Whether the vote is secret: codes were made for it."""
+        return secret.is_secret(self.folder)
 
     # ------------------------------------------------------------ the call
     def is_called(self) -> bool:

@@ -106,8 +106,10 @@ class Members:
 
 
 # ---------------------------------------------------------------- the file
-def members_in(file: pathlib.Path) -> Members:
-    """Reads a list of members. What can't be read as one is a fault, which says what it is."""
+def members_in(file: pathlib.Path, *, may_be_empty: bool = False) -> Members:
+    """Reads a list of members. What can't be read as one is a fault, which says what it is, and so is a list with nobody on it
+    unless it may be empty.
+    """
     data = bytes_of(file)
     mark = next((mark for mark in MARKS if data.startswith(mark)), b"")
     encoding = MARKS.get(mark, "utf-8")
@@ -115,7 +117,7 @@ def members_in(file: pathlib.Path) -> Members:
     delimiter, rows = table_of(file, text)
     places = places_of(file, rows[0], delimiter)
     members = [member_of(file, row, rows[0], places) for row in rows[1:]]
-    if not members:
+    if not members and not may_be_empty:
         raise doubt(file, f"there is nobody on it; write a line for each member below the head line, {AGAIN}")
     return Members(file, mark, encoding, text, delimiter, places, members)
 

@@ -4,6 +4,7 @@ import re
 
 from debvote_tools.election.lines import BLANKS
 from debvote_tools.pages import joined
+from debvote_tools.program import Finding
 
 # in bytes; no ballot line is longer
 LONGEST = 200
@@ -39,6 +40,12 @@ def plain_words(line: bytes) -> str | None:
     found = next((words for pattern, words in WHOLE if re.fullmatch(pattern, text)), None)
     named = NAMED.fullmatch(text)
     return found or (words_of_ranks([cell.strip() for cell in named[2].split(",")]) if named else None)
+
+
+def plainly(line: bytes, finding: Finding) -> str:
+    """The same, as it is said behind what debvote says of a line."""
+    words = plain_words(line) if finding.word == "bad shape" else None
+    return "" if words is None else f" ({words})"
 
 
 def words_of_ranks(cells: list[str]) -> str | None:

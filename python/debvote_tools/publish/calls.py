@@ -7,7 +7,10 @@ import sys
 from debvote_tools.faults import Fault, Status
 from debvote_tools.program import Debvote, casting_words
 
-FILES = ["--poll", "poll.toml", "--ballots", "ballots"]
+# the names of what is published; a plain web server shows a text that ends so
+POLL, BALLOTS, SHEET = "poll.toml", "ballots.txt", "sheet.txt"
+
+FILES = ["--poll", POLL, "--ballots", BALLOTS]
 
 
 @dataclasses.dataclass(frozen=True)
@@ -47,7 +50,7 @@ class Calls:
 
     def verify(self) -> str:
         """What `verify` says of the sheet in the folder; a sheet that differs is a fault."""
-        text, status = self.write("verify", *FILES, "--sheet", "sheet", *self.desks, also=(Status.DIFFERS,))
+        text, status = self.write("verify", *FILES, "--sheet", SHEET, *self.desks, also=(Status.DIFFERS,))
         if status == Status.DIFFERS:
             raise Fault(text.rstrip("\n"), status)
         return text

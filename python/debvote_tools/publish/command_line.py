@@ -26,8 +26,31 @@ def parser() -> argparse.ArgumentParser:
     found.add_argument(
         "--even-so", action="store_true", help="Publish where there are doubts about the files; the page then tells each of them"
     )
+    codes = "The vote is secret: publish the ballots that stand under the aliases of this file, which debvote-election codes made"
+    found.add_argument("--secret", metavar="CODES", help=codes)
+    voters_option(found)
+    page_options(found)
     found.add_argument("folder", metavar="FOLDER", help="The folder to make; one that is there must be empty")
     return found
+
+
+def voters_option(parser: argparse.ArgumentParser) -> None:
+    """The list of who voted, as debvote-election takes it too."""
+    parser.add_argument("--voters", action="store_true", help="In a secret vote: list who voted, without their votes")
+
+
+def page_options(parser: argparse.ArgumentParser) -> None:
+    """What is given for the page, as debvote-election takes it too."""
+    labels = "What title and options are called on the page: lines with a number (0 is the title), a tab and a text, in UTF-8"
+    about = "A plain text in UTF-8 for the page: who certifies the result, and when"
+    parser.add_argument("--labels", metavar="FILE", help=labels)
+    parser.add_argument("--about", metavar="FILE", help=about)
+
+
+def page_words(asked: argparse.Namespace) -> list[str]:
+    """The words that pass these options on."""
+    given = [("--labels", asked.labels), ("--about", asked.about)]
+    return [f"{name}={file}" for name, file in given if file is not None]
 
 
 def main(beside: pathlib.Path, words: Sequence[str] | None = None) -> int:

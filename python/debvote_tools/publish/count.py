@@ -1,37 +1,68 @@
-"""The parts of the page that say how the result came about: options, votes, dropped options, defeats and rounds."""
+"""The parts of the page that say how the result came about: options, votes, defeats with their picture, and rounds."""
 
 from html import escape
 
 from debvote_tools.pages import joined, listed, paragraph, part, wide
-from debvote_tools.publish.picture import picture_in_page
-from debvote_tools.publish.result import option_of
+from debvote_tools.publish.data import ended
+from debvote_tools.publish.picture import MOST_IN_PAGE, least_width, picture_in_page
+from debvote_tools.publish.published import Published
 from debvote_tools.sheet import Round, Sheet
 
+# how an option ended, as its row of the table is marked; one that has lost has no mark
+MARKS = {"won": "won", "left": "tied", "quorum": "dropped: quorum", "majority": "dropped: majority"}
 
-def options(sheet: Sheet) -> str:
-    """The options with their ratios, in a list that bears their numbers."""
+STYLE = """.ended { display: inline-block; padding: 0 0.4rem; border: 1px solid currentColor; border-radius: 0.3rem;
+  font-size: 0.85rem; }
+tr.won th[scope=row], tr.left th[scope=row] { border-left: 0.4rem solid var(--link); }
+tr.dropped th[scope=row], tr.dropped td { color: var(--faint); }
+:root { --faint: #5f5f5f; }
+@media (prefers-color-scheme: dark) { :root { --faint: #a9a9a9; } }
+h3 { font-size: 1.05rem; margin: 1.5rem 0 0.3rem; }
+.picture svg { display: block; max-width: 100%; height: auto; }
+"""
+
+
+def style(found: Published) -> str:
+    """The style of these parts: a picture may become smaller than it was drawn, but not too small to be read."""
+    if not has_picture(found):
+        return STYLE
+    return f"{STYLE}.picture svg {{ min-width: {least_width(found.picture)}px; }}\n"
+
+
+def options(found: Published) -> str:
+    """The options with their ratios, in a list that bears their numbers; with a label also the name of the poll."""
+    sheet = found.sheet
     kinds = {option: f"majority ratio {ratio}" for option, ratio in sheet.ratios.items()}
-    entries = [f"{option_of(sheet, o)}, {kinds.get(o, 'the default option')}" for o in sheet.names]
+    in_poll = {option: f" (in the poll: {escape(sheet.names[option])})" for option in found.labels.options}
+    entries = [f"{found.option(o)}{in_poll.get(o, '')}, {kinds.get(o, 'the default option')}" for o in sheet.names]
     return part("Options", listed("ul", entries))
 
 
 # ---------------------------------------------------------------- votes
-def votes(sheet: Sheet) -> str:
+def votes(found: Published) -> str:
     """The table of votes."""
-    heads = "".join(f'<th scope="col">{b}<span class="unseen"> {escape(name)}</span></th>' for b, name in sheet.names.items())
-    rows = "".join(
-        f'<tr><th scope="row">{a} {escape(name)}</th>{"".join(cell(sheet, a, b) for b in sheet.names)}</tr>\n'
-        for a, name in sheet.names.items()
-    )
+    names = found.sheet.names
+    heads = "".join(f'<th scope="col">{b}<span class="unseen"> {found.name(b)}</span></th>' for b in names)
+    rows = "".join(row(found, a) for a in names)
     said = (
         "Each number says how many electors prefer the option of its row to the option of its column. "
-        "It is marked where the option of the row defeats that of the column, and neither was dropped."
+        "It is marked where the option of the row defeats that of the column, and neither was dropped. "
+        "A word behind an option says that it has won, is tied, or was dropped and why."
     )
     table = (
         "<table>\n<caption>Row preferred to column</caption>\n"
         f'<thead><tr><td><span class="unseen">Option</span></td>{heads}</tr></thead>\n<tbody>\n{rows}</tbody>\n</table>'
     )
     return part("Votes", paragraph(said), wide("Table of votes", table))
+
+
+def row(found: Published, a: int) -> str:
+    """The row of an option, marked by how it ended."""
+    end = ended(found.sheet, a)
+    kind = f' class="{"dropped" if a in found.sheet.dropped else end}"' if end in MARKS else ""
+    mark = f' <span class="ended">{MARKS[end]}</span>' if end in MARKS else ""
+    cells = "".join(cell(found.sheet, a, b) for b in found.sheet.names)
+    return f'<tr{kind}><th scope="row">{a} {found.name(a)}{mark}</th>{cells}</tr>\n'
 
 
 def cell(sheet: Sheet, a: int, b: int) -> str:
@@ -42,64 +73,47 @@ def cell(sheet: Sheet, a: int, b: int) -> str:
     return f"<td{beats}>{sheet.votes[a, b]}</td>"
 
 
-# ---------------------------------------------------------------- dropped options
-def dropped(sheet: Sheet) -> str:
-    """The options that are out, each with the reason."""
-    if not sheet.dropped:
-        return part("Dropped options", paragraph("No option was dropped: each has the quorum and its majority."))
-    entries = [f"{option_of(sheet, option)}: {reason(sheet, option, cause)}" for option, cause in sheet.dropped.items()]
-    note = "An option without the quorum is dropped for the quorum, whether it has its majority or not."
-    said = "They are out of the count that follows."
-    return part("Dropped options", paragraph(said), listed("ul", entries), paragraph(note))
-
-
-def reason(sheet: Sheet, option: int, cause: str) -> str:
-    """Why an option was dropped."""
-    over, under = sheet.votes[option, sheet.default], sheet.votes[sheet.default, option]
-    if cause == "quorum":
-        needed = sheet.facts["Quorum"].split(", ")[1]
-        return f"it has no quorum. {over} prefer it to the default option, and the quorum is {needed}."
-    ratio = sheet.ratios[option]
-    if ratio == "1":
-        rule = "More electors must prefer it to the default option than prefer the default option to it"
-    else:
-        times = f"More than {ratio}" if "Majority" in sheet.facts else f"At least {ratio}"
-        rule = f"{times} times as many electors must prefer it to the default option as prefer the default option to it"
-        rule += "" if "Majority" in sheet.facts else ", and in any case more"
-    return f"it has no majority. Its ratio is {ratio}. {rule}. {over} prefer it, and {under} prefer the default option."
-
-
 # ---------------------------------------------------------------- defeats
-def defeats(sheet: Sheet, picture: bytes | None) -> str:
+def defeats(found: Published) -> str:
     """The defeats before any removal, in a list and in a picture."""
     said = "An option defeats another one if more electors prefer it to the other than prefer the other to it."
-    if not sheet.defeats:
+    if not found.sheet.defeats:
         shown = [paragraph(said), paragraph("Among the options that were not dropped there is no defeat.")]
     else:
-        shown = [paragraph(said), listed("ul", (defeat(sheet, a, b) for a, b in sheet.defeats))]
-    return part("Defeats", *shown, figure(picture))
+        shown = [paragraph(said), listed("ul", (defeat(found, a, b) for a, b in found.sheet.defeats))]
+    return part("Defeats", *shown, figure(found))
 
 
-def defeat(sheet: Sheet, a: int, b: int) -> str:
+def defeat(found: Published, a: int, b: int) -> str:
     """That a defeats b, with the votes of both."""
-    return f"{option_of(sheet, a)} over {option_of(sheet, b)} by {sheet.votes[a, b]} to {sheet.votes[b, a]}"
+    return f"{found.option(a)} over {found.option(b)} by {found.sheet.votes[a, b]} to {found.sheet.votes[b, a]}"
 
 
-def figure(picture: bytes | None) -> str:
-    """The picture with what its signs mean."""
-    if picture is None:
+def has_picture(found: Published) -> bool:
+    """Whether the picture stands within the page."""
+    return found.picture is not None and len(found.sheet.names) <= MOST_IN_PAGE
+
+
+def figure(found: Published) -> str:
+    """The picture with what its signs mean, or the link alone where it is too large for a page."""
+    if found.picture is None:
         return paragraph("There is no picture: Graphviz did not draw one when this page was made.")
     legend = (
         "An arrow leads from an option to an option that it defeats. A dashed arrow was removed in a round. "
         "A dotted box is an option that was dropped; a double box has won; a bold box is left in a tie."
     )
-    drawn = wide("Picture of the defeats", picture_in_page(picture))
+    if not found.labels.is_empty:
+        legend += " The picture has the names of the poll."
+    if not has_picture(found):
+        return paragraph(f'<a href="picture.svg">The picture</a> of so many options is too large for this page. {legend}')
+    drawn = wide("Picture of the defeats", f'<div class="picture">\n{picture_in_page(found.picture)}\n</div>')
+    scrolls = "Where the picture is wider than the window, it scrolls sideways by itself."
     link = 'The picture <a href="picture.svg">alone</a>.'
-    return f"<figure>\n{drawn}\n<figcaption>{legend} {link}</figcaption>\n</figure>"
+    return f"<figure>\n{drawn}\n<figcaption>{scrolls} {legend} {link}</figcaption>\n</figure>"
 
 
 # ---------------------------------------------------------------- rounds
-def rounds(sheet: Sheet) -> str:
+def rounds(found: Published) -> str:
     """What is removed, round by round."""
     said = (
         "Each round begins with the Schwartz set. An option is not in it if another option defeats it, directly or by a "
@@ -107,13 +121,13 @@ def rounds(sheet: Sheet) -> str:
         "Then the weakest defeats within the set are removed, and the next round goes without them. "
         "The options of the last round are left."
     )
-    return part("Rounds", paragraph(said), listed("ol", (round_of(sheet, found) for found in sheet.rounds)))
+    return part("Rounds", paragraph(said), listed("ol", (round_of(found, step) for step in found.sheet.rounds)))
 
 
-def round_of(sheet: Sheet, found: Round) -> str:
+def round_of(found: Published, step: Round) -> str:
     """What a round does. All weakest defeats are removed at once."""
-    left = joined(option_of(sheet, option) for option in found.options)
-    if not found.removed:
+    left = joined(map(found.option, step.options))
+    if not step.removed:
         return f"The set is {left}. No defeat is within it, and the count ends."
-    removed = joined(f"{option_of(sheet, a)} over {option_of(sheet, b)}" for a, b in found.removed)
+    removed = joined(f"{found.option(a)} over {found.option(b)}" for a, b in step.removed)
     return f"The set is {left}. Removed: {removed}."

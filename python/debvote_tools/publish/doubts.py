@@ -4,7 +4,7 @@ Of each file debvote is asked what it reads as, and what is refused in it; only 
 has noted and kept, are looked at here.
 """
 
-import os
+import dataclasses
 import pathlib
 import re
 import shlex
@@ -15,7 +15,8 @@ from debvote_tools.closed import Counted, changed_since
 from debvote_tools.faults import Doubt, Fault, Status
 from debvote_tools.journal import Sums
 from debvote_tools.program import Debvote, Findings, Totals, findings_in
-from debvote_tools.publish.calls import Calls
+from debvote_tools.publish.called import folders_of
+from debvote_tools.publish.calls import BALLOTS, POLL, Calls
 from debvote_tools.sheet import Sheet
 
 EVEN_SO = "(or publish it as it is, with --even-so)"
@@ -28,6 +29,12 @@ default = "none"
 quorum = 0
 roll = ["-"]
 """
+
+# what the page of a secret vote says of most lines, without their number
+MOSTLY_REFUSED = "More than half of the lines that came are refused."
+
+# what the page of a secret vote says where lines were put in or taken out, or the last envelope was changed
+NOT_AS_CLOSED = "The ballots that are in time are not those of the close: since then some were put in, taken out or changed."
 
 # how many keys a poll must have
 REQUIRED_KEYS = 6
@@ -54,7 +61,7 @@ def found_in(calls: Calls, poll: str, ballots: str, sheet: Sheet) -> list[Doubt]
     return [
         *misplaced(calls.debvote, poll, ballots),
         *about_ballots(findings, poll, ballots),
-        *unended(calls.debvote.folder / "ballots", ballots),
+        *unended(calls.debvote.folder / BALLOTS, ballots),
         *unread_keys(findings, poll),
         *about_election(calls.debvote.folder, poll, ballots, sheet),
     ]
@@ -63,25 +70,25 @@ def found_in(calls: Calls, poll: str, ballots: str, sheet: Sheet) -> list[Doubt]
 # ---------------------------------------------------------------- a file in the place of the other
 def misplaced(debvote: Debvote, poll: str, ballots: str) -> list[Doubt]:
     """That the poll reads as ballots, and that the ballots read as a poll."""
-    has_no_poll, has_no_ballots = reads_as_ballots(debvote, "poll.toml"), reads_as_poll(debvote, "ballots")
+    has_no_poll, has_no_ballots = reads_as_ballots(debvote, POLL), reads_as_poll(debvote, BALLOTS)
     swap = f"the two are swapped: give {shlex.join(['--poll', ballots, '--ballots', poll])}"
     is_swapped = has_no_poll and has_no_ballots
     found = []
     if has_no_poll:
         cure = swap if is_swapped else "give the poll file with --poll"
         sentence = "The file that was given as the poll reads as ballots."
-        found.append(Doubt(poll, "it is given as the poll, and reads as ballots", cure, sentence))
+        found.append(Doubt(poll, "it is given as the poll, and reads as ballots", cure, sentence, sentence))
     if has_no_ballots:
         cure = swap if is_swapped else "give the ballot file with --ballots"
         sentence = "The file that was given as the ballots reads as a poll: the ballots themselves may be elsewhere."
-        found.append(Doubt(ballots, "it is given as the ballots, and reads as a poll", cure, sentence))
+        found.append(Doubt(ballots, "it is given as the ballots, and reads as a poll", cure, sentence, sentence))
     return found
 
 
 def reads_as_poll(debvote: Debvote, file: str) -> bool:
     """Whether debvote reads a file as TOML that has a key of a poll, be the poll in order or not."""
     lines = debvote.ask("explain", "--poll", file).text.splitlines()
-    is_toml = bool(lines) and re.match(r"poll:\d+:\d+: ", lines[0]) is None
+    is_toml = bool(lines) and not any(re.match(r"poll:\d+:\d+: ", line) for line in lines[:2])
     missing = [line for line in lines if re.fullmatch(r"poll: key \w+: it is missing", line)]
     return is_toml and len(missing) < REQUIRED_KEYS
 
@@ -106,19 +113,22 @@ def about_ballots(findings: Findings, poll: str, ballots: str) -> list[Doubt]:
     if 2 * totals.refused > totals.lines:
         reason = f"more than half of its lines are refused, {totals.refused} of {totals.lines}"
         sentence = f"More than half of the lines of the ballot file are refused: {totals.refused} of {totals.lines}."
-        found.append(Doubt(ballots, reason, ask_why(poll, ballots), sentence))
-    if findings.is_windows:
-        unix = f"{ballots}.unix"
-        found.append(
-            Doubt(
-                ballots,
-                "all refused lines end with a carriage return, as those of a file from Windows do",
-                f"take it out, and give the file that this makes: tr -d '\\r' < {shlex.quote(ballots)} > {shlex.quote(unix)}",
-                "All refused lines end with a carriage return, as those of a file from Windows do: they may be ballots that were "
-                "meant to count.",
-            )
-        )
+        found.append(Doubt(ballots, reason, ask_why(poll, ballots), sentence, MOSTLY_REFUSED))
+    # explain says of the lines of bad shape alone that they come from Windows
+    if findings.is_windows and all(line.word in ("bad shape", "late") for line in findings.refused):
+        found.append(from_windows(poll, ballots))
     return found
+
+
+def from_windows(poll: str, ballots: str) -> Doubt:
+    """That all refused lines end with a carriage return. To publish an election debvote-election takes no other file."""
+    reason = "all refused lines end with a carriage return, as those of a file from Windows do"
+    unix = f"{ballots}.unix"
+    cure = f"take it out, and give the file that this makes: tr -d '\\r' < {shlex.quote(ballots)} > {shlex.quote(unix)}"
+    if election_of(poll) is not None:
+        cure = f"take it out of the file: sed -i 's/\\r$//' {shlex.quote(ballots)}"
+    sentence = f"A{reason[1:]}: they may be ballots that were meant to count."
+    return Doubt(ballots, reason, cure, sentence, sentence)
 
 
 def nobody(totals: Totals, poll: str, ballots: str) -> Doubt:
@@ -126,8 +136,8 @@ def nobody(totals: Totals, poll: str, ballots: str) -> Doubt:
     reason = "no elector has a ballot that stands"
     sentence = "No elector has a ballot that stands: nobody's vote has decided this."
     if totals.lines == 0:
-        return Doubt(ballots, f"it is empty, so {reason}", "give the file that has the ballots", sentence)
-    return Doubt(ballots, reason, ask_why(poll, ballots), sentence)
+        return Doubt(ballots, f"it is empty, so {reason}", "give the file that has the ballots", sentence, sentence)
+    return Doubt(ballots, reason, ask_why(poll, ballots), sentence, sentence)
 
 
 def ask_why(poll: str, ballots: str) -> str:
@@ -140,14 +150,12 @@ def unended(file: pathlib.Path, ballots: str) -> list[Doubt]:
     data = file.read_bytes()
     if not data or data.endswith(b"\n"):
         return []
-    return [
-        Doubt(
-            ballots,
-            "its last line has no line feed, as in a file that was cut off",
-            "look whether its end is missing; where it is whole, end the last line with the Enter key in an editor",
-            "The last line of the ballot file has no line feed, as in a file that was cut off: ballots may be missing behind it.",
-        )
-    ]
+    reason = "its last line has no line feed, as in a file that was cut off"
+    cure = "look whether its end is missing; where it is whole, end the last line with the Enter key in an editor"
+    sentence = (
+        "The last line of the ballot file has no line feed, as in a file that was cut off: ballots may be missing behind it."
+    )
+    return [Doubt(ballots, reason, cure, sentence, sentence)]
 
 
 # ---------------------------------------------------------------- the poll and its election
@@ -159,10 +167,15 @@ def unread_keys(findings: Findings, poll: str) -> list[Doubt]:
         if parts is None:
             raise Fault("what this debvote explains has another format", Status.BAD_SHEET)
         reason, remark = parts.groups("")
-        advice = f"{remark}{' ' if remark.endswith('?') else ', so '}" if remark else ""
-        said = f" ({remark})" if remark else ""
+        advice = "put it right or take it out"
+        if remark.endswith("?"):
+            advice = f"{remark} {advice}"
+        elif remark:
+            advice = f"{remark}, or take it out"
+        where = remark.partition("; ")[0]
+        said = f" ({where})" if where else ""
         sentence = f"The {reason} of the poll file is not read{said}: what it says has not counted."
-        found.append(Doubt(poll, f"{reason} is not read", f"{advice}put it right or take it out", sentence))
+        found.append(Doubt(poll, f"{reason} is not read", advice, sentence))
     return found
 
 
@@ -171,23 +184,26 @@ def about_election(made: pathlib.Path, poll: str, ballots: str, sheet: Sheet) ->
 
     `made` is the folder with the copies of the files.
     """
-    # where the poll is named by a link, either place may be the folder of the election
-    places = [pathlib.Path(poll).parent, pathlib.Path(os.path.realpath(poll)).parent]
-    folder = next((place for place in places if (place / journal.NAME).is_file()), None)
+    folder = election_of(poll)
     if folder is None:
         return []
-    data = (made / "ballots").read_bytes()
-    now = Sums.of((made / "poll.toml").read_bytes(), data)
+    data = (made / BALLOTS).read_bytes()
+    now = Sums.of((made / POLL).read_bytes(), data)
     close = journal.last(journal.acts_done(folder / journal.NAME, now), "close")
-    return [not_closed(folder)] if close is None else changed_since(close, folder, Counted(poll, ballots, data, sheet))
+    if close is None:
+        return [not_closed(folder)]
+    changes = changed_since(close, folder, Counted(poll, ballots, data, sheet))
+    return [dataclasses.replace(doubt, in_secret=NOT_AS_CLOSED) for doubt in changes]
+
+
+def election_of(poll: str) -> pathlib.Path | None:
+    """The folder of the election in which the poll lies, if there is one."""
+    return next((place for place in folders_of(poll) if (place / journal.NAME).is_file()), None)
 
 
 def not_closed(folder: pathlib.Path) -> Doubt:
     """That the election in a folder is not closed."""
     where = [] if folder == pathlib.Path() else ["--folder", str(folder)]
-    return Doubt(
-        str(folder / journal.NAME),
-        "the election in this folder is not closed",
-        f"close it: {shlex.join(['debvote-election', *where, 'close'])}",
-        "The election was not closed when this page was made: more ballots may come in.",
-    )
+    cure = f"close it: {shlex.join(['debvote-election', *where, 'close'])}"
+    sentence = "The election was not closed when this page was made: more ballots may come in."
+    return Doubt(str(folder / journal.NAME), "the election in this folder is not closed", cure, sentence, sentence)

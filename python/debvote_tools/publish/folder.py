@@ -1,19 +1,40 @@
 """The folder that is made: whole, or not at all."""
 
 import argparse
+import dataclasses
 import os
 import pathlib
 import shutil
 import tempfile
 
-from debvote_tools.election.poll_file import without_last_envelope
-from debvote_tools.faults import Fault, Status
-from debvote_tools.files import BALLOTS_LIMIT, POLL_LIMIT, read_at_most, sum_of, umask
-from debvote_tools.publish import doubts
-from debvote_tools.publish.calls import Calls, calls_in
-from debvote_tools.publish.page import Published, page_of
+from debvote_tools.faults import Doubt, Fault, Status
+from debvote_tools.files import BALLOTS_LIMIT, POLL_LIMIT, read_at_most, sum_of, sync_folder, write_public
+from debvote_tools.closed import LAST, lines_of
+from debvote_tools.program import findings_in, standing_in
+from debvote_tools.publish import doubts, recounting, secret
+from debvote_tools.publish.called import about_call, announced_sum, called_of
+from debvote_tools.publish.calls import BALLOTS, POLL, SHEET, Calls, calls_in
+from debvote_tools.publish.data import result_json, votes_csv
+from debvote_tools.publish.labels import labels_in, labels_of
+from debvote_tools.publish.page import page_of
 from debvote_tools.publish.picture import picture_of
-from debvote_tools.sheet import Sheet, sheet_in
+from debvote_tools.publish.published import File, Further, Published
+from debvote_tools.publish.texts import text_in
+from debvote_tools.sheet import sheet_in
+
+PAGE, SUMS = "index.html", "SHA256SUMS"
+
+
+@dataclasses.dataclass(frozen=True)
+class Given:
+    """What is given for a publication beside poll and ballots."""
+
+    # the labels by their numbers, each with its line, and the file that they are from
+    labels_file: str | None
+    labels: dict[int, tuple[int, str]]
+    about: str | None
+    # the sum that the call for votes beside the poll announced
+    announced: str | None
 
 
 def publish(asked: argparse.Namespace, beside: pathlib.Path) -> tuple[str, int]:
@@ -25,40 +46,130 @@ def publish(asked: argparse.Namespace, beside: pathlib.Path) -> tuple[str, int]:
     target = pathlib.Path(os.path.realpath(asked.folder))
     if os.path.lexists(target) and not (target.is_dir() and not any(target.iterdir())):
         raise Fault(f"{asked.folder} is there already, and is no empty folder", Status.BAD_WORDS)
+    demand_words(asked)
+    given = given_in(asked)
     folder = pathlib.Path(tempfile.mkdtemp(prefix=f".{target.name}.", dir=target.parent))
     try:
-        folder.chmod(0o777 & ~umask())
-        said, status = fill(folder, asked, beside)
+        make_files = fill if asked.secret is None else fill_secret
+        said, status = make_files(folder, asked, given, beside)
+        folder.chmod(0o755)
+        sync_folder(folder)
         folder.rename(target)
+        sync_folder(target.parent)
     except BaseException:
         shutil.rmtree(folder, ignore_errors=True)
         raise
     return said, status
 
 
-def fill(folder: pathlib.Path, asked: argparse.Namespace, beside: pathlib.Path) -> tuple[str, int]:
-    """Writes all files."""
+def demand_words(asked: argparse.Namespace) -> None:
+    """Stops where the words do not go together: above all where an open publication would tell the votes of a secret vote."""
+    if asked.secret is None:
+        secret.demand_open(asked.poll, asked.ballots)
+        if asked.voters:
+            raise Fault("--voters: it goes with --secret; in an open vote the page has who voted what", Status.BAD_WORDS)
+
+
+def given_in(asked: argparse.Namespace) -> Given:
+    """Reads what is given beside poll and ballots. A fault of it is told before anything is counted."""
+    labels = {} if asked.labels is None else labels_in(asked.labels)
+    about = None if asked.about is None else text_in(asked.about, "about")
+    return Given(asked.labels, labels, about, announced_sum(asked.poll))
+
+
+def texts_of(asked: argparse.Namespace, given: Given) -> dict[str, str]:
+    """The texts that are given for the page, by their files."""
+    labels = "\n".join(text for _, text in given.labels.values())
+    return {file: text for file, text in ((asked.labels, labels), (asked.about, given.about)) if file is not None}
+
+
+def fill(folder: pathlib.Path, asked: argparse.Namespace, given: Given, beside: pathlib.Path) -> tuple[str, int]:
+    """Writes all files of an open vote: poll and ballots are published as they are."""
     calls = calls_in(folder, beside, asked.casting, asked.desks)
-    copy(asked.poll, POLL_LIMIT, folder / "poll.toml", "poll", Status.BAD_POLL)
-    copy(asked.ballots, BALLOTS_LIMIT, folder / "ballots", "ballots", Status.BAD_BALLOTS)
-    version = calls.version()
+    poll, ballots = inputs_of(asked)
+    secret.demand_unmarked(asked.poll, poll)
+    write_public(folder / POLL, poll)
+    write_public(folder / BALLOTS, ballots)
     text, status = count(calls, asked)
-    sheet = sheet_in(text)
-    found = doubts.found_in(calls, asked.poll, asked.ballots, sheet)
+    found = doubts.found_in(calls, asked.poll, asked.ballots, sheet_in(text))
+    found += about_call(asked.poll, called_of(poll, LAST in sheet_in(text).facts, given.announced))
     if found and not asked.even_so:
         raise doubts.stop(found)
-    (folder / "sheet").write_text(text)
-    standing = calls.standing()
-    (folder / "standing").write_text(standing)
-    picture = picture_of(calls.picture())
-    if picture is not None:
-        (folder / "picture.svg").write_bytes(picture)
-    verified = calls.verify()
-    called = called_sum(folder / "poll.toml", sheet)
-    page = page_of(Published(sheet, standing, picture, calls.casting, verified.rstrip("\n"), version, found, called))
-    (folder / "index.html").write_text(page)
-    (folder / "SHA256SUMS").write_text(sums_of(folder))
-    return f"{sheet.last_line}\n{verified}", status
+    return make(calls, text, given, found, Further()), status
+
+
+def fill_secret(folder: pathlib.Path, asked: argparse.Namespace, given: Given, beside: pathlib.Path) -> tuple[str, int]:
+    """Writes all files of a secret vote: poll and ballots are published under aliases, and what they come from is not written."""
+    poll, ballots = inputs_of(asked)
+    codes = pathlib.Path(asked.secret)
+    secret.demand_texts(texts_of(asked, given), codes, (asked.poll, poll), (asked.ballots, ballots))
+    with secret.private_folder(poll, ballots) as room:
+        private = calls_in(room, beside, asked.casting, asked.desks)
+        text = count(private, asked)[0]
+        found = doubts.found_in(private, asked.poll, asked.ballots, sheet_in(text))
+        hidden = secret.hidden_of(codes, poll, standing_in(private.standing()))
+        found += about_call(asked.poll, called_of(hidden.poll, False, given.announced))
+        if found and not asked.even_so:
+            raise doubts.stop(found)
+        totals = findings_in(private.explain()).totals
+    write_public(folder / POLL, hidden.poll)
+    write_public(folder / BALLOTS, hidden.ballots)
+    calls = calls_in(folder, beside, asked.casting, asked.desks)
+    published, status = calls.count()
+    secret.demand_same(text, published)
+    further = secret.further_of(hidden, totals, with_voters=asked.voters)
+    said = make(calls, published, given, secret.without_names(found), further)
+    secret.demand_no_code(folder, codes)
+    return said, status
+
+
+def make(calls: Calls, text: str, given: Given, found: list[Doubt], further: Further) -> str:
+    """Writes the sheet and all that follows from it into the folder that has the published poll and ballots already.
+
+    Returns the last line of the sheet with what `debvote verify` says.
+    """
+    folder, sheet = calls.debvote.folder, sheet_in(text)
+    labels = labels_of(given.labels_file, given.labels, sheet)
+    version, standing, refused = calls.version(), calls.standing(), findings_in(calls.explain()).refused
+    write_public(folder / SHEET, text.encode())
+    verified, picture = calls.verify(), picture_of(calls.picture(), len(sheet.names))
+    called = called_of((folder / POLL).read_bytes(), LAST in sheet.facts, given.announced)
+    lines = lines_of((folder / BALLOTS).read_bytes())
+    published = Published(
+        sheet, standing, refused, lines, picture, calls.casting, verified.rstrip("\n"), version, found, called, labels,
+        given.about, further,
+    )  # fmt: skip
+    write_files(folder, published)
+    return f"{sheet.last_line}\n{verified}"
+
+
+def write_files(folder: pathlib.Path, found: Published) -> None:
+    """Writes what follows from the sheet, the page and the sums last."""
+    made = made_of(found)
+    for file in made:
+        write_public(folder / file.name, file.data)
+    there = [
+        File(POLL, "the poll: title, options, quorum and roll", b""),
+        File(BALLOTS, "the ballots, a line each, in the order in which they came", b""),
+        File(SHEET, "the result sheet, from which this page is made", b""),
+        *made,
+        File(SUMS, "the sums of these files and of this page", b""),
+    ]
+    write_public(folder / PAGE, page_of(found, there).encode())
+    write_public(folder / SUMS, sums_of(folder).encode())
+
+
+def made_of(found: Published) -> list[File]:
+    """The files that follow from the sheet, and the further ones."""
+    files = [
+        File("standing.txt", "of each elector the ballot that stands", found.standing.encode()),
+        File("result.json", "what the sheet says, for programs", result_json(found.sheet, found.labels, found.version).encode()),
+        File("votes.csv", "the table of votes, for spreadsheets", votes_csv(found.sheet).encode()),
+        File(recounting.NAME, "a second count, in Python", recounting.recount_program()),
+    ]
+    if found.picture is not None:
+        files.append(File("picture.svg", "the picture of the defeats", found.picture))
+    return [*files, *found.further.files]
 
 
 def count(calls: Calls, asked: argparse.Namespace) -> tuple[str, int]:
@@ -71,18 +182,17 @@ def count(calls: Calls, asked: argparse.Namespace) -> tuple[str, int]:
         raise
 
 
-def copy(file: str, limit: int, target: pathlib.Path, kind: str, status: int) -> None:
-    """Copies an input once, so that all commands read the same bytes."""
+def inputs_of(asked: argparse.Namespace) -> tuple[bytes, bytes]:
+    """The poll and the ballots. They are read once, so that all commands read the same bytes."""
+    poll = input_in(asked.poll, POLL_LIMIT, "poll", Status.BAD_POLL)
+    return poll, input_in(asked.ballots, BALLOTS_LIMIT, "ballots", Status.BAD_BALLOTS)
+
+
+def input_in(file: str, limit: int, kind: str, status: int) -> bytes:
     try:
-        data = read_at_most(file, limit)
+        return read_at_most(file, limit)
     except OSError:
         raise Fault(f"{kind} unreadable", status) from None
-    target.write_bytes(data)
-
-
-def called_sum(poll: pathlib.Path, sheet: Sheet) -> str | None:
-    """The sum of the poll as it was before it got its last envelope; none where it has none."""
-    return sum_of(without_last_envelope(poll.read_bytes())) if "Last envelope" in sheet.facts else None
 
 
 def sums_of(folder: pathlib.Path) -> str:

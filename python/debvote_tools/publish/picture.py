@@ -8,22 +8,40 @@ import xml.etree.ElementTree as xml
 # where a picture takes Graphviz longer, there is none
 PICTURE_SECONDS = 60
 
+# a graph of more options than these is too large to be read within the page, and takes Graphviz minutes to draw with care
+MOST_IN_PAGE = 12
+WITH_CARE, IN_HASTE = ["-Tsvg"], ["-Tsvg", "-Gsplines=line", "-Gnslimit=1", "-Gmclimit=0.1"]
+
+# a picture becomes no smaller within the page than this share of its size, so that its words can be read
+LEAST_SHARE = 0.75
+
 SPACE = "{http://www.w3.org/2000/svg}"
 SHAPES = {SPACE + name for name in ("svg", "g", "polygon", "polyline", "ellipse", "path", "text")}
 
 
-def picture_of(graph: str) -> bytes | None:
+def words_for_dot(options: int) -> list[str]:
+    """How Graphviz is asked to draw the graph of so many options."""
+    return ["dot", *(WITH_CARE if options <= MOST_IN_PAGE else IN_HASTE)]
+
+
+def picture_of(graph: str, options: int) -> bytes | None:
     """The picture of a graph by Graphviz, or none; where there is none it says why."""
     dot = shutil.which("dot")
     if dot is None:
         print("debvote-publish: no picture: Graphviz (its program dot) is not installed", file=sys.stderr)
         return None
+    words = words_for_dot(options)
     try:
-        drawn = subprocess.run([dot, "-Tsvg"], input=graph.encode(), capture_output=True, timeout=PICTURE_SECONDS, check=True)
+        drawn = subprocess.run([dot, *words[1:]], input=graph.encode(), capture_output=True, timeout=PICTURE_SECONDS, check=True)
     except subprocess.SubprocessError as error:
         print(f"debvote-publish: no picture: {error}", file=sys.stderr)
         return None
     return drawn.stdout
+
+
+def least_width(picture: bytes) -> int:
+    """The least width that a picture has within the page, in pixels of the page."""
+    return round(LEAST_SHARE * float(xml.fromstring(picture).get("width", "0").removesuffix("pt")))
 
 
 def picture_in_page(picture: bytes) -> str:

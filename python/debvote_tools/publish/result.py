@@ -2,8 +2,9 @@
 
 from html import escape
 
-from debvote_tools.pages import joined, listed, part
+from debvote_tools.pages import joined, listed, paragraph, part
 from debvote_tools.publish.doubts import Doubt
+from debvote_tools.publish.published import Published
 from debvote_tools.sheet import Sheet
 
 # the style of a page that has doubts, behind that of all pages: a frame and a word mark a doubt, and not colour alone
@@ -14,26 +15,25 @@ DOUBTS_STYLE = """.doubts { --warning: #8f1d00; --warned: #fff0e6; margin: 1rem 
 @media (prefers-color-scheme: dark) { .doubts { --warning: #ffb38a; --warned: #3d1d0c; } }
 """
 
-
-def option_of(sheet: Sheet, option: int) -> str:
-    """An option as it is called in a sentence, by its number and its name."""
-    return f"<b>{option} {escape(sheet.names[option])}</b>"
+# a text that was given as lines keeps them
+ABOUT_STYLE = ".about { white-space: pre-line; }\n"
 
 
-def outcome(sheet: Sheet) -> str:
+def outcome(found: Published) -> str:
     """Who has won, in a sentence or three."""
+    sheet = found.sheet
     winner = sheet.winner()
     if winner is not None:
         option, is_by_casting = winner
         casting = " Several options were left, and the casting vote chose this one." if is_by_casting else ""
         default = " It is the default option." if option == sheet.default else ""
-        return f"{option_of(sheet, option)} has won.{casting}{default}"
-    left = joined(option_of(sheet, option) for option in sheet.final_set())
+        return f"{found.option(option)} has won.{casting}{default}"
+    left = joined(map(found.option, sheet.final_set()))
     outside = sheet.casting_outside()
     if outside is None:
         return f"No option has won yet: {left} are tied. The casting vote has to choose one of them."
     return (
-        f"No option has won: {left} are tied. The casting vote is for {option_of(sheet, outside)}, "
+        f"No option has won: {left} are tied. The casting vote is for {found.option(outside)}, "
         "which is not one of them, and so it does not decide."
     )
 
@@ -48,21 +48,31 @@ def recasts(sheet: Sheet) -> str:
     return f". {of} {valid} valid lines: {said}"
 
 
-def facts(sheet: Sheet) -> str:
+def share(voters: int, electors: int) -> str:
+    """How many of the electors have voted, in per cent; all of them alone are 100 %, and none alone is 0 %."""
+    tenths = (2000 * voters + electors) // (2 * electors)
+    if 0 < voters < electors:
+        tenths = min(max(tenths, 1), 999)
+    return f"{tenths // 10}.{tenths % 10} %" if tenths % 10 else f"{tenths // 10} %"
+
+
+def facts(found: Published) -> str:
     """The numbers that the sheet begins with."""
-    found = sheet.facts
-    multiple, least = found["Quorum"].split(", ")
+    facts = found.sheet.facts
+    multiple, least = facts["Quorum"].split(", ")
+    voters, electors = int(facts["Voters"]), int(facts["Electors"])
+    quorum = f"{least}: at least {multiple}, where Q is half of the square root of the number of electors"
     rows = [
-        ("Electors", found["Electors"]),
-        ("Voters", f"{found['Voters']}, the electors with a ballot that stands"),
-        ("Quorum", f"{least}: at least {multiple}, where Q is half of the square root of the number of electors"),
-        ("Lines", f"{found['Lines']} in the ballot file: {found['Valid']} valid, {found['Refused']} refused" + recasts(sheet)),
+        ("Electors", facts["Electors"]),
+        ("Voters", f"{voters}, which is {share(voters, electors)} of the electors: those with a ballot that stands"),
+        ("Quorum", "none" if multiple == "0Q" else quorum),
     ]
-    if multiple == "0Q":
-        rows[2] = ("Quorum", "none")
-    if "Last envelope" in found:
-        rows.append(("Last envelope", f"{found['Last envelope']}: a line with a greater number is late, and is refused"))
-    if "Majority" in found:
+    if found.further.unlisted is None:
+        lines = f"{facts['Lines']} in the ballot file: {facts['Valid']} valid, {facts['Refused']} refused"
+        rows.append(("Lines", lines + recasts(found.sheet)))
+    if "Last envelope" in facts:
+        rows.append(("Last envelope", f"{facts['Last envelope']}: a line with a greater number is late, and is refused"))
+    if "Majority" in facts:
         rows.append(("Majority", "more than the ratio, where the Constitution of Debian has at least the ratio"))
     shown = "".join(f"<dt>{name}</dt><dd>{value}</dd>\n" for name, value in rows)
     return f"<dl>\n{shown}</dl>"
@@ -74,7 +84,34 @@ def doubts_list(doubts: list[Doubt]) -> str:
     return f'<div class="doubts" role="note" aria-label="Doubts about this result">\n{listed("ul", entries)}\n</div>'
 
 
-def result(sheet: Sheet, doubts: list[Doubt]) -> str:
+def result(found: Published) -> str:
     """The part with which the page begins."""
-    marked = [doubts_list(doubts)] if doubts else []
-    return part("Result", f'<p class="outcome">{outcome(sheet)}</p>', *marked, facts(sheet))
+    marked = [doubts_list(found.doubts)] if found.doubts else []
+    in_poll = []
+    if found.labels.title is not None:
+        in_poll = [paragraph(f"In the poll the title is: {escape(found.sheet.facts['Poll'])}")]
+    return part("Result", *in_poll, f'<p class="outcome">{outcome(found)}</p>', *marked, facts(found))
+
+
+# ---------------------------------------------------------------- what the society says of it
+def about(found: Published) -> list[str]:
+    """The part with the text that was given, and with the sum that the call announced; none where there is neither."""
+    blocks = []
+    if found.about is not None:
+        texts = [text.strip("\n") for text in found.about.split("\n\n")]
+        blocks = [f'<p class="about"><bdi>{escape(text)}</bdi></p>' for text in texts if text.strip()]
+    if found.called.announced is not None:
+        blocks.append(paragraph(announced(found)))
+    return [part("About this vote", *blocks)] if blocks else []
+
+
+def announced(found: Published) -> str:
+    """What the call for votes has announced, and whether it is this poll."""
+    called = found.called
+    is_same = called.announced == called.poll_sum
+    said = "The poll below has it" + (", but for its last envelope." if called.has_last_envelope else ".")
+    how = '<a href="#How-to-verify">How to verify</a> has the command that compares them.'
+    return (
+        f"The call for votes announced this sum (SHA-256) of the poll: <code>{called.announced}</code>. "
+        f"{said if is_same else 'The poll below has another one.'} {how}"
+    )

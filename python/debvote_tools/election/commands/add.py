@@ -86,6 +86,17 @@ def check_words(asked: argparse.Namespace) -> None:
         raise Fault(words, Status.BAD_WORDS)
     if not asked.csv and (asked.name is not None or asked.ranks is not None):
         raise Fault("--name, --ranks: they name columns of a table; write --csv with them", Status.BAD_WORDS)
+    if asked.csv:
+        check_quotes(asked)
+
+
+def check_quotes(asked: argparse.Namespace) -> None:
+    """Stops where heads stand without quotes: the shell cuts them at their spaces, and the rest looks like files."""
+    gone = [name for name in asked.files if name != STANDARD_INPUT and not os.path.lexists(name)]
+    if asked.ranks.rstrip().endswith(",") or gone:
+        found = f"there is no file {gone[0]}" if gone else f"the list ends with a comma: {asked.ranks}"
+        cure = "type the name of the file, and the heads between single quotes where a space is in them, as --ranks 'First, Second'"
+        raise Fault(f"--csv: {found}; nothing was added: {cure}", Status.BAD_WORDS)
 
 
 # ---------------------------------------------------------------- what came

@@ -10,14 +10,16 @@ import stat
 import tempfile
 import unicodedata
 
-from debvote_tools import journal
+from debvote_tools import journal, secret
 from debvote_tools.election import call_letter, call_page, poll_file
 from debvote_tools.election.asking import NO_BALLOTS, command, given_already
 from debvote_tools.election.call_words import Call
 from debvote_tools.election.checking import checked
 from debvote_tools.election.folder import Election, Files, difference
+from debvote_tools.election.secrecy import aliases_now, demand_own_folder, told_apart
 from debvote_tools.faults import Fault, Status
-from debvote_tools.files import sum_of, sync_folder, umask, write_whole
+from debvote_tools.files import sum_of, sync_folder, umask, write_new, write_whole
+from debvote_tools.sheet import Sheet
 
 HELP = "Make the call for votes, a page and a letter; the poll is not changed any more"
 
@@ -50,14 +52,19 @@ def run(election: Election, asked: argparse.Namespace) -> int:
         demand_unvoted(election, files)
         demand_covered(election, files.poll)
         demand_own(election)
+        kept = keep_earlier(election, asked)
         files = ended(election, files)
-        poll_sum = sum_of(poll_file.without_last_envelope(files.poll))
-        roll = None if asked.no_roll else poll_file.roll_of(files.poll)
-        call = Call(sheet, poll_sum, asked.until, asked.to, roll)
+        poll = public_poll(election, files)
+        call = call_of(election, sheet, poll, asked)
         is_anew = election.call.exists()
+        apart = told_apart(election, poll)
         take_away_leftovers(election)
-        make(election, files, texts_of(call, files.poll))
+        make(election, files, poll, texts_of(call, poll))
+    print(*(f"{line}\n" for line in kept), sep="", end="")
     say(election, call, is_anew)
+    if apart:
+        tell_apart(apart)
+    say_next(election)
     return Status.DECIDED
 
 
@@ -103,6 +110,28 @@ def sums_in(file: pathlib.Path) -> dict[str, str]:
     return {row[1]: row[0] for row in rows if len(row) == 2}
 
 
+def keep_earlier(election: Election, asked: argparse.Namespace) -> list[str]:
+    """Takes from an earlier call what is not asked for now, so that a call anew loses nothing. Returns what is told of that.
+
+    The folder is as this command made it.
+    """
+    page = election.call / "index.html"
+    if not page.is_file():
+        return []
+    until, to = call_page.said_in(page.read_text(encoding="utf-8"))
+    told = []
+    if asked.until is None and until is not None:
+        asked.until = until
+        told.append(f"Until when is as in the earlier call: {until}")
+    if asked.to is None and to is not None:
+        asked.to = to
+        told.append(f"The address is as in the earlier call: {to}")
+    if not asked.no_roll and not (election.call / "poll.toml").exists():
+        asked.no_roll = True
+        told.append("The poll stays out of the folder, as in the earlier call.")
+    return told and [*told, f"To call without what was kept, first remove the folder {election.call}."]
+
+
 # ---------------------------------------------------------------- the poll
 def demand_covered(election: Election, poll: bytes) -> None:
     """Stops where the poll says something else without its lines `last_envelope`, for the sum leaves them out.
@@ -143,6 +172,30 @@ def ended(election: Election, files: Files) -> Files:
     return after
 
 
+def public_poll(election: Election, files: Files) -> bytes:
+    """The poll that is called: in a secret vote the one with the roll of aliases, and otherwise the poll itself."""
+    if not election.is_secret():
+        if secret.says_secret(files.poll):
+            words = f"it has the line `{secret.SAYS_SECRET.decode()}`, and no codes were made in this folder; nothing was changed"
+            cure = f"for a secret vote run {command(election, 'codes')}, for an open one take the line out; then call again"
+            raise Fault(f"{election.poll}: {words}: {cure}", Status.DOUBT)
+        return files.poll
+    demand_own_folder(election)
+    poll = secret.poll_of(files.poll, aliases_now(election, files.poll))
+    if sheet_without_last(election, poll) != sheet_without_last(election, files.poll):
+        words = "debvote reads the poll under aliases otherwise than this one; write it in a simpler way, then call again"
+        raise Fault(f"{election.poll}: {words}", Status.DOUBT)
+    return poll
+
+
+def call_of(election: Election, sheet: Sheet, poll: bytes, asked: argparse.Namespace) -> Call:
+    """What is called for, with the poll that is public."""
+    is_secret = election.is_secret()
+    poll_sum = sum_of(poll_file.without_last_envelope(poll))
+    roll = None if asked.no_roll or is_secret else poll_file.roll_of(poll)
+    return Call(sheet, poll_sum, asked.until, asked.to, roll, has_poll=not asked.no_roll, is_secret=is_secret)
+
+
 # ---------------------------------------------------------------- the folder
 def texts_of(call: Call, poll: bytes) -> dict[str, bytes]:
     """The files of the call, the sums last."""
@@ -153,7 +206,7 @@ def texts_of(call: Call, poll: bytes) -> dict[str, bytes]:
     return texts | {SUMS: sums.encode()}
 
 
-def make(election: Election, files: Files, texts: dict[str, bytes]) -> None:
+def make(election: Election, files: Files, poll: bytes, texts: dict[str, bytes]) -> None:
     """Makes the folder beside its place, keeps the poll that is called, notes the act, and moves the folder there."""
     count = len(journal.done(election.entries()))
     made = pathlib.Path(tempfile.mkdtemp(prefix=LEFTOVER, dir=election.folder))
@@ -162,6 +215,8 @@ def make(election: Election, files: Files, texts: dict[str, bytes]) -> None:
         for name, text in texts.items():
             write_whole(made / name, text)
         keep_called(election, files)
+        if election.is_secret():
+            keep_called_aliases(election, poll)
         election.act("call", files)
         put_in_place(election, made)
     except BaseException:
@@ -187,6 +242,17 @@ def keep_called(election: Election, files: Files) -> None:
         election.keep_copy(kept)
     election.backup.mkdir(exist_ok=True)
     write_whole(kept, files.poll)
+
+
+def keep_called_aliases(election: Election, poll: bytes) -> None:
+    """Keeps the poll under aliases that is called; of one that was called before, and taken back, a copy."""
+    kept = election.called_aliases
+    if kept.exists():
+        before = secret.private_bytes(kept)
+        if before == poll:
+            return
+        write_new(election.private, kept.name, before, secret.FILE_MODE)
+    write_whole(kept, poll, secret.FILE_MODE)
 
 
 def put_in_place(election: Election, made: pathlib.Path) -> None:
@@ -225,8 +291,10 @@ def take_away_leftovers(election: Election) -> None:
 
 # ---------------------------------------------------------------- what is said
 def say(election: Election, call: Call, is_anew: bool) -> None:
-    """Says what was made, and what comes next."""
+    """Says what was made."""
     print(f"Made the folder {election.call} {'anew' if is_anew else 'with the page index.html and the letter call.txt'}.")
+    if call.is_secret:
+        print("The vote is secret: the poll of the call has aliases, and no name of an elector is in the folder.")
     print(f"The sum of the poll: {call.poll_sum}")
     if call.until is None:
         print("The call does not say until when one can vote; to say it, call again with --until TEXT.")
@@ -235,5 +303,15 @@ def say(election: Election, call: Call, is_anew: bool) -> None:
     if election.closed() is not None:
         print("The election is closed already: ballots that come now are late.")
     print(f"{election.poll} must not be changed any more.")
+
+
+def tell_apart(names: list[str]) -> None:
+    """Says whose aliases an earlier call gives away."""
+    print(f"Note: an earlier call had another roll, and whoever kept it sees that the new aliases are those of: {secret.some(names)}.")
+    print("  If it was published, remove the folder of the call, and hold the election in a new folder, with new codes for all.")
+
+
+def say_next(election: Election) -> None:
+    """Says what comes next."""
     send = f"put the folder {election.call} on the web site, or send {election.call / 'call.txt'} to each elector"
     print(f"Next: {send}; enter the ballots that come with: {command(election, 'add')} or {command(election, 'desk')}")

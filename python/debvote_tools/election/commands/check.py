@@ -5,14 +5,15 @@ import argparse
 from debvote_tools.election import poll_file
 from debvote_tools.election.asking import call_command, command, quorum_words
 from debvote_tools.election.checking import checked
-from debvote_tools.election.folder import Election
+from debvote_tools.election.folder import Election, Files
+from debvote_tools.election.secrecy import without_code
 from debvote_tools.faults import Status
 from debvote_tools.sheet import Sheet
 
 HELP = "Say all that is wrong with the poll, or what is voted on"
 
 # so many names of the roll are shown; all of them stand in the poll
-SHOWN = 10
+SHOWN = 200
 
 
 def options(parser: argparse.ArgumentParser) -> None:
@@ -23,7 +24,16 @@ def run(election: Election, asked: argparse.Namespace) -> int:
     with election.reading() as files:
         sheet = checked(election, files)
     print_poll(sheet, poll_file.roll_of(files.poll))
-    print(f"Next: {command(election, 'status') if election.call.exists() else call_command(election)}")
+    print(f"Next: {what_next(election, files)}")
+
+
+def what_next(election: Election, files: Files) -> str:
+    """The command that the election needs next."""
+    if election.call.exists():
+        return command(election, "status")
+    if election.is_secret() and without_code(election, files.poll):
+        return f"{command(election, 'codes')}, for an elector has no code yet"
+    return call_command(election)
     return Status.DECIDED
 
 
@@ -37,5 +47,5 @@ def print_poll(sheet: Sheet, roll: list[str]) -> None:
     if "Majority" in sheet.facts:
         print("Majority: more than the ratio, where Debian has at least the ratio")
     print(quorum_words(sheet))
-    more = [f"and {len(roll) - SHOWN} more"] if len(roll) > SHOWN else []
+    more = [f"and {len(roll) - SHOWN} more, in the poll"] if len(roll) > SHOWN else []
     print(f"Electors: {sheet.facts['Electors']} ({', '.join([*roll[:SHOWN], *more])})")

@@ -3,7 +3,7 @@
 import argparse
 import re
 
-from debvote_tools import journal
+from debvote_tools import journal, secret
 from debvote_tools.election import poll_file
 from debvote_tools.election.asking import NO_BALLOTS, command, refused
 from debvote_tools.election.folder import Election, Files
@@ -113,13 +113,26 @@ def say(election: Election, after: Files, number: int) -> None:
     tell(*poll_sums(election, after))
     if after.ballots is not None:
         tell(f"Sum of {election.ballots}: {after.sums.ballots}")
+    if election.is_secret():
+        tell("The vote is secret: keep the sums of these two files to yourself; by them one can try guesses of who voted what.")
     tell(f"Next: {command(election, 'count')}")
+
+
+def called_sum(election: Election) -> list[str]:
+    """The sum of the poll under aliases that was called. What hinders to read it does not hinder the close."""
+    try:
+        found = sum_of(secret.private_bytes(election.called_aliases))
+    except Fault as fault:
+        return [f"Note: {fault.words}"]
+    return [f"The poll of the call, with aliases, is published with the result as it is; its sum is that of the call: {found}"]
 
 
 def poll_sums(election: Election, after: Files) -> list[str]:
     """The sum of the poll; where it was called, first that which the call names, since the line of the close is new."""
     if not election.is_called():
         return [f"Sum of {election.poll}: {after.sums.poll}"]
+    if election.is_secret():
+        return [*called_sum(election), f"Sum of {election.poll} as it is now: {after.sums.poll}"]
     of_call = sum_of(poll_file.without_last_envelope(after.poll))
     return [
         f"Without this line {election.poll} is the poll that was called, with the sum of the call: {of_call}",

@@ -5,6 +5,7 @@ import sys
 
 from debvote_tools.election.asking import command, demand_option, files_of, listed, refused
 from debvote_tools.election.folder import Election
+from debvote_tools.election.secrecy import publish_words
 from debvote_tools.faults import Status
 from debvote_tools.program import casting_words
 from debvote_tools.sheet import Sheet, sheet_in
@@ -45,10 +46,11 @@ def run(election: Election, asked: argparse.Namespace) -> int:
 def what_next(election: Election, sheet: Sheet, casting: str | None) -> str:
     """What the secretary does with this sheet. Before the close it is no result yet."""
     over = "" if election.closed() else f"this is no result yet: when the vote is over {command(election, 'close')}, then "
+    publish = publish_words(election)
     if sheet.winner() is not None:
-        return over + command(election, "publish", *(casting_words(casting) if sheet.winner()[1] else []))
+        return over + command(election, *publish, *(casting_words(casting) if sheet.winner()[1] else []))
     names = [sheet.names[option] for option in sheet.final_set()]
     outside = sheet.casting_outside()
     why = f"; {listed([sheet.names[outside]])} is not among them" if outside is not None else ""
-    commands = " or ".join(command(election, "publish", *casting_words(name)) for name in names)
+    commands = " or ".join(command(election, *publish, *casting_words(name)) for name in names)
     return f"{over}it is a tie between {listed(names)}{why}; who has the casting vote chooses one of them: {commands}"

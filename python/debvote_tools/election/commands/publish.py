@@ -10,9 +10,12 @@ import sys
 
 from debvote_tools.election.asking import NO_BALLOTS, command, demand_option
 from debvote_tools.election.commands.count import casting_option
+from debvote_tools.election.differences import tell_differences
 from debvote_tools.election.folder import Election, Files
+from debvote_tools.election.secrecy import demand_own_folder
 from debvote_tools.faults import Fault, Status
 from debvote_tools.program import casting_words
+from debvote_tools.publish.command_line import page_options, page_words, voters_option
 
 HELP = "Make the folder of the result for a web site"
 
@@ -24,6 +27,10 @@ def options(parser: argparse.ArgumentParser) -> None:
     parser.add_argument(
         "--even-so", action="store_true", help="Publish where debvote-publish stops at a doubt; the page says what the doubt is"
     )
+    secret = "The vote is secret: publish the ballots that stand under their aliases, and nothing else of what came"
+    parser.add_argument("--secret", action="store_true", help=secret)
+    voters_option(parser)
+    page_options(parser)
     said = "The folder to make; the folder result of the election if it is not given"
     parser.add_argument("target", metavar="FOLDER", nargs="?", help=said)
 
@@ -31,21 +38,49 @@ def options(parser: argparse.ArgumentParser) -> None:
 def run(election: Election, asked: argparse.Namespace) -> int:
     target = pathlib.Path(asked.target) if asked.target else election.result
     with election.reading() as files:
+        demand_secrecy(election, asked)
         demand_free(election, asked, target)
         demand_ballots(election, files, asked)
         if asked.casting is not None:
             demand_option(election, asked.casting)
         status = ended([program(election), *words(election, files, asked), str(target)])
     if status in (Status.DECIDED, Status.TIE, Status.CASTING_OUTSIDE) and target.is_dir():
-        print(f"Next: {what_next(election, target, status)}")
+        if asked.secret:
+            tell_differences(election, target)
+        print(f"Next: {what_next(election, asked, target, status)}")
     return status
+
+
+def demand_secrecy(election: Election, asked: argparse.Namespace) -> None:
+    """Stops where a secret vote would be published openly, or where an open one has no codes."""
+    is_secret = election.is_secret()
+    if is_secret and not asked.secret:
+        words = "the vote is secret, and this would publish each name with its vote; publish it under aliases"
+        named = [asked.target] if asked.target else []
+        raise Fault(f"{election.codes}: {words}: {command(election, *again(asked, is_secret), *named)}", Status.DOUBT)
+    if asked.secret and not is_secret:
+        words = "no codes were made for this vote, and they come before the call"
+        raise Fault(f"{election.codes}: {words}: {command(election, 'codes')}", Status.DOUBT)
+    if asked.secret:
+        demand_own_folder(election)
+    if asked.voters and not asked.secret:
+        raise Fault("--voters: it goes with --secret; in an open vote the page has who voted what", Status.BAD_WORDS)
+
+
+def again(asked: argparse.Namespace, is_secret: bool) -> list[str]:
+    """The words of this command, but for the folder that it makes."""
+    given = [("--even-so", asked.even_so), ("--secret", is_secret), ("--voters", asked.voters)]
+    flags = [name for name, is_given in given if is_given]
+    return ["publish", *casting_words(asked.casting), *flags, *page_words(asked)]
 
 
 def words(election: Election, files: Files, asked: argparse.Namespace) -> list[str]:
     """The words for debvote-publish, but for the folder."""
     ballots = NO_BALLOTS if files.ballots is None else str(election.ballots)
     even_so = ["--even-so"] if asked.even_so else []
-    return ["--poll", str(election.poll), "--ballots", ballots, *casting_words(asked.casting), *even_so]
+    secret = ["--secret", str(election.codes), *(["--voters"] if asked.voters else [])] if asked.secret else []
+    more = [*casting_words(asked.casting), *even_so, *secret, *page_words(asked)]
+    return ["--poll", str(election.poll), "--ballots", ballots, *more]
 
 
 def program(election: Election) -> str:
@@ -78,9 +113,8 @@ def demand_free(election: Election, asked: argparse.Namespace, target: pathlib.P
     if not os.path.lexists(target) or (target.is_dir() and not any(target.iterdir())):
         return
     free = free_name(target)
-    even_so = ["--even-so"] if asked.even_so else []
-    again = command(election, "publish", *casting_words(asked.casting), *even_so, str(free))
-    words = f"it is there already, and stays as it is; publish into another folder: {again}"
+    words = "it is there already, and stays as it is; publish into another folder: "
+    words += command(election, *again(asked, asked.secret), str(free))
     raise Fault(f"{target}: {words}", Status.BAD_WORDS)
 
 
@@ -99,10 +133,13 @@ def free_name(target: pathlib.Path) -> pathlib.Path:
     return target.with_name(f"{target.name}-{number}")
 
 
-def what_next(election: Election, target: pathlib.Path, status: int) -> str:
+def what_next(election: Election, asked: argparse.Namespace, target: pathlib.Path, status: int) -> str:
     """What the secretary does with the folder."""
     if status == Status.DECIDED:
         return f"put the folder {target} on the web site as it is"
-    chosen = f"{command(election, 'publish')} --casting=NAME {shlex.quote(str(free_name(target)))}"
+    more = [*(["--secret"] if asked.secret else []), *(["--voters"] if asked.voters else [])]
+    # the ordinary folder is taken where it is free
+    place = "" if not os.path.lexists(election.result) else f" {shlex.quote(str(free_name(election.result)))}"
+    chosen = f"{command(election, 'publish', *more)} --casting=NAME{place}"
     ask = f"put the folder {target} on the web site, ask for the casting vote, and write its option in place of NAME"
     return f"it is a tie: {ask}: {chosen}"

@@ -8,16 +8,20 @@ from collections.abc import Callable
 
 from debvote_tools.election import poll_file
 from debvote_tools.election.asking import command, empty_sheet, explained, given_already, quorum_words
-from debvote_tools.election.folder import Election, Files, difference
+from debvote_tools.election.folder import Election, Files
 from debvote_tools.election.members import AGAIN, Member, Members, doubles, doubt, members_in, plain, proposals, shown
 from debvote_tools.election.telling import count_of, tell
 from debvote_tools.faults import Fault, Status
 from debvote_tools.files import uninterrupted, write_whole
+from debvote_tools.pages import joined
 
 HELP = "Write the roll of the poll from the list of members"
 
-# so many proposals are shown; all of them stand in the file
+# so many lines or names of a fault are shown
 SHOWN = 10
+
+# so many members are shown: of more the list itself is easier to read
+MOST_MEMBERS = 200
 
 
 def options(parser: argparse.ArgumentParser) -> None:
@@ -34,7 +38,7 @@ def run(election: Election, asked: argparse.Namespace) -> int:
         demand_allowed(election, members, poll)
         tell_alike(members, "who", lambda member: " ".join(plain(member.who).split()))
         tell_alike(members, "mail", lambda member: plain(member.mail))
-        demand_same_call(election, files, poll)
+        demand_same_call(election, files, poll, members)
         with uninterrupted():
             write(election, files, poll)
             tell_roll(election, members)
@@ -69,10 +73,10 @@ def tell_proposals(members: Members, names: dict[int, str]) -> None:
     """Says which names were written into the file; of many the first."""
     tell(f"Names that {members.file} has now:")
     told = [member for member in members.members if member.line in names]
-    for member in told[:SHOWN]:
+    for member in told[:MOST_MEMBERS]:
         tell(f"  {names[member.line]}: {shown(member.who or member.mail)} (line {member.line})")
-    if len(told) > SHOWN:
-        tell(f"  and {len(told) - SHOWN} more")
+    if len(told) > MOST_MEMBERS:
+        tell(f"  and {len(told) - MOST_MEMBERS} more, in {members.file}")
 
 
 def stop_at_doubles(members: Members) -> None:
@@ -115,15 +119,30 @@ def tell_alike(members: Members, column: str, key: Callable[[Member], str]) -> N
 
 
 # ---------------------------------------------------------------- the poll
-def demand_same_call(election: Election, files: Files, poll: bytes) -> None:
-    """Stops where the call for votes was made with another roll."""
+def demand_same_call(election: Election, files: Files, poll: bytes, members: Members) -> None:
+    """Stops where the call for votes was made with another roll than the list has now."""
     if not election.call.exists() or not election.called_poll.exists():
         return
     called, now = map(poll_file.without_last_envelope, (election.called_poll.read_bytes(), poll))
     if called != now:
-        words = f"the call for votes was made with another roll: {shown(difference(called, now))}"
+        words = f"the call for votes was made with another roll than this list has: {roll_difference(called, now)}"
         anew = f"to call anew with this one, first remove the folder {election.call}"
-        raise Fault(f"{election.poll}: {words}; {given_already(election, files) or anew}", Status.DOUBT)
+        cure = given_already(election, files, "the list") or f"put the list back as it was; {anew}"
+        raise Fault(f"{members.file}: {words}; {cure}", Status.DOUBT)
+
+
+def roll_difference(called: bytes, now: bytes) -> str:
+    """Which names came and went; where the names are the same, that their order is another one."""
+    before, after = (poll_file.roll_of(poll) for poll in (called, now))
+    said = [f"new are {names_of([name for name in after if name not in set(before)])}"] if set(after) - set(before) else []
+    said += [f"gone are {names_of([name for name in before if name not in set(after)])}"] if set(before) - set(after) else []
+    return ", ".join(said) or "the names are the same, in another order"
+
+
+def names_of(names: list[str]) -> str:
+    """Some names; of many the first."""
+    more = [f"{len(names) - SHOWN} more"] if len(names) > SHOWN else []
+    return joined([*names[:SHOWN], *more])
 
 
 def write(election: Election, files: Files, poll: bytes) -> None:
@@ -141,8 +160,10 @@ def list_of(names: list[str]) -> str:
 # ---------------------------------------------------------------- what is told
 def tell_roll(election: Election, members: Members) -> None:
     """Says how many electors the roll has, and who they are; of many the first."""
-    told = [f"  {member.name}" + (f": {shown(member.who)}" if member.who else "") for member in members.members[:SHOWN]]
-    more = [f"  and {len(members.members) - SHOWN} more"] if len(members.members) > SHOWN else []
+    first = members.members[:MOST_MEMBERS]
+    told = [f"  {member.name}" + (f": {shown(member.who)}" if member.who else "") for member in first]
+    rest = len(members.members) - len(first)
+    more = [f"  and {rest} more, in {members.file}"] if rest else []
     tell(f"The roll of {election.poll} has {count_of(len(members.members), 'elector')}:", *told, *more)
 
 

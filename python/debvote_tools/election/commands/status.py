@@ -11,8 +11,10 @@ from debvote_tools.election import poll_file
 from debvote_tools.election.asking import call_command, command, files_of, quorum_words, refused
 from debvote_tools.election.folder import Election, Files
 from debvote_tools.election.members import shown
+from debvote_tools.election.secrecy import aliases_now, demand_own_folder, publish_words
+from debvote_tools.election.shapes import plainly
 from debvote_tools.election.telling import time_of
-from debvote_tools.faults import Status
+from debvote_tools.faults import Fault, Status
 from debvote_tools.journal import Entry
 from debvote_tools.program import Finding, Findings, findings_in, standing_in
 from debvote_tools.sheet import Sheet, sheet_in
@@ -53,6 +55,7 @@ def run(election: Election, asked: argparse.Namespace) -> int:
         state = state_of(election, files)
         changed = election.changed_since_close(files, state.sheet)
     print(f"Title: {state.sheet.facts['Poll']}")
+    tell_secrecy(election, files)
     tell_stage(election, acts, state.sheet)
     for line in changed:
         print(f"Note: {line}")
@@ -107,6 +110,18 @@ def tell_edited(election: Election, files: Files, acts: list[Entry]) -> None:
         print(f"  Where you did not do this, find out who did; what debvote-election had is kept in {kept}.")
 
 
+def tell_secrecy(election: Election, files: Files) -> None:
+    """Says that the vote is secret, and what is wrong with its codes."""
+    if not election.is_secret():
+        return
+    print("The vote is secret: ballots are published under aliases. What this command tells is for you alone.")
+    try:
+        demand_own_folder(election)
+        aliases_now(election, files.poll)
+    except Fault as fault:
+        print(f"Note: {fault.words}")
+
+
 def tell_stage(election: Election, acts: list[Entry], sheet: Sheet) -> None:
     """Says whether the election is called and closed."""
     call = journal.last(acts, "call")
@@ -131,7 +146,7 @@ def what_next(election: Election, acts: list[Entry], state: State) -> str:
         return call_command(election)
     if journal.last(acts, "close") is None:
         return f"add the ballots as they come: {add}; when the vote is over: {command(election, 'close')}"
-    return f"{command(election, 'count')}, then {command(election, 'publish')}"
+    return f"{command(election, 'count')}, then {command(election, *publish_words(election))}"
 
 
 # ---------------------------------------------------------------- lines and electors
@@ -187,6 +202,6 @@ def tell_findings(title: str, findings: list[Finding], lines: list[bytes]) -> No
         return
     print(f"{title} ({len(findings)}):")
     for finding in findings:
-        line = lines[finding.envelope - 1].decode("utf-8", "backslashreplace")
-        print(f"  line {finding.envelope}: {shown(line) or '(empty)'}")
-        print(f"    {finding.word}: {finding.hint}")
+        line = lines[finding.envelope - 1]
+        print(f"  line {finding.envelope}: {shown(line.decode('utf-8', 'backslashreplace')) or '(empty)'}")
+        print(f"    {finding.word}: {finding.hint}{plainly(line, finding)}")

@@ -1,0 +1,47 @@
+"""What an earlier publication of the same secret vote tells beside a new one: the ballots that only one of them has.
+
+It is looked for beside the new one, and in the folder of the election.
+"""
+
+import pathlib
+
+from debvote_tools.election.folder import Election
+from debvote_tools.election.telling import count_of
+from debvote_tools.files import BALLOTS_LIMIT, POLL_LIMIT, read_at_most
+from debvote_tools.publish.calls import BALLOTS, POLL
+from debvote_tools.publish.secret import VOTERS
+
+
+def tell_differences(election: Election, target: pathlib.Path) -> None:
+    """Says where folders have other ballots of the same poll: who knows why, knows whose they are."""
+    poll, ballots = read_at_most(target / POLL, POLL_LIMIT), lines_in(target)
+    folders = {folder.resolve(): folder for place in (target.parent, election.folder) for folder in place.iterdir()}
+    for folder in sorted(folders.values()):
+        if folder.resolve() == target.resolve() or not has_poll(folder, poll):
+            continue
+        changed = {line.partition(b" ")[0] for line in lines_in(folder) ^ ballots}
+        if changed:
+            who = count_of(len(changed), "elector")
+            print(f"Note: {folder} has other ballots, or none, of {who}.")
+            print("  Whoever sees both folders, and knows whose ballots changed, knows how they voted.")
+            if voters_in(folder, target):
+                print(f"  The two files {VOTERS} differ, and name them: with both folders everybody knows.")
+
+
+def voters_in(folder: pathlib.Path, target: pathlib.Path) -> bool:
+    """Whether both folders have a list of who voted, and the two lists differ."""
+    files = [place / VOTERS for place in (folder, target)]
+    return all(file.is_file() for file in files) and len({read_at_most(file, POLL_LIMIT) for file in files}) == 2
+
+
+def has_poll(folder: pathlib.Path, poll: bytes) -> bool:
+    """Whether this is a published folder of the poll. One that can't be read is none."""
+    try:
+        return (folder / BALLOTS).is_file() and read_at_most(folder / POLL, POLL_LIMIT) == poll
+    except OSError:
+        return False
+
+
+def lines_in(folder: pathlib.Path) -> set[bytes]:
+    """The published ballots of a folder."""
+    return set(read_at_most(folder / BALLOTS, BALLOTS_LIMIT).splitlines())

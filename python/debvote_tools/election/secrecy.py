@@ -1,0 +1,45 @@
+"""What the commands ask of a secret vote: the aliases of the roll, and the poll that has them."""
+
+from debvote_tools import secret
+from debvote_tools.election import poll_file
+from debvote_tools.election.asking import command
+from debvote_tools.election.folder import Election
+
+
+def aliases_now(election: Election, poll: bytes) -> dict[str, str]:
+    """The alias of each elector on the roll. Stops where one has no code, or where the aliases are not those of the call."""
+    aliases = secret.aliases_of(election.codes, poll_file.roll_of(poll), cure_of(election))
+    secret.demand_called(election.codes, secret.poll_of(poll, aliases))
+    return aliases
+
+
+def demand_own_folder(election: Election) -> None:
+    """Stops where others may look into the folder of a secret vote: its files are as readable as those of an open one."""
+    secret.demand_private(election.folder, secret.FOLDER_MODE)
+
+
+def without_code(election: Election, poll: bytes) -> list[str]:
+    """The electors on the roll who have no code."""
+    known = {holder.name for holder in secret.holders_in(election.codes)}
+    return [name for name in poll_file.roll_of(poll) if name not in known]
+
+
+def told_apart(election: Election, poll: bytes) -> list[str]:
+    """The electors whom an earlier call tells from the others: with the poll under aliases of now, their aliases alone are new."""
+    if not election.is_secret() or not election.called_aliases.exists():
+        return []
+    data = secret.private_bytes(election.called_aliases)
+    then, now = (set(poll_file.roll_of(poll)) for poll in (data, poll))
+    known = secret.holders_in(election.codes)
+    return [holder.name for holder in known if holder.alias in now - then] if then & now else []
+
+
+def cure_of(election: Election) -> str:
+    """What is done where an elector has no code: before the call there is a new one, and after it the one of the slip."""
+    is_called = election.is_called() and election.called_aliases.exists()
+    return secret.LOST if is_called else f"run {command(election, 'codes')}, and give them their slips"
+
+
+def publish_words(election: Election) -> list[str]:
+    """The command that publishes, without the words of a casting vote."""
+    return ["publish", "--secret"] if election.is_secret() else ["publish"]

@@ -1,0 +1,99 @@
+"""What the sheet says as data: `result.json` for programs, and `votes.csv` for spreadsheets (docs/FORMATS.md)."""
+
+import csv
+import io
+import json
+
+from debvote_tools.publish.labels import Labels
+from debvote_tools.sheet import Round, Sheet
+
+FORMAT = "debvote result 1"
+
+Pair = dict[str, int]
+
+
+def result_json(sheet: Sheet, labels: Labels, version: str) -> str:
+    """The sheet as JSON, a key a line."""
+    lines = [f"{json.dumps(key)}: {json.dumps(value, ensure_ascii=False)}" for key, value in document(sheet, labels, version)]
+    return "{\n" + ",\n".join(lines) + "\n}\n"
+
+
+def document(sheet: Sheet, labels: Labels, version: str) -> list[tuple[str, object]]:
+    """The keys of the document with their values, in their order."""
+    facts = sheet.facts
+    multiple, votes = facts["Quorum"].split(", ")
+    return [
+        ("format", FORMAT),
+        ("program", version),
+        ("title", facts["Poll"]),
+        ("label", labels.title or facts["Poll"]),
+        ("electors", int(facts["Electors"])),
+        ("quorum", {"multiple": int(multiple.removesuffix("Q")), "votes": int(votes.removesuffix(" votes"))}),
+        ("wording", "more_than" if "Majority" in facts else "at_least"),
+        ("lines", int(facts["Lines"])),
+        ("last_envelope", int(facts["Last envelope"]) if "Last envelope" in facts else None),
+        ("valid", int(facts["Valid"])),
+        ("refused", int(facts["Refused"])),
+        ("voters", int(facts["Voters"])),
+        ("options", [option_of(sheet, labels, option) for option in sheet.names]),
+        ("votes", [[number_in(sheet.votes[a, b]) for b in sheet.names] for a in sheet.names]),
+        ("defeats", [defeat_of(sheet, a, b) for a, b in sheet.defeats]),
+        ("rounds", [round_of(step) for step in sheet.rounds]),
+        ("outcome", outcome_of(sheet)),
+    ]
+
+
+def option_of(sheet: Sheet, labels: Labels, option: int) -> dict[str, object]:
+    ratio, name = sheet.ratios.get(option), sheet.names[option]
+    return {
+        "number": option,
+        "name": name,
+        "label": labels.options.get(option, name),
+        "is_default": option == sheet.default,
+        "ratio": None if ratio is None else int(ratio),
+        "dropped": sheet.dropped.get(option),
+    }
+
+
+def number_in(cell: str) -> int | None:
+    """A number of the table; none where an option meets itself."""
+    return None if cell == "-" else int(cell)
+
+
+def defeat_of(sheet: Sheet, a: int, b: int) -> Pair:
+    return {"over": a, "under": b, "votes": int(sheet.votes[a, b]), "against": int(sheet.votes[b, a])}
+
+
+def round_of(step: Round) -> dict[str, object]:
+    return {"set": step.options, "removed": [{"over": a, "under": b} for a, b in step.removed]}
+
+
+def outcome_of(sheet: Sheet) -> dict[str, object]:
+    winner = sheet.winner()
+    return {
+        "winner": None if winner is None else winner[0],
+        "is_by_casting_vote": winner is not None and winner[1],
+        "left": sheet.final_set(),
+        "casting_vote_outside": sheet.casting_outside(),
+    }
+
+
+def votes_csv(sheet: Sheet) -> str:
+    """The table of votes, a row an option: its number, its name, its ratio, how it ended, and the votes over each option."""
+    table = io.StringIO()
+    writer = csv.writer(table, lineterminator="\n")
+    writer.writerow(["option", "name", "ratio", "ended", *sheet.names])
+    for a, name in sheet.names.items():
+        votes = ["" if a == b else sheet.votes[a, b] for b in sheet.names]
+        writer.writerow([a, name, sheet.ratios.get(a, ""), ended(sheet, a), *votes])
+    return table.getvalue()
+
+
+def ended(sheet: Sheet, option: int) -> str:
+    """How it ended for an option, in a word: `won`, `left` in a tie, dropped for its `quorum` or its `majority`, or `lost`."""
+    if option in sheet.dropped:
+        return sheet.dropped[option]
+    winner = sheet.winner()
+    if winner is not None:
+        return "won" if option == winner[0] else "lost"
+    return "left" if option in sheet.final_set() else "lost"

@@ -1,0 +1,77 @@
+"""Labels: what title and options are called on the page, in any language, beside the names of the poll.
+
+    0<TAB>Wo wir uns im Frühling treffen
+    1<TAB>Am See
+
+A line has a number, a tab and a text. The number is that of an option, or 0 for the title. Empty lines are left out.
+"""
+
+import dataclasses
+import re
+
+from debvote_tools.faults import Fault, Status
+from debvote_tools.publish.texts import text_in
+from debvote_tools.sheet import Sheet
+
+TITLE = 0
+
+# in characters; on a page a longer one would be no name any more
+LONGEST = 200
+
+HOW = "a line is a number, a tab and a text, as 1<TAB>At the lake"
+
+
+@dataclasses.dataclass(frozen=True)
+class Labels:
+    """The label of the title, and those of options by their numbers; who has none is called as in the poll."""
+
+    title: str | None = None
+    options: dict[int, str] = dataclasses.field(default_factory=dict)
+
+    @property
+    def is_empty(self) -> bool:
+        return self.title is None and not self.options
+
+
+def labels_in(file: str) -> dict[int, tuple[int, str]]:
+    """The labels of a file, each with the number of its line, by the numbers that they have."""
+    found: dict[int, tuple[int, str]] = {}
+    for place, line in enumerate(text_in(file, "labels").split("\n"), start=1):
+        if not line.strip():
+            continue
+        number, text = label_in(line, f"{file}:{place}")
+        if number in found:
+            words = f"number {number} has a label already, on line {found[number][0]}; take one of the two out"
+            raise bad_label(f"{file}:{place}", words)
+        found[number] = (place, text)
+    return found
+
+
+def label_in(line: str, where: str) -> tuple[int, str]:
+    """The number and the text of a line."""
+    number, tab, text = line.partition("\t")
+    text = text.strip()
+    if not tab:
+        raise bad_label(where, f"it has no tab; {HOW}")
+    if re.fullmatch(r"0|[1-9][0-9]?", number.strip(), re.ASCII) is None:
+        raise bad_label(where, f"before the tab stands no number of an option; {HOW}, with 0 for the title")
+    if not text:
+        raise bad_label(where, "behind the tab stands nothing; write the text, or take the line out")
+    if "\t" in text or len(text) > LONGEST:
+        what = "the text has a tab in it" if "\t" in text else f"the text has {len(text)} characters, {LONGEST} are the most"
+        raise bad_label(where, f"{what}; write it anew")
+    return int(number), text
+
+
+def labels_of(file: str | None, found: dict[int, tuple[int, str]], sheet: Sheet) -> Labels:
+    """The labels for a sheet. Stops at the number of an option that it does not have."""
+    for number, (place, _) in found.items():
+        if number != TITLE and number not in sheet.names:
+            words = f"the poll has no option {number}: its options are 1 to {sheet.default}, and 0 stands for the title"
+            raise bad_label(f"{file}:{place}", words)
+    texts = {number: text for number, (_, text) in found.items()}
+    return Labels(texts.pop(TITLE, None), texts)
+
+
+def bad_label(where: str, words: str) -> Fault:
+    return Fault(f"{where}: {words}", Status.BAD_WORDS)

@@ -1,0 +1,81 @@
+"""What is published: the records from which the page and the files of a folder are made."""
+
+import dataclasses
+from collections.abc import Mapping, Sequence
+from html import escape
+
+from debvote_tools.faults import Doubt
+from debvote_tools.program import Finding, Totals
+from debvote_tools.publish.called import Called
+from debvote_tools.publish.labels import Labels
+from debvote_tools.sheet import Sheet
+
+
+@dataclasses.dataclass(frozen=True)
+class File:
+    """A file of the folder, and what it has, as a part of a sentence in HTML."""
+
+    name: str
+    what: str
+    data: bytes
+
+
+@dataclasses.dataclass(frozen=True)
+class Further:
+    """What a publication has beside what follows from its poll and its ballots. An open vote has nothing of it.
+
+    All texts but the script are HTML already.
+    """
+
+    # where the lines that were refused or late are not among the published ballots: the numbers of all lines, which are told
+    unlisted: Totals | None = None
+    # what stands above the ballots, in place of the ordinary sentences
+    about_ballots: str | None = None
+    # whole parts of the page (`pages.part`), which stand before that about verification
+    parts: Sequence[str] = ()
+    # style and script behind those that all pages have
+    style: str = ""
+    script: str = ""
+    # further files
+    files: Sequence[File] = ()
+    # what files of the ordinary names are called on the page, by their names
+    described: Mapping[str, str] = dataclasses.field(default_factory=dict)
+
+
+@dataclasses.dataclass(frozen=True)
+class Published:
+    """What the page is made from: the texts of debvote, the picture, what there is to doubt, and what was given beside."""
+
+    sheet: Sheet
+    standing: str
+    # the lines that are refused, late ones among them
+    refused: list[Finding]
+    # the lines of the published ballots, that of envelope i at i - 1
+    lines: list[bytes]
+    picture: bytes | None
+    # the words of the casting vote, as the commands of the page have them
+    casting: list[str]
+    verified: str
+    version: str
+    doubts: list[Doubt]
+    called: Called
+    labels: Labels
+    about: str | None
+    further: Further
+
+    def title(self) -> str:
+        """What the election is called on the page, in HTML."""
+        return shown(self.labels.title, self.sheet.facts["Poll"])
+
+    def name(self, option: int) -> str:
+        """What an option is called on the page, in HTML."""
+        return shown(self.labels.options.get(option), self.sheet.names[option])
+
+    def option(self, option: int) -> str:
+        """An option as it is called in a sentence, by its number and its name."""
+        return f"<b>{option} {self.name(option)}</b>"
+
+
+def shown(label: str | None, name: str) -> str:
+    """A label, or the name where there is none. A label may be written from right to left, and turns nothing around it."""
+    return escape(name) if label is None else f"<bdi>{escape(label)}</bdi>"

@@ -1,0 +1,215 @@
+"""What is published of a secret vote: the poll and the ballots under aliases, and what the page says beside them."""
+
+import contextlib
+import dataclasses
+import os
+import pathlib
+import re
+import tempfile
+from collections.abc import Iterator
+from html import escape
+
+from debvote_tools import journal, pages, secret
+from debvote_tools.election import poll_file
+from debvote_tools.faults import Doubt, Fault, Status
+from debvote_tools.files import in_memory
+from debvote_tools.pages import command_block, listed, paragraph, part
+from debvote_tools.program import Totals
+from debvote_tools.publish import untelling
+from debvote_tools.publish.called import folders_of
+from debvote_tools.publish.calls import BALLOTS, POLL
+from debvote_tools.publish.published import File, Further
+from debvote_tools.secret_words import ALIAS, BY_OPENSSL, BY_PYTHON, FIND, REMAINS
+
+VOTERS = "voters.txt"
+
+SCRIPT = pathlib.Path(__file__).with_name("find.js")
+
+STYLE = """
+.field { margin: 0.75rem 0; }
+#answer p { margin: 0.5rem 0; }
+.found { padding: 0.6rem 0.8rem; background: var(--shade); border-left: 0.4rem solid var(--link); }
+summary { padding: 0.5rem 0; cursor: pointer; }
+.absent { margin: 0; padding: 0; list-style: none; font-family: ui-monospace, monospace; }
+"""
+
+FORM = """<div id="find" hidden>
+<p>Type your name and your code, and the page shows which ballot counts for you. What you type stays in the page: it sends
+nothing.</p>
+<div class="field">
+<label for="name">Your name, as it stands on your slip</label>
+<input id="name" type="text" autocomplete="off" spellcheck="false">
+</div>
+<div class="field">
+<label for="code">Your code, which stands there too</label>
+<input id="code" type="text" autocomplete="off" spellcheck="false">
+</div>
+<p><button id="show" type="button">Show my ballot</button></p>
+<div id="answer" role="status"></div>
+</div>"""
+
+ABSTAINED = "If you did not vote, look too: no ballot may count under your alias."
+ALONE = "You need not trust the page: somebody may have changed it. Your alias with Python, which asks for code and name:"
+WITH_OPENSSL = (
+    "Or with openssl, on a computer that you alone use, since others may see the code while it runs, and the terminal keeps the "
+    "line; write your name in place of NAME, and your code in place of CODE:"
+)
+THEN = "Then the ballot under it, in the folder of the files below; write the alias in place of ALIAS:"
+
+REMAINS_HEADING = "What is not hidden"
+
+
+@dataclasses.dataclass(frozen=True)
+class Hidden:
+    """A vote under aliases: the two files that are published, and who is behind them."""
+
+    poll: bytes
+    ballots: bytes
+    # the electors who have a ballot that stands, in the order of the roll
+    voters: list[str]
+    # the aliases of the others, in the order of the published roll
+    absent: list[str]
+
+
+@contextlib.contextmanager
+def private_folder(poll: bytes, ballots: bytes) -> Iterator[pathlib.Path]:
+    """A folder with the two files, named as those that are published. They lie in memory, so that a kill leaves none of them."""
+    with contextlib.ExitStack() as stack:
+        folder = pathlib.Path(stack.enter_context(tempfile.TemporaryDirectory(prefix="debvote-")))
+        for name, data in ((POLL, poll), (BALLOTS, ballots)):
+            (folder / name).symlink_to(stack.enter_context(in_memory(data)))
+        yield folder
+
+
+def demand_open(poll: str, ballots: str) -> None:
+    """Stops where an open publication would tell who voted what in a secret vote. No word of the command line goes over this."""
+    for place in dict.fromkeys([*folders_of(poll), *folders_of(ballots)]):
+        folder = secret_folder_of(place)
+        if folder is not None:
+            codes = folder / secret.PRIVATE / secret.CODES
+            words = "the vote in this folder is secret, and this would publish each name with its vote"
+            raise Fault(f"{poll}: {words}; publish it with --secret {codes}", Status.DOUBT)
+
+
+def demand_unmarked(file: str, poll: bytes) -> None:
+    """Stops where the poll says that the vote is secret. A copy of it lies elsewhere than its election."""
+    if secret.says_secret(poll):
+        words = "it says that the vote is secret, and this would publish each name with its vote"
+        cure = "publish it with --secret CODES, by the file private/codes.csv of its election"
+        raise Fault(f"{file}: {words}; {cure}", Status.DOUBT)
+
+
+def secret_folder_of(place: pathlib.Path) -> pathlib.Path | None:
+    """The folder of the secret vote in which a folder lies, as its backup does; none where it is of another vote."""
+    for folder in (place, *pathlib.Path(os.path.realpath(place)).parents):
+        # a file of this name may be somebody else's
+        with contextlib.suppress(OSError):
+            if secret.is_secret(folder):
+                return folder
+            if journal.entries_in(folder / journal.NAME):
+                return None
+    return None
+
+
+def demand_texts(texts: dict[str, str], codes: pathlib.Path, poll: tuple[str, bytes], ballots: tuple[str, bytes]) -> None:
+    """Stops where a text for the page, by its file, would tell what is private. Poll and ballots stand with their files."""
+    if not texts:
+        return
+    folders = (secret_folder_of(place) for file in (poll[0], ballots[0], str(codes.parent)) for place in folders_of(file))
+    election = next(filter(None, folders), None)
+    sums = untelling.private_sums(poll[1], ballots[1], election)
+    holders = secret.holders_in(codes)
+    for file, text in texts.items():
+        untelling.demand_no_private_file(file, election)
+        untelling.demand_untelling(file, text, holders, sums)
+
+
+# ---------------------------------------------------------------- the files under aliases
+def hidden_of(codes: pathlib.Path, poll: bytes, standing: dict[str, str]) -> Hidden:
+    """The vote under aliases. Stops where an elector has no code, or where the poll is not the one that was called."""
+    aliases = secret.aliases_of(codes, poll_file.roll_of(poll), secret.LOST)
+    published = secret.poll_of(poll, aliases)
+    secret.demand_called(codes, published)
+    absent = sorted(alias for name, alias in aliases.items() if name not in standing)
+    return Hidden(published, secret.ballots_of(standing, aliases), list(standing), absent)
+
+
+def demand_same(private: str, published: str) -> None:
+    """Stops where the sheet under aliases is not the one of the private files: from the line `Voters:` on, and in its head."""
+    if from_voters(private) != from_voters(published) or head_of(private) != head_of(published):
+        raise Fault("the sheet under aliases is not that of the votes as they came; nothing was published", Status.DIFFERS)
+
+
+def from_voters(sheet: str) -> str:
+    """The sheet from its line `Voters:` on; a title stands above."""
+    return sheet[sheet.index("\nVoters: ") :]
+
+
+def head_of(sheet: str) -> list[str]:
+    """The lines above it, but for those that count lines."""
+    lines = sheet[: sheet.index("\nVoters: ")].split("\n")
+    return lines[:1] + [line for line in lines[1:] if not re.match("(Lines|Last envelope|Valid|Refused): ", line)]
+
+
+def demand_no_code(folder: pathlib.Path, codes: pathlib.Path) -> None:
+    """Stops where a code stands in a file of the folder: somebody may have given the file of codes for the page."""
+    known = {holder.code.encode() for holder in secret.holders_in(codes)}
+    for file in sorted(folder.iterdir()):
+        if known & set(re.findall(rb"(?<![0-9a-f])[0-9a-f]{32}(?![0-9a-f])", file.read_bytes())):
+            words = f"{file.name} would have the code of an elector in it; nothing was published"
+            raise Fault(f"{words}: look at what you gave with --about and --labels", Status.DOUBT)
+
+
+# ---------------------------------------------------------------- what the page says
+def further_of(hidden: Hidden, totals: Totals, *, with_voters: bool) -> Further:
+    """What the page has beside what follows from the published files."""
+    described = {
+        POLL: "the poll: title, options, quorum, and a roll that has the alias of each elector",
+        BALLOTS: "the ballots that count, each under its alias, in the order of the aliases",
+    }
+    what = "the electors who have voted, in the order of the roll, without their votes"
+    files = [File(VOTERS, what, "".join(f"{name}\n" for name in hidden.voters).encode())] if with_voters else []
+    said = (
+        "The vote is secret: each ballot that counts stands under the alias of its elector, and the aliases stand in their own "
+        "order, which tells nothing. Ballots that an elector has replaced are not published."
+    )
+    return Further(
+        unlisted=totals,
+        about_ballots=said,
+        parts=[find(hidden), *(who_voted(hidden) if with_voters else []), remains()],
+        style=pages.FIELDS_STYLE + STYLE,
+        script=SCRIPT.read_text(encoding="utf-8"),
+        files=files,
+        described=described,
+    )
+
+
+def find(hidden: Hidden) -> str:
+    """How electors find their own ballot, on the page and without it."""
+    number = len(hidden.absent)
+    absent = []
+    if hidden.absent:
+        aliases = "".join(f'<li id="{alias}">{alias}</li>\n' for alias in hidden.absent)
+        head = f"<summary>Aliases under which no ballot counts ({number})</summary>"
+        absent = [f'<details>\n{head}\n<ul class="absent">\n{aliases}</ul>\n</details>']
+    commands = [(ALONE, BY_PYTHON), (WITH_OPENSSL, BY_OPENSSL), (THEN, "grep '^ALIAS ' standing.txt")]
+    return part(FIND, FORM, paragraph(ABSTAINED), paragraph(ALIAS), *(command_block(*command) for command in commands), *absent)
+
+
+def who_voted(hidden: Hidden) -> list[str]:
+    """Where the list of who voted is."""
+    voters = len(hidden.voters)
+    said = f"{'1 elector has' if voters == 1 else f'{voters} electors have'} a ballot that counts."
+    link = f'Their names, in the order of the roll and without their votes: <a href="{VOTERS}">{VOTERS}</a>'
+    return [part("Who voted", paragraph(said), paragraph(link))]
+
+
+def remains() -> str:
+    """What a secret vote does not hide."""
+    return part(REMAINS_HEADING, listed("ul", map(escape, REMAINS)))
+
+
+def without_names(found: list[Doubt]) -> list[Doubt]:
+    """The doubts as the page of a secret vote tells them, each sentence once."""
+    told = {doubt.in_secret: dataclasses.replace(doubt, sentence=doubt.in_secret) for doubt in found}
+    return list(told.values())

@@ -1,0 +1,48 @@
+"""Texts that are given for the page beside poll and ballots: plain, in UTF-8."""
+
+import unicodedata
+
+from debvote_tools.faults import Fault, Status
+from debvote_tools.files import read_at_most
+
+# in bytes
+LIMIT = 65_536
+
+# what no plain text has: signs that steer a terminal, halves of signs, and what turns the text around it
+ODD = ("Cc", "Cs", "Co")
+TURNING = "\u202a\u202b\u202c\u202d\u202e\u2066\u2067\u2068\u2069"
+
+
+def text_in(file: str, what: str) -> str:
+    """The text of a file, without its byte-order mark and with a line feed alone at the end of each line.
+
+    `what` is the name of the option that was given it.
+    """
+    try:
+        data = read_at_most(file, LIMIT)
+    except OSError as error:
+        raise bad_text(file, f"{error.strerror}; give a file that you may read with --{what}") from None
+    if len(data) > LIMIT:
+        raise bad_text(file, f"it is longer than {LIMIT} bytes; shorten it")
+    try:
+        text = data.decode("utf-8").removeprefix("\ufeff")
+    except UnicodeDecodeError as error:
+        line = data.count(b"\n", 0, error.start) + 1
+        raise bad_text(f"{file}:{line}", "it is not in UTF-8; save it as plain text in UTF-8") from None
+    text = text.replace("\r\n", "\n")
+    for place, character in enumerate(text):
+        if character not in "\t\n" and (unicodedata.category(character) in ODD or character in TURNING):
+            words = f"it has the sign U+{ord(character):04X}, which no plain text has; take it out"
+            raise bad_text(f"{file}:{line_at(text, place)}", words)
+    if not text.strip():
+        raise bad_text(file, f"it is empty; write it, or leave --{what} out")
+    return text
+
+
+def line_at(text: str, place: int) -> int:
+    """The number of the line of a place."""
+    return text.count("\n", 0, place) + 1
+
+
+def bad_text(where: str, words: str) -> Fault:
+    return Fault(f"{where}: {words}", Status.BAD_WORDS)

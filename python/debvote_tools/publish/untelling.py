@@ -1,0 +1,58 @@
+"""What a text that is given for the page of a secret vote must not have: what a slip of the hand takes from the private files.
+
+A wrong file beside --about or --labels, or a sum that `close` has told, would say who voted what; no word goes over this.
+"""
+
+import pathlib
+import re
+
+from debvote_tools import journal, secret
+from debvote_tools.election.poll_file import without_last_envelope
+from debvote_tools.faults import Fault, Status
+from debvote_tools.files import sum_of
+from debvote_tools.secret import Holder
+
+# the files and folders of an election that are nobody's but the secretary's
+FILES = ("poll.toml", "ballots", "members.csv", journal.NAME)
+FOLDERS = (secret.PRIVATE, "backup", "received")
+
+RANKS = r"(?:-|\d+)(?:\s*,\s*(?:-|\d+))+"
+
+SIXTY_FOUR = re.compile(r"(?<![0-9a-f])[0-9a-f]{64}(?![0-9a-f])")
+
+
+def demand_no_private_file(file: str, election: pathlib.Path | None) -> None:
+    """Stops where the file that is given for the page is one of those of the election that are private, under any name."""
+    if election is None:
+        return
+    given = pathlib.Path(file).resolve()
+    home = election.resolve()
+    is_private = any((home / name).exists() and given.samefile(home / name) for name in FILES)
+    if is_private or any(home / name in given.parents for name in FOLDERS):
+        words = "it is a file of the election that nobody else may see; nothing was published"
+        raise Fault(f"{file}: {words}: give the text that you wrote for the page", Status.DOUBT)
+
+
+def demand_untelling(file: str, text: str, holders: list[Holder], sums: set[str]) -> None:
+    """Stops where a text has a code, an alias, a ballot under the name of its elector, or a sum of the private files."""
+    lower = text.lower()
+    squeezed = re.sub(r"[^0-9a-f]", "", re.sub(r"<[^>]*>", "", lower))
+    names = "|".join(re.escape(holder.name) for holder in sorted(holders, key=lambda holder: -len(holder.name)))
+    found = None
+    if any(holder.code in squeezed for holder in holders):
+        found = "the code of an elector"
+    elif any(holder.alias in lower for holder in holders):
+        found = "the alias of an elector, and may tell whose it is"
+    elif holders and re.search(rf"(?<![a-z0-9.-])(?:{names})\s+{RANKS}", lower):
+        found = "a ballot with the name of its elector"
+    elif sums.intersection(SIXTY_FOUR.findall(lower)):
+        found = "the sum of a private file, by which one can try guesses of who voted what"
+    if found is not None:
+        raise Fault(f"{file}: it has {found}; nothing was published: take it out", Status.DOUBT)
+
+
+def private_sums(poll: bytes, ballots: bytes, election: pathlib.Path | None) -> set[str]:
+    """The sums of the private files, as they are and as they were."""
+    sums = {sum_of(data) for data in (poll, without_last_envelope(poll), ballots)}
+    entries = [] if election is None else journal.entries_in(election / journal.NAME)
+    return sums.union(*({entry.sums.poll, entry.sums.ballots} for entry in entries))

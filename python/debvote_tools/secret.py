@@ -1,0 +1,240 @@
+"""A secret vote: the codes of the electors, their aliases, and the poll and the ballots as they are published under aliases.
+
+An alias is made of the name and the code of its elector, so that the elector finds it again, and nobody else does.
+"""
+
+import codecs
+import contextlib
+import csv
+import dataclasses
+import hmac
+import io
+import json
+import os
+import pathlib
+import re
+import secrets
+import stat
+from collections.abc import Iterable
+
+from debvote_tools import journal
+from debvote_tools.election import poll_file
+from debvote_tools.faults import Fault, Status
+
+# the folder of what is secret, in that of the election, and its files
+PRIVATE = "private"
+CODES = "codes.csv"
+SLIPS = "slips.html"
+# the poll with the roll of aliases, as it was called
+CALLED = "poll.toml.called"
+
+# what the journal calls the act that makes codes
+ACT = "codes"
+
+# the modes of the folder and of its files: they are their owner's alone
+FOLDER_MODE, FILE_MODE = 0o700, 0o600
+
+COLUMNS = ("name", "who", "mail", "code", "alias")
+DIGITS = re.compile(r"[0-9a-f]{32}")
+
+# what a spreadsheet would take for a number, and write in another way
+NUMBER = re.compile(r"\d*e?\d*")
+
+# in bytes; ten thousand electors, each with a long address, are shorter
+LIMIT = 33_554_432
+
+# the keys of a poll that is published under aliases; its last envelope is left out, and so are comments
+KEYS = ("title", "options", "ratios", "default", "quorum", "roll", "wording")
+
+# the line by which a poll is known to be that of a secret vote, wherever it lies; under aliases it is left out with all comments
+SAYS_SECRET = b"# The vote is secret: this poll, which has the names, is not published. (debvote-election codes)"
+
+# so many names are told
+SHOWN = 5
+
+# the cure for a code that is missing when its alias is public
+LOST = "put the row back from a copy of the file, or write it anew by the slip of the elector: the call has an alias for each"
+
+
+@dataclasses.dataclass(frozen=True)
+class Holder:
+    """An elector who has a code. Who and mail are empty where the list of members does not have them."""
+
+    name: str
+    who: str
+    mail: str
+    code: str
+    alias: str
+
+
+def alias_of(name: str, code: str) -> str:
+    """The alias of an elector: the first 32 digits of HMAC-SHA-256, with the text of the code as key and the name as message."""
+    return hmac.new(code.encode(), name.encode(), "sha256").hexdigest()[:32]
+
+
+def new_holder(name: str, who: str, mail: str) -> Holder:
+    """An elector with a new code of 16 random bytes.
+
+    One that a spreadsheet would take for a number, or whose alias it would, is not taken: of a million it is about one.
+    """
+    while True:
+        code = secrets.token_hex(16)
+        alias = alias_of(name, code)
+        if not NUMBER.fullmatch(code) and not NUMBER.fullmatch(alias):
+            return Holder(name, who, mail, code, alias)
+
+
+def is_secret(folder: pathlib.Path) -> bool:
+    """Whether the vote of the election in this folder is secret: codes were made for it."""
+    acts = folder / journal.NAME
+    # a folder of this name may be somebody else's
+    with contextlib.suppress(PermissionError):
+        if (folder / PRIVATE / CODES).exists():
+            return True
+    return acts.is_file() and journal.last(journal.entries_in(acts), ACT) is not None
+
+
+def says_secret(poll: bytes) -> bool:
+    """Whether a poll has the line that `codes` writes into it."""
+    return SAYS_SECRET in (line.strip() for line in poll.splitlines())
+
+
+def saying_secret(poll: bytes) -> bytes:
+    """The poll with that line, which comes first; a byte-order mark stays before it."""
+    if says_secret(poll):
+        return poll
+    mark = codecs.BOM_UTF8 if poll.startswith(codecs.BOM_UTF8) else b""
+    return mark + SAYS_SECRET + b"\n" + poll.removeprefix(mark)
+
+
+# ---------------------------------------------------------------- the file of codes
+def text_of(holders: list[Holder]) -> bytes:
+    """The file of codes."""
+    text = io.StringIO()
+    table = csv.writer(text, lineterminator="\n")
+    table.writerow(COLUMNS)
+    table.writerows(dataclasses.astuple(holder) for holder in holders)
+    return text.getvalue().encode("utf-8")
+
+
+def holders_in(file: pathlib.Path) -> list[Holder]:
+    """The electors of a file of codes, in its order. A spreadsheet may have put semicolons or tabs for the commas."""
+    data = private_bytes(file)
+    try:
+        text = data.decode("utf-8-sig")
+        delimiter = next((sign for sign in ";\t" if sign in text.partition("\n")[0]), ",")
+        rows = list(csv.reader(io.StringIO(text, newline=""), delimiter=delimiter, strict=True))
+    except (UnicodeDecodeError, csv.Error) as error:
+        raise damaged(file, f"it can't be read as the table that `codes` has written ({error})") from None
+    if not rows or tuple(cell.strip() for cell in rows[0]) != COLUMNS:
+        raise damaged(file, f"its head line is not {','.join(COLUMNS)}")
+    holders = [holder_of(file, number, row) for number, row in enumerate(rows[1:], start=2) if any(row)]
+    for column in ("name", "code", "alias"):
+        demand_different(file, holders, column)
+    return holders
+
+
+def holder_of(file: pathlib.Path, number: int, row: list[str]) -> Holder:
+    """The elector of a row; its alias has to be the one that name and code make."""
+    if len(row) != len(COLUMNS):
+        raise damaged(file, f"row {number} has not the five cells {','.join(COLUMNS)}")
+    found = Holder(*row)
+    if not DIGITS.fullmatch(found.code):
+        raise damaged(file, f"row {number}: the code of {found.name} is not 32 digits of 0-9 and a-f")
+    if alias_of(found.name, found.code) != found.alias:
+        raise damaged(file, f"row {number}: the alias of {found.name} is not the one that name and code make")
+    return found
+
+
+def demand_different(file: pathlib.Path, holders: list[Holder], column: str) -> None:
+    """Stops where two electors have the same name, code or alias."""
+    seen: dict[str, str] = {}
+    for holder in holders:
+        value = getattr(holder, column)
+        if value in seen:
+            who = f"{seen[value]} and {holder.name} have the same {column}" if column != "name" else f"{value} stands there twice"
+            raise damaged(file, f"{who}; each elector has a row and a code of their own")
+        seen[value] = holder.name
+
+
+def damaged(file: pathlib.Path, words: str) -> Fault:
+    """The fault of a file that is not as `codes` has left it."""
+    cure = f"put it right by the slip of the elector, or by a copy of the file (`codes` keeps earlier ones in {file.parent})"
+    return Fault(f"{file}: {words}; {cure}", Status.DOUBT)
+
+
+def private_bytes(file: pathlib.Path) -> bytes:
+    """The bytes of a file that nobody but its owner may read, in a folder that nobody else may look into."""
+    demand_private(file.parent, FOLDER_MODE)
+    try:
+        handle = os.open(file, os.O_RDONLY | os.O_NOFOLLOW | os.O_CLOEXEC | os.O_NONBLOCK)
+    except OSError as error:
+        raise Fault(f"{file}: {error.strerror}; put the file of codes that was made for this vote there", Status.DOUBT) from None
+    with open(handle, "rb") as source:
+        demand_private(file, FILE_MODE, os.fstat(handle))
+        data = source.read(LIMIT + 1)
+    if len(data) > LIMIT:
+        raise damaged(file, "it is too long for a file of codes")
+    return data
+
+
+def demand_private(file: pathlib.Path, mode: int, found: os.stat_result | None = None) -> None:
+    """Stops where others than the owner may read a file, look into a folder, or write there."""
+    try:
+        found = file.stat() if found is None else found
+    except OSError as error:
+        raise Fault(f"{file}: {error.strerror}; put the file of codes that was made for this vote there", Status.DOUBT) from None
+    if stat.S_ISDIR(found.st_mode) != (mode == FOLDER_MODE) or not (stat.S_ISDIR(found.st_mode) or stat.S_ISREG(found.st_mode)):
+        raise Fault(f"{file}: it is no {'folder' if mode == FOLDER_MODE else 'file'}; move it away", Status.DOUBT)
+    if found.st_uid != os.geteuid() and os.geteuid() != 0:
+        raise Fault(f"{file}: it belongs to somebody else; what is secret has to be yours alone", Status.DOUBT)
+    if found.st_mode & 0o077:
+        words = f"others than you may use it (mode {found.st_mode & 0o777:o}), and who sees what is in it knows who voted what"
+        raise Fault(f"{file}: {words}; make it yours alone: chmod {mode:o} {file}", Status.DOUBT)
+
+
+# ---------------------------------------------------------------- what is published
+def aliases_of(file: pathlib.Path, roll: Iterable[str], cure: str) -> dict[str, str]:
+    """The alias of each elector on a roll, by the file of codes; the cure says what to do where one has no code."""
+    known = {holder.name: holder.alias for holder in holders_in(file)}
+    missing = [name for name in roll if name not in known]
+    if missing:
+        have = "has" if len(missing) == 1 else "have"
+        raise Fault(f"{file}: {some(missing)} {have} no code there; {cure}", Status.DOUBT)
+    return {name: known[name] for name in roll}
+
+
+def some(names: list[str]) -> str:
+    """Some names; of many the first."""
+    return ", ".join(names[:SHOWN]) + (f" and {len(names) - SHOWN} more" if len(names) > SHOWN else "")
+
+
+def poll_of(poll: bytes, aliases: dict[str, str]) -> bytes:
+    """The poll with the roll of aliases in the order of their bytes, and without a last envelope.
+
+    It is written anew: what else stands in the poll, as a comment, might tell a name.
+    """
+    said = poll_file.document(poll) | {"roll": sorted(aliases.values())}
+    return "".join(f"{key} = {json.dumps(said[key])}\n" for key in KEYS if key in said).encode("ascii")
+
+
+def ballots_of(standing: dict[str, str], aliases: dict[str, str]) -> bytes:
+    """The ballots that stand, each under its alias, in the order of the published roll."""
+    return "".join(sorted(f"{aliases[name]} {ranks}\n" for name, ranks in standing.items())).encode("ascii")
+
+
+def demand_called(codes: pathlib.Path, poll: bytes) -> None:
+    """Stops where the poll under aliases is not the one that was called, which lies beside the codes."""
+    called = codes.parent / CALLED
+    # without its folder the call was taken back
+    if not called.exists() or not (codes.parent.parent / "call").exists():
+        return
+    before = private_bytes(called)
+    if before == poll:
+        return
+    then, now = (set(map(str, poll_file.document(data)["roll"])) for data in (before, poll))
+    if then == now:
+        raise Fault(f"{called}: it is not the poll of this vote under aliases; find out who changed it", Status.DOUBT)
+    who = [holder.name for holder in holders_in(codes) if holder.alias in now - then]
+    words = f"the alias of {some(who)} is not on the roll that was called" if who else "an alias that was called is missing"
+    raise Fault(f"{codes}: {words}; {LOST}", Status.DOUBT)

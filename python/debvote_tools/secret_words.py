@@ -1,0 +1,27 @@
+"""How an elector checks in a secret vote, and what a secret vote cannot hide: the page, the slips and the call say the same."""
+
+# what an elector types to find their alias; the first asks for both, so that no history of commands keeps the code
+BY_PYTHON = (
+    "python3 -c \"import hmac; print(hmac.new(input('Code: ').encode(), input('Name: ').encode(), 'sha256').hexdigest()[:32])\""
+)
+BY_OPENSSL = "printf %s NAME | openssl dgst -sha256 -hmac CODE -r | cut -c1-32"
+
+# the part of the page of the result where an elector types name and code
+FIND = "Find your ballot"
+
+ALIAS = (
+    "An alias is made of the name and the secret code of its elector: it is the first 32 digits of HMAC-SHA-256, with the text "
+    "of the code as key and the name as message."
+)
+
+REMAINS = (
+    "The secretary knows how each elector voted, since ballots came with names.",
+    "With few voters, or where all are of one mind, the numbers of the sheet alone tell how somebody voted.",
+    "Whoever shows their code shows their vote. Where an elector tells somebody beforehand of an unusual order of many options, "
+    "that ballot is found too.",
+    "Two electors who have each a name of their own cannot take one ballot for theirs: an alias is made of the name. So look "
+    "whether the name on your slip is yours alone: one that could be somebody else's may stand on two slips.",
+    "Ballots come without the codes, so a code does not show who sent a ballot. Whoever votes in the name of another is found "
+    "out where that elector looks.",
+    "That there is a person behind each alias is not seen here: compare the number of electors with the list of members.",
+)

