@@ -8,8 +8,8 @@ use Rattle.vote_desks.specs.declared.fault.VoteFault.{VoteFault}
 use Rattle.vote_desks.specs.declared.fault.VoteFault.TheVariants.{Memory, Thread, Gate, Enter, Desk, Audit}
 use Rattle.vote_desks.specs.Audit.{IsFaultOf}
 
--- the box and the sheets have a place for each line, and each line was taken once. So a cast is refused only because its stamp
--- was used, no desk was missing, and the box has the sizes of the poll and as many casts as lines
+-- box and sheets have room for each line, so a cast can be refused for a used stamp alone; no desk is missing; and the box has the
+-- sizes of the poll and as many casts as lines
 abbrev pub CanStopVotes : VoteFault → Type 0
 CanStopVotes Memory = Unit {0}
 CanStopVotes Thread = Unit {0}

@@ -125,7 +125,7 @@ fn cast_all<
     take_back(alloc, workplace.tray, all)
 }
 
-/// Has this many desks, which have cast nothing, cast all lines, and takes them back.
+/// Has desks that have cast nothing cast all lines, and takes them back.
 fn cast_lines<
     VL: Tally + Send + Sync,
     RL: Tally + Send + Sync,
@@ -139,18 +139,17 @@ fn cast_lines<
     gate: &G,
     shared: &SharedBox<VL, RL>,
     opened: Vec<Desk<VL, RL>>,
-    desks: u8,
 ) -> Result<Vec<Desk<VL, RL>>, VoteFault>
-    requires desks { AreDesks desks }
-    requires opened { vec_len opened ≡ desks }
+    requires opened { AreDesks (vec_len opened) }
     requires box_is { shared.now.opened ≡ box_of poll.now (length lines.now) [] }
-    requires fresh { opened.items ≡ fresh_desks (length lines.now) desks }
-    ensures numbers { IfOk result (λ back. numbers_of back.items ≡ range_with_len 1 desks) }
+    requires fresh { opened.items ≡ fresh_desks (length lines.now) (vec_len opened) }
+    ensures numbers { IfOk result (λ back. numbers_of back.items ≡ range_with_len 1 (vec_len opened)) }
     ensures rising { IfOk result (λ back. All (λ desk. Rises desk.slips) back.items) }
     ensures cast { IfOk result (λ back. casts_at back.items ≡ length lines.now) }
     ensures fault { IfErr result CanStopVotes }
-    ensures desk { IfErr result (IsOfDesk desks) }
+    ensures desk { IfErr result (IsOfDesk (vec_len opened)) }
 {
+    let desks = opened.len() as u8;
     let (tray, passes) = match Tray::new(alloc, lines.len() as u64, desks) {
         Ok(made) => made,
         Err(TrayFault::TooMany) => unreachable!(),
@@ -219,6 +218,12 @@ fn gather_and_audit<VL: Tally, RL: Tally, R: Threads + Sync>(
     audit_votes(rt, poll, lines, sealed)
 }
 
+/// The blanks of the two ledgers of a box.
+struct Blanks {
+    valid: Blank,
+    refused: Blank,
+}
+
 /// Takes the votes at desks of one box. Its ledgers are named by the caller.
 fn serve<
     VL: Tally + Send + Sync,
@@ -232,13 +237,12 @@ fn serve<
     lines: &Lines<'_>,
     desks: u8,
     gate: &G,
-    valid: Blank,
-    refused: Blank,
+    blanks: Blanks,
 ) -> Result<Audited, VoteFault>
     requires desks { AreDesks desks }
-    requires valid { (valid.name ≡ VL.name) × (valid.parts ≡ VL.parts) }
+    requires valid { (blanks.valid.name ≡ VL.name) × (blanks.valid.parts ≡ VL.parts) }
     requires valid_desks { (VL.parts ≡ desks) × (VL.desks ≡ desks) }
-    requires refused { (refused.name ≡ RL.name) × (refused.parts ≡ RL.parts) }
+    requires refused { (blanks.refused.name ≡ RL.name) × (blanks.refused.parts ≡ RL.parts) }
     requires refused_desks { (RL.parts ≡ desks) × (RL.desks ≡ desks) }
     requires opened { VL.opened ≡ box_of poll.now (length lines.now) [] }
     ensures audited { IfOk result (IsAuditedFor poll.now lines.now) }
@@ -248,11 +252,12 @@ fn serve<
     ensures desk { IfErr result (IsOfDesk desks) }
 {
     let limit = lines.len() as u32;
+    let Blanks { valid, refused } = blanks;
     let (shared, opened) = match open_desks::<VL, RL>(alloc, poll, limit, desks, valid, refused) {
         Ok(made) => made,
         Err(_) => return Err(VoteFault::Memory),
     };
-    let back = cast_lines(rt, alloc, poll, lines, gate, &shared, opened, desks)?;
+    let back = cast_lines(rt, alloc, poll, lines, gate, &shared, opened)?;
     gather_and_audit(rt, alloc, poll, lines, shared, back)
 }
 
@@ -284,7 +289,9 @@ pub fn take_votes<G: Gate + Sync, R: Threads + Wait + Sync>(
         lines,
         desks,
         gate,
-        Blank::new(u64::from(desks)),
-        Blank::new(u64::from(desks)),
+        Blanks {
+            valid: Blank::new(u64::from(desks)),
+            refused: Blank::new(u64::from(desks)),
+        },
     )
 }

@@ -1,17 +1,8 @@
 -- When a cast at a desk is refused. Each case says that those before it do not hold.
-use Rattle.std.specs.Prelude.{◌≡◌, ℕ, ◌<◌, ◌≤◌, ◌⊎◌, IsTrue}
+use Rattle.std.specs.Prelude.{ℕ}
 use Rattle.vote_poll.specs.declared.Reading.{Reading}
-use Rattle.vote_steps.specs.History.{is_used}
-use Rattle.vote_steps.specs.Boxes.{BoxState}
+use Rattle.vote_steps.specs.Boxes.{BoxState, HasUsed, IsOutOfRange}
 use Rattle.vote_desks_box.specs.Desks.{DeskState, FitsBox, HasRoom}
-
--- the stamp is 0, or above the limit of the box
-abbrev pub IsOutOfRange : BoxState → ℕ → Type 0
-IsOutOfRange b stamp = (stamp ≡ 0) ⊎ (b.limit < stamp)
-
--- an envelope with this stamp, which is in range, was cast before
-abbrev pub WasCast : BoxState → ℕ → Type 0
-WasCast b stamp = (1 ≤ stamp) × (stamp ≤ b.limit) × IsTrue (is_used b.steps stamp)
 
 -- the ballot fits the box, and the desk does not have room for its slip
 abbrev pub LacksRoom : BoxState → DeskState → Reading → Type 0
@@ -23,4 +14,4 @@ NoStamp b desk stamp reading = FitsBox b reading × HasRoom desk × IsOutOfRange
 
 -- the ballot fits the box, the desk has room for its slip, and the envelope was cast before
 abbrev pub WasUsed : BoxState → DeskState → ℕ → Reading → Type 0
-WasUsed b desk stamp reading = FitsBox b reading × HasRoom desk × WasCast b stamp
+WasUsed b desk stamp reading = FitsBox b reading × HasRoom desk × HasUsed b stamp

@@ -1,8 +1,9 @@
 //! Entering an envelope at a desk.
 ghost use Rattle.std.specs.Prelude.{◌≡◌, ◌≢◌, ◌+◌, ◌<◌, ◌↔◌, Err, IsTrue, IfOk, OnErr};
+ghost use Rattle.vote_steps.specs.Boxes.{HasUsed, IsOutOfRange};
 ghost use Rattle.vote_desks_box.specs.declared.fault.EnterFault.TheVariants.{Sizes, SheetFull, StampRange, StampUsed};
 ghost use Rattle.vote_desks_box.specs.Desks.{FitsBox, HasRoom, IsLater, next_slip, refused_by, valid_by, with_cast, with_slip};
-ghost use Rattle.vote_desks_box.specs.Entering.{IsOutOfRange, LacksRoom, NoStamp, WasCast, WasUsed};
+ghost use Rattle.vote_desks_box.specs.Entering.{LacksRoom, NoStamp, WasUsed};
 
 use crate::desk::{Desk, Held, Tally};
 use crate::fault::EnterFault;
@@ -52,7 +53,7 @@ fn cast_and_note<VL: Tally, RL: Tally>(
     ensures noted { IfOk result (λ slip. desk.new ≡ with_slip desk.old slip) }
     ensures tested { (result ≢ Err Sizes) × (result ≢ Err SheetFull) }
     ensures range { (result ≡ Err StampRange) ↔ IsOutOfRange held.old.ballot_box stamp }
-    ensures used { (result ≡ Err StampUsed) ↔ WasCast held.old.ballot_box stamp }
+    ensures used { (result ≡ Err StampUsed) ↔ HasUsed held.old.ballot_box stamp }
     ensures err { OnErr result ((held.new ≡ held.old) × (desk.new ≡ desk.old)) }
 {
     let number = held.ballot_box.steps().len() as u32 + 1;

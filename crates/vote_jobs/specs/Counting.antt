@@ -72,7 +72,7 @@ ended_by_verification found.Differs = ended.Differs
 ended_by_verification found.Matches = ended.Done
 ended_by_verification (found.MatchesCasting option) = ended.Done
 
--- the votes of the lines of the inputs are audited, with a sheet for each of their desks
+-- there is an audited box of the lines of the inputs, with a sheet for each of their desks
 abbrev pub IsCountedAt : Inputs → Type 0
 IsCountedAt inputs =
     (poll : PollContent) × (b : BoxState) × (sheets : List (List Slip)) × (poll_in inputs.poll ≡ Ok poll) × IsAudited poll (lines_of inputs.ballots) b sheets

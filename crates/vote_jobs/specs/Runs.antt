@@ -41,7 +41,7 @@ AnswersLines all (Some (run.Lines fault)) = RefusesLines all fault
 AnswersLines all stop = length all ≤ MAX_LINES
 
 -- a poll file and a ballot file are refused exactly when they are to be, in this order, memory aside; there is no casting vote, no vote is
--- taken, and no input is told to be unread
+-- taken, and no input is reported as unread
 pub record AnswersFiles (poll_text ballots : Text) (stop : Option RunFault) : Type 0 where
   pub poll : AnswersPoll poll_text stop
   pub lines : AnswersLines (lines_of ballots) stop

@@ -122,7 +122,7 @@ impl BallotBox {
     /// Casts an envelope at a desk, from 1 to `MAX_DESKS`, which makes a step with the reply. A ballot in it is of an elector
     /// of this box, and has a rank or none for each of its options.
     ///
-    /// The reply is the first of `Reply` that fits, `BoxClosed` first; a ballot that is `Counted` or `Replaced` stands from
+    /// The reply is the first that fits, in the order that [`Reply`] gives; a ballot that is `Counted` or `Replaced` stands from
     /// now on. `StampRange` and then `StampUsed` are found before, and change nothing: no step, no mark, no count.
     pub fn cast(&mut self, desk: u8, stamp: u32, reading: Reading) -> Result<Reply, StepFault>
         requires desk { (1 ≤ desk) × (desk ≤ MAX_DESKS) }

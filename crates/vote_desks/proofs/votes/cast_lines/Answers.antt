@@ -1,14 +1,11 @@
-use Rattle.std.proofs.Common.{◌≡◌, length, map, sym, ap, ◌∙◌, vec_len, arith}
+use Rattle.std.proofs.Common.{◌≡◌, map, sym, ap, ◌∙◌, vec_len, arith}
 use Rattle.std.specs.List.{range_with_len}
 use Rattle.vote_tray.specs.Passes.{HasAllParts, new_pass}
-use Rattle.vote_desks_box.specs.Desks.{fresh_desks}
 use Rattle.vote_desks.proofs.BackLemmas.{Contains-range}
 use Rattle.vote_desks.proofs.votes.cast_lines.Goals as goal
 
 pub cast_all-requires-clause-desks : goal.cast_all-requires-clause-desks
-cast_all-requires-clause-desks g c =
-    let all : c.args.opened.items ≡ fresh_desks (length c.args.lines.now) (vec_len c.args.opened) =
-    c.requires.fresh ∙ ap (fresh_desks (length c.args.lines.now)) (sym c.requires.opened) in λ _ _. all
+cast_all-requires-clause-desks g c = λ _ _. c.requires.fresh
 
 pub cast_all-requires-clause-passes : goal.cast_all-requires-clause-passes
 cast_all-requires-clause-passes g c =
@@ -28,7 +25,9 @@ returns-clause-cast g c =
     let len = c.len.ensures.number in omega arith
 
 pub returns-clause-numbers : goal.returns-clause-numbers
-returns-clause-numbers g c = c.in_ok-back.ensures.handed.numbers ∙ ap (range_with_len 1) c.in-Ok.ensures.tray.1
+returns-clause-numbers g c =
+    let desks : c.len-desks.result ≡ vec_len c.args.opened = omega arith in
+    c.in_ok-back.ensures.handed.numbers ∙ ap (range_with_len 1) (c.in-Ok.ensures.tray.1 ∙ desks)
 
 pub returns-clause-rising : goal.returns-clause-rising
 returns-clause-rising g c = c.in_ok-back.ensures.handed.rising
