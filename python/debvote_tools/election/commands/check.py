@@ -25,6 +25,7 @@ def run(election: Election, asked: argparse.Namespace) -> int:
         sheet = checked(election, files)
     print_poll(sheet, poll_file.roll_of(files.poll))
     print(f"Next: {what_next(election, files)}")
+    return Status.DECIDED
 
 
 def what_next(election: Election, files: Files) -> str:
@@ -34,7 +35,6 @@ def what_next(election: Election, files: Files) -> str:
     if election.is_secret() and without_code(election, files.poll):
         return f"{command(election, 'codes')}, for an elector has no code yet"
     return call_command(election)
-    return Status.DECIDED
 
 
 def print_poll(sheet: Sheet, roll: list[str]) -> None:
