@@ -12,13 +12,20 @@ round runs every candidate once, in an order drawn anew, so that neighbours meet
 of a candidate's runs the median counts, and where it says so the least. With --before another
 built debvote runs in the same rounds, also with 2, 4, 8 and 32 options.
 
+Where valgrind is installed it counts the instructions of a count at one desk, which are the same
+whatever else the machine does. Where belenios-tool is installed it counts by Schulze's method the
+ballots that stand in the election of 10,000 lines; it reads them as JSON, and keeps no history.
+
 Each --at-most-.. is a bound on a figure of the program at the end; beyond it the script fails.
 """
 
 import argparse
+import json
 import math
 import os
 import random
+import re
+import shutil
 import statistics
 import subprocess
 import sys
@@ -32,6 +39,7 @@ LARGE = (16, 100_000)
 FEWER_LINES = [(16, 1_000), (16, 10_000)]
 OTHER_OPTIONS = [(2, 100_000), (4, 100_000), (8, 100_000), (32, 100_000)]
 DESKS = (1, 2, 4, 8)
+BELENIOS = "exec belenios-tool method schulze --nchoices %d --blank-allowed=false < '%s'"
 
 
 def count(program, files, desks=1):
@@ -60,6 +68,23 @@ def peak_memory(words):
     """MiB of one run, by GNU time: what Python measures of its own child may have Python's memory in it."""
     done = subprocess.run(["/usr/bin/time", "-q", "-f", "%M", *words], stdout=subprocess.DEVNULL, stderr=subprocess.PIPE)
     return int(done.stderr.split()[-1]) / 1024
+
+
+def instructions(words):
+    """Millions of instructions of one run, by callgrind."""
+    callgrind = ["valgrind", "--tool=callgrind", "--callgrind-out-file=/dev/null"]
+    done = subprocess.run([*callgrind, *words], stdout=subprocess.DEVNULL, stderr=subprocess.PIPE, text=True)
+    return int(re.search(r"Collected : (\d+)", done.stderr)[1]) / 1e6
+
+
+def belenios(program, size, files, folder):
+    """What counts the ballots that stand with Belenios."""
+    standing = sheet([*program, "standing", "--poll", files[0], "--ballots", files[1]]).decode()
+    ballots = [[int(rank) for rank in line.split(" ")[1].split(",")] for line in standing.splitlines()]
+    file = os.path.join(folder, "belenios.json")
+    with open(file, "w") as target:
+        json.dump(ballots, target)
+    return ["sh", "-c", BELENIOS % (size[0], file)]
 
 
 def timed(candidates, rounds):
@@ -123,9 +148,19 @@ def figures(times, memory, before=""):
     yield "best", "best desks beside --like, least", best[f"{before}count"] / best["plain --like"]
     yield "one-desk", "one desk beside plain", one / plain
     yield "steps", "steps beside plain", median[f"{before}steps"] / plain
+    yield "four-desks", "4 desks beside one desk", median[f"{before}count, 4 desks"] / one
     yield "eight-desks", "8 desks beside one desk", median[f"{before}count, 8 desks"] / one
     yield "memory", "peak memory, MiB", memory
     yield "growth", "growth in the lines, exponent", growth(times, before)
+
+
+def figures_of_others(times, executed):
+    """What is measured by another tool, where it is installed: instructions beside plain, and Belenios beside a count."""
+    if executed:
+        yield "instructions", "instructions of one desk beside plain", executed["count"] / executed["plain"]
+    if "belenios" in times:
+        ratio = statistics.median(times["belenios"]) / statistics.median(times[f"count, {FEWER_LINES[-1][1]} lines"])
+        yield "belenios", f"Belenios beside a count of {FEWER_LINES[-1][1]} lines", ratio
 
 
 def figures_beside(times):
@@ -141,7 +176,7 @@ def parsed():
     parser.add_argument("--before")
     parser.add_argument("--rounds", type=int, default=15)
     parser.add_argument("--same", type=int, default=0)
-    for bound in ("best", "one-desk", "steps", "eight-desks", "memory", "growth", "before"):
+    for bound in ("best", "one-desk", "steps", "four-desks", "eight-desks", "memory", "growth", "instructions", "before"):
         parser.add_argument(f"--at-most-{bound}", type=float)
     return parser.parse_args()
 
@@ -157,17 +192,23 @@ def main():
         files = {size: elections.write(folder, *size) for size in sizes}
         compare_sheets([program, before] if before else [program], plain, files, args.same)
         candidates = candidates_of(program, before, plain, files)
+        if shutil.which("belenios-tool"):
+            candidates["belenios"] = belenios(program, FEWER_LINES[-1], files[FEWER_LINES[-1]], folder)
         times = timed(candidates, args.rounds)
         memory = {tuple(p): max(peak_memory(count(p, files[LARGE], desks)) for desks in DESKS) for p in (program, before) if p}
+        counted = {"count": program, "plain": plain, **({"before: count": before} if before else {})}
+        executed = {name: instructions(count(p, files[LARGE])) for name, p in counted.items()} if shutil.which("valgrind") else {}
     for name, runs in times.items():
         print(f"{name:30} median {statistics.median(runs):7.1f} ms, least {min(runs):7.1f} ms")
+    for name, millions in executed.items():
+        print(f"{name + ', 1 desk':30} {millions:7.1f} million instructions")
     if before:
         for _, words, figure in figures(times, memory[tuple(before)], "before: "):
             print(f"before: {words:34} {figure:6.2f}")
     failed = False
-    found = [*figures(times, memory[tuple(program)]), *(figures_beside(times) if before else [])]
-    for bound, words, figure in found:
-        most = getattr(args, f"at_most_{bound.replace('-', '_')}")
+    found = [*figures(times, memory[tuple(program)]), *figures_of_others(times, executed)]
+    for bound, words, figure in [*found, *(figures_beside(times) if before else [])]:
+        most = getattr(args, f"at_most_{bound.replace('-', '_')}", None)
         is_above = most is not None and figure > most
         failed |= is_above
         print(f"{words:34} {figure:6.2f}" + (f", above {most}" if is_above else ""))

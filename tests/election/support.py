@@ -16,6 +16,10 @@ PUBLISH = ROOT / "publish" / "debvote-publish"
 
 SECONDS = 120
 
+# what a run says where Graphviz is not installed
+HAS_PICTURES = shutil.which("dot") is not None
+NO_PICTURE = "debvote-publish: no picture: Graphviz (its program dot) is not installed\n"
+
 # four options and nine electors, of whom nobody has voted
 POLL = """title = "Where we meet in spring"
 options = ["At the lake", "In the town hall", "Sell the house and meet there"]
@@ -61,12 +65,17 @@ class ElectionTest(unittest.TestCase):
         (self.folder / "poll.toml").write_text(self.poll)
 
     def run_program(self, *words: object, given: bytes | str | None = None, **how: object) -> Ended:
-        """Runs a program with these words in the folder of the election, with these bytes as its standard input."""
+        """Runs a program with these words in the folder of the election, with these bytes as its standard input.
+
+        What it says where no picture can be drawn on this machine is left out.
+        """
         data = given.encode() if isinstance(given, str) else given
         where = {"stdin": subprocess.DEVNULL} if data is None else {"input": data}
         settings = {"cwd": self.folder, "env": environment(), "timeout": SECONDS, **where, **how}
         ended = subprocess.run([str(word) for word in words], capture_output=True, **settings)
-        return Ended(ended.stdout.decode("utf-8", "replace"), ended.stderr.decode("utf-8", "replace"), ended.returncode)
+        faults = ended.stderr.decode("utf-8", "replace")
+        faults = faults if HAS_PICTURES else faults.replace(NO_PICTURE, "")
+        return Ended(ended.stdout.decode("utf-8", "replace"), faults, ended.returncode)
 
     def election(self, *words: object, **how: object) -> Ended:
         """Runs debvote-election in the folder of the election."""
