@@ -48,6 +48,8 @@ KEYS = ("title", "options", "ratios", "default", "quorum", "roll", "wording")
 
 # the line by which a poll is known to be that of a secret vote, wherever it lies; under aliases it is left out with all comments
 SAYS_SECRET = b"# The vote is secret: this poll, which has the names, is not published. (debvote-election codes)"
+# what of it tells, in whatever comments and lines somebody has put it
+TELLS_SECRET = b"The vote is secret: this poll, which has the names, is not published."
 
 # so many names are told
 SHOWN = 5
@@ -95,8 +97,8 @@ def is_secret(folder: pathlib.Path) -> bool:
 
 
 def says_secret(poll: bytes) -> bool:
-    """Whether a poll has the line that `codes` writes into it."""
-    return SAYS_SECRET in (line.strip() for line in poll.splitlines())
+    """Whether a poll has the line that `codes` writes into it, or what an editor has made of that."""
+    return TELLS_SECRET in b" ".join(re.split(rb"[\s#]+", poll))
 
 
 def saying_secret(poll: bytes) -> bytes:
@@ -223,11 +225,18 @@ def ballots_of(standing: dict[str, str], aliases: dict[str, str]) -> bytes:
     return "".join(sorted(f"{aliases[name]} {ranks}\n" for name, ranks in standing.items())).encode("ascii")
 
 
-def demand_called(codes: pathlib.Path, poll: bytes) -> None:
-    """Stops where the poll under aliases is not the one that was called, which lies beside the codes."""
+def is_taken_back(codes: pathlib.Path) -> bool:
+    """Whether the folder of the call is gone that was made with these codes: it was taken back, or moved to a web site."""
+    return (codes.parent / CALLED).exists() and not (codes.parent.parent / "call").exists()
+
+
+def demand_called(codes: pathlib.Path, poll: bytes, *, is_published: bool = False) -> None:
+    """Stops where the poll under aliases is not the one that was called, which lies beside the codes.
+
+    Where the folder of the call is gone, another poll may be called, and none may be published.
+    """
     called = codes.parent / CALLED
-    # without its folder the call was taken back
-    if not called.exists() or not (codes.parent.parent / "call").exists():
+    if not called.exists() or (is_taken_back(codes) and not is_published):
         return
     before = private_bytes(called)
     if before == poll:
@@ -237,4 +246,5 @@ def demand_called(codes: pathlib.Path, poll: bytes) -> None:
         raise Fault(f"{called}: it is not the poll of this vote under aliases; find out who changed it", Status.DOUBT)
     who = [holder.name for holder in holders_in(codes) if holder.alias in now - then]
     words = f"the alias of {some(who)} is not on the roll that was called" if who else "an alias that was called is missing"
-    raise Fault(f"{codes}: {words}; {LOST}", Status.DOUBT)
+    cure = "call again, if nobody has seen the earlier call; whoever compares two calls sees whose alias is new"
+    raise Fault(f"{codes}: {words}; {cure if is_taken_back(codes) else LOST}", Status.DOUBT)

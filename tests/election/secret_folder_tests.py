@@ -254,7 +254,7 @@ class PageTest(SecretTest):
         for name, answer in zip(rows, found["answers"]):
             alias = rows[name]["alias"]
             if alias in ballots:
-                self.assertTrue(answer.startswith(f"This ballot counts for you:{alias} {ballots[alias]}: "), answer)
+                self.assertTrue(answer.startswith(f"This ballot counts for {name}:{alias} {ballots[alias]}: "), answer)
             else:
                 self.assertEqual(answer, f"Your alias is {alias}. It is on the roll, and no ballot counts under it.")
         self.assertEqual(len(ballots), 5)

@@ -3,23 +3,28 @@
 It is looked for beside the new one, and in the folder of the election.
 """
 
+import os
 import pathlib
 
+from debvote_tools.election import poll_file
 from debvote_tools.election.folder import Election
 from debvote_tools.election.telling import count_of
+from debvote_tools.faults import Fault
 from debvote_tools.files import BALLOTS_LIMIT, POLL_LIMIT, read_at_most
 from debvote_tools.publish.calls import BALLOTS, POLL
 from debvote_tools.publish.secret import VOTERS
 
 
 def tell_differences(election: Election, target: pathlib.Path) -> None:
-    """Says where folders have other ballots of the same poll: who knows why, knows whose they are."""
-    poll, ballots = read_at_most(target / POLL, POLL_LIMIT), lines_in(target)
-    folders = {folder.resolve(): folder for place in (target.parent, election.folder) for folder in place.iterdir()}
+    """Says where folders have other ballots under the same aliases: who knows why, knows whose they are."""
+    roll, ballots = aliases_in(target), lines_in(target)
+    folders = {os.path.realpath(folder): folder for place in (target.parent, election.folder) for folder in place.iterdir()}
+    folders.pop(os.path.realpath(target), None)
     for folder in sorted(folders.values()):
-        if folder.resolve() == target.resolve() or not has_poll(folder, poll):
+        aliases = aliases_in(folder)
+        if not aliases & roll:
             continue
-        changed = {line.partition(b" ")[0] for line in lines_in(folder) ^ ballots}
+        changed = {line.partition(b" ")[0].decode() for line in lines_in(folder) ^ ballots} | (aliases ^ roll)
         if changed:
             who = count_of(len(changed), "elector")
             print(f"Note: {folder} has other ballots, or none, of {who}.")
@@ -34,12 +39,14 @@ def voters_in(folder: pathlib.Path, target: pathlib.Path) -> bool:
     return all(file.is_file() for file in files) and len({read_at_most(file, POLL_LIMIT) for file in files}) == 2
 
 
-def has_poll(folder: pathlib.Path, poll: bytes) -> bool:
-    """Whether this is a published folder of the poll. One that can't be read is none."""
+def aliases_in(folder: pathlib.Path) -> set[str]:
+    """The roll of a published folder. What can't be read, or is none, has nobody on it."""
+    if not (folder / BALLOTS).is_file() or not (folder / POLL).is_file():
+        return set()
     try:
-        return (folder / BALLOTS).is_file() and read_at_most(folder / POLL, POLL_LIMIT) == poll
-    except OSError:
-        return False
+        return set(poll_file.roll_of(read_at_most(folder / POLL, POLL_LIMIT)))
+    except (OSError, Fault, KeyError, TypeError, ValueError):
+        return set()
 
 
 def lines_in(folder: pathlib.Path) -> set[bytes]:

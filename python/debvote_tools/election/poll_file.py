@@ -72,6 +72,12 @@ def roll_of(data: bytes) -> list[str]:
     return [str(name) for name in document(data)["roll"]]
 
 
+def options_of(data: bytes) -> list[str]:
+    """The names of the options of a poll that debvote takes, in their order, the default option last."""
+    said = document(data)
+    return [str(name) for name in (*said["options"], said["default"])]
+
+
 def unread(why: str) -> Fault:
     """The fault of a poll that can't be read."""
     words = f"poll.toml: it can't be read as TOML 1.0: {why}; put this right with an editor, then run: {CHECK}"

@@ -15,7 +15,8 @@ def aliases_now(election: Election, poll: bytes) -> dict[str, str]:
 
 def demand_own_folder(election: Election) -> None:
     """Stops where others may look into the folder of a secret vote: its files are as readable as those of an open one."""
-    secret.demand_private(election.folder, secret.FOLDER_MODE)
+    if election.is_secret():
+        secret.demand_private(election.folder, secret.FOLDER_MODE)
 
 
 def without_code(election: Election, poll: bytes) -> list[str]:

@@ -42,14 +42,14 @@
     return node;
   }
 
-  function showAlias(alias) {
+  function showAlias(name, alias) {
     const place = byId(alias);
     if (place === null) {
       say(paragraph(`No elector of this vote has the alias ${alias}. Type name and code as they stand on your slip.`));
     } else if (place.closest(".ballots") === null) {
       say(paragraph(`Your alias is ${alias}. It is on the roll, and no ballot counts under it.`));
     } else {
-      say(paragraph("This ballot counts for you:"), ballotNode(place));
+      say(paragraph(`This ballot counts for ${name}:`), ballotNode(place));
     }
   }
 
@@ -63,7 +63,7 @@
       return say(paragraph("This browser makes no alias on a page that did not come by https. Use one of the commands below."));
     }
     const alias = await aliasOf(name, code);
-    if (mine === asked) showAlias(alias);
+    if (mine === asked) showAlias(name, alias);
     return undefined;
   }
 

@@ -118,10 +118,10 @@ def demand_texts(texts: dict[str, str], codes: pathlib.Path, poll: tuple[str, by
     folders = (secret_folder_of(place) for file in (poll[0], ballots[0], str(codes.parent)) for place in folders_of(file))
     election = next(filter(None, folders), None)
     sums = untelling.private_sums(poll[1], ballots[1], election)
-    holders = secret.holders_in(codes)
+    holders, options = secret.holders_in(codes), poll_file.options_of(poll[1])
     for file, text in texts.items():
         untelling.demand_no_private_file(file, election)
-        untelling.demand_untelling(file, text, holders, sums)
+        untelling.demand_untelling(file, text, holders, options, sums)
 
 
 # ---------------------------------------------------------------- the files under aliases
@@ -129,7 +129,7 @@ def hidden_of(codes: pathlib.Path, poll: bytes, standing: dict[str, str]) -> Hid
     """The vote under aliases. Stops where an elector has no code, or where the poll is not the one that was called."""
     aliases = secret.aliases_of(codes, poll_file.roll_of(poll), secret.LOST)
     published = secret.poll_of(poll, aliases)
-    secret.demand_called(codes, published)
+    secret.demand_called(codes, published, is_published=True)
     absent = sorted(alias for name, alias in aliases.items() if name not in standing)
     return Hidden(published, secret.ballots_of(standing, aliases), list(standing), absent)
 

@@ -16,7 +16,10 @@ from debvote_tools.secret import Holder
 FILES = ("poll.toml", "ballots", "members.csv", journal.NAME)
 FOLDERS = (secret.PRIVATE, "backup", "received")
 
-RANKS = r"(?:-|\d+)(?:\s*,\s*(?:-|\d+))+"
+# ranks as in a ballot line, and what may stand between a name and its ranks in a mail, a table or a list
+RANK = r"(?:-|[1-9]\d?(?!\d))"
+RANKS = rf"{RANK}(?:\s*[,;]\s*{RANK})+"
+BETWEEN = r"""(?:\s*<[^<>]*>)?["'\s:;,=|]+"""
 
 SIXTY_FOUR = re.compile(r"(?<![0-9a-f])[0-9a-f]{64}(?![0-9a-f])")
 
@@ -33,22 +36,30 @@ def demand_no_private_file(file: str, election: pathlib.Path | None) -> None:
         raise Fault(f"{file}: {words}: give the text that you wrote for the page", Status.DOUBT)
 
 
-def demand_untelling(file: str, text: str, holders: list[Holder], sums: set[str]) -> None:
+def demand_untelling(file: str, text: str, holders: list[Holder], options: list[str], sums: set[str]) -> None:
     """Stops where a text has a code, an alias, a ballot under the name of its elector, or a sum of the private files."""
     lower = text.lower()
     squeezed = re.sub(r"[^0-9a-f]", "", re.sub(r"<[^>]*>", "", lower))
-    names = "|".join(re.escape(holder.name) for holder in sorted(holders, key=lambda holder: -len(holder.name)))
     found = None
     if any(holder.code in squeezed for holder in holders):
         found = "the code of an elector"
-    elif any(holder.alias in lower for holder in holders):
+    elif any(holder.alias in squeezed for holder in holders):
         found = "the alias of an elector, and may tell whose it is"
-    elif holders and re.search(rf"(?<![a-z0-9.-])(?:{names})\s+{RANKS}", lower):
+    elif holders and ballot_with_name(holders, options).search(lower):
         found = "a ballot with the name of its elector"
     elif sums.intersection(SIXTY_FOUR.findall(lower)):
         found = "the sum of a private file, by which one can try guesses of who voted what"
     if found is not None:
         raise Fault(f"{file}: it has {found}; nothing was published: take it out", Status.DOUBT)
+
+
+def ballot_with_name(holders: list[Holder], options: list[str]) -> re.Pattern[str]:
+    """What finds a ballot beside a name of the roll or a real name, in small letters: its ranks, or what they say in words."""
+    known = {text.lower() for holder in holders for text in (holder.name, holder.who) if text}
+    names, called = ("|".join(map(re.escape, sorted(texts, key=len, reverse=True))) for texts in (known, map(str.lower, options)))
+    spaced = rf"{RANK}(?:\s+{RANK}){{{len(options) - 1}}}(?!\S|\s+[-\d])"
+    in_words = rf"\s*:\s*(?:{called})(?=\s*(?:,? then |;|,|and |equally|$))"
+    return re.compile(rf"(?<![\w.-])(?:{names})(?:{BETWEEN}(?:{RANKS}|{spaced})|{in_words})", re.MULTILINE)
 
 
 def private_sums(poll: bytes, ballots: bytes, election: pathlib.Path | None) -> set[str]:

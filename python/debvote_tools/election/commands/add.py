@@ -14,6 +14,7 @@ from debvote_tools.election.doubts import Part, stop_at_added_before, stop_at_no
 from debvote_tools.election.folder import Election, Files
 from debvote_tools.election.forms import columns_of, lines_of_form
 from debvote_tools.election.lines import Line, lines_in
+from debvote_tools.election.secrecy import demand_own_folder
 from debvote_tools.election.telling import tell, tell_edits, tell_time
 from debvote_tools.faults import Fault, Status
 from debvote_tools.files import BALLOTS_LIMIT, in_memory, read_at_most, write_new
@@ -59,6 +60,7 @@ def run(election: Election, asked: argparse.Namespace) -> int:
     election.check_folder()
     inputs = [read(name) for name in asked.files or [STANDARD_INPUT]]
     with election.changing() as files:
+        demand_own_folder(election)
         tell_edits(election, files)
         for source in inputs:
             check_kind(election, source, asked.csv)

@@ -181,6 +181,9 @@ def public_poll(election: Election, files: Files) -> bytes:
             raise Fault(f"{election.poll}: {words}: {cure}", Status.DOUBT)
         return files.poll
     demand_own_folder(election)
+    if not secret.says_secret(files.poll):
+        words = "the vote is secret, and the line is gone by which a copy of this poll is known to be so; nothing was changed"
+        raise Fault(f"{election.poll}: {words}: run {command(election, 'codes')}, which writes it, then call again", Status.DOUBT)
     poll = secret.poll_of(files.poll, aliases_now(election, files.poll))
     if sheet_without_last(election, poll) != sheet_without_last(election, files.poll):
         words = "debvote reads the poll under aliases otherwise than this one; write it in a simpler way, then call again"

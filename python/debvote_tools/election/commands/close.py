@@ -7,6 +7,7 @@ from debvote_tools import journal, secret
 from debvote_tools.election import poll_file
 from debvote_tools.election.asking import NO_BALLOTS, command, refused
 from debvote_tools.election.folder import Election, Files
+from debvote_tools.election.secrecy import demand_own_folder
 from debvote_tools.election.telling import count_of, tell, tell_edits, time_of
 from debvote_tools.faults import Fault, Status
 from debvote_tools.files import in_memory, sum_of, uninterrupted
@@ -24,6 +25,7 @@ def options(parser: argparse.ArgumentParser) -> None:
 
 def run(election: Election, asked: argparse.Namespace) -> int:
     with election.changing() as files:
+        demand_own_folder(election)
         tell_edits(election, files)
         sheet = sheet_of_all(election, files)
         before = election.closed()

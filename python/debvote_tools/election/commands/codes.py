@@ -2,6 +2,7 @@
 
 import argparse
 import contextlib
+import dataclasses
 import os
 import re
 
@@ -21,8 +22,8 @@ from debvote_tools.sheet import Sheet
 
 HELP = "Make a secret code for each elector, for a secret vote; it comes before the call"
 
-# what a spreadsheet carries out; a number of a telephone may begin with a plus
-FORMULA = re.compile(r"\s*(?:[=@]|[+-].*[(!|])", re.DOTALL)
+# what a spreadsheet carries out, also with signs of full width; a number of a telephone may begin with a plus
+FORMULA = re.compile(r"[\s\u200b\ufeff]*(?:[=@\uff1d\uff20]|[+\uff0b\uff0d-](?![\d\s()./-]*\Z))")
 
 
 def options(parser: argparse.ArgumentParser) -> None:
@@ -39,14 +40,20 @@ def run(election: Election, asked: argparse.Namespace) -> int:
         if election.call.exists():
             # the aliases are public: one that is not among them can't be added
             aliases_now(election, files.poll)
-        added = new_holders(election, roll, before)
+        people = people_of(election, roll)
+        kept, others = kept_holders(election, people, before)
+        added = new_holders(roll, people, kept)
         with uninterrupted():
             make_private(election)
-            write(election, files, before, added)
-            has_slips = write_slips(election, sheet, roll, [*before, *added])
+            write(election, files, before, [*kept, *added])
+            has_slips = write_slips(election, sheet, roll, [*kept, *added])
             if is_strange:
                 tell(*of_another_vote(election))
-            say(election, roll, before, added, has_slips)
+            if others:
+                tell_others(election, others)
+            say(election, roll, kept, added, has_slips, is_as_before=kept == before)
+            if added and secret.is_taken_back(election.codes):
+                tell(*of_a_call_that_is_gone(election))
     return Status.DECIDED
 
 
@@ -81,16 +88,50 @@ def of_another_vote(election: Election) -> list[str]:
     ]
 
 
-def new_holders(election: Election, roll: list[str], before: list[Holder]) -> list[Holder]:
+def of_a_call_that_is_gone(election: Election) -> list[str]:
+    """What is said of new codes after a call whose folder is gone: it was taken back, or moved to a web site."""
+    return [
+        f"Note: the folder {election.call} is gone. If anybody has seen that call, put it back, and leave the roll as it was:",
+        "  whoever compares two calls sees whose alias is new, and later the ballot under it.",
+    ]
+
+
+def kept_holders(election: Election, people: dict[str, Member], before: list[Holder]) -> tuple[list[Holder], list[str]]:
+    """The electors who keep their code, with the address that the list of members has now, and the names of others.
+
+    A name that stands for another person now gets a new code, so that the slip of the first one shows nothing. After the call
+    the alias is public, and the code stays.
+    """
+    kept, others = [], []
+    for holder in before:
+        who, mail = said_of(people[holder.name]) if holder.name in people else (holder.who, holder.mail)
+        if not who or not holder.who or who == holder.who:
+            kept.append(dataclasses.replace(holder, who=who or holder.who, mail=mail))
+            continue
+        others.append(holder.name)
+        if election.call.exists():
+            kept.append(holder)
+    return kept, others
+
+
+def tell_others(election: Election, names: list[str]) -> None:
+    """Says whose names stand for others in the list of members than when their codes were made."""
+    stands = f"{secret.some(names)} {'has' if len(names) == 1 else 'have'} another real name in {election.members} than with the code"
+    if election.call.exists():
+        tell(f"Note: {stands}; the code stays, for the call has its alias. Whoever had it before can see that ballot.")
+    else:
+        tell(f"Note: {stands}, so there is a new code; a slip that was handed out before is worth nothing.")
+
+
+def new_holders(roll: list[str], people: dict[str, Member], kept: list[Holder]) -> list[Holder]:
     """A new code for each elector on the roll who has none, with what the list of members says of them."""
-    people = people_of(election, roll)
-    known = {holder.name for holder in before}
-    found = []
-    for name in roll:
-        if name not in known:
-            member = people.get(name)
-            found.append(secret.new_holder(name, member.who if member else "", member.mail if member else ""))
-    return found
+    known = {holder.name for holder in kept}
+    return [secret.new_holder(name, *said_of(people.get(name))) for name in roll if name not in known]
+
+
+def said_of(member: Member | None) -> tuple[str, str]:
+    """Real name and address as the file of codes has them, each on one line; nothing of somebody who is not on the list."""
+    return (" ".join(member.who.splitlines()), " ".join(member.mail.splitlines())) if member else ("", "")
 
 
 def people_of(election: Election, roll: list[str]) -> dict[str, Member]:
@@ -124,32 +165,34 @@ def demand_no_formula(election: Election, members: list[Member]) -> None:
 # ---------------------------------------------------------------- what is written
 def make_private(election: Election) -> None:
     """Makes the folder of what is secret. Before it the folder of the election, which has who votes what, becomes its owner's."""
-    if os.path.lexists(election.private):
+    is_there = os.path.lexists(election.private)
+    if is_there:
         secret.demand_private(election.private, FOLDER_MODE)
-        return
-    if election.folder.stat().st_mode & 0o077:
+    if not election.is_secret() and election.folder.stat().st_mode & 0o077:
         with contextlib.suppress(PermissionError):
             election.folder.chmod(FOLDER_MODE)
             tell("From now on only you can look into the folder of the election, which will have who voted what.")
+    if is_there:
+        return
     election.private.mkdir(mode=FOLDER_MODE)
     sync_folder(election.folder)
 
 
-def write(election: Election, files: Files, before: list[Holder], added: list[Holder]) -> None:
-    """Writes the new codes behind those that are there, of which it keeps a copy, and notes the act.
+def write(election: Election, files: Files, before: list[Holder], holders: list[Holder]) -> None:
+    """Writes the codes, those that are new behind the others, keeps a copy of what was there, and notes the act.
 
     Before the call the poll gets the line that says that the vote is secret: so no copy of it is published with its names.
     """
     poll = files.poll if election.call.exists() else secret.saying_secret(files.poll)
-    if added:
+    if holders != before:
         keep_copy(election, election.codes.name)
-        write_whole(election.codes, secret.text_of([*before, *added]), FILE_MODE)
+        write_whole(election.codes, secret.text_of(holders), FILE_MODE)
     if poll != files.poll:
         election.keep_copy(election.poll)
         election.act(secret.ACT, files, poll=poll)
         so_that = "so that no copy of it is published with its names"
         tell(f"{election.poll} has got a line that says that the vote is secret, {so_that}.")
-    elif added or journal.last(election.entries(), secret.ACT) is None:
+    elif holders != before or journal.last(election.entries(), secret.ACT) is None:
         election.act(secret.ACT, files)
 
 
@@ -171,15 +214,18 @@ def keep_copy(election: Election, name: str) -> None:
 
 
 # ---------------------------------------------------------------- what is said
-def say(election: Election, roll: list[str], before: list[Holder], added: list[Holder], has_slips: bool) -> None:
+def say(
+    election: Election, roll: list[str], kept: list[Holder], added: list[Holder], has_slips: bool, *, is_as_before: bool
+) -> None:
     """Says which electors got a code, and what comes next."""
-    known = [holder.name for holder in before]
+    known = [holder.name for holder in kept]
     if added:
         names = f" ({secret.some([holder.name for holder in added])})" if known else ""
         keep = f"; {count_of(len(known), 'code')} that were there stay as they are" if known else ""
         tell(f"Made {count_of(len(added), 'code')}{names}: {election.codes}{keep}.")
     else:
-        tell(f"Each elector on the roll has a code already: {election.codes} was not changed.")
+        what = "was not changed" if is_as_before else f"has what {election.members} says now, and the codes as they were"
+        tell(f"Each elector on the roll has a code already: {election.codes} {what}.")
     on_roll = set(roll)
     gone = [name for name in known if name not in on_roll]
     if gone:

@@ -11,6 +11,7 @@ from debvote_tools.election.casting import Ballot, Batch, ballot_words, cast, ch
 from debvote_tools.election.casting import right_line, right_words, sheet_of, standing_of, summary, would_words
 from debvote_tools.election.folder import Election
 from debvote_tools.election.lines import Line, lines_in
+from debvote_tools.election.secrecy import demand_own_folder
 from debvote_tools.election.telling import tell, tell_edits, tell_time
 from debvote_tools.faults import Fault, Status
 from debvote_tools.files import BALLOTS_LIMIT, append_whole, in_memory, uninterrupted, write_new
@@ -71,6 +72,7 @@ def run(election: Election, asked: argparse.Namespace) -> int:
         raise Fault("standard input: it is closed; nothing was cast: run it at a terminal", Status.BAD_BALLOTS)
     desk = Desk(election)
     with election.reading():
+        demand_own_folder(election)
         tell_time(election, "what is cast")
     try:
         if sys.stdin.isatty():
