@@ -270,7 +270,7 @@ class CallPageTest(support.ElectionTest):
         folder.mkdir()
         (folder / "poll.toml").write_text(support.POLL)
         self.assertEqual(self.election("--folder", folder, "codes").status, 0)
-        page = self.called("secret", support.POLL)
+        page = self.called("secret", (folder / "poll.toml").read_text())
         names = ["ada", "Ada ", "", "0123456789abcdef" * 2, "stranger"]
         choices = [{"name": name, "ranks": list("1234")} for name in names]
         (found,), console = browse(self.scratch, [{"page": page.as_uri(), "width": 360, "choices": choices}])
