@@ -131,8 +131,13 @@ class TwoPublications(SecretTest):
         self.assertFalse((self.folder / "result").exists())
 
     def test_a_call_that_was_moved_and_nothing_else(self) -> None:
+        """Its aliases are public: a real name that is put right changes no code."""
         self.closed()
         shutil.move(self.folder / "call", self.scratch / "web")
+        before = self.read("private/codes.csv")
+        self.write("members.csv", MEMBERS.replace("Ben <É>", "Benjamin"))
+        self.assertIn("; the code stays, for the call has its alias.", self.done("codes"))
+        self.assertEqual(self.read("private/codes.csv"), before)
         self.done("publish", "--secret")
 
     def test_what_lies_beside_a_publication(self) -> None:
@@ -155,7 +160,8 @@ class TwoPublications(SecretTest):
         row = self.read("private/codes.csv").splitlines()[1].decode().split(",")
         poll = self.read("first/poll.toml").replace(b'"' + row[-1].encode() + b'"', b'"' + b"0" * 32 + b'"')
         self.write("first/poll.toml", poll)
-        self.assertIn("Note: first has other ballots, or none, of 2 electors.", self.done("publish", "--secret", "second"))
+        self.write("first/ballots.txt", self.read("first/ballots.txt").replace(b"\n", b"\n\xff x\n", 1))
+        self.assertIn("Note: first has other ballots, or none, of 3 electors.", self.done("publish", "--secret", "second"))
 
     def test_with_lists_of_voters(self) -> None:
         self.closed()

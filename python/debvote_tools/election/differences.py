@@ -24,7 +24,7 @@ def tell_differences(election: Election, target: pathlib.Path) -> None:
         aliases = aliases_in(folder)
         if not aliases & roll:
             continue
-        changed = {line.partition(b" ")[0].decode() for line in lines_in(folder) ^ ballots} | (aliases ^ roll)
+        changed = {line.partition(b" ")[0].decode("ascii", "replace") for line in lines_in(folder) ^ ballots} | (aliases ^ roll)
         if changed:
             who = count_of(len(changed), "elector")
             print(f"Note: {folder} has other ballots, or none, of {who}.")

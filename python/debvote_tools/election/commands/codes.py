@@ -99,8 +99,8 @@ def of_a_call_that_is_gone(election: Election) -> list[str]:
 def kept_holders(election: Election, people: dict[str, Member], before: list[Holder]) -> tuple[list[Holder], list[str]]:
     """The electors who keep their code, with the address that the list of members has now, and the names of others.
 
-    A name that stands for another person now gets a new code, so that the slip of the first one shows nothing. After the call
-    the alias is public, and the code stays.
+    A name that stands for another person now gets a new code, so that the slip of the first one shows nothing. After a call
+    the alias is public, wherever its folder is, and the code stays.
     """
     kept, others = [], []
     for holder in before:
@@ -109,7 +109,7 @@ def kept_holders(election: Election, people: dict[str, Member], before: list[Hol
             kept.append(dataclasses.replace(holder, who=who or holder.who, mail=mail))
             continue
         others.append(holder.name)
-        if election.call.exists():
+        if election.called_aliases.exists():
             kept.append(holder)
     return kept, others
 
@@ -117,7 +117,7 @@ def kept_holders(election: Election, people: dict[str, Member], before: list[Hol
 def tell_others(election: Election, names: list[str]) -> None:
     """Says whose names stand for others in the list of members than when their codes were made."""
     stands = f"{secret.some(names)} {'has' if len(names) == 1 else 'have'} another real name in {election.members} than with the code"
-    if election.call.exists():
+    if election.called_aliases.exists():
         tell(f"Note: {stands}; the code stays, for the call has its alias. Whoever had it before can see that ballot.")
     else:
         tell(f"Note: {stands}, so there is a new code; a slip that was handed out before is worth nothing.")
