@@ -138,7 +138,7 @@ votes_of m = record {
 }
 
 -- what each matrix keeps to
-pub record Keeps (m : Inside) : Type 0 where
+pub record KeepsVotes (m : Inside) : Type 0 where
   pub few : m.options ≤ MAX_OPTIONS
   pub pending : m.pending ≤ 127
   pub settled : AreTurns m.settled

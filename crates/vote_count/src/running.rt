@@ -44,11 +44,11 @@ impl Model for RunningMatrix {
 
     ghost Value = { Votes };
 
-    ghost use Rattle.vote_count.specs.Changes.{votes_of, Keeps};
+    ghost use Rattle.vote_count.specs.Changes.{votes_of, KeepsVotes};
 
     ghost view = { votes_of };
 
-    ghost invariant = { Keeps };
+    ghost invariant = { KeepsVotes };
 }
 
 impl RunningMatrix {

@@ -7,7 +7,7 @@ use Rattle.std.proofs.lemmas.List.Elements.{All-cons, All-head, All-nil, All-tai
 use Rattle.std.proofs.lemmas.List.Sums.{sum_by-cons}
 use Rattle.vote_poll_text.specs.Lines.{IsUnbroken, text_of_lines}
 use Rattle.vote_sheet.specs.Sheet.{Text}
-use Rattle.vote_sheet.specs.Verify.{DifferFirstAfter, NamesTheFirstLine, agreement, common_lines, first_line}
+use Rattle.vote_sheet.specs.Verify.{DifferFirstAfter, NamesTheFirstLine, common_bytes, common_lines, first_line}
 
 abbrev is_feed : ℕ → Bool
 is_feed byte = byte == 10
@@ -21,8 +21,8 @@ count-cons b bs = sum_by-cons (λ y. one (is_feed y)) b bs
 -- the first byte is the same
 pub common_more : (b : ℕ) (bs cs : Text) → common_lines (b ∷ bs) (b ∷ cs) ≡ one (is_feed b) + common_lines bs cs
 common_more b bs cs =
-    let agree : agreement (b ∷ bs) (b ∷ cs) ≡ agreement bs cs + 1 = rw (eq-eqb b b refl) refl in
-    ap (λ m. count_by is_feed (take m (b ∷ bs))) agree ∙ rw add-one (count-cons b (take (agreement bs cs) bs))
+    let agree : common_bytes (b ∷ bs) (b ∷ cs) ≡ common_bytes bs cs + 1 = rw (eq-eqb b b refl) refl in
+    ap (λ m. count_by is_feed (take m (b ∷ bs))) agree ∙ rw add-one (count-cons b (take (common_bytes bs cs) bs))
 
 line_of_feed : (b : ℕ) (bs : Text) → b ≡ 10 → first_line (b ∷ bs) ≡ b ∷ []
 line_of_feed b bs is = rw (eq-eqb b 10 is) refl
@@ -90,10 +90,10 @@ names_the_first_line (b ∷ bs) [] apart = at_once (b ∷ bs) [] (λ e. no_line 
 names_the_first_line (b ∷ bs) (c ∷ cs) apart =
     elim (cases_eq b c) [
       | inl same ↦
-          let k = agreement bs cs in
+          let k = common_bytes bs cs in
           let n = common_lines bs cs in
           let later = names_the_first_line bs cs (λ e. apart (ap₂ ◌∷◌ same e)) in
-          let agree : agreement (b ∷ bs) (c ∷ cs) ≡ k + 1 = rw (eq-eqb b c same) refl in
+          let agree : common_bytes (b ∷ bs) (c ∷ cs) ≡ k + 1 = rw (eq-eqb b c same) refl in
           let count : common_lines (b ∷ bs) (c ∷ cs) ≡ one (is_feed b) + n = ap (λ m. count_by is_feed (take m (b ∷ bs))) agree ∙ rw add-one (count-cons b (take k bs)) in
           elim (cases_eq b 10) [
             | inl feed ↦
@@ -105,7 +105,7 @@ names_the_first_line (b ∷ bs) (c ∷ cs) apart =
                 (after_byte b c bs cs n later.lines later.unbroken later.count later.rest later.other later.is_text later.is_sheet later.differ same other)
           ]
       | inr other ↦
-          let agree : agreement (b ∷ bs) (c ∷ cs) ≡ 0 = rw (ne_eqb b c other) refl in
+          let agree : common_bytes (b ∷ bs) (c ∷ cs) ≡ 0 = rw (ne_eqb b c other) refl in
           let here : common_lines (b ∷ bs) (c ∷ cs) ≡ 0 = ap (λ m. count_by is_feed (take m (b ∷ bs))) agree in
           let apart_lines : first_line (b ∷ bs) ≢ first_line (c ∷ cs) = λ e.
           (let both : b ∷ (begins b bs).0 ≡ c ∷ (begins c cs).0 = sym (begins b bs).1 ∙ e ∙ (begins c cs).1 in

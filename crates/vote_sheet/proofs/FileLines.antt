@@ -5,16 +5,16 @@ use Rattle.std.specs.Prelude.{slice_get}
 use Rattle.std.proofs.lemmas.Bool.{true≢false}
 use Rattle.std.proofs.lemmas.List.{drop_all}
 use Rattle.vote_poll_text.specs.Lines.{lines_of, without_last_feed}
-use Rattle.vote_sheet.specs.Verify.{agreement}
+use Rattle.vote_sheet.specs.Verify.{common_bytes}
 
 abbrev is_feed : ℕ → Bool
 is_feed byte = byte == 10
 
-nothing_there : (text : List ℕ) → agreement text [] ≡ 0
+nothing_there : (text : List ℕ) → common_bytes text [] ≡ 0
 nothing_there [] = refl
 nothing_there (b ∷ bs) = refl
 
-pub over_here : (text other : List ℕ) (k : ℕ) → length other ≤ k → agreement text (drop k other) ≡ 0
+pub over_here : (text other : List ℕ) (k : ℕ) → length other ≤ k → common_bytes text (drop k other) ≡ 0
 over_here text other k over = rw (drop_all k other over) (nothing_there text)
 
 tail_at : (parts : List (List ℕ)) (k : ℕ) (part : List ℕ) (later : List (List ℕ)) → drop k parts ≡ part ∷ later → drop (suc k) parts ≡ later

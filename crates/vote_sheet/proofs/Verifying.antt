@@ -10,7 +10,7 @@ use Rattle.vote_count.specs.declared.Decision.{Decision}
 use Rattle.vote_sheet.specs.Counted.{IsCountOf, IsLastLine, IsWhole, as_sheet, shared_text}
 use Rattle.vote_sheet.specs.Sheet.{Text, decision_text, sheet_text}
 use Rattle.vote_sheet.specs.SheetOf.{IsSheet, SheetIsUnique}
-use Rattle.vote_sheet.specs.Verify.{AgreesLongest, ComesBefore, IsCasting, IsFound, IsVerification, agreement, common_lines, matching}
+use Rattle.vote_sheet.specs.Verify.{AgreesLongest, ComesBefore, IsCasting, IsFound, IsVerification, common_bytes, common_lines, matching}
 use Rattle.vote_sheet.specs.declared.sheet.Count.{Count}
 use Rattle.vote_sheet.specs.declared.verify.Candidate.{Candidate}
 use Rattle.vote_sheet.specs.declared.verify.Found.{Found}
@@ -182,17 +182,17 @@ common_after [] a b = omega arith
 common_after (byte ∷ bytes) a b = omega (arith, common_more byte (bytes ++ a) (bytes ++ b), sum_by-cons (λ b. cond {A = ℕ} (b == 10) 1 0) byte bytes, common_after bytes a b)
 
 -- a text without the shared lines
-agreement_before : (text shared last : Text) → ((rest : Text) → text ≢ shared ++ rest) → agreement text (shared ++ last) ≡ agreement text shared
-agreement_before text [] last apart = absurd (apart text refl)
-agreement_before [] (c ∷ cs) last apart = refl
-agreement_before (b ∷ bs) (c ∷ cs) last apart =
+common_bytes_before : (text shared last : Text) → ((rest : Text) → text ≢ shared ++ rest) → common_bytes text (shared ++ last) ≡ common_bytes text shared
+common_bytes_before text [] last apart = absurd (apart text refl)
+common_bytes_before [] (c ∷ cs) last apart = refl
+common_bytes_before (b ∷ bs) (c ∷ cs) last apart =
     elim (cases_eq b c) [
-      | inl same ↦ rw (eq-eqb b c same) (ap (λ n. n + 1) (agreement_before bs cs last (λ rest e. apart rest (ap₂ ◌∷◌ same e))))
+      | inl same ↦ rw (eq-eqb b c same) (ap (λ n. n + 1) (common_bytes_before bs cs last (λ rest e. apart rest (ap₂ ◌∷◌ same e))))
       | inr other ↦ rw (ne_eqb b c other) refl
     ]
 
 common_before : (text shared last : Text) → ((rest : Text) → text ≢ shared ++ rest) → common_lines text (shared ++ last) ≡ common_lines text shared
-common_before text shared last apart = ap (λ n. feed_count (take n text)) (agreement_before text shared last apart)
+common_before text shared last apart = ap (λ n. feed_count (take n text)) (common_bytes_before text shared last apart)
 
 module _ (poll : PollContent) (count : Count) (shared text : Text) where
   last_is : (rest : Text) → text ≡ shared ++ rest → (casting : Option ℕ) → IsWhole poll count shared casting text → IsLastLine poll count casting rest

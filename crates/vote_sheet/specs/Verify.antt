@@ -39,14 +39,14 @@ ComesBefore (Some p) None = ⊥
 ComesBefore (Some p) (Some o) = p < o
 
 -- how many bytes the common prefix of two texts has
-abbrev pub agreement : Text → Text → ℕ
-agreement [] other = 0
-agreement (b ∷ bs) [] = 0
-agreement (b ∷ bs) (c ∷ cs) = if b == c then agreement bs cs + 1 else 0
+abbrev pub common_bytes : Text → Text → ℕ
+common_bytes [] other = 0
+common_bytes (b ∷ bs) [] = 0
+common_bytes (b ∷ bs) (c ∷ cs) = if b == c then common_bytes bs cs + 1 else 0
 
 -- how many lines the common prefix of two texts has, each with its line feed
 abbrev pub common_lines : Text → Text → ℕ
-common_lines text other = feed_count (take (agreement text other) text)
+common_lines text other = feed_count (take (common_bytes text other) text)
 
 -- The text is none of the sheets, one for each casting vote, of which this is one. No other has more lines in common with the text, and none with an earlier casting vote as many.
 pub record AgreesLongest (poll : PollContent) (IsSheetFor : Option ℕ → Text → Type 0) (text : Text) (casting : Option ℕ) (sheet : Text) : Type 0 where

@@ -5,7 +5,7 @@ ghost use Rattle.vote_poll_text.specs.Adding.{Adds};
 ghost use Rattle.vote_poll_text.specs.Lines.{lines_of};
 ghost use Rattle.vote_steps.specs.Casting.{HoldsLines};
 ghost use Rattle.vote_sheet.specs.Counted.{AddsLastLine, FinalSetIsKept, IsLastLine, IsWhole};
-ghost use Rattle.vote_sheet.specs.Verify.{IsCasting, IsComparedWith, IsFound, IsVerification, SaysInWords, agreement, common_lines, difference_text, matching, shown_line, verified_text};
+ghost use Rattle.vote_sheet.specs.Verify.{IsCasting, IsComparedWith, IsFound, IsVerification, SaysInWords, common_bytes, common_lines, difference_text, matching, shown_line, verified_text};
 
 use crate::MAX_SHOWN;
 use crate::sheet::{Count, count_of_box, push_shared, sheet_is_unique};
@@ -28,8 +28,8 @@ pub enum Verification {
 }
 
 /// How many bytes the common prefix of two texts has.
-fn agreement(text: &[u8], other: &[u8]) -> usize
-    ensures agree { result ≡ agreement text.now other.now }
+fn common_bytes(text: &[u8], other: &[u8]) -> usize
+    ensures agree { result ≡ common_bytes text.now other.now }
     ensures at_most { result ≤ length text.now }
 {
     let mut count = 0;
@@ -43,7 +43,7 @@ fn agreement(text: &[u8], other: &[u8]) -> usize
 fn common_lines(text: &[u8], other: &[u8]) -> usize
     ensures { result ≡ common_lines text.now other.now }
 {
-    count_feeds(&text[..agreement(text, other)])
+    count_feeds(&text[..common_bytes(text, other)])
 }
 
 /// The line at a place, from 0, if there is one.

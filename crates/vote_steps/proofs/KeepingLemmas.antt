@@ -19,7 +19,7 @@ use Rattle.vote_poll.specs.Readings.{ReadingFits}
 use Rattle.vote_poll_text.specs.declared.lines.TheConstants.{MAX_LINES}
 use Rattle.vote_steps.specs.declared.TheConstants.{MAX_DESKS}
 use Rattle.vote_steps.specs.Boxes.{MayBeCast}
-use Rattle.vote_steps.specs.Keeping.{state_of, Keeps}
+use Rattle.vote_steps.specs.Keeping.{state_of, KeepsHistory}
 use Rattle.vote_steps.proofs.HistoryLemmas.{or_false, is_closed-append, valid-append_open, valid-append_closed, refused-append_open, refused-append_closed, valid-refused, is_used-cast, is_used-close, get_or-roll, length-roll, roll-closed, roll-close, roll-late, roll-bad, roll-ballot, is_ballot_late, is_refused_late}
 use Rattle.vote_steps.proofs.LegalLemmas.{one_at_most, casts_within, casts_below, length-steps}
 use Rattle.vote_steps.proofs.BoxLemmas.{IsLegal-append, standing_past}
@@ -38,7 +38,7 @@ pub record TookIn (a b : Inside) (d n : ℕ) (r : Reading) (p : Reply) : Type 0 
   pub valid_is : b.valid ≡ valid a.last_in_time (a.steps.items ++ Cast d n r p ∷ [])
   pub refused_is : b.refused ≡ refused a.last_in_time (a.steps.items ++ Cast d n r p ∷ [])
 
-pub took_in_closed : (a : Inside) (d n : ℕ) (r : Reading) → Keeps a → a.closed ≡ true → TookIn a (record a { refused = a.refused + 1 }) d n r BoxClosed
+pub took_in_closed : (a : Inside) (d n : ℕ) (r : Reading) → KeepsHistory a → a.closed ≡ true → TookIn a (record a { refused = a.refused + 1 }) d n r BoxClosed
 took_in_closed a d n r k h =
     let closed : is_closed a.steps.items ≡ true = sym k.closed ∙ h in
     record {
@@ -55,7 +55,7 @@ took_in_closed a d n r k h =
       refused_is = omega (arith, k.refused_is, refused-append_closed a.last_in_time a.steps.items (Cast d n r BoxClosed) closed);
     }
 
-pub took_in_late : (a : Inside) (d n : ℕ) (r : Reading) → Keeps a → a.closed ≡ false → a.last_in_time < n → TookIn a (record a { refused = a.refused + 1 }) d n r Late
+pub took_in_late : (a : Inside) (d n : ℕ) (r : Reading) → KeepsHistory a → a.closed ≡ false → a.last_in_time < n → TookIn a (record a { refused = a.refused + 1 }) d n r Late
 took_in_late a d n r k h late =
     let open' : is_closed a.steps.items ≡ false = sym k.closed ∙ h in
     let is_late : ltb a.last_in_time n ≡ true = lt-ltb a.last_in_time n late in
@@ -75,7 +75,7 @@ took_in_late a d n r k h late =
           omega (arith, k.refused_is, refused-append_open a.last_in_time a.steps.items (Cast d n r Late) open', ap (λ t. cond {A = ℕ} t 1 0) (is_refused_late a.last_in_time d n r Late is_late));
     }
 
-pub took_in_bad : (a : Inside) (d n : ℕ) (f : LineFault) → Keeps a → a.closed ≡ false → n ≤ a.last_in_time → TookIn a (record a { refused = a.refused + 1 }) d n (Bad f) (BadLine f)
+pub took_in_bad : (a : Inside) (d n : ℕ) (f : LineFault) → KeepsHistory a → a.closed ≡ false → n ≤ a.last_in_time → TookIn a (record a { refused = a.refused + 1 }) d n (Bad f) (BadLine f)
 took_in_bad a d n f k h early =
     let open' : is_closed a.steps.items ≡ false = sym k.closed ∙ h in
     record {
@@ -92,7 +92,7 @@ took_in_bad a d n f k h early =
       refused_is = omega (arith, k.refused_is, refused-append_open a.last_in_time a.steps.items (Cast d n (Bad f) (BadLine f)) open');
     }
 
-pub took_in_ballot : (a : Inside) (d n w : ℕ) (ranks : List (Option ℕ)) (new : Roll) (p : Reply) → Keeps a → a.closed ≡ false → n ≤ a.last_in_time → w < vec_len a.roll.ballots
+pub took_in_ballot : (a : Inside) (d n w : ℕ) (ranks : List (Option ℕ)) (new : Roll) (p : Reply) → KeepsHistory a → a.closed ≡ false → n ≤ a.last_in_time → w < vec_len a.roll.ballots
     → vec_len new.ballots ≡ vec_len a.roll.ballots → new.matrix.options ≡ a.roll.matrix.options
     → p ≡ reply_beside (get_or a.roll.ballots.items w None) n
     → new.ballots.items ≡ set a.roll.ballots.items w (Some (after_ballot (get_or a.roll.ballots.items w None) (record { stamp = n; ranks = ranks })))
@@ -127,25 +127,25 @@ took_in_by a b x d n r r' p p' e f g t =
     subst P (sym e) (subst Q (sym f) (subst S (sym g) t))
 
 -- a number that is not marked has not been used, and so there is room for its step
-pub unused : (a : Inside) (n : ℕ) → Keeps a → 1 ≤ n → n ≤ a.limit → get_or a.used.items (n - 1) false ≡ false → is_used a.steps.items n ≡ false
+pub unused : (a : Inside) (n : ℕ) → KeepsHistory a → 1 ≤ n → n ≤ a.limit → get_or a.used.items (n - 1) false ≡ false → is_used a.steps.items n ≡ false
 unused a n k low high mark =
     let same : n - 1 + 1 ≡ n = omega arith in
     sym (ap (is_used a.steps.items) same) ∙ sym (k.used_is (n - 1) (omega arith)) ∙ mark
 
 -- there is a number left, so not all casts are made
-steps_left : (a : Inside) (n : ℕ) → Keeps a → 1 ≤ n → n ≤ a.limit → get_or a.used.items (n - 1) false ≡ false → length a.steps.items ≤ a.limit
+steps_left : (a : Inside) (n : ℕ) → KeepsHistory a → 1 ≤ n → n ≤ a.limit → get_or a.used.items (n - 1) false ≡ false → length a.steps.items ≤ a.limit
 steps_left a n k low high mark =
     let less = casts_below (state_of a) n k.legal low high (unused a n k low high mark) in
     omega (arith, less, length-steps (state_of a) k.legal, one_at_most (is_closed a.steps.items))
 
-pub totals_within : (a : Inside) → Keeps a → a.valid + a.refused ≤ a.limit
+pub totals_within : (a : Inside) → KeepsHistory a → a.valid + a.refused ≤ a.limit
 totals_within a k = omega (arith, k.valid_is, k.refused_is, valid-refused a.last_in_time a.steps.items, casts_within (state_of a) k.legal)
 
 or_true : (b : Bool) → (b || true) ≡ true
 or_true true = refl
 or_true false = refl
 
-mark_is : (a : Inside) (d n : ℕ) (r : Reading) (p : Reply) → Keeps a → 1 ≤ n → n ≤ a.limit → (place : ℕ) → place < a.limit
+mark_is : (a : Inside) (d n : ℕ) (r : Reading) (p : Reply) → KeepsHistory a → 1 ≤ n → n ≤ a.limit → (place : ℕ) → place < a.limit
     → get_or (set a.used.items (n - 1) true) place false ≡ is_used (a.steps.items ++ Cast d n r p ∷ []) (place + 1)
 mark_is a d n r p k low high place lt =
     let len : length a.used.items ≡ a.limit = sym a.used.ok.0 ∙ k.places in
@@ -159,13 +159,13 @@ mark_is a d n r p k low high place lt =
     ∙ sym (is_used-cast a.steps.items d n r p (place + 1) ∙ ap (λ b. is_used a.steps.items (place + 1) || b) (ne_eqb n (place + 1) other) ∙ or_false (is_used a.steps.items (place + 1))))
     (cases_eq n (place + 1))
 
-pub steps_below : (a : Inside) (n : ℕ) → Keeps a → 1 ≤ n → n ≤ a.limit → get_or a.used.items (n - 1) false ≡ false → vec_len a.steps < vec_capacity a.steps
+pub steps_below : (a : Inside) (n : ℕ) → KeepsHistory a → 1 ≤ n → n ≤ a.limit → get_or a.used.items (n - 1) false ≡ false → vec_len a.steps < vec_capacity a.steps
 steps_below a n k low high mark = let left = steps_left a n k low high mark in omega (arith, left, k.room, a.steps.ok.0)
 
-pub keeps_cast : (a b : Inside) (new : Vec Step Global) (d n : ℕ) (r : Reading) (p : Reply) → Keeps a → TookIn a b d n r p
+pub keeps_cast : (a b : Inside) (new : Vec Step Global) (d n : ℕ) (r : Reading) (p : Reply) → KeepsHistory a → TookIn a b d n r p
     → (1 ≤ d) × (d ≤ MAX_DESKS) → 1 ≤ n → n ≤ a.limit → ReadingFits a.roll.matrix.options (vec_len a.roll.ballots) r → get_or a.used.items (n - 1) false ≡ false
     → new.items ≡ a.steps.items ++ Cast d n r p ∷ [] → vec_len new ≡ vec_len a.steps + 1 → vec_capacity a.steps ≤ vec_capacity new
-    → Keeps (record b { used = with_item b.used (n - 1) true; steps = new })
+    → KeepsHistory (record b { used = with_item b.used (n - 1) true; steps = new })
 keeps_cast a b new d n r p k t desk low high fits mark items len more =
     let fresh = unused a n k low high mark in
     let may : MayBeCast (state_of a) a.steps.items d n r p = record { desk_fits = desk; stamp_fits = (low, high); stamp_new = fresh; reading_fits = fits; answered = t.answered } in
@@ -184,12 +184,12 @@ keeps_cast a b new d n r p k t desk low high fits mark items len more =
     }
 
 -- a box that is not closed has room for its close
-pub close_below : (a : Inside) → Keeps a → a.closed ≡ false → vec_len a.steps < vec_capacity a.steps
+pub close_below : (a : Inside) → KeepsHistory a → a.closed ≡ false → vec_len a.steps < vec_capacity a.steps
 close_below a k h = omega (arith, k.room, a.steps.ok.0, length-steps (state_of a) k.legal, casts_within (state_of a) k.legal, ap (λ t. cond {A = ℕ} t 1 0) (sym k.closed ∙ h))
 
-pub keeps_close : (a : Inside) (new : Vec Step Global) → Keeps a → a.closed ≡ false
+pub keeps_close : (a : Inside) (new : Vec Step Global) → KeepsHistory a → a.closed ≡ false
     → new.items ≡ a.steps.items ++ Close ∷ [] → vec_len new ≡ vec_len a.steps + 1 → vec_capacity a.steps ≤ vec_capacity new
-    → Keeps (record a { steps = new; closed = true })
+    → KeepsHistory (record a { steps = new; closed = true })
 keeps_close a new k h items len more =
     let open' : is_closed a.steps.items ≡ false = sym k.closed ∙ h in
     let grown = IsLegal-append (state_of a) Close k.legal open' in
@@ -207,7 +207,7 @@ keeps_close a new k h items len more =
     }
 
 -- what the roll has of a voter, and none past its end
-pub standing_at : (a : Inside) (v : ℕ) → Keeps a → get_or a.roll.ballots.items v None ≡ standing a.last_in_time a.steps.items v
+pub standing_at : (a : Inside) (v : ℕ) → KeepsHistory a → get_or a.roll.ballots.items v None ≡ standing a.last_in_time a.steps.items v
 standing_at a v k =
     ⊎_elim
     (λ (inside : v < vec_len a.roll.ballots). ap (λ xs. get_or xs v None) k.roll_is ∙ get_or-roll a.last_in_time a.steps.items (vec_len a.roll.ballots) v inside)
@@ -228,7 +228,7 @@ nothing [] after step e = cc
 nothing (x ∷ before) after step e = cc
 
 pub keeps_new : (a : Inside) → a.steps.items ≡ [] → a.limit + 1 ≤ vec_capacity a.steps → a.closed ≡ false → a.valid ≡ 0 → a.refused ≡ 0
-    → a.used.items ≡ replicate a.limit false → a.roll.ballots.items ≡ replicate (vec_len a.roll.ballots) None → vec_len a.used ≡ a.limit → a.limit ≤ MAX_LINES → a.last_in_time ≤ MAX_LINES → Keeps a
+    → a.used.items ≡ replicate a.limit false → a.roll.ballots.items ≡ replicate (vec_len a.roll.ballots) None → vec_len a.used ≡ a.limit → a.limit ≤ MAX_LINES → a.last_in_time ≤ MAX_LINES → KeepsHistory a
 keeps_new a steps room closed valid refused used ballots places few last =
     record {
       legal = λ before after step e. absurd (nothing before after step (sym steps ∙ e));

@@ -11,7 +11,7 @@ state_of a = record { options = a.roll.matrix.options; electors = vec_len a.roll
 
 -- The fields are those of the steps; for each stamp there is a mark, which says whether it is used; and there is room for a
 -- step with each stamp and for the close.
-pub record Keeps (a : Inside) : Type 0 where
+pub record KeepsHistory (a : Inside) : Type 0 where
   pub legal : IsLegal (state_of a)
   pub closed : a.closed ≡ is_closed a.steps.items
   pub roll_is : a.roll.ballots.items ≡ roll a.last_in_time a.steps.items (vec_len a.roll.ballots)

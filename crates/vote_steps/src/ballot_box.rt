@@ -59,11 +59,11 @@ impl Model for BallotBox {
 
     ghost Value = { BoxState };
 
-    ghost use Rattle.vote_steps.specs.Keeping.{state_of, Keeps};
+    ghost use Rattle.vote_steps.specs.Keeping.{state_of, KeepsHistory};
 
     ghost view = { state_of };
 
-    ghost invariant = { Keeps };
+    ghost invariant = { KeepsHistory };
 }
 
 impl BallotBox {

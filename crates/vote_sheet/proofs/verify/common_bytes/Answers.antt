@@ -1,7 +1,7 @@
 use Rattle.std.proofs.Common.{arith, drop}
 use Rattle.std.proofs.lemmas.Grind.{common_steps, elements, moves, pieces}
 use Rattle.vote_sheet.proofs.FileLines.{over_here}
-use Rattle.vote_sheet.proofs.verify.agreement.Goals as goal
+use Rattle.vote_sheet.proofs.verify.common_bytes.Goals as goal
 
 pub returns-else-count-other-clause-agree : goal.returns-else-count-other-clause-agree
 returns-else-count-other-clause-agree c =
