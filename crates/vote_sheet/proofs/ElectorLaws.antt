@@ -151,7 +151,7 @@ refused_line_after poll lines line casting s refused is =
     }
 
 -- ---- an outdated ballot
-some_ranks : (later : Entry) (ranks : List (Option ℕ)) → (found : List (Option ℕ)) × (option_or later (Some ranks) ≡ Some found)
+pub some_ranks : (later : Entry) (ranks : List (Option ℕ)) → (found : List (Option ℕ)) × (option_or later (Some ranks) ≡ Some found)
 some_ranks None ranks = (ranks, refl)
 some_ranks (Some found) ranks = (found, refl)
 

@@ -15,3 +15,5 @@ pub mod ElectorSums
 pub mod SameSheets
 pub mod ElectorLaws
 pub mod Renaming
+pub mod LastBallotsDecide
+pub mod Publishing

@@ -18,7 +18,7 @@ use Rattle.vote_sheet.specs.LastBallots.{last_valid_ballots, readings_in_time}
 use Rattle.vote_sheet.specs.Sheet.{Text}
 use Rattle.vote_sheet.proofs.ElectorLaws.{no_ballot}
 use Rattle.vote_sheet.proofs.Holding.{count-not}
-use Rattle.vote_sheet.proofs.SameSheets.{CountTheSame, same_sheets_there}
+use Rattle.vote_sheet.proofs.SameSheets.{CountTheSame, VoteTheSame, same_sheets_there}
 use Rattle.vote_sheet.proofs.StandingLemmas.{EachLineIsRead, Entry, count-cons, one}
 
 -- ---- how many places pass a test
@@ -164,19 +164,31 @@ valid_alike mapped (r ∷ rs) [] alike = absurd alike
 valid_alike mapped (r ∷ rs) (s ∷ ss) alike =
     omega (arith, count-cons is_ballot r rs, count-cons is_ballot s ss, ap one (kind_alike mapped r s alike.0), valid_alike mapped rs ss alike.1)
 
-pub names_lem : EachLineIsRead → NamesDoNotMatter
-names_lem read poll again lines others mapped differ one_to_one alike =
-    let n = elector_count poll in
+-- ---- two files with the same last valid ballots
+-- the last ballot of each place of a roll is, in the other file, that of the place that this one is mapped to
+abbrev pub AreLastAlike : (ℕ → ℕ) → PollContent → List Text → PollContent → List Text → Type 0
+AreLastAlike mapped poll lines again others =
+    (v : ℕ) → v < elector_count poll → last_ballot (readings_in_time again others) (mapped v) ≡ last_ballot (readings_in_time poll lines) v
+
+pub vote_the_same : (poll again : PollContent) (lines others : List Text) (mapped : ℕ → ℕ) → elector_count again ≡ elector_count poll → IsOneToOne (elector_count poll) mapped
+    → AreLastAlike mapped poll lines again others → VoteTheSame poll lines again others
+vote_the_same poll again lines others mapped electors one_to_one alike =
     let rs = readings_in_time poll lines in
     let ss = readings_in_time again others in
     let same : (p : Entry → Bool) → count_by p (last_valid_ballots again others) ≡ count_by p (last_valid_ballots poll lines) =
-    λ p. ap (λ k. count_by p (map (last_ballot ss) (range_with_len 0 k))) differ.electors
-    ∙ count_mapped n mapped one_to_one (last_ballot rs) (last_ballot ss) (last_alike n mapped one_to_one rs ss alike.alike (are_on_roll read poll (last_in_time poll) lines)) p in
+    λ p. ap (λ k. count_by p (map (last_ballot ss) (range_with_len 0 k))) electors
+    ∙ count_mapped (elector_count poll) mapped one_to_one (last_ballot rs) (last_ballot ss) alike p in
+    record { voters = same is_some; counts = λ a b. same (entry_prefers a b) }
+
+pub names_lem : EachLineIsRead → NamesDoNotMatter
+names_lem read poll again lines others mapped differ one_to_one alike =
+    let rs = readings_in_time poll lines in
+    let ss = readings_in_time again others in
+    let last = last_alike (elector_count poll) mapped one_to_one rs ss alike.alike (are_on_roll read poll (last_in_time poll) lines) in
     let counts : CountTheSame poll lines again others = record {
       as_long = alike.as_long;
       valid = valid_alike mapped rs ss alike.alike;
-      voters = same is_some;
-      counts = λ a b. same (entry_prefers a b);
+      votes = vote_the_same poll again lines others mapped differ.electors one_to_one last;
     } in
     let P : PollContent → Type 0 = λ q. CountTheSame poll lines q others in
     let Q : PollContent → Type 0 = λ q. HaveSameSheets poll lines q others in

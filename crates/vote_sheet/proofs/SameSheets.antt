@@ -1,4 +1,4 @@
--- Two polls that differ in the names on their rolls alone, and files that count the same in them, have the same sheets.
+-- Two polls that differ in the names on their rolls and in their last envelopes, and files whose voters count the same in them: the sheets are the same but for the last envelope and the numbers of lines.
 use Rattle.std.proofs.Common.{◌≡◌, ℕ, ◌*◌, ◌^◌, ◌<◌, ◌≤◌, ◌⊎◌, ◌↔◌, List, Option, None, Some, length, refl, sym, ap, ◌∙◌, subst, arith}
 use Rattle.std.specs.Prelude.{count_by, is_some}
 use Rattle.vote_poll.specs.PollContent.{PollContent, elector_count, option_count}
@@ -10,28 +10,31 @@ use Rattle.vote_count.specs.Rules.{MeetsMajority, PairwiseDefeats}
 use Rattle.vote_count.specs.Sets.{Pairs}
 use Rattle.vote_count.specs.Votes.{Votes, votes}
 use Rattle.vote_sheet.specs.ElectorLaws.{HaveSameSheets}
-use Rattle.vote_sheet.specs.LastBallots.{last_valid_ballots, valid_count, voter_count, votes_for}
+use Rattle.vote_sheet.specs.LastBallots.{last_valid_ballots, refused_count, valid_count, voter_count, votes_for}
 use Rattle.vote_sheet.specs.Sheet.{Sheet, Text}
 use Rattle.vote_sheet.specs.SheetOf.{IsSheetOf}
 use Rattle.vote_sheet.proofs.ElectorSums.{valid-refused}
 
--- the poll with another roll
-abbrev pub with_roll : PollContent → List Text → PollContent
-with_roll poll roll = record poll { roll = roll }
+-- the poll with another roll and another last envelope
+abbrev pub with_roll : PollContent → List Text → Option ℕ → PollContent
+with_roll poll roll last = record poll { roll = roll; last_envelope = last }
+
+-- there are as many voters in two files, and their votes are the same
+pub record VoteTheSame (poll : PollContent) (lines : List Text) (again : PollContent) (others : List Text) : Type 0 where
+  pub voters : voter_count again others ≡ voter_count poll lines
+  pub counts : (a b : ℕ) → votes_for again others a b ≡ votes_for poll lines a b
 
 -- what a sheet counts of two files is the same
 pub record CountTheSame (poll : PollContent) (lines : List Text) (again : PollContent) (others : List Text) : Type 0 where
   pub as_long : length others ≡ length lines
   pub valid : valid_count again others ≡ valid_count poll lines
-  pub voters : voter_count again others ≡ voter_count poll lines
-  pub counts : (a b : ℕ) → votes_for again others a b ≡ votes_for poll lines a b
+  pub votes : VoteTheSame poll lines again others
 
 pub count_the_same-back : (poll : PollContent) (lines : List Text) (again : PollContent) (others : List Text) → CountTheSame poll lines again others → CountTheSame again others poll lines
 count_the_same-back poll lines again others same = record {
   as_long = sym same.as_long;
   valid = sym same.valid;
-  voters = sym same.voters;
-  counts = λ a b. sym (same.counts a b);
+  votes = record { voters = sym same.votes.voters; counts = λ a b. sym (same.votes.counts a b) };
 }
 
 -- files of one poll with the same last valid ballots, as many lines and as many valid ones count the same
@@ -40,8 +43,7 @@ pub from_last_ballots : (poll : PollContent) (lines others : List Text) → leng
 from_last_ballots poll lines others long valid last = record {
   as_long = long;
   valid = valid;
-  voters = ap (count_by is_some) last;
-  counts = λ a b. ap (count_by (entry_prefers a b)) last;
+  votes = record { voters = ap (count_by is_some) last; counts = λ a b. ap (count_by (entry_prefers a b)) last };
 }
 
 -- ---- what a poll has to do with its roll: of how many electors it is
@@ -52,15 +54,15 @@ module _ (poll : PollContent) (matrix : Votes) where
       (o ≡ option_count poll)
       ⊎ ((1 ≤ o) × (o < option_count poll) × (poll.quorum_multiple ^ 2 * electors ≤ (2 * votes matrix o (option_count poll)) ^ 2) × MeetsMajority poll matrix o)
 
-  module _ (roll : List Text) (electors : elector_count poll ≡ length roll) where
-    cause_there : (o : ℕ) (cause : Option Cause) → HasCause poll matrix o cause → HasCause (with_roll poll roll) matrix o cause
+  module _ (roll : List Text) (last : Option ℕ) (electors : elector_count poll ≡ length roll) where
+    cause_there : (o : ℕ) (cause : Option Cause) → HasCause poll matrix o cause → HasCause (with_roll poll roll last) matrix o cause
     cause_there o None has = let P : ℕ → Type 0 = λ n. kept_among n o in subst P electors has
     cause_there o (Some Quorum) has =
         let P : ℕ → Type 0 = λ n. ¬ (poll.quorum_multiple ^ 2 * n ≤ (2 * votes matrix o (option_count poll)) ^ 2) in (has.0, subst P electors has.1)
     cause_there o (Some Majority) has =
         let P : ℕ → Type 0 = λ n. poll.quorum_multiple ^ 2 * n ≤ (2 * votes matrix o (option_count poll)) ^ 2 in (has.0, subst P electors has.1, has.2)
 
-    outcome_there : (outcome : VerdictState) → IsOutcome poll matrix outcome → IsOutcome (with_roll poll roll) matrix outcome
+    outcome_there : (outcome : VerdictState) → IsOutcome poll matrix outcome → IsOutcome (with_roll poll roll last) matrix outcome
     outcome_there outcome is =
         let P : ℕ → Type 0 = λ n. (a b : ℕ) → Pairs outcome.defeats a b ↔ PairwiseDefeats (kept_among n) matrix a b in
         let Q : ℕ → Type 0 = λ n. AreRounds (kept_among n) matrix (PairwiseDefeats (kept_among n) matrix) outcome.rounds in
@@ -71,9 +73,23 @@ module _ (poll : PollContent) (matrix : Votes) where
         }
 
 -- ---- the sheets
-sheet_there : (poll : PollContent) (roll : List Text) → elector_count poll ≡ length roll → (lines others : List Text) → CountTheSame poll lines (with_roll poll roll) others
-    → (casting : Option ℕ) (s : Sheet) → IsSheetOf poll lines casting s → IsSheetOf (with_roll poll roll) others casting s
-sheet_there poll roll electors lines others same casting s is =
+-- the sheet with other numbers of lines, and another last envelope
+abbrev pub with_lines : Sheet → ℕ → Option ℕ → ℕ → ℕ → Sheet
+with_lines s lines last valid refused = record s { line_count = lines; last_envelope = last; valid = valid; refused = refused }
+
+-- the sheet has the numbers of these lines, and the last envelope of this poll
+pub record IsOfLines (poll : PollContent) (lines : List Text) (s : Sheet) : Type 0 where
+  pub line_count : s.line_count ≡ length lines
+  pub last_envelope : s.last_envelope ≡ poll.last_envelope
+  pub valid : s.valid ≡ valid_count poll lines
+  pub refused : s.refused ≡ refused_count poll lines
+
+pub sheet_there : (poll : PollContent) (roll : List Text) (last : Option ℕ) → elector_count poll ≡ length roll
+    → (lines others : List Text) → VoteTheSame poll lines (with_roll poll roll last) others
+    → (casting : Option ℕ) (s : Sheet) → IsSheetOf poll lines casting s
+    → (n : ℕ) (e : Option ℕ) (valid refused : ℕ) → IsOfLines (with_roll poll roll last) others (with_lines s n e valid refused)
+    → IsSheetOf (with_roll poll roll last) others casting (with_lines s n e valid refused)
+sheet_there poll roll last electors lines others same casting s is n e valid refused of =
     let P : ℕ → Type 0 = λ n. poll.quorum_multiple ^ 2 * n ≤ (2 * s.quorum_votes) ^ 2 in
     let Q : ℕ → Type 0 = λ k. (n : ℕ) → poll.quorum_multiple ^ 2 * k ≤ (2 * n) ^ 2 → s.quorum_votes ≤ n in
     record {
@@ -83,29 +99,45 @@ sheet_there poll roll electors lines others same casting s is =
       ratios = is.ratios;
       quorum_multiple = is.quorum_multiple;
       wording = is.wording;
-      last_envelope = is.last_envelope;
+      last_envelope = of.last_envelope;
       quorum_met = subst P electors is.quorum_met;
       quorum_least = subst Q electors is.quorum_least;
-      line_count = is.line_count ∙ sym same.as_long;
-      valid = is.valid ∙ sym same.valid;
-      refused = omega (arith, is.refused, same.as_long, same.valid, valid-refused poll lines, valid-refused (with_roll poll roll) others);
+      line_count = of.line_count;
+      valid = of.valid;
+      refused = of.refused;
       voters = is.voters ∙ sym same.voters;
       size = is.size;
       counted = λ a b of_a of_b. is.counted a b of_a of_b ∙ sym (same.counts a b);
-      outcome = outcome_there poll s.matrix roll electors s.outcome is.outcome;
+      outcome = outcome_there poll s.matrix roll last electors s.outcome is.outcome;
       decision = is.decision;
     }
 
-pub same_sheets_there : (poll : PollContent) (roll : List Text) → elector_count poll ≡ length roll → (lines others : List Text) → CountTheSame poll lines (with_roll poll roll) others
-    → HaveSameSheets poll lines (with_roll poll roll) others
-same_sheets_there poll roll electors lines others same casting text = (
-  λ h. (h.0, sheet_there poll roll electors lines others same casting h.0 h.1, h.2),
-  λ h. (
-    h.0,
-    sheet_there (with_roll poll roll) poll.roll (sym electors) others lines (count_the_same-back poll lines (with_roll poll roll) others same) casting h.0 h.1,
-    h.2,
-  ),
-)
+-- files that count the same, where only the names differ
+same_sheet_there : (poll : PollContent) (roll : List Text) → elector_count poll ≡ length roll
+    → (lines others : List Text) → CountTheSame poll lines (with_roll poll roll poll.last_envelope) others
+    → (casting : Option ℕ) (s : Sheet) → IsSheetOf poll lines casting s → IsSheetOf (with_roll poll roll poll.last_envelope) others casting s
+same_sheet_there poll roll electors lines others same casting s is =
+    let again = with_roll poll roll poll.last_envelope in
+    let of : IsOfLines again others s = record {
+      line_count = is.line_count ∙ sym same.as_long;
+      last_envelope = is.last_envelope;
+      valid = is.valid ∙ sym same.valid;
+      refused = omega (arith, is.refused, same.as_long, same.valid, valid-refused poll lines, valid-refused again others);
+    } in
+    sheet_there poll roll poll.last_envelope electors lines others same.votes casting s is s.line_count s.last_envelope s.valid s.refused of
+
+pub same_sheets_there : (poll : PollContent) (roll : List Text) → elector_count poll ≡ length roll
+    → (lines others : List Text) → CountTheSame poll lines (with_roll poll roll poll.last_envelope) others
+    → HaveSameSheets poll lines (with_roll poll roll poll.last_envelope) others
+same_sheets_there poll roll electors lines others same casting text =
+    let again = with_roll poll roll poll.last_envelope in (
+      λ h. (h.0, same_sheet_there poll roll electors lines others same casting h.0 h.1, h.2),
+      λ h. (
+        h.0,
+        same_sheet_there again poll.roll (sym electors) others lines (count_the_same-back poll lines again others same) casting h.0 h.1,
+        h.2,
+      ),
+    )
 
 -- of one poll
 pub same_sheets_here : (poll : PollContent) (lines others : List Text) → CountTheSame poll lines poll others → HaveSameSheets poll lines poll others

@@ -1,5 +1,5 @@
 -- The ballots that stand, as the lines of a ballot file.
-use Rattle.std.proofs.Common.{◌≡◌, ◌≢◌, ℕ, zero, suc, ◌+◌, ◌-◌, ◌<◌, ◌≤◌, ◌%◌, ◌^◌, Bool, true, false, cond, eqb, not, List, [], ◌∷◌, ◌++◌, Option, Some, None, length, length-append, length-drop, get_or, take, drop, map, inl, inr, refl, sym, ap, ap₂, ◌∙◌, subst, arith, decimal, codes, append_assoc}
+use Rattle.std.proofs.Common.{◌≡◌, ◌≢◌, ℕ, zero, suc, ◌+◌, ◌-◌, ◌<◌, ◌≤◌, ◌%◌, ◌^◌, Bool, true, false, cond, eqb, not, List, [], ◌∷◌, ◌++◌, Option, Some, None, length, length-append, length-drop, get_or, take, drop, map, inl, inr, refl, sym, ap, ap₂, ◌∙◌, subst, arith, decimal, append_assoc}
 use Rattle.std.specs.Prelude.{is_some, count_by, nat_eq}
 use Rattle.std.specs.List.{All, ends_with, join_with_byte, list_all, range_with_len}
 use Rattle.std.specs.Option.{option_or}
@@ -22,11 +22,8 @@ use Rattle.vote_poll.specs.declared.Reading.{Reading}
 use Rattle.vote_poll.specs.declared.Reading.TheVariants.{Ballot, Bad}
 use Rattle.vote_poll_text.specs.declared.TheConstants.{MAX_VOTER_NAME}
 use Rattle.vote_steps.specs.Recasts.{last_ballot, last_ballots, ranks_read}
-use Rattle.vote_sheet.specs.LastBallots.{last_valid_ballots, readings_in_time, refused_count, valid_count, voter_count}
-use Rattle.vote_count.specs.Ballots.{entry_prefers}
-use Rattle.vote_sheet.specs.Sheet.{Sheet, Text, count_text, head_text, last_text, line, options_text, sheet_text, totals_text}
-use Rattle.vote_sheet.specs.SheetOf.{IsSheetOf, SheetIsUnique}
-use Rattle.vote_sheet.specs.Standing.{SaysTheSame, StandingHasTheSameSheet, StandingSaysTheSame, ballot_line, ballot_lines, standing_lines, standing_text}
+use Rattle.vote_sheet.specs.LastBallots.{last_valid_ballots, readings_in_time, voter_count}
+use Rattle.vote_sheet.specs.Standing.{SaysTheSame, StandingSaysTheSame, ballot_line, ballot_lines, standing_lines, standing_text}
 
 abbrev pub EachLineIsRead : Type 0
 EachLineIsRead = (poll : PollContent) (line : List ℕ) → IsReading poll line (reading poll line)
@@ -157,7 +154,7 @@ short_front (suc n) [] = omega arith
 short_front (suc n) (x ∷ xs) = omega (arith, short_front n xs)
 
 -- ---- the line of a ballot that stands
-abbrev IsLineOf : PollContent → ℕ → List (Option ℕ) → List ℕ → Type 0
+abbrev pub IsLineOf : PollContent → ℕ → List (Option ℕ) → List ℕ → Type 0
 IsLineOf poll v ranks line = reading poll line ≡ Ballot v ranks
 
 chosen_line : (poll : PollContent) (line : List ℕ) (v : ℕ) (ranks : List (Option ℕ)) (r : Reading) → reading poll line ≡ r → ranks_read v r ≡ Some ranks → IsLineOf poll v ranks line
@@ -183,7 +180,7 @@ later_line poll line v ranks None rest is = (line, chosen_line poll line v ranks
 later_line poll line v ranks (Some others) rest is = rest is
 
 -- the last ballot of an elector stands in a line
-has_line : (poll : PollContent) (n : ℕ) (lines : List (List ℕ)) (v : ℕ) (ranks : List (Option ℕ)) → last_ballot (take n (readings poll lines)) v ≡ Some ranks
+pub has_line : (poll : PollContent) (n : ℕ) (lines : List (List ℕ)) (v : ℕ) (ranks : List (Option ℕ)) → last_ballot (take n (readings poll lines)) v ≡ Some ranks
     → (found : List ℕ) × IsLineOf poll v ranks found
 has_line poll zero lines v ranks is = cc
 has_line poll (suc n) [] v ranks is = cc
@@ -210,11 +207,11 @@ spelled read poll v ranks found is =
     }
 
 -- ---- the lines of the ballots that stand
-abbrev spell : (ℕ → Entry) → ℕ → List (List ℕ) → List (List ℕ)
+abbrev pub spell : (ℕ → Entry) → ℕ → List (List ℕ) → List (List ℕ)
 spell f a voters = ballot_lines voters (map f (range_with_len a (length voters)))
 
 -- a fact of the line of each elector, of whom the first has this place
-abbrev OfEachLine : (ℕ → Entry) → ℕ → List (List ℕ) → (ℕ → List (Option ℕ) → List ℕ → Type 0) → Type 0
+abbrev pub OfEachLine : (ℕ → Entry) → ℕ → List (List ℕ) → (ℕ → List (Option ℕ) → List ℕ → Type 0) → Type 0
 OfEachLine f a voters P =
     (i : ℕ) (ranks : List (Option ℕ)) → i < length voters → f (a + i) ≡ Some ranks → P (a + i) ranks (line_text (get_or voters i []) ranks)
 
@@ -247,19 +244,17 @@ readings_are poll f a (voter ∷ voters) h =
     read_one poll a voter (f a) (first_line f a voter voters (Reads poll) h) (spell f (a + 1) voters) (map f (range_with_len (a + 1) (length voters)))
     (readings_are poll f (a + 1) voters (later_lines f a voter voters (Reads poll) h))
 
-abbrev Unbroken : ℕ → List (Option ℕ) → List ℕ → Type 0
-Unbroken v ranks line = IsUnbroken line
+-- a fact of the line of each elector is one of each line
+one_of_each : (P : List ℕ → Type 0) (voter : List ℕ) (entry : Entry) → ((ranks : List (Option ℕ)) → entry ≡ Some ranks → P (line_text voter ranks))
+    → (rest : List (List ℕ)) → All P rest → All P (ballot_line voter entry ++ rest)
+one_of_each P voter None h rest are = are
+one_of_each P voter (Some ranks) h rest are = All-cons P (line_text voter ranks) rest (h ranks refl) are
 
-unbroken_one : (voter : List ℕ) (entry : Entry) → ((ranks : List (Option ℕ)) → entry ≡ Some ranks → IsUnbroken (line_text voter ranks))
-    → (rest : List (List ℕ)) → All IsUnbroken rest → All IsUnbroken (ballot_line voter entry ++ rest)
-unbroken_one voter None h rest are = are
-unbroken_one voter (Some ranks) h rest are = All-cons IsUnbroken (line_text voter ranks) rest (h ranks refl) are
-
-unbroken_lines : (f : ℕ → Entry) (a : ℕ) (voters : List (List ℕ)) → OfEachLine f a voters Unbroken → All IsUnbroken (spell f a voters)
-unbroken_lines f a [] h = All-nil IsUnbroken
-unbroken_lines f a (voter ∷ voters) h =
-    unbroken_one voter (f a) (first_line f a voter voters Unbroken h) (spell f (a + 1) voters)
-    (unbroken_lines f (a + 1) voters (later_lines f a voter voters Unbroken h))
+pub each_line : (P : List ℕ → Type 0) (f : ℕ → Entry) (a : ℕ) (voters : List (List ℕ)) → OfEachLine f a voters (λ v ranks line. P line) → All P (spell f a voters)
+each_line P f a [] h = All-nil P
+each_line P f a (voter ∷ voters) h =
+    one_of_each P voter (f a) (first_line f a voter voters (λ v ranks line. P line) h) (spell f (a + 1) voters)
+    (each_line P f (a + 1) voters (later_lines f a voter voters (λ v ranks line. P line) h))
 
 -- ---- a ballot line has no line feed
 abbrev NoFeed : ℕ → Type 0
@@ -327,7 +322,7 @@ are_lines lines unbroken = record { unbroken = unbroken; joined = sym (keeps_lin
 abbrev LinesAreUnique : Type 0
 LinesAreUnique = (text : List ℕ) (a b : List (List ℕ)) → AreLines text a → AreLines text b → a ≡ b
 
-abbrev last_of : PollContent → List (List ℕ) → ℕ → Entry
+abbrev pub last_of : PollContent → List (List ℕ) → ℕ → Entry
 last_of poll lines = last_ballot (readings_in_time poll lines)
 
 spelled_at : EachLineIsRead → (poll : PollContent) (lines : List (List ℕ)) (v : ℕ) (ranks : List (Option ℕ)) → last_of poll lines v ≡ Some ranks → IsSpelled poll v ranks
@@ -346,8 +341,8 @@ of_place read poll lines P each i ranks below is =
 standing_are_lines : EachLineIsRead → (poll : PollContent) (lines : List (List ℕ)) → AreLines (standing_text poll lines) (standing_lines poll lines)
 standing_are_lines read poll lines =
     are_lines (standing_lines poll lines)
-    (unbroken_lines (last_of poll lines) 0 poll.roll
-    (of_place read poll lines Unbroken (λ v ranks is. line_has_no_feed (line_text (get_or poll.roll v []) ranks) (get_or poll.roll v []) ranks is.line)))
+    (each_line IsUnbroken (last_of poll lines) 0 poll.roll
+    (of_place read poll lines (λ v ranks line. IsUnbroken line) (λ v ranks is. line_has_no_feed (line_text (get_or poll.roll v []) ranks) (get_or poll.roll v []) ranks is.line)))
 
 standing_readings : EachLineIsRead → (poll : PollContent) (lines : List (List ℕ)) → readings poll (standing_lines poll lines) ≡ read_from 0 (last_valid_ballots poll lines)
 standing_readings read poll lines = readings_are poll (last_of poll lines) 0 poll.roll (of_place read poll lines (Reads poll) (λ v ranks is. is.reads))
@@ -387,49 +382,3 @@ pub says_the_same : LinesAreUnique → EachLineIsRead → StandingSaysTheSame
 says_the_same unique read poll lines again are =
     let same : again ≡ standing_lines poll lines = unique (standing_text poll lines) again (standing_lines poll lines) are (standing_are_lines read poll lines) in
     subst (SaysTheSame poll lines) (sym same) (standing_says_the_same read poll lines)
-
--- ---- the sheets
-front_of : Sheet → Text
-front_of s =
-    head_text s.title s.electors s.quorum_multiple s.quorum_votes s.wording
-    ++ (line (codes "Lines: " ∷ decimal s.line_count ∷ []) ++ (last_text s.last_envelope ++ (line (codes "Valid: " ∷ decimal s.valid ∷ []) ++ (codes "Refused: " ++ decimal s.refused))))
-
-rest_of : Sheet → Text
-rest_of s = decimal s.voters ++ (codes "\n" ++ (options_text s.names s.ratios ++ (count_text s.names s.matrix s.outcome s.decision ++ [])))
-
-at_voters : (s : Sheet) → sheet_text s ≡ front_of s ++ codes "\nVoters: " ++ rest_of s
-unfolding totals_text front_of rest_of
-at_voters s = simp append_assoc
-
-pub same_sheets : SheetIsUnique → StandingSaysTheSame → StandingHasTheSameSheet
-unfolding rest_of
-same_sheets unique says poll lines again casting text other are h k =
-    let same = (says poll lines again are).last in
-    let t = k.0 in
-    let is = k.1 in
-    let u : Sheet = record t { line_count = length lines; valid = valid_count poll lines; refused = refused_count poll lines } in
-    let of : IsSheetOf poll lines casting u = record {
-      title = is.title;
-      electors = is.electors;
-      names = is.names;
-      ratios = is.ratios;
-      quorum_multiple = is.quorum_multiple;
-      wording = is.wording;
-      last_envelope = is.last_envelope;
-      quorum_met = is.quorum_met;
-      quorum_least = is.quorum_least;
-      line_count = refl;
-      valid = refl;
-      refused = refl;
-      voters = is.voters ∙ ap (count_by is_some) same;
-      size = is.size;
-      counted = λ a b of_a of_b. is.counted a b of_a of_b ∙ ap (count_by (entry_prefers a b)) same;
-      outcome = is.outcome;
-      decision = is.decision;
-    } in (
-      front_of u,
-      front_of t,
-      rest_of t,
-      unique poll lines casting text (sheet_text u) h (u, of, refl) ∙ at_voters u,
-      k.2 ∙ at_voters t,
-    )

@@ -10,6 +10,7 @@ use Rattle.vote_count.specs.Votes.{votes}
 use Rattle.vote_sheet.specs.LastBallots.{last_valid_ballots, readings_in_time}
 use Rattle.vote_sheet.specs.Sheet.{Sheet, Text}
 use Rattle.vote_sheet.specs.SheetOf.{IsSheet, IsSheetOf}
+use Rattle.vote_sheet.specs.Standing.{AreSameFromVoters}
 
 -- ---- the sums of a sheet
 
@@ -99,6 +100,25 @@ abbrev pub NamesDoNotMatter : Type 0
 NamesDoNotMatter =
     (poll again : PollContent) (lines others : List Text) (mapped : ℕ → ℕ) →
     DifferInNames poll again → IsOneToOne (elector_count poll) mapped → AreAlike mapped poll lines again others → HaveSameSheets poll lines again others
+
+-- ---- the last valid ballots
+
+-- two polls have the same number of electors, and are the same but for the names on their rolls and their last envelopes
+pub record DifferInNamesAndLastEnvelope (poll again : PollContent) : Type 0 where
+  pub electors : elector_count again ≡ elector_count poll
+  pub all_else : again ≡ record poll { roll = again.roll; last_envelope = again.last_envelope }
+
+-- the last valid ballot of each elector of the first poll is, in the second file, that of the elector that this one is mapped to, or neither has one
+abbrev pub HaveTheSameLastBallots : (ℕ → ℕ) → PollContent → List Text → PollContent → List Text → Type 0
+HaveTheSameLastBallots mapped poll lines again others =
+    (v : ℕ) → v < elector_count poll → slice_get (last_valid_ballots again others) (mapped v) ≡ slice_get (last_valid_ballots poll lines) v
+
+-- Only the last valid ballots decide: if two polls differ in names and last envelope alone, and two files have the same last valid ballots, then for every casting vote their sheets are the same from the line `Voters:` on, whatever else the files have, and in whatever order.
+abbrev pub OnlyLastBallotsDecide : Type 0
+OnlyLastBallotsDecide =
+    (poll again : PollContent) (lines others : List Text) (mapped : ℕ → ℕ) (casting : Option ℕ) (text other : Text) →
+    DifferInNamesAndLastEnvelope poll again → IsOneToOne (elector_count poll) mapped → HaveTheSameLastBallots mapped poll lines again others →
+    IsSheet poll lines casting text → IsSheet again others casting other → AreSameFromVoters text other
 
 -- ---- one ballot
 

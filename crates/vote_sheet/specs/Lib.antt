@@ -7,6 +7,7 @@ pub mod Counted
 pub mod SheetLaws
 pub mod ElectorLaws
 pub mod Standing
+pub mod Publishing
 pub mod Picture
 pub mod Verify
 pub mod Limits

@@ -1,7 +1,8 @@
 //! Laws of the count on what people see, from the lines of a ballot file to the sheet. Each function does nothing but call the laws
 //! of the count that it stands on: its contract is the law, and that is proved.
-ghost use Rattle.vote_sheet.specs.ElectorLaws.{NamesDoNotMatter, NobodyCountsTwice, OneBallotMovesEachCountByOne, OnlyTheLastBallotCounts, RefusedLinesAreOnlyCounted, RefusedLinesHaveNoInfluence};
+ghost use Rattle.vote_sheet.specs.ElectorLaws.{NamesDoNotMatter, NobodyCountsTwice, OneBallotMovesEachCountByOne, OnlyLastBallotsDecide, OnlyTheLastBallotCounts, RefusedLinesAreOnlyCounted, RefusedLinesHaveNoInfluence};
 ghost use Rattle.vote_sheet.specs.Limits.{LimitsAreAsWritten};
+ghost use Rattle.vote_sheet.specs.Publishing.{PublishedFilesHaveTheSameSheet, PublishedFilesSayTheSame};
 ghost use Rattle.vote_sheet.specs.SheetLaws.{CondorcetWinnersAreNamed, LikedOptionsStay, LikedWinnersStay, UnanimityRules};
 ghost use Rattle.vote_sheet.specs.Standing.{StandingHasTheSameSheet, StandingSaysTheSame};
 ghost use Rattle.vote_sheet.specs.Verify.{NamesTheFirstLine};
@@ -11,7 +12,7 @@ use vote_count::{
     condorcet_winners_win, final_set_is_pareto, final_set_is_schulze, raised_ballots_raise,
     raised_winners_win, winners_are_in_the_set,
 };
-use vote_poll::{each_line_is_read, lines_are_unique};
+use vote_poll::{each_line_is_read, lines_are_unique, readings_are_unique};
 
 /// Monotonicity: if the electors come to like an option more and change nothing else, it stays in the last round.
 pub fn liked_options_stay()
@@ -60,8 +61,27 @@ pub fn standing_says_the_same()
 pub fn standing_has_the_same_sheet()
     ensures { StandingHasTheSameSheet }
 {
-    sheet_is_unique();
+    only_last_ballots_decide();
     standing_says_the_same();
+}
+
+/// What is published of a secret vote is the poll with other names on its roll and without a last envelope, and the lines of
+/// `standing` with these names, in any order. It says the same: there are as many lines as voters, each is a ballot that is not
+/// late, and the last valid ballot of each elector is the same.
+pub fn published_files_say_the_same()
+    ensures { PublishedFilesSayTheSame }
+{
+    each_line_is_read();
+    readings_are_unique();
+}
+
+/// For every casting vote the sheet of what is published of a secret vote and that of the files that came are the same from the
+/// line `Voters:` on.
+pub fn published_files_have_the_same_sheet()
+    ensures { PublishedFilesHaveTheSameSheet }
+{
+    only_last_ballots_decide();
+    published_files_say_the_same();
 }
 
 /// The line that the words of a difference name is the first in which the two texts differ, where a line feed belongs to its line.
@@ -101,6 +121,14 @@ pub fn names_do_not_matter()
     ensures { NamesDoNotMatter }
 {
     each_line_is_read();
+}
+
+/// Only the last valid ballots decide: if two polls differ in names and last envelope alone, and two ballot files have the same last
+/// valid ballots, then for each casting vote their sheets are the same from the line `Voters:` on.
+pub fn only_last_ballots_decide()
+    ensures { OnlyLastBallotsDecide }
+{
+    sheet_is_unique();
 }
 
 /// The limit of what is shown of a line is the one in `docs/FORMATS.md`.

@@ -13,7 +13,7 @@
 //! - [`check_text`] gives the line of a poll that is in order, and [`reply_words`] the words of a reply.
 //! - The functions of [`laws`] bring laws of the count to what people see: ballot files, and the winner that a sheet names. They
 //!   also say what an elector can rely on: the sheet knows no names and counts nobody twice, and refused and outdated lines have
-//!   no influence on it.
+//!   no influence on it. What is published of a secret vote says the same as the files that came.
 //!
 //! Nothing here knows a file, a thread or a device: each call makes a text in memory, or runs out of it. The modules: `sheet`,
 //! `verify`, `picture`, `steps` and `standing` have the public calls, and `sheet_text` the parts of a sheet.

@@ -1,0 +1,70 @@
+-- From the line `Voters:` on a sheet says nothing but what the poll, without its names and its last envelope, and the last valid ballots come to.
+use Rattle.std.proofs.Common.{◌≡◌, ℕ, ◌<◌, ◌++◌, [], ◌∷◌, List, Some, length, map, refl, sym, ap, ◌∙◌, subst, arith, decimal, codes, append_assoc}
+use Rattle.std.specs.Prelude.{slice_get}
+use Rattle.std.specs.List.{range_with_len}
+use Rattle.std.proofs.lemmas.List.FromFn.{get_or-map-range_with_len, length-map-range_with_len}
+use Rattle.std.proofs.lemmas.Option.{same_Some, slice_get-get_or}
+use Rattle.vote_poll.specs.PollContent.{PollContent, elector_count}
+use Rattle.vote_steps.specs.Recasts.{last_ballot}
+use Rattle.vote_sheet.specs.ElectorLaws.{HaveTheSameLastBallots, IsOneToOne, OnlyLastBallotsDecide}
+use Rattle.vote_sheet.specs.LastBallots.{readings_in_time, refused_count, valid_count}
+use Rattle.vote_sheet.specs.Sheet.{Sheet, Text, count_text, head_text, last_text, line, options_text, sheet_text, totals_text}
+use Rattle.vote_sheet.specs.SheetOf.{IsSheet, IsSheetOf, SheetIsUnique}
+use Rattle.vote_sheet.specs.Standing.{StandingHasTheSameSheet, StandingSaysTheSame}
+use Rattle.vote_sheet.proofs.Renaming.{AreLastAlike, vote_the_same}
+use Rattle.vote_sheet.proofs.SameSheets.{VoteTheSame, sheet_there, with_lines, with_roll}
+
+-- ---- the parts of a sheet
+front_of : Sheet → Text
+front_of s =
+    head_text s.title s.electors s.quorum_multiple s.quorum_votes s.wording
+    ++ (line (codes "Lines: " ∷ decimal s.line_count ∷ []) ++ (last_text s.last_envelope ++ (line (codes "Valid: " ∷ decimal s.valid ∷ []) ++ (codes "Refused: " ++ decimal s.refused))))
+
+rest_of : Sheet → Text
+rest_of s = decimal s.voters ++ (codes "\n" ++ (options_text s.names s.ratios ++ (count_text s.names s.matrix s.outcome s.decision ++ [])))
+
+at_voters : (s : Sheet) → sheet_text s ≡ front_of s ++ codes "\nVoters: " ++ rest_of s
+unfolding totals_text front_of rest_of
+at_voters s = simp append_assoc
+
+-- ---- the law
+pub entry_at : {X : Type 0} (f : ℕ → X) (n v : ℕ) → v < n → slice_get (map f (range_with_len 0 n)) v ≡ Some (f v)
+entry_at f n v below =
+    slice_get-get_or (map f (range_with_len 0 n)) v (f v) (omega (arith, below, length-map-range_with_len f 0 n))
+    ∙ ap Some (get_or-map-range_with_len f 0 n v v (f v) below (omega arith))
+
+are_last_alike : (poll again : PollContent) (lines others : List Text) (mapped : ℕ → ℕ) → elector_count again ≡ elector_count poll → IsOneToOne (elector_count poll) mapped
+    → HaveTheSameLastBallots mapped poll lines again others → AreLastAlike mapped poll lines again others
+are_last_alike poll again lines others mapped electors one_to_one same v below =
+    let f = last_ballot (readings_in_time poll lines) in
+    let g = last_ballot (readings_in_time again others) in
+    let within : mapped v < elector_count again = omega (arith, electors, one_to_one.on_roll v below) in
+    same_Some (g (mapped v)) (f v) (sym (entry_at g (elector_count again) (mapped v) within) ∙ same v below ∙ entry_at f (elector_count poll) v below)
+
+pub only_last_ballots : SheetIsUnique → OnlyLastBallotsDecide
+unfolding rest_of
+only_last_ballots unique poll again lines others mapped casting text other differ one_to_one last h k =
+    let there = with_roll poll again.roll again.last_envelope in
+    let alike = are_last_alike poll again lines others mapped differ.electors one_to_one last in
+    let P : PollContent → Type 0 = λ q. VoteTheSame poll lines q others in
+    let votes = subst P differ.all_else (vote_the_same poll again lines others mapped differ.electors one_to_one alike) in
+    let s = h.0 in
+    let t = with_lines s (length others) there.last_envelope (valid_count there others) (refused_count there others) in
+    let of : IsSheetOf there others casting t =
+    sheet_there poll again.roll again.last_envelope (sym differ.electors) lines others votes casting s h.1
+    (length others) there.last_envelope (valid_count there others) (refused_count there others)
+    (record { line_count = refl; last_envelope = refl; valid = refl; refused = refl }) in
+    let Q : PollContent → Type 0 = λ q. IsSheet q others casting (sheet_text t) in (
+      front_of s,
+      front_of t,
+      rest_of s,
+      h.2 ∙ at_voters s,
+      unique again others casting other (sheet_text t) k (subst Q (sym differ.all_else) (t, of, refl)) ∙ at_voters t,
+    )
+
+-- `standing` has the last valid ballots of its file
+pub same_sheets : OnlyLastBallotsDecide → StandingSaysTheSame → StandingHasTheSameSheet
+same_sheets decide says poll lines again casting text other are h k =
+    decide poll poll lines again (λ v. v) casting text other (record { electors = refl; all_else = refl })
+    (record { on_roll = λ v below. below; apart = λ v w low high same. same })
+    (λ v below. ap (λ ballots. slice_get ballots v) (says poll lines again are).last) h k

@@ -1,0 +1,287 @@
+-- What is published of a secret vote says the same as the files that came.
+use Rattle.std.proofs.Common.{◌≡◌, ℕ, zero, suc, ◌+◌, ◌*◌, ◌<◌, ◌≤◌, ◌⊎◌, Bool, true, false, cond, ltb, not, List, [], ◌∷◌, ◌++◌, Option, Some, None, length, length-append, get_or, map, take, inl, inr, refl, sym, ap, ◌∙◌, subst, arith}
+use Rattle.std.specs.Prelude.{count_by, is_some}
+use Rattle.std.specs.List.{All, Contains, join_with_byte, list_all, list_any, position, position_or_len, range_with_len}
+use Rattle.std.specs.Option.{option_or}
+use Rattle.std.specs.Str.{bytes_eq}
+use Rattle.std.specs.Cmp.Lexicographic.{bytes_decides}
+use Rattle.std.proofs.lemmas.Bool.{and_parts, cases_eq, cases_lt, eq-eqb, lt-ltb, ne_eqb, not-false, or_parts}
+use Rattle.std.proofs.lemmas.Bool.Decides.{nat_tests}
+use Rattle.std.proofs.lemmas.Fmt.{length-decimal-le}
+use Rattle.std.proofs.lemmas.List.{get_or-take, length-map, length-take-le, take_all}
+use Rattle.std.proofs.lemmas.List.Elements.{All-head, All-tail, Contains-append_left, Contains-append_right}
+use Rattle.std.proofs.lemmas.List.Folds.{list_any_at}
+use Rattle.std.proofs.lemmas.List.FromFn.{get_or-map-range_with_len, get_or-range_with_len, length-map-range_with_len, length-range_with_len}
+use Rattle.std.proofs.lemmas.List.Sorted.{All-permutation, Contains-permutation, length_permutation}
+use Rattle.std.proofs.lemmas.List.Sums.{count_by-le-length, fails_before_first, position_or_len_is}
+use Rattle.vote_poll.specs.BallotLine.{IsBallotLine, IsRank, line_text, rank_text}
+use Rattle.vote_poll.specs.Names.{IsNameOf, first_bad, is_bad_at}
+use Rattle.vote_poll.specs.PollContent.{PollContent, elector_count, last_in_time, option_count}
+use Rattle.vote_poll.specs.Readings.{IsReading, is_ballot, reading, readings}
+use Rattle.vote_poll.specs.Spelling.{ReadingsAreUnique}
+use Rattle.vote_poll.specs.declared.Reading.{Reading}
+use Rattle.vote_poll.specs.declared.Reading.TheVariants.{Ballot}
+use Rattle.vote_poll.specs.declared.TheConstants.{MAX_LINE, MAX_OPTIONS}
+use Rattle.vote_poll_text.specs.Names.{is_voter_byte, is_voter_name, is_within}
+use Rattle.vote_poll_text.specs.declared.TheConstants.{MAX_VOTER_NAME}
+use Rattle.vote_steps.specs.Recasts.{last_ballot, ranks_read}
+use Rattle.vote_sheet.specs.ElectorLaws.{OnlyLastBallotsDecide}
+use Rattle.vote_sheet.specs.LastBallots.{last_valid_ballots, readings_in_time, valid_count, voter_count}
+use Rattle.vote_sheet.specs.Publishing.{ArePublished, PublishedFilesHaveTheSameSheet, PublishedFilesSayTheSame, other_names, renamed_lines}
+use Rattle.vote_sheet.specs.Sheet.{Text}
+use Rattle.vote_sheet.specs.Standing.{ballot_line, ballot_lines}
+use Rattle.vote_sheet.proofs.LastBallotsDecide.{entry_at}
+use Rattle.vote_sheet.proofs.ElectorLaws.{some_ranks}
+use Rattle.vote_sheet.proofs.ElectorSums.{entry_count, valid-refused}
+use Rattle.vote_sheet.proofs.StandingLemmas.{EachLineIsRead, Entry, OfEachLine, count-cons, each_line, has_line, last_of, one, spell}
+
+-- ---- the names of a roll
+not_found : {X : Type 0} (p : X → Bool) (xs : List X) → position p xs ≡ None → length xs ≤ position_or_len p xs
+not_found p xs none =
+    elim (cases_lt (position_or_len p xs) (length xs)) [
+      | inl within ↦
+          let impossible : Some (position_or_len p xs) ≡ None = sym (ap (λ t. cond t (Some (position_or_len p xs)) None) (lt-ltb (position_or_len p xs) (length xs) within)) ∙ none in
+          cc
+      | inr past ↦ past
+    ]
+
+module _ (roll : List Text) (good : first_bad is_voter_name roll ≡ None) where
+  not_bad : (v : ℕ) → v < length roll → is_bad_at is_voter_name roll v ≡ false
+  not_bad v below =
+      let bad = is_bad_at is_voter_name roll in
+      let places = range_with_len 0 (length roll) in
+      let first : v < position_or_len bad places = omega (arith, below, not_found bad places good, length-range_with_len 0 (length roll)) in
+      let here : v ≡ get_or places v 0 = omega (arith, get_or-range_with_len 0 (length roll) v 0 below) in
+      ap bad here ∙ fails_before_first bad places v 0 first
+
+  -- a name stands at its place and at no other
+  own_name : (v : ℕ) → v < length roll → IsNameOf roll v (get_or roll v [])
+  own_name v below =
+      let name = get_or roll v [] in
+      let good_parts = or_parts (not (is_voter_name name)) (list_any (bytes_eq name) (take v roll)) (not_bad v below) in
+      let apart : (k : ℕ) → k < v → bytes_eq name (get_or roll k []) ≡ false = λ k before. earlier k before (bytes_eq name (get_or roll k [])) refl good_parts.1 in
+      let first : position_or_len (bytes_eq name) roll ≡ v = position_or_len_is (bytes_eq name) roll v [] (omega (arith, below)) apart (λ _. (bytes_decides name name).1 refl) in
+      (ap (λ n. cond (ltb n (length roll)) (Some n) None) first ∙ ap (λ t. cond t (Some v) None) (lt-ltb v (length roll) below), not-false (is_voter_name name) good_parts.0)
+    where
+      earlier : (k : ℕ) → k < v → (t : Bool) → bytes_eq (get_or roll v []) (get_or roll k []) ≡ t → list_any (bytes_eq (get_or roll v [])) (take v roll) ≡ false → t ≡ false
+      earlier k before false is none = refl
+      earlier k before true is none =
+          let test = bytes_eq (get_or roll v []) in
+          let there : test (get_or (take v roll) k []) ≡ true = ap test (get_or-take v roll k [] before) ∙ is in
+          let found : list_any test (take v roll) ≡ true = list_any_at test (take v roll) k [] (omega (arith, before, below, length-take-le v roll (omega (arith, below)))) there in
+          cc
+
+-- ---- how long a ballot line is
+rank_is_short : (rank : Option ℕ) → IsRank rank → length (rank_text rank) ≤ 2
+rank_is_short None is = omega arith
+rank_is_short (Some n) is = length-decimal-le 2 n (omega arith) (omega (arith, is.1)) (omega (arith, is.1))
+
+ranks_are_short : (ranks : List (Option ℕ)) → All IsRank ranks → length (join_with_byte 44 (map rank_text ranks)) ≤ 3 * length ranks
+ranks_are_short [] are = omega arith
+ranks_are_short (rank ∷ []) are = omega (arith, rank_is_short rank (All-head IsRank rank [] are))
+ranks_are_short (rank ∷ next ∷ ranks) are =
+    omega (
+      arith,
+      length-append (rank_text rank) (44 ∷ join_with_byte 44 (map rank_text (next ∷ ranks))),
+      rank_is_short rank (All-head IsRank rank (next ∷ ranks) are),
+      ranks_are_short (next ∷ ranks) (All-tail IsRank rank (next ∷ ranks) are),
+    )
+
+line_is_short : (name : Text) (ranks : List (Option ℕ)) → is_voter_name name ≡ true → All IsRank ranks → length ranks ≤ MAX_OPTIONS → length (line_text name ranks) ≤ MAX_LINE
+line_is_short name ranks is_name are few =
+    let row = join_with_byte 44 (map rank_text ranks) in
+    let within : is_within 1 MAX_VOTER_NAME (length name) ≡ true = (and_parts (is_within 1 MAX_VOTER_NAME (length name)) (list_all is_voter_byte name) is_name).0 in
+    let most : length name ≤ MAX_VOTER_NAME = grind (arith, nat_tests) in
+    omega (arith, most, few, length-append (name ++ 32 ∷ []) row, length-append name (32 ∷ []), ranks_are_short ranks are)
+
+-- ---- the lines of the ballots that stand
+has_spelled : (f : ℕ → Entry) (a : ℕ) (voters : List Text) (i : ℕ) (ranks : List (Option ℕ)) → i < length voters → f (a + i) ≡ Some ranks
+    → Contains (spell f a voters) (line_text (get_or voters i []) ranks)
+has_spelled f a [] i ranks below is = absurd (omega (arith, below))
+has_spelled f a (voter ∷ voters) zero ranks below is =
+    let here : f a ≡ Some ranks = ap f (omega arith) ∙ is in
+    let P : Entry → Type 0 = λ entry. Contains (ballot_line voter entry ++ spell f (a + 1) voters) (line_text voter ranks) in
+    subst P (sym here) (Contains-append_left (line_text voter ranks ∷ []) (spell f (a + 1) voters) (line_text voter ranks) (0, omega arith, refl))
+has_spelled f a (voter ∷ voters) (suc i) ranks below is =
+    Contains-append_right (ballot_line voter (f a)) (spell f (a + 1) voters) (line_text (get_or voters i []) ranks)
+    (has_spelled f (a + 1) voters i ranks (omega (arith, below)) (ap f (omega arith) ∙ is))
+
+line_or_none : (voter : Text) (entry : Entry) (rest : List Text) → length (ballot_line voter entry ++ rest) ≡ one (is_some entry) + length rest
+line_or_none voter None rest = omega arith
+line_or_none voter (Some ranks) rest = omega arith
+
+spelled_count : (f : ℕ → Entry) (a : ℕ) (voters : List Text) → length (spell f a voters) ≡ count_by is_some (map f (range_with_len a (length voters)))
+spelled_count f a [] = refl
+spelled_count f a (voter ∷ voters) =
+    omega (
+      arith,
+      line_or_none voter (f a) (spell f (a + 1) voters),
+      count-cons is_some (f a) (map f (range_with_len (a + 1) (length voters))),
+      spelled_count f (a + 1) voters,
+    )
+
+-- ---- the last ballot among readings
+-- an elector with a ballot has a last one
+has_last : (poll : PollContent) (lines : List Text) (v k : ℕ) (ranks : List (Option ℕ)) (line : Text) → reading poll line ≡ Ballot v ranks → k < length lines → get_or lines k line ≡ line
+    → (found : List (Option ℕ)) × (last_ballot (readings poll lines) v ≡ Some found)
+has_last poll [] v k ranks line reads below is = absurd (omega (arith, below))
+has_last poll (first ∷ lines) v zero ranks line reads below is =
+    let mine : ranks_read v (reading poll first) ≡ Some ranks =
+    ap (λ t. ranks_read v (reading poll t)) is ∙ ap (ranks_read v) reads ∙ ap (λ t. cond t (Some ranks) None) (eq-eqb v v refl) in
+    let found = some_ranks (last_ballot (readings poll lines) v) ranks in
+    (found.0, ap (option_or (last_ballot (readings poll lines) v)) mine ∙ found.1)
+has_last poll (first ∷ lines) v (suc k) ranks line reads below is =
+    let found = has_last poll lines v k ranks line reads (omega (arith, below)) is in
+    (found.0, ap (λ o. option_or o (ranks_read v (reading poll first))) found.1)
+
+-- an entry is none, or this one
+abbrev IsNoneOr : Entry → Entry → Type 0
+IsNoneOr entry o = (o ≡ None) ⊎ (o ≡ entry)
+
+either_is : (entry later here : Entry) → IsNoneOr entry later → IsNoneOr entry here → IsNoneOr entry (option_or later here)
+either_is entry None here is_later is_here = is_here
+either_is entry (Some ranks) here is_later is_here = is_later
+
+decided : (entry found : Entry) → IsNoneOr entry found → ((ranks : List (Option ℕ)) → entry ≡ Some ranks → (other : List (Option ℕ)) × (found ≡ Some other)) → found ≡ entry
+decided None found is some = elim is [ inl none ↦ none | inr same ↦ same ]
+decided (Some ranks) found is some =
+    elim is [
+      | inl none ↦
+          let other = some ranks refl in
+          let impossible : None ≡ Some other.0 = sym none ∙ other.1 in
+          cc
+      | inr same ↦ same
+    ]
+
+-- ---- the published lines
+module _ (read : EachLineIsRead) (unique : ReadingsAreUnique) (mapped : ℕ → ℕ) (poll : PollContent) (lines : List Text) (again : PollContent) (others : List Text) (are : ArePublished mapped poll lines again others) where
+  -- each ballot that stands is read under the other name
+  reads_there : (v : ℕ) (ranks : List (Option ℕ)) → v < elector_count poll → last_of poll lines v ≡ Some ranks
+      → reading again (line_text (get_or again.roll (mapped v) []) ranks) ≡ Ballot (mapped v) ranks
+  reads_there v ranks below is =
+      let name = get_or again.roll (mapped v) [] in
+      let line = line_text name ranks in
+      let found = has_line poll (last_in_time poll) lines v ranks is in
+      let means : IsReading poll found.0 (Ballot v ranks) = subst (IsReading poll found.0) found.1 (read poll found.0) in
+      let options : option_count again ≡ option_count poll = ap option_count are.all_else.all_else in
+      let at = own_name again.roll are.is_poll.voter_names (mapped v) (omega (arith, are.all_else.electors, are.one_to_one.on_roll v below)) in
+      let is_line : IsBallotLine line name ranks = record {
+        is_text = refl;
+        is_name = at.1;
+        are_ranks = means.1.are_ranks;
+        has_rank = means.1.has_rank;
+        is_short = line_is_short name ranks at.1 means.1.are_ranks (omega (arith, means.2, options, are.is_poll.options_max));
+      } in
+      unique again line (reading again line) (Ballot (mapped v) ranks) (read again line) (name, is_line, means.2 ∙ sym options, at.0)
+
+  -- a reading is the ballot that stands of an elector
+  abbrev Stands : Reading → Type 0
+  Stands r = (v : ℕ) × (ranks : List (Option ℕ)) × (v < elector_count poll) × (last_of poll lines v ≡ Some ranks) × (r ≡ Ballot (mapped v) ranks)
+
+  many : length (other_names mapped poll again) ≡ elector_count poll
+  many = length-map-range_with_len (λ v. get_or again.roll (mapped v) []) 0 (elector_count poll)
+
+  spelled_there : spell (last_of poll lines) 0 (other_names mapped poll again) ≡ renamed_lines mapped poll lines again
+  spelled_there = ap (λ n. ballot_lines (other_names mapped poll again) (map (last_of poll lines) (range_with_len 0 n))) many
+
+  name_there : (v : ℕ) → v < elector_count poll → get_or (other_names mapped poll again) v [] ≡ get_or again.roll (mapped v) []
+  name_there v below = get_or-map-range_with_len (λ v. get_or again.roll (mapped v) []) 0 (elector_count poll) v v [] below (omega arith)
+
+  line_stands : OfEachLine (last_of poll lines) 0 (other_names mapped poll again) (λ v ranks line. Stands (reading again line))
+  line_stands v ranks below is =
+      let within : v < elector_count poll = omega (arith, below, many) in
+      let here : last_of poll lines v ≡ Some ranks = ap (last_of poll lines) (omega arith) ∙ is in
+      (v, ranks, within, here, ap (λ name. reading again (line_text name ranks)) (name_there v within) ∙ reads_there v ranks within here)
+
+  all_stand : All (λ line. Stands (reading again line)) others
+  all_stand =
+      let P : Text → Type 0 = λ line. Stands (reading again line) in
+      All-permutation P (renamed_lines mapped poll lines again) others are.ballots
+      (subst (All P) spelled_there (each_line P (last_of poll lines) 0 (other_names mapped poll again) line_stands))
+
+  -- none or the ballot that stands
+  of_one : (r : Reading) → Stands r → (v : ℕ) → v < elector_count poll → IsNoneOr (last_of poll lines v) (ranks_read (mapped v) r)
+  of_one r (u, ranks, below_u, here, is) v below =
+      let read : ranks_read (mapped v) r ≡ ranks_read (mapped v) (Ballot (mapped u) ranks) = ap (ranks_read (mapped v)) is in
+      elim (cases_eq u v) [
+        | inl same ↦ inr (read ∙ ap (λ t. cond t (Some ranks) None) (eq-eqb (mapped u) (mapped v) (ap mapped same)) ∙ sym here ∙ ap (last_of poll lines) same)
+        | inr other ↦ inl (read ∙ ap (λ t. cond t (Some ranks) None) (ne_eqb (mapped u) (mapped v) (λ is_same. other (are.one_to_one.apart u v below_u below is_same))))
+      ]
+
+  of_all : (some : List Text) → All (λ line. Stands (reading again line)) some → (v : ℕ) → v < elector_count poll → IsNoneOr (last_of poll lines v) (last_ballot (readings again some) (mapped v))
+  of_all [] stand v below = inl refl
+  of_all (line ∷ some) stand v below =
+      let P : Text → Type 0 = λ line. Stands (reading again line) in
+      either_is (last_of poll lines v) (last_ballot (readings again some) (mapped v)) (ranks_read (mapped v) (reading again line))
+      (of_all some (All-tail P line some stand) v below)
+      (of_one (reading again line) (All-head P line some stand) v below)
+
+  -- the ballot that stands is there
+  is_there : (v : ℕ) (ranks : List (Option ℕ)) → v < elector_count poll → last_of poll lines v ≡ Some ranks
+      → (other : List (Option ℕ)) × (last_ballot (readings again others) (mapped v) ≡ Some other)
+  is_there v ranks below is =
+      let line = line_text (get_or (other_names mapped poll again) v []) ranks in
+      let P : List Text → Type 0 = λ ls. Contains ls line in
+      let at = Contains-permutation (renamed_lines mapped poll lines again) others line are.ballots
+      (subst P spelled_there (has_spelled (last_of poll lines) 0 (other_names mapped poll again) v ranks (omega (arith, below, many)) (ap (last_of poll lines) (omega arith) ∙ is))) in
+      has_last again others (mapped v) at.0 ranks line (ap (λ name. reading again (line_text name ranks)) (name_there v below) ∙ reads_there v ranks below is) at.1 at.2
+
+  as_many : length others ≡ voter_count poll lines
+  as_many =
+      length_permutation (renamed_lines mapped poll lines again) others are.ballots
+      ∙ sym (ap length spelled_there)
+      ∙ spelled_count (last_of poll lines) 0 (other_names mapped poll again)
+      ∙ ap (λ n. count_by is_some (map (last_of poll lines) (range_with_len 0 n))) many
+
+  none_late : readings_in_time again others ≡ readings again others
+  none_late =
+      take_all (last_in_time again) (readings again others)
+      (omega (
+        arith,
+        length-map others (reading again),
+        as_many,
+        count_by-le-length is_some (last_valid_ballots poll lines),
+        entry_count poll lines,
+        are.all_else.electors,
+        are.is_poll.electors_max,
+        ap (λ last. last_in_time (record again { last_envelope = last })) are.no_last,
+      ))
+
+  all_ballots : (some : List Text) → All (λ line. Stands (reading again line)) some → count_by is_ballot (readings again some) ≡ length some
+  all_ballots [] stand = refl
+  all_ballots (line ∷ some) stand =
+      let P : Text → Type 0 = λ line. Stands (reading again line) in
+      let here = All-head P line some stand in
+      omega (
+        arith,
+        count-cons is_ballot (reading again line) (readings again some),
+        ap (λ r. one (is_ballot r)) here.4,
+        all_ballots some (All-tail P line some stand),
+      )
+
+  all_valid : valid_count again others ≡ length others
+  all_valid = ap (count_by is_ballot) none_late ∙ all_ballots others all_stand
+
+  same_last : (v : ℕ) → v < elector_count poll → last_ballot (readings_in_time again others) (mapped v) ≡ last_of poll lines v
+  same_last v below =
+      ap (λ rs. last_ballot rs (mapped v)) none_late
+      ∙ decided (last_of poll lines v) (last_ballot (readings again others) (mapped v)) (of_all others all_stand v below) (λ ranks is. is_there v ranks below is)
+
+pub say_the_same : EachLineIsRead → ReadingsAreUnique → PublishedFilesSayTheSame
+say_the_same read unique poll again lines others mapped are =
+    let within : (v : ℕ) → v < elector_count poll → mapped v < elector_count again = λ v below. omega (arith, are.all_else.electors, are.one_to_one.on_roll v below) in
+    let many = as_many read unique mapped poll lines again others are in
+    let valid = all_valid read unique mapped poll lines again others are in
+    record {
+      count = many;
+      valid = valid ∙ many;
+      refused = omega (arith, valid, valid-refused again others);
+      last = λ v below.
+          entry_at (last_ballot (readings_in_time again others)) (elector_count again) (mapped v) (within v below)
+          ∙ ap Some (same_last read unique mapped poll lines again others are v below)
+          ∙ sym (entry_at (last_of poll lines) (elector_count poll) v below);
+    }
+
+pub have_the_same_sheet : OnlyLastBallotsDecide → PublishedFilesSayTheSame → PublishedFilesHaveTheSameSheet
+have_the_same_sheet decide say poll again lines others mapped casting text other are =
+    decide poll again lines others mapped casting text other are.all_else are.one_to_one (say poll again lines others mapped are).last
