@@ -14,7 +14,7 @@ try: ## build without any proof, and count an example; ARGS="check --poll /.." r
 	@cd crates/debvote && rt try -- $(ARGS) && echo "Nothing is proved yet: make build proves the program, tests/all everything."
 
 build: ## prove and build the program, crates/debvote/out/debvote
-	@rt all check --jobs $$(nproc) && cd crates/debvote && rt run -- --version
+	@tests/build
 
 check: ## prove the crate CRATE=..
 	@tests/near.py crate "$(CRATE)" && cd "crates/$(CRATE)" && rt check
