@@ -1,5 +1,5 @@
 -- Lists of names. Two names are the same where they have the same bytes.
-use Rattle.std.specs.Prelude.{◌≡◌, Some, IsTrue, ℕ, List, [], Bool, ◌||◌, not, length, Option, position, take, slice_index_or}
+use Rattle.std.specs.Prelude.{◌≡◌, ◌<◌, Some, None, IsTrue, ℕ, List, [], Bool, ◌||◌, not, length, Option, position, take, slice_index_or}
 use Rattle.std.specs.List.{list_any, range_with_len}
 use Rattle.std.specs.Str.{bytes_eq}
 use Rattle.vote_poll_text.specs.Names.{is_voter_name}
@@ -22,3 +22,7 @@ place_of name names = position (bytes_eq name) names
 -- the name is that of the voter with this number alone
 abbrev pub IsNameOf : List (List ℕ) → ℕ → List ℕ → Type 0
 IsNameOf roll voter name = (place_of name roll ≡ Some voter) × IsTrue (is_voter_name name)
+
+-- a law: on a roll without a bad name each name is that of the voter at its place alone
+abbrev pub NamesAreDistinct : Type 0
+NamesAreDistinct = (roll : List (List ℕ)) (voter : ℕ) → first_bad is_voter_name roll ≡ None → voter < length roll → IsNameOf roll voter (slice_index_or roll voter [])

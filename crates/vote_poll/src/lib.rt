@@ -44,6 +44,7 @@ mod reading;
 mod wording;
 
 pub use faults::{parse_ratio, push_faults};
+pub use names::names_are_distinct;
 pub use poll::Poll;
 pub use poll_file::first_fault_is_told;
 pub use ranks::Ranks;

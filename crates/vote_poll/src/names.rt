@@ -3,6 +3,7 @@ ghost use Rattle.std.specs.Prelude.{◌≡◌, ◌+◌, ◌<◌, ◌^◌, [], On
 ghost use Rattle.std.specs.Str.{bytes_eq};
 ghost use Rattle.vote_poll_keys.specs.FoundView.{AddsFaults, texts};
 ghost use Rattle.vote_poll.specs.NameLists.{NotesName, bad_name, bad_names, has_shape, of_name};
+ghost use Rattle.vote_poll.specs.Names.{NamesAreDistinct};
 
 use indexmap::IndexSet;
 use std::alloc::{AllocError, Global};
@@ -100,3 +101,8 @@ pub(crate) fn place_of(options: &[String], name: &[u8]) -> Option<usize>
     }
     None
 }
+
+/// A law: on a roll without a bad name each name is that of the voter at its place, and of no other.
+pub fn names_are_distinct()
+    ensures { NamesAreDistinct }
+{}

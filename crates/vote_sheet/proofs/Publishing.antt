@@ -1,21 +1,18 @@
 -- What is published of a secret vote says the same as the files that came.
-use Rattle.std.proofs.Common.{◌≡◌, ℕ, zero, suc, ◌+◌, ◌*◌, ◌<◌, ◌≤◌, ◌⊎◌, Bool, true, false, cond, ltb, not, List, [], ◌∷◌, ◌++◌, Option, Some, None, length, length-append, get_or, map, take, inl, inr, refl, sym, ap, ◌∙◌, subst, arith}
+use Rattle.std.proofs.Common.{◌≡◌, ℕ, zero, suc, ◌+◌, ◌*◌, ◌<◌, ◌≤◌, ◌⊎◌, true, cond, List, [], ◌∷◌, ◌++◌, Option, Some, None, length, length-append, get_or, map, inl, inr, refl, sym, ap, ◌∙◌, subst, arith}
 use Rattle.std.specs.Prelude.{count_by, is_some}
-use Rattle.std.specs.List.{All, Contains, join_with_byte, list_all, list_any, position, position_or_len, range_with_len}
+use Rattle.std.specs.List.{All, Contains, join_with_byte, list_all, range_with_len}
 use Rattle.std.specs.Option.{option_or}
-use Rattle.std.specs.Str.{bytes_eq}
-use Rattle.std.specs.Cmp.Lexicographic.{bytes_decides}
-use Rattle.std.proofs.lemmas.Bool.{and_parts, cases_eq, cases_lt, eq-eqb, lt-ltb, ne_eqb, not-false, or_parts}
+use Rattle.std.proofs.lemmas.Bool.{and_parts, cases_eq, eq-eqb, ne_eqb}
 use Rattle.std.proofs.lemmas.Bool.Decides.{nat_tests}
 use Rattle.std.proofs.lemmas.Fmt.{length-decimal-le}
-use Rattle.std.proofs.lemmas.List.{get_or-take, length-map, length-take-le, take_all}
+use Rattle.std.proofs.lemmas.List.{length-map, take_all}
 use Rattle.std.proofs.lemmas.List.Elements.{All-head, All-tail, Contains-append_left, Contains-append_right}
-use Rattle.std.proofs.lemmas.List.Folds.{list_any_at}
-use Rattle.std.proofs.lemmas.List.FromFn.{get_or-map-range_with_len, get_or-range_with_len, length-map-range_with_len, length-range_with_len}
+use Rattle.std.proofs.lemmas.List.FromFn.{get_or-map-range_with_len, length-map-range_with_len}
 use Rattle.std.proofs.lemmas.List.Sorted.{All-permutation, Contains-permutation, length_permutation}
-use Rattle.std.proofs.lemmas.List.Sums.{count_by-le-length, fails_before_first, position_or_len_is}
+use Rattle.std.proofs.lemmas.List.Sums.{count_by-le-length}
 use Rattle.vote_poll.specs.BallotLine.{IsBallotLine, IsRank, line_text, rank_text}
-use Rattle.vote_poll.specs.Names.{IsNameOf, first_bad, is_bad_at}
+use Rattle.vote_poll.specs.Names.{NamesAreDistinct}
 use Rattle.vote_poll.specs.PollContent.{PollContent, elector_count, last_in_time, option_count}
 use Rattle.vote_poll.specs.Readings.{IsReading, is_ballot, reading, readings}
 use Rattle.vote_poll.specs.Spelling.{ReadingsAreUnique}
@@ -34,42 +31,6 @@ use Rattle.vote_sheet.proofs.LastBallotsDecide.{entry_at}
 use Rattle.vote_sheet.proofs.ElectorLaws.{some_ranks}
 use Rattle.vote_sheet.proofs.ElectorSums.{entry_count, valid-refused}
 use Rattle.vote_sheet.proofs.StandingLemmas.{EachLineIsRead, Entry, OfEachLine, count-cons, each_line, has_line, last_of, one, spell}
-
--- ---- the names of a roll
-not_found : {X : Type 0} (p : X → Bool) (xs : List X) → position p xs ≡ None → length xs ≤ position_or_len p xs
-not_found p xs none =
-    elim (cases_lt (position_or_len p xs) (length xs)) [
-      | inl within ↦
-          let impossible : Some (position_or_len p xs) ≡ None = sym (ap (λ t. cond t (Some (position_or_len p xs)) None) (lt-ltb (position_or_len p xs) (length xs) within)) ∙ none in
-          cc
-      | inr past ↦ past
-    ]
-
-module _ (roll : List Text) (good : first_bad is_voter_name roll ≡ None) where
-  not_bad : (v : ℕ) → v < length roll → is_bad_at is_voter_name roll v ≡ false
-  not_bad v below =
-      let bad = is_bad_at is_voter_name roll in
-      let places = range_with_len 0 (length roll) in
-      let first : v < position_or_len bad places = omega (arith, below, not_found bad places good, length-range_with_len 0 (length roll)) in
-      let here : v ≡ get_or places v 0 = omega (arith, get_or-range_with_len 0 (length roll) v 0 below) in
-      ap bad here ∙ fails_before_first bad places v 0 first
-
-  -- a name stands at its place and at no other
-  own_name : (v : ℕ) → v < length roll → IsNameOf roll v (get_or roll v [])
-  own_name v below =
-      let name = get_or roll v [] in
-      let good_parts = or_parts (not (is_voter_name name)) (list_any (bytes_eq name) (take v roll)) (not_bad v below) in
-      let apart : (k : ℕ) → k < v → bytes_eq name (get_or roll k []) ≡ false = λ k before. earlier k before (bytes_eq name (get_or roll k [])) refl good_parts.1 in
-      let first : position_or_len (bytes_eq name) roll ≡ v = position_or_len_is (bytes_eq name) roll v [] (omega (arith, below)) apart (λ _. (bytes_decides name name).1 refl) in
-      (ap (λ n. cond (ltb n (length roll)) (Some n) None) first ∙ ap (λ t. cond t (Some v) None) (lt-ltb v (length roll) below), not-false (is_voter_name name) good_parts.0)
-    where
-      earlier : (k : ℕ) → k < v → (t : Bool) → bytes_eq (get_or roll v []) (get_or roll k []) ≡ t → list_any (bytes_eq (get_or roll v [])) (take v roll) ≡ false → t ≡ false
-      earlier k before false is none = refl
-      earlier k before true is none =
-          let test = bytes_eq (get_or roll v []) in
-          let there : test (get_or (take v roll) k []) ≡ true = ap test (get_or-take v roll k [] before) ∙ is in
-          let found : list_any test (take v roll) ≡ true = list_any_at test (take v roll) k [] (omega (arith, before, below, length-take-le v roll (omega (arith, below)))) there in
-          cc
 
 -- ---- how long a ballot line is
 rank_is_short : (rank : Option ℕ) → IsRank rank → length (rank_text rank) ≤ 2
@@ -154,7 +115,7 @@ decided (Some ranks) found is some =
     ]
 
 -- ---- the published lines
-module _ (read : EachLineIsRead) (unique : ReadingsAreUnique) (mapped : ℕ → ℕ) (poll : PollContent) (lines : List Text) (again : PollContent) (others : List Text) (are : ArePublished mapped poll lines again others) where
+module _ (read : EachLineIsRead) (unique : ReadingsAreUnique) (distinct : NamesAreDistinct) (mapped : ℕ → ℕ) (poll : PollContent) (lines : List Text) (again : PollContent) (others : List Text) (are : ArePublished mapped poll lines again others) where
   -- each ballot that stands is read under the other name
   reads_there : (v : ℕ) (ranks : List (Option ℕ)) → v < elector_count poll → last_of poll lines v ≡ Some ranks
       → reading again (line_text (get_or again.roll (mapped v) []) ranks) ≡ Ballot (mapped v) ranks
@@ -164,7 +125,7 @@ module _ (read : EachLineIsRead) (unique : ReadingsAreUnique) (mapped : ℕ → 
       let found = has_line poll (last_in_time poll) lines v ranks is in
       let means : IsReading poll found.0 (Ballot v ranks) = subst (IsReading poll found.0) found.1 (read poll found.0) in
       let options : option_count again ≡ option_count poll = ap option_count are.all_else.all_else in
-      let at = own_name again.roll are.is_poll.voter_names (mapped v) (omega (arith, are.all_else.electors, are.one_to_one.on_roll v below)) in
+      let at = distinct again.roll (mapped v) are.is_poll.voter_names (omega (arith, are.all_else.electors, are.one_to_one.on_roll v below)) in
       let is_line : IsBallotLine line name ranks = record {
         is_text = refl;
         is_name = at.1;
@@ -267,18 +228,18 @@ module _ (read : EachLineIsRead) (unique : ReadingsAreUnique) (mapped : ℕ → 
       ap (λ rs. last_ballot rs (mapped v)) none_late
       ∙ decided (last_of poll lines v) (last_ballot (readings again others) (mapped v)) (of_all others all_stand v below) (λ ranks is. is_there v ranks below is)
 
-pub say_the_same : EachLineIsRead → ReadingsAreUnique → PublishedFilesSayTheSame
-say_the_same read unique poll again lines others mapped are =
+pub say_the_same : EachLineIsRead → ReadingsAreUnique → NamesAreDistinct → PublishedFilesSayTheSame
+say_the_same read unique distinct poll again lines others mapped are =
     let within : (v : ℕ) → v < elector_count poll → mapped v < elector_count again = λ v below. omega (arith, are.all_else.electors, are.one_to_one.on_roll v below) in
-    let many = as_many read unique mapped poll lines again others are in
-    let valid = all_valid read unique mapped poll lines again others are in
+    let many = as_many read unique distinct mapped poll lines again others are in
+    let valid = all_valid read unique distinct mapped poll lines again others are in
     record {
       count = many;
       valid = valid ∙ many;
       refused = omega (arith, valid, valid-refused again others);
       last = λ v below.
           entry_at (last_ballot (readings_in_time again others)) (elector_count again) (mapped v) (within v below)
-          ∙ ap Some (same_last read unique mapped poll lines again others are v below)
+          ∙ ap Some (same_last read unique distinct mapped poll lines again others are v below)
           ∙ sym (entry_at (last_of poll lines) (elector_count poll) v below);
     }
 

@@ -12,7 +12,7 @@ use vote_count::{
     condorcet_winners_win, final_set_is_pareto, final_set_is_schulze, raised_ballots_raise,
     raised_winners_win, winners_are_in_the_set,
 };
-use vote_poll::{each_line_is_read, lines_are_unique, readings_are_unique};
+use vote_poll::{each_line_is_read, lines_are_unique, names_are_distinct, readings_are_unique};
 
 /// Monotonicity: if the electors come to like an option more and change nothing else, it stays in the last round.
 pub fn liked_options_stay()
@@ -73,6 +73,7 @@ pub fn published_files_say_the_same()
 {
     each_line_is_read();
     readings_are_unique();
+    names_are_distinct();
 }
 
 /// For every casting vote the sheet of what is published of a secret vote and that of the files that came are the same from the
