@@ -1,4 +1,5 @@
 pub mod Texts
+pub mod LastBytes
 pub mod Distances
 pub mod Listing
 pub mod Signs

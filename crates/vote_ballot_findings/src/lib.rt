@@ -21,17 +21,18 @@
 //!
 //! The lines are cast at one desk, as `steps` casts them. A line that is no ballot is read once more, up to the byte after its
 //! first 200 and forty more, and no memory is taken for it but for the text. Whether a second ballot begins there takes one
-//! look-up on the roll. The search for a near name reads the whole roll and takes memory, so it is made for the first hundred
-//! names only.
+//! look-up on the roll. The search for a near name reads the whole roll, and takes memory for each name that is nearer than those
+//! before it, so it is made for the first hundred names only.
 //!
 //! The modules: `explain` has the text, `findings` the lines of it, `hints` what is said of a line with a wrong number of ranks or
 //! of a late one, `prefixes` the column, `words` what stands in it, `characters` those that have a name, `nearest` the near name,
-//! and `file_signs` what is said of the whole file.
+//! `edits` the test that passes over the names that are not near, and `file_signs` what is said of the whole file.
 #![tactic(auto)]
 
 ghost use Rattle.vote_ballot_findings.specs.Limits.{LimitsAreAsWritten};
 
 mod characters;
+mod edits;
 mod explain;
 mod file_signs;
 mod findings;
