@@ -32,6 +32,10 @@ pub record IsColumn (line : List ℕ) (column : ℕ) : Type 0 where
 abbrev pub number_words : ℕ → List ℕ
 number_words b = codes "byte 0x" ++ hex_digit (b / 16) ∷ hex_digit (b % 16) ∷ []
 
+-- a character in quotes
+abbrev pub quoted_words : ℕ → List ℕ
+quoted_words b = concat (codes "\"" ∷ (b ∷ []) ∷ codes "\"" ∷ [])
+
 -- a byte; a printable one that has no other name stands in quotes
 unfoldable pub byte_words : ℕ → List ℕ
 byte_words b =
@@ -40,7 +44,7 @@ byte_words b =
     else if b == byte " " then codes "space"
     else if b == byte "," then codes "comma"
     else if is_within (byte "A") (byte "Z") b then codes "capital letter"
-    else if is_printable b then concat (codes "\"" ∷ (b ∷ []) ∷ codes "\"" ∷ [])
+    else if is_printable b then quoted_words b
     else number_words b
 
 -- with what the rest of a line begins: a character that has a name, or else a byte

@@ -31,11 +31,15 @@ fn begins_with_curly_quote(text: &[u8]) -> bool
     matches!(text, [0xE2, 0x80, 0x98..=0x9F, ..])
 }
 
-/// The name of the character with which a text begins, if it has one here.
+/// The name of the character with which a text begins, if it has one here. No ASCII character has: these come most, and are let
+/// through first.
 #[tactic(auto, unfolding(crate::specs::Characters::character_name))]
 pub(crate) fn character_name(text: &[u8]) -> Option<&'static str>
     ensures { option_copied result ≡ character_name text.now }
 {
+    if !matches!(text, [0x80..=0xFF, ..]) {
+        return None;
+    }
     if text.starts_with(BYTE_ORDER_MARK) {
         return Some("byte-order mark");
     }

@@ -1,16 +1,17 @@
 //! The column in which a line leaves the grammar, and what stands there, in words.
 
-ghost use Rattle.std.specs.Prelude.{◌≡◌, ◌<◌, ◌-◌, ◌≤◌, ◌+◌, OnOk, drop, length, take};
+ghost use Rattle.std.specs.Prelude.{◌≡◌, ◌<◌, ◌-◌, ◌≤◌, ◌+◌, OnOk, decimal, drop, length, take};
 ghost use Rattle.std.specs.List.{list_any};
 ghost use Rattle.vote_poll.specs.Readings.{is_space};
 ghost use Rattle.vote_poll_text.specs.Adding.{Adds};
 ghost use Rattle.vote_ballot_findings.specs.Adding.{AddsColumn};
-ghost use Rattle.vote_ballot_findings.specs.Column.{begins_with_elector, byte_words, column_remark, ends_after_comma, first_words, from_first_name, may_hold_two, number_words};
+ghost use Rattle.vote_ballot_findings.specs.Column.{begins_with_elector, byte_words, column_remark, ends_after_comma, first_words, from_first_name, may_hold_two, number_words, quoted_words};
 
 use crate::LOOK_AHEAD;
 use crate::characters::character_name;
 use crate::hints::first_space;
 use crate::prefixes::column;
+use itoa::Buffer;
 use std::alloc::AllocError;
 use vote_poll::{Poll, hex_digit, is_voter_byte};
 
@@ -21,6 +22,16 @@ fn push_number(text: &mut String, byte: u8) -> Result<(), AllocError>
     text.push_str("byte 0x")?;
     text.push(hex_digit(byte / 16) as char)?;
     text.push(hex_digit(byte % 16) as char)
+}
+
+/// Adds an ASCII character in quotes.
+fn push_quoted(text: &mut String, byte: u8) -> Result<(), AllocError>
+    requires { byte < 128 }
+    ensures { Adds result text.old (quoted_words byte) text.new }
+{
+    text.push('"')?;
+    text.push(byte as char)?;
+    text.push('"')
 }
 
 /// Adds the name of a byte.
@@ -34,7 +45,7 @@ fn push_byte(text: &mut String, byte: u8) -> Result<(), AllocError>
         b' ' => text.push_str("space"),
         b',' => text.push_str("comma"),
         b'A'..=b'Z' => text.push_str("capital letter"),
-        0x20..=0x7E => write!(text, "\"{}\"", byte as char),
+        0x20..=0x7E => push_quoted(text, byte),
         _ => push_number(text, byte),
     }
 }
@@ -140,12 +151,22 @@ fn column_remark(poll: &Poll, line: &[u8], column: usize) -> &'static str
     ""
 }
 
+/// Adds a number. A formatter of `write!` costs more than the few digits of a column or of a line's number.
+pub(crate) fn push_decimal(text: &mut String, number: usize) -> Result<(), AllocError>
+    ensures { Adds result text.old (decimal number) text.new }
+{
+    let mut digits = Buffer::new();
+    text.push_str(digits.format(number))
+}
+
 /// Adds the column in which a line leaves the grammar, what stands there, and a remark.
 pub(crate) fn push_column(text: &mut String, poll: &Poll, line: &[u8]) -> Result<(), AllocError>
     ensures { OnOk result (AddsColumn poll.now line.now text.old text.new) }
 {
     let column = column(line);
-    write!(text, "column {column}: ")?;
+    text.push_str("column ")?;
+    push_decimal(text, column)?;
+    text.push_str(": ")?;
     push_first(text, from_column(line, column))?;
     text.push_str(column_remark(poll, line, column))
 }

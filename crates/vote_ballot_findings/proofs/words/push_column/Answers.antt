@@ -4,23 +4,25 @@ use Rattle.vote_ballot_findings.specs.Column.{column_remark, column_words, first
 use Rattle.vote_ballot_findings.proofs.Texts.{on_ok, where_ok}
 use Rattle.vote_ballot_findings.proofs.words.push_column.Goals as goal
 
--- the three pieces that are written
-pieces : (poll : PollContent) (line : List ℕ) (column : ℕ) (old t1 t2 t3 : List ℕ)
-    → t1 ≡ old ++ (codes "column " ++ (decimal column ++ codes ": ")) → t2 ≡ t1 ++ first_words (drop (column - 1) line) → t3 ≡ t2 ++ column_remark poll line column
-    → t3 ≡ old ++ column_words poll line column
+-- the pieces that are written
+pieces : (poll : PollContent) (line : List ℕ) (column : ℕ) (old t1 t2 t3 t4 t5 : List ℕ)
+    → t1 ≡ old ++ codes "column " → t2 ≡ t1 ++ decimal column → t3 ≡ t2 ++ codes ": " → t4 ≡ t3 ++ first_words (drop (column - 1) line)
+    → t5 ≡ t4 ++ column_remark poll line column → t5 ≡ old ++ column_words poll line column
 unfolding column_words
-pieces poll line column old t1 t2 t3 e1 e2 e3 = rw (e3, e2, e1) (simp (append_assoc, append-nil))
+pieces poll line column old t1 t2 t3 t4 t5 e1 e2 e3 e4 e5 = rw (e5, e4, e3, e2, e1) (simp (append_assoc, append-nil))
 
 pub returns : goal.returns
 returns c =
     let poll = c.args.poll.now in
     let line = c.args.line.now in
     let column = c.column-column.result in
-    let first = c.in_ok-push_first.ensures ∙ ap (λ t. string_bytes c.write.new.self ++ first_words t) c.from_column.ensures in
-    let P = string_bytes c.push_str.new.self ≡ string_bytes c.push_first.new.text ++ c.column_remark.result.now in
-    on_ok c.push_str.result (λ (is : P). (
+    let first = c.in_ok-push_first.ensures ∙ ap (λ t. string_bytes c.push_str-2.new.self ++ first_words t) c.from_column.ensures in
+    let P = string_bytes c.push_str-3.new.self ≡ string_bytes c.push_first.new.text ++ c.column_remark.result.now in
+    on_ok c.push_str-3.result (λ (is : P). (
       column_words poll line column,
       (column, c.column-column.ensures, refl),
-      pieces poll line column (string_bytes c.args.text.now) (string_bytes c.write.new.self) (string_bytes c.push_first.new.text) (string_bytes c.push_str.new.self)
-          c.in_ok-write.ensures.bytes first (is ∙ ap (λ t. string_bytes c.push_first.new.text ++ t) c.column_remark.ensures),
-    )) (where_ok c.push_str.result _ _ _ c.push_str.ensures.bytes)
+      pieces poll line column (string_bytes c.args.text.now) (string_bytes c.push_str.new.self) (string_bytes c.push_decimal.new.text)
+          (string_bytes c.push_str-2.new.self) (string_bytes c.push_first.new.text) (string_bytes c.push_str-3.new.self)
+          c.in_ok-push_str.ensures.bytes c.in_ok-push_decimal.ensures c.in_ok-push_str-2.ensures.bytes first
+          (is ∙ ap (λ t. string_bytes c.push_first.new.text ++ t) c.column_remark.ensures),
+    )) (where_ok c.push_str-3.result _ _ _ c.push_str-3.ensures.bytes)
