@@ -1,5 +1,5 @@
 # What a developer calls, by short names. Each target calls what is there; tests/all needs no make.
-.PHONY: help try build check test case edit polls all deb
+.PHONY: help try build check test case edit polls claim all deb
 
 # the words that `make try` runs, with whole paths of files
 ARGS = count --poll $(CURDIR)/examples/plain_win/poll.toml --ballots $(CURDIR)/examples/plain_win/ballots
@@ -30,6 +30,9 @@ edit: ## try the edit NAME=.. of the crate CRATE=.., which the prover must refus
 
 polls: ## compare the built program with the reference on N=500 random polls from SEED=1 on
 	@tests/random-polls --n "$(N)" --seed "$(SEED)"
+
+claim: ## make docs/claim.html, what one believes when one believes a sheet, from the sources
+	@docs/make-claim
 
 all: ## prove everything, try all edits, and run all tests: tests/all
 	@tests/all
