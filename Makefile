@@ -19,8 +19,8 @@ build: ## prove and build the program, crates/debvote/out/debvote
 check: ## prove the crate CRATE=..
 	@tests/near.py crate "$(CRATE)" && cd "crates/$(CRATE)" && rt check
 
-test: ## run the test NAME=.. of the crates of tests, before any proof
-	@tests/one-test "$(NAME)"
+test: ## run all tests that need no proof, in some minutes; with NAME=.. that test of the crates of tests alone
+	@if [ -n "$(NAME)" ]; then tests/one-test "$(NAME)"; else tests/quick; fi
 
 case: ## run the case NAME=.. of tests/cases with the built program
 	@tests/cases/run "$(NAME)"

@@ -1,0 +1,73 @@
+"""Parts of the tests: each is a program whose last line is 'N passed, M failed'. They run side by side, and their sum is told."""
+
+import dataclasses
+import pathlib
+import re
+import subprocess
+from collections.abc import Iterable
+
+ROOT = pathlib.Path(__file__).resolve().parent.parent
+
+COUNT = re.compile(r"(\d+) passed, (\d+) failed")
+# what `rt try --test` says
+COUNT_OF_TRY = re.compile(r"test result: \w+\. (\d+) passed; (\d+) failed;.*")
+
+
+@dataclasses.dataclass(frozen=True)
+class Count:
+    """How many tests passed, and how many failed."""
+
+    passed: int
+    failed: int
+
+    def __str__(self) -> str:
+        return f"{self.passed} passed, {self.failed} failed"
+
+
+class Part:
+    """A part that runs: what it says goes to a file of its own, and so does how many seconds it took.
+
+    Python waits for its own child, whose number the system gives to no other one before. A shell that is asked for the status of
+    a child by its number, long after that has ended, may be told of another one.
+    """
+
+    def __init__(
+        self, words: list[str], room: pathlib.Path, cwd: pathlib.Path = ROOT, counted: re.Pattern[str] = COUNT, **how: object
+    ) -> None:
+        self.name = " ".join([*words, *(["in", cwd.name] if cwd.parent.name == "crates" else [])])
+        self.counted = counted
+        key = re.sub(r"\W+", "-", self.name).strip("-")
+        self.told, self.seconds = room / f"{key}.told", room / f"{key}.times"
+        with open(self.told, "wb") as told:
+            output = {"stdout": told, "stderr": subprocess.STDOUT, **how}
+            self.process = subprocess.Popen([ROOT / "tests" / "times", self.seconds, *words], cwd=cwd, **output)
+
+    def text(self) -> str:
+        """What it said."""
+        return self.told.read_text(errors="replace")
+
+    def count(self) -> Count:
+        """What it counted, once it has ended. One that ended without a count of its failures has failed too."""
+        status = self.process.wait()
+        found = [self.counted.fullmatch(line) for line in self.text().splitlines()]
+        counts = [Count(int(line[1]), int(line[2])) for line in found if line]
+        return with_status(counts, status)
+
+
+def with_status(counts: list[Count], status: int) -> Count:
+    """The sum of some counts, and one failure more where the exit status tells of one that none of them has."""
+    failed = sum(count.failed for count in counts)
+    return Count(sum(count.passed for count in counts), failed or int(status != 0 or not counts))
+
+
+def tell(parts: Iterable[Part]) -> Count:
+    """Waits for the parts, tells what each said and how long it took, and returns their sum."""
+    parts = list(parts)
+    counts = []
+    for part in parts:
+        counts.append(part.count())
+        print(f"== {part.name}", part.text().rstrip("\n"), sep="\n", flush=True)
+    print("== seconds")
+    for part in parts:
+        print(part.seconds.read_text().rstrip("\n") if part.seconds.exists() else f"{part.name}: it was killed", flush=True)
+    return Count(sum(count.passed for count in counts), sum(count.failed for count in counts))
