@@ -3,30 +3,35 @@ ghost use Rattle.std.specs.Prelude.{◌≡◌};
 ghost use Rattle.vote_desks.specs.declared.fault.VoteFault.TheVariants.{Memory};
 
 use std::alloc::{AllocError, AllocFailed};
-use std::error::Error;
 use std::fmt;
+use thiserror::Error;
 use vote_desks_box::{DeskFault, EnterFault};
 
 /// Where a box and its sheets are not what the lines give. Steps, and the slips of a sheet, are
 /// counted from 1.
-#[derive(Clone, Copy, Debug, PartialEq, Eq)]
+#[derive(Clone, Copy, Debug, PartialEq, Eq, Error)]
 pub enum AuditFault {
     /// The box does not have the poll's numbers of options and electors or its last envelope, or
     /// its limit is not the number of lines.
+    #[error("the box does not have the sizes of the poll and its lines")]
     SizeDiffers,
     /// The box does not have as many casts as there are lines.
+    #[error("the box does not have as many casts as there are lines")]
     CountDiffers,
     /// This step is the first cast that does not have the reading of the line with its stamp.
+    #[error("step {0} does not have the reading of its line")]
     StepDiffers(u64),
     /// This desk is the least whose sheet is not the slips of its casts, and this is where the two
     /// first differ.
+    #[error("the sheet of desk {0} differs from its casts at slip {1}")]
     SlipDiffers(u8, u64),
     /// This step is the close, and it is not the last.
+    #[error("step {0} is the close, and it is not the last")]
     ClosedEarly(u64),
 }
 
 /// Why the votes are not taken.
-#[derive(Clone, Copy, Debug, PartialEq, Eq)]
+#[derive(Clone, Copy, Debug, PartialEq, Eq, Error)]
 pub enum VoteFault {
     /// No memory was left.
     Memory,
@@ -63,8 +68,6 @@ impl fmt::Display for VoteFault {
         }
     }
 }
-
-impl Error for VoteFault {}
 
 impl From<AllocError> for VoteFault {
     ghost from_gives = { λ _ fault. fault ≡ Memory };

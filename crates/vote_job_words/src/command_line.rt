@@ -62,15 +62,19 @@ pub enum Task<'a> {
 }
 
 /// Why the words are no task.
-#[derive(Debug, Drop)]
+#[derive(Debug, Drop, thiserror::Error)]
 pub enum OrderFault {
     /// They ask for help, and this is it.
+    #[error("{0}")]
     Help(String),
     /// They are refused, for this reason.
+    #[error("{0}")]
     Refused(String),
     /// One of them is not UTF-8, so [`order`] was not called.
+    #[error("an argument is not UTF-8")]
     NotUtf8,
     /// Memory ran out.
+    #[error("out of memory")]
     Memory,
 }
 

@@ -4,8 +4,8 @@ ghost use Rattle.std.specs.Prelude.{◌≡◌};
 ghost use Rattle.vote_jobs.specs.Status.{ballots_unread, fault_status, input_status, poll_unread, sheet_unread, status, vote_status};
 
 use std::alloc::AllocError;
-use std::error::Error;
 use std::fmt;
+use thiserror::Error;
 use vote_desks::{DeskFault, VoteFault};
 use vote_files::{DeviceFault, ReadFault};
 use vote_poll::{LinesFault, PollFault};
@@ -30,7 +30,7 @@ pub enum Ended {
 }
 
 /// Why an input was not read. The ballots stand for a joined input too.
-#[derive(Clone, Copy, Debug, PartialEq, Eq)]
+#[derive(Clone, Copy, Debug, PartialEq, Eq, Error)]
 pub enum InputFault {
     /// The poll file can't be opened, or its device failed.
     PollUnreadable,
@@ -48,7 +48,7 @@ pub enum InputFault {
 
 /// Why a run did not come to its end: the first of these that holds, where `Memory` can take the place of any that would come
 /// later. Its `Display` is the program's fault line.
-#[derive(Clone, Copy, Debug, PartialEq, Eq)]
+#[derive(Clone, Copy, Debug, PartialEq, Eq, Error)]
 pub enum RunFault {
     /// An input was not read. Nothing was written.
     Input(InputFault),
@@ -84,8 +84,6 @@ impl fmt::Display for InputFault {
     }
 }
 
-impl Error for InputFault {}
-
 impl fmt::Display for RunFault {
     ghost use Rattle.std.specs.Prelude.{Some};
     ghost use Rattle.vote_jobs.specs.Words.{fault_words};
@@ -104,8 +102,6 @@ impl fmt::Display for RunFault {
         }
     }
 }
-
-impl Error for RunFault {}
 
 impl From<DeviceFault> for RunFault {
     ghost use Rattle.std.specs.Prelude.{◌≡◌};

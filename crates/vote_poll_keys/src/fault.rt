@@ -5,8 +5,8 @@ ghost use Rattle.vote_poll_keys.specs.Keys.{key_name, key_named};
 ghost use Rattle.vote_poll_keys.specs.declared.fault.PollFault.TheVariants.{Memory};
 
 use std::alloc::{AllocError, AllocFailed};
-use std::error::Error;
 use std::fmt;
+use thiserror::Error;
 
 /// A key of a poll file, in the order in which they are looked for. It is displayed as it stands in the file.
 #[derive(Clone, Copy, Debug, PartialEq, Eq)]
@@ -81,7 +81,7 @@ impl fmt::Display for PollKey {
 
 /// Why a poll file is refused. If several of these hold, the first in this order is returned; memory alone can
 /// take the place of another. The limits that are named are those of vote_poll. It is displayed as its fault line.
-#[derive(Clone, Copy, Debug, PartialEq, Eq)]
+#[derive(Clone, Copy, Debug, PartialEq, Eq, Error)]
 pub enum PollFault {
     /// The text is not UTF-8, or not a TOML document.
     Syntax,
@@ -158,8 +158,6 @@ impl fmt::Display for PollFault {
         }
     }
 }
-
-impl Error for PollFault {}
 
 impl From<AllocError> for PollFault {
     ghost from_gives = { λ _ e. e ≡ Memory };

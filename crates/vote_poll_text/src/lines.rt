@@ -6,9 +6,9 @@ ghost use Rattle.vote_poll_text.specs.declared.lines.LinesFault.TheVariants.{Mem
 
 use memchr::memchr;
 use std::alloc::{AllocError, Global};
-use std::error::Error;
 use std::fmt;
 use std::marker::Model;
+use thiserror::Error;
 
 /// The most lines that a ballot file can have. It may have none.
 pub const MAX_LINES: usize = 100_000;
@@ -32,7 +32,7 @@ impl<'t> Model for Lines<'t> {
 }
 
 /// Why a text has no [`Lines`], in the order tested. It is displayed as its fault line.
-#[derive(Clone, Copy, Debug, PartialEq, Eq)]
+#[derive(Clone, Copy, Debug, PartialEq, Eq, Error)]
 pub enum LinesFault {
     /// The text has more than [`MAX_LINES`] lines. They are counted before any memory is asked for.
     TooMany,
@@ -50,8 +50,6 @@ impl fmt::Display for LinesFault {
         }
     }
 }
-
-impl Error for LinesFault {}
 
 impl From<AllocError> for LinesFault {
     ghost from_gives = { λ _ e. e ≡ Memory };

@@ -12,20 +12,24 @@ use crate::roll::Roll;
 use crate::step::{Received, Reply, Step};
 use std::alloc::{AllocError, Global};
 use std::marker::Model;
+use thiserror::Error;
 use vote_count::{Matrix, RunningMatrix};
 use vote_poll::{MAX_ELECTORS, MAX_LINES, MAX_OPTIONS, Poll, Ranks, Reading};
 
 /// Why a cast is refused. No step is made, and nothing changes.
-#[derive(Clone, Copy, Debug, PartialEq, Eq)]
+#[derive(Clone, Copy, Debug, PartialEq, Eq, Error)]
 pub enum StepFault {
     /// The stamp is 0, or greater than the limit of the box.
+    #[error("the stamp is not from 1 to the limit of the box")]
     StampRange,
     /// A step of the box has this stamp.
+    #[error("a step of the box has this stamp")]
     StampUsed,
 }
 
 /// Why a close is refused: the box was closed before. No step is made, and nothing changes.
-#[derive(Clone, Copy, Debug, PartialEq, Eq)]
+#[derive(Clone, Copy, Debug, PartialEq, Eq, Error)]
+#[error("the box was closed before")]
 pub struct AlreadyClosed;
 
 /// How many lines counted and how many did not, and how many voters have a ballot that stands.

@@ -41,6 +41,7 @@ use atomic_table::{Seat, Table};
 use rule::{Claim, Counts, Cut, Dealing, Glue, Look, View};
 use std::alloc::{AllocError, Global};
 use std::marker::Model;
+use thiserror::Error;
 
 /// The most places that a tray can have.
 pub const MAX_PLACES: u64 = 100_000;
@@ -49,11 +50,13 @@ pub const MAX_PLACES: u64 = 100_000;
 pub const MAX_PASSES: u8 = 8;
 
 /// Why there is no tray.
-#[derive(Clone, Copy, Debug, PartialEq, Eq)]
+#[derive(Clone, Copy, Debug, PartialEq, Eq, Error)]
 pub enum TrayFault {
     /// More than `MAX_PLACES` places were asked for. Memory has not been asked for then.
+    #[error("too many places")]
     TooMany,
     /// Memory for the word or for the list of passes was refused.
+    #[error("out of memory")]
     Memory,
 }
 
