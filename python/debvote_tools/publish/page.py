@@ -5,7 +5,7 @@ import shlex
 from html import escape
 
 from debvote_tools import ballots, pages
-from debvote_tools.election.call_words import COMPARE
+from debvote_tools.election.poll_file import COMPARE
 from debvote_tools.pages import command_block, joined, listed, paragraph, part
 from debvote_tools.publish import count, result
 from debvote_tools.publish.calls import BALLOTS, FILES, POLL, SHEET
