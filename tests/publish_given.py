@@ -49,6 +49,13 @@ BAD_LABELS = [
     ("a long text", b"1\t" + b"x" * 201 + b"\n", "labels:1: the text has 201 characters, 200 are the most; write it anew"),
     ("a sign that steers", b"1\tA\n2\t\x1b[1m\n", "labels:2: it has the sign U+001B, which no plain text has; take it out"),
     ("a sign that turns", "1\t\u202eA\n".encode(), "labels:1: it has the sign U+202E, which no plain text has; take it out"),
+    ("the name of another option", b"1\tWrite guidelines\n", "labels:1: option 1 would be called as option 2, Write guidelines, is in"),
+    ("names exchanged", b"1\tWrite guidelines\n2\tAmend it\n", "labels:1: option 1 would be called as option 2, Write guidelines, is"),
+    ("another name in capitals", b"0\tAmend it\n2\tAMEND  IT\n", "labels:2: option 2 would be called as option 1, Amend it, is in"),
+    ("another name with accents", "2\t\u00c4m\u00e9nd\u00a0i\u0301t\n".encode(), "labels:1: option 2 would be called as option 1, "),
+    ("another name with unseen signs", "2\tAmend\u200b it\u200f\n".encode(), "labels:1: option 2 would be called as option 1, "),
+    ("one text twice", "1\tStra\u00dfe\n3\tSTRASSE\n".encode(), "labels:2: option 3 would be called as option 1 is; call each option by"),
+    ("words of the page", b"2\tA (in the poll: Amend it)\n", "labels:1: it says what an option is called in the poll, and the page"),
     ("an empty file", b"\n", "labels: it is empty; write it, or leave --labels out"),
     ("a file that is too long", b"1\tA\n" + b"\n" * 65_536, "labels: it is longer than 65536 bytes; shorten it"),
 ]
@@ -86,8 +93,12 @@ def try_labels(expect, scratch):
     lines = "".join(f"{number}\t{text}\r\n" for number, text in texts.items())
     (room / "labels").write_bytes(b"\xef\xbb\xbf\r\n" + lines.encode())
     (room / "about").write_text("Certified by <b>Anna</b> & Ben\non 3 May 2026.\n\n\nÜber alles: \u200f&amp;\n")
-    expect("labels: what is said", publish(room, *FILES, "--labels", "labels", "--about", "about", "result")[1:], ("", 0))
+    output, faults, status = publish(room, *FILES, "--labels", "labels", "--about", "about", "result")
+    expect("labels: its status", (faults, status), ("", 0))
+    called = f"  1 Amend it: {HOSTILE}\n  2 Write guidelines: (no label)\n  3 Further discussion: {texts[3]}\n"
+    expect("labels: what is told", f"  the title Whether the constitution is amended: {texts[0]}\n{called}Winner: " in output, True)
     page = (room / "result" / "index.html").read_text()
+    try_names_beside_labels(expect, page)
     label = {number: f"<bdi>{html.escape(text)}</bdi>" for number, text in texts.items()}
     for name, wanted in [
         ("the heading", f"<h1>{label[0]}</h1>"),
@@ -95,14 +106,13 @@ def try_labels(expect, scratch):
         ("the title of the poll", "In the poll the title is: Whether the constitution is amended"),
         ("an option", f"<li><b>1 {label[1]}</b> (in the poll: Amend it), majority ratio 3</li>"),
         ("an option without a label", "<li><b>2 Write guidelines</b>, majority ratio 1</li>"),
-        ("the table", f'<th scope="row">1 {label[1]} <span class="ended">dropped: majority</span></th>'),
+        ("the table", f'<th scope="row">1 {label[1]} (in the poll: Amend it) <span class="ended">dropped: majority</span></th>'),
         ("a ballot", f"2 Write guidelines; then 3 {label[3]}; then 1 {label[1]}</li>"),
         *([("the picture", "The picture has the names of the poll.")] if HAS_PICTURES else []),
         ("about", '<p class="about"><bdi>Certified by &lt;b&gt;Anna&lt;/b&gt; &amp; Ben\non 3 May 2026.</bdi></p>'),
         ("about, further", '<p class="about"><bdi>Über alles: \u200f&amp;amp;</bdi></p>'),
     ]:
         expect(f"labels: {name}", wanted in page, True)
-    expect("labels: the texts of the poll stand for nothing else", page.count("Amend it"), 2 if HAS_PICTURES else 1)
     expect("labels: nothing runs", ("<script" in page, "<img" in page), (False, False))
     expect("labels: the sheet has none", "Satzung" in (room / "result" / "sheet.txt").read_text(), False)
     for option, wanted in [("labels", BAD_LABELS), ("about", BAD_ABOUTS)]:
@@ -113,6 +123,28 @@ def try_labels(expect, scratch):
     expect("no about", told, ("", cure, 2))
     expect("labels: what is left", sorted(os.listdir(room)), ["about", "ballots", "labels", "poll.toml", "result"])
     return room / "result"
+
+
+def try_names_beside_labels(expect, page):
+    """In each section a label has the number and, once, the name of the poll beside it; the headline is one of them."""
+    sections = re.findall(r"<section .*?</section>", page, re.DOTALL)
+    with_label = [section for section in sections if re.search(r"3 <bdi>[\u0590-\u05ff ]+</bdi>", section)]
+    beside = [len(re.findall(r"</bdi>(?:</b>)? \(in the poll: Further discussion\)", section)) for section in with_label]
+    expect("labels: the name of the poll once in each section", beside, [1] * len(with_label))
+    expect("labels: in so many sections", len(with_label), 5)
+    expect("labels: no sign is left", re.findall(r"[\x00-\x09\x0b-\x1f]", page), [])
+
+
+def try_label_of_the_winner(expect, scratch):
+    """The headline says which option of the poll has won, and in a browser without script too."""
+    room = room_with(scratch / "winner", "supermajority_and_recasts")
+    (room / "labels").write_text("2\tLignes directrices\n")
+    expect("the label of the winner: its status", publish(room, *FILES, "--labels", "labels", "result")[1:], ("", 0))
+    page = (room / "result" / "index.html").read_text()
+    said = '<p class="outcome"><b>2 <bdi>Lignes directrices</bdi></b> (in the poll: Write guidelines) has won.'
+    expect("the label of the winner: the headline", said in page, True)
+    below = '<p class="in-poll">2 <bdi>Lignes directrices</bdi> (in the poll: Write guidelines)</p>'
+    expect("the label of the winner: the ballots", below in page, True)
 
 
 def try_bad(expect, room, option, name, data, wanted):

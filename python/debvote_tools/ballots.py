@@ -25,6 +25,14 @@ def preferences(ranks: str) -> Preferences:
     return Preferences([by_rank[rank] for rank in sorted(by_rank, key=int)], unranked)
 
 
+def in_normal_form(ranks: str) -> str:
+    """The ranks 1, 2 and so on that say the same: equal ones stay equal, and what is not ranked stays so."""
+    found = preferences(ranks)
+    rank_of = {option: str(rank) for rank, step in enumerate(found.steps, start=1) for option in step}
+    rank_of |= dict.fromkeys(found.unranked, UNRANKED)
+    return ",".join(rank_of[option] for option in sorted(rank_of))
+
+
 def in_words(ranks: str, names: Sequence[str]) -> str:
     """A valid ballot in words without markup: "At the lake, then Further discussion, then ..".
 

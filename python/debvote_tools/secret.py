@@ -18,6 +18,7 @@ import stat
 from collections.abc import Iterable
 
 from debvote_tools import journal
+from debvote_tools.ballots import in_normal_form
 from debvote_tools.election import poll_file
 from debvote_tools.faults import Fault, Status
 
@@ -221,8 +222,11 @@ def poll_of(poll: bytes, aliases: dict[str, str]) -> bytes:
 
 
 def ballots_of(standing: dict[str, str], aliases: dict[str, str]) -> bytes:
-    """The ballots that stand, each under its alias, in the order of the published roll."""
-    return "".join(sorted(f"{aliases[name]} {ranks}\n" for name, ranks in standing.items())).encode("ascii")
+    """The ballots that stand, each under its alias and with its ranks in normal form, in the order of the published roll.
+
+    Ranks such as 17,33,99 would be a mark, by which somebody who buys votes finds the ballot again.
+    """
+    return "".join(sorted(f"{aliases[name]} {in_normal_form(ranks)}\n" for name, ranks in standing.items())).encode("ascii")
 
 
 def is_taken_back(codes: pathlib.Path) -> bool:

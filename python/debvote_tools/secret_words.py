@@ -17,8 +17,9 @@ ALIAS = (
 REMAINS = (
     "The secretary knows how each elector voted, since ballots came with names.",
     "With few voters, or where all are of one mind, the numbers of the sheet alone tell how somebody voted.",
-    "Whoever shows their code shows their vote. Where an elector tells somebody beforehand of an unusual order of many options, "
-    "that ballot is found too.",
+    "Whoever shows their code shows their vote. Of the ranks their order alone is published: 17,33,99 becomes 1,2,3. What is left "
+    "to know a ballot by is the order, which options are equal, and which are not ranked: where an elector tells somebody "
+    "beforehand of an unusual order of many options, that ballot is found.",
     "Two electors who have each a name of their own cannot take one ballot for theirs: an alias is made of the name. So look "
     "whether the name on your slip is yours alone: one that could be somebody else's may stand on two slips.",
     "Ballots come without the codes, so a code does not show who sent a ballot. Whoever votes in the name of another is found "

@@ -23,7 +23,7 @@ from debvote_tools.faults import Fault  # noqa: E402
 ALL = ["SHA256SUMS", "call.txt", "index.html", "poll.toml"]
 UNTIL = "Sunday, 6 December 2026, 20:00"
 ADDRESS = "secretary@example.org"
-COMPARE = "grep -v '^last_envelope' poll.toml | sha256sum"
+COMPARE = "grep -vxE '(last_envelope = [0-9]+|extended_to = \"[0-9T:+ -]*\")\\s?' \\\n  poll.toml | sha256sum"
 
 # Stops a call at each of its steps in turn, each time in a copy of the election, until one comes to its end; a step is a call of
 # the system that changes a file or a folder. Then it calls once more. It forks, since a start of Python is slow.
@@ -274,10 +274,6 @@ class RefusedTest(CallTest):
         self.write("poll.toml", b"")
         self.assert_nothing(3, "poll.toml")
 
-    def test_a_line_that_the_sum_would_not_have(self) -> None:
-        self.write("poll.toml", POLL.replace('"At the lake"', '"""\\\nlast_envelope of the lake"""'))
-        self.assert_nothing(9, "poll.toml: a line begins with last_envelope and is more than that")
-
     def test_words(self) -> None:
         for until in ("", "  ", "a\nb", "a\rb", "a\tb", "a\u2028b", "a\x1b[2J", os.fsdecode(b"\xff")):
             self.assert_nothing(2, "--until: it has to be one line of text", words=(f"--until={until}",))
@@ -353,12 +349,24 @@ class ChangedTest(CallTest):
                 self.assertRegex(words, rf"line ({line - 1}|{line}|{line + 1}) |line ends", (place, changed))
 
     def test_the_last_envelope(self) -> None:
-        for more in (b"last_envelope = 3\n", b"last_envelope = 4", b"last_envelope=5 # closed\n"):
+        for more in (b"last_envelope = 3\n", b"last_envelope = 4", b"last_envelope = 5\r\n"):
             self.assertIsNone(self.told(self.called + more))
             self.assertIsNone(self.told(more.rstrip(b"\n") + b"\n" + self.called))
             self.assertEqual(self.compared(), self.compared("call"))
         self.assertIsNone(self.told(self.called))
         self.assertIn("line 9 is `last-envelope = 3`", self.told(self.called + b"last-envelope = 3\n"))
+
+    def test_lines_that_only_begin_like_the_last_envelope(self) -> None:
+        for more in ("last_envelope=5\n", "last_envelope = 5 # closed\n", 'last_envelope_was = """\nlast_envelope"""\n'):
+            self.assertIn(f"line 9 is `{more.splitlines()[0]}`", self.told(self.called + more.encode()))
+            self.assertNotEqual(self.compared(), self.compared("call"))
+
+    def test_a_line_of_a_longer_text_is_covered_by_the_sum(self) -> None:
+        self.write("poll.toml", POLL.replace('"At the lake"', '"""\\\nlast_envelope of the lake"""'))
+        shutil.rmtree(self.folder / "call")
+        self.assertEqual(self.election("call").status, 0)
+        self.write("poll.toml", POLL.replace('"At the lake"', '"""\\\nlast_envelope of the sea"""'))
+        self.assert_fault(self.election("close"), 9, "was `last_envelope of the lake", "is `last_envelope of the sea")
 
     def test_commands_stop(self) -> None:
         self.write("poll.toml", self.called.replace(b"quorum = 1", b"quorum = 2"))

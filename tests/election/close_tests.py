@@ -14,10 +14,13 @@ from debvote_tools.files import sum_of  # noqa: E402
 TIME = r"\d{4}-\d\d-\d\d \d\d:\d\d:\d\d UTC"
 
 
+COMPARE = "grep -vxE '(last_envelope = [0-9]+|extended_to = \"[0-9T:+ -]*\")\\s?' \\\n  poll.toml | sha256sum"
+
+
 class CloseTest(support.ElectionTest):
-    def without_last_envelope(self) -> str:
+    def as_announced(self) -> str:
         """The sum by which everybody compares the poll with the call."""
-        return self.run_program("sh", "-c", "grep -v '^last_envelope' poll.toml | sha256sum").output
+        return self.run_program("sh", "-c", COMPARE).output
 
     def acts(self) -> list[tuple[str, str]]:
         return [(act.act, act.envelopes) for act in journal.done(journal.entries_in(self.folder / "journal"))]
@@ -29,7 +32,7 @@ class CloseTest(support.ElectionTest):
 class Good(CloseTest):
     def test_what_it_writes_and_tells(self) -> None:
         self.add("ada 1,2,4,3\nben x\n")
-        before = self.without_last_envelope()
+        before = self.as_announced()
         ended = self.election("close")
         self.assertEqual((ended.status, ended.faults), (0, ""))
         poll = self.read("poll.toml")
@@ -44,7 +47,7 @@ class Good(CloseTest):
                 "Next: debvote-election count",
             ],
         )
-        self.assertEqual(self.without_last_envelope(), before)
+        self.assertEqual(self.as_announced(), before)
         self.assertEqual(self.read("backup/0001-poll.toml").decode(), support.POLL)
         self.assertEqual(self.acts()[-1], ("close", "1-2"))
         self.assertIn("Last envelope: 2\n", self.debvote("count", "--poll", "poll.toml", "--ballots", "ballots").output)
@@ -73,7 +76,7 @@ class Good(CloseTest):
             "Sum of ballots: ",
             output,
         )
-        self.assertEqual(self.without_last_envelope().split()[0], of_call)
+        self.assertEqual(self.as_announced().split()[0], of_call)
 
     def test_without_ballots(self) -> None:
         ended = self.election("close")
@@ -112,9 +115,9 @@ class Good(CloseTest):
                 poll = poll.replace('title = """\nlast"""', 'title = "last"')
                 self.write("poll.toml", poll)
                 self.add("ada 1,2,4,3\n")
-                before = self.without_last_envelope()
+                before = self.as_announced()
                 self.assertEqual(self.election("close").status, 0)
-                self.assertEqual(self.without_last_envelope(), before)
+                self.assertEqual(self.as_announced(), before)
                 sheet = self.debvote("count", "--poll", "poll.toml", "--ballots", "ballots").output
                 self.assertIn("Last envelope: 1\n", sheet)
                 self.assertEqual(self.election("close").status, 0)

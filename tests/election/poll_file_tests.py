@@ -1,6 +1,9 @@
 """The text of a poll: one line of it is changed, and all others stay byte for byte."""
 
+import pathlib
+import subprocess
 import sys
+import tempfile
 import tomllib
 import unittest
 
@@ -12,6 +15,13 @@ from debvote_tools.election import poll_file  # noqa: E402
 from debvote_tools.faults import Fault, Status  # noqa: E402
 
 ROLL = '["ada", "ben"]'
+
+# polls with lines that look like those that the announced sum leaves out, and are more, or less
+ALL_KEPT = [
+    b'a = 1\nlast_envelope_was = """\nwording = "more_than"\nlast_envelope"""\n', b"last_envelope = 3 # x\n", b"last_envelope=3\n",
+    b" last_envelope = 3\n", b"# last_envelope = 3\n", b"last_envelope2 = 1\n", b"last_envelope = -1\n", b"last_envelope = \n",
+    b'extended_to = """\nb = 2\n"""\n', b"extended_to = \"''' #\"\n", b'extended_to = "\\"\n', b'extended_to = "1" # x\n',
+]  # fmt: skip
 
 
 class WithKey(unittest.TestCase):
@@ -122,22 +132,29 @@ class WithKey(unittest.TestCase):
         self.assert_refused(b"a = 2025-02-30\n", "it can't be read as TOML 1.0: ")
 
 
-class WithoutLastEnvelope(unittest.TestCase):
-    def test_it_is_what_grep_leaves(self) -> None:
+class AsAnnounced(unittest.TestCase):
+    def test_it_is_what_the_command_leaves(self) -> None:
         polls = [
             b"a = 1\nlast_envelope = 3\nb = 2\n", b"a = 1\nb = 2", b"last_envelope = 3", b"a = 1\r\nlast_envelope = 3\r\n", b"",
-            b"a = 1\n last_envelope = 3\n# last_envelope\nlast_envelope2 = 1\n", b"last_envelope = 1\nlast_envelope = 2\n\n",
+            b"last_envelope = 1\nlast_envelope = 2\n\n", b'a = 1\nextended_to = "2026-12-04T18:00:00+01:00"\nlast_envelope = 3\n',
+            *ALL_KEPT,
         ]  # fmt: skip
-        for poll in polls:
-            grep = support.subprocess.run(["grep", "-av", "^last_envelope"], input=poll, capture_output=True).stdout
-            self.assertEqual(poll_file.without_last_envelope(poll), grep, poll)
+        with tempfile.TemporaryDirectory() as folder:
+            for poll in polls:
+                (pathlib.Path(folder) / "poll.toml").write_bytes(poll)
+                left = subprocess.run(["sh", "-c", poll_file.AS_ANNOUNCED], cwd=folder, capture_output=True).stdout
+                self.assertEqual(poll_file.as_announced(poll), left, poll)
+
+    def test_no_line_goes_that_is_more_than_one_of_these(self) -> None:
+        for poll in ALL_KEPT:
+            self.assertEqual(poll_file.as_announced(poll), poll)
 
     def test_a_last_envelope_that_is_added_is_all_that_differs(self) -> None:
         windows = (b"a = 1\r\n", b"a = 1\r\nb = 2", b"\xef\xbb\xbfa = 1\n")
         for poll in (b"a = 1\n[t]\nb = 2\n", b"a = 1", b"# x\n", b"[t]\nb = 1", *windows):
             closed = poll_file.with_key(poll, "last_envelope", "12")
             self.assertNotEqual(closed, poll)
-            self.assertEqual(poll_file.without_last_envelope(closed), poll_file.without_last_envelope(poll))
+            self.assertEqual(poll_file.as_announced(closed), poll_file.as_announced(poll))
 
 
 class Long(unittest.TestCase):

@@ -54,7 +54,7 @@ def random_election(seed: int) -> Random:
     size, names = chance.randint(2, 6), [word() for _ in range(chance.randint(1, 12))]
     holders = [secret.new_holder(name, word(), f"{word()}@{word()}.example") for name in names]
     strangers = [word() for _ in range(4)]
-    ranks = lambda: ",".join(chance.choice([*map(str, range(1, size + 1)), "-"]) for _ in range(size))  # noqa: E731
+    ranks = lambda: ",".join(chance.choice([*map(str, range(1, size + 1)), "-", "77"]) for _ in range(size))  # noqa: E731
     first = [f"{names[0]} {ranks()}" for _ in range(chance.randint(3000, 6000))]
     elector = lambda: chance.choice(names)  # noqa: E731
     odd = [f"{chance.choice(strangers)} {ranks()}", f"{elector()} {ranks()},", f"{elector().upper()} {ranks()}"]
@@ -140,8 +140,41 @@ class RandomTest(SecretTest):
         self.assertEqual(public[public.index("\nVoters: ") :], private[private.index("\nVoters: ") :])
         standing = self.debvote("standing", "--poll", "poll.toml", "--ballots", "ballots", cwd=room).output.splitlines()
         codes = {holder.name: holder.alias for holder in secret.holders_in(room / "private" / "codes.csv")}
-        wanted = sorted(f"{codes[line.split()[0]]} {line.split()[1]}" for line in standing)
+        wanted = sorted(f"{codes[line.split()[0]]} {in_normal_form(line.split()[1])}" for line in standing)
         self.assertEqual(files["ballots.txt"].decode().splitlines(), wanted)
+        voters = {line.split()[0] for line in standing}
+        absent = re.findall(r'<li id="(\w+)">', (room / "result" / "index.html").read_text(encoding="utf-8"))
+        absent = [alias for alias in absent if alias not in {line.split()[0] for line in wanted}]
+        self.assertEqual(absent, sorted(alias for name, alias in codes.items() if name not in voters))
+
+
+def in_normal_form(ranks: str) -> str:
+    """The ranks as they are published: the least numbers that say the same."""
+    numbers = sorted({int(rank) for rank in ranks.split(",") if rank != "-"})
+    return ",".join("-" if rank == "-" else str(numbers.index(int(rank)) + 1) for rank in ranks.split(","))
+
+
+class RanksTest(SecretTest):
+    def test_ranks_are_no_mark(self) -> None:
+        """Whoever buys votes may ask for ranks that nobody else gives: they are published as everybody gives them."""
+        self.closed(ballots="ada 17,33,99,-\nben 1,2,3,-\ncleo 44,44,9,50\ndan -,-,-,-\n")
+        self.done("publish", "--secret")
+        aliases = {row["name"]: row["alias"] for row in self.rows()}
+        ranks = {"ada": "1,2,3,-", "ben": "1,2,3,-", "cleo": "2,2,1,3", "dan": "-,-,-,-"}
+        wanted = "".join(sorted(f"{aliases[name]} {found}\n" for name, found in ranks.items()))
+        self.assertEqual((self.read("result/ballots.txt").decode(), self.read("result/standing.txt").decode()), (wanted, wanted))
+        page = html.unescape(self.read("result/index.html").decode())
+        self.assertIn("The ranks are 1, 2 and so on in the order that the elector gave them; equal ones are equal.", page)
+        self.assertIn("What is left to know a ballot by is the order, which options are equal, and which are not ranked", page)
+
+    def test_a_folder_with_ranks_as_they_were_typed(self) -> None:
+        """Version 1.0.0 published them so. A folder beside it has no other ballots."""
+        self.closed(ballots="ada 17,33,99,-\nben 1,2,3,4\n")
+        self.done("publish", "--secret")
+        alias = next(row["alias"] for row in self.rows() if row["name"] == "ada")
+        self.write("result/ballots.txt", self.read("result/ballots.txt").replace(f"{alias} 1,2,3,-".encode(), f"{alias} 17,33,99,-".encode()))
+        self.assertIn(b"17,33,99", self.read("result/ballots.txt"))
+        self.assertNotIn("has other ballots", self.done("publish", "--secret", "result-2"))
 
 
 class KilledTest(SecretTest):

@@ -3,6 +3,7 @@
 import dataclasses
 
 from debvote_tools.ballots import UNRANKED, in_words
+from debvote_tools.election import poll_file
 from debvote_tools.sheet import Sheet
 
 # it stands in the example where the elector's own name goes
@@ -37,7 +38,6 @@ PUBLIC_OF_SECRET = (
     "votes may tell. Of lines that were refused or came late their number alone is published. A list of the electors who have "
     "voted, without their votes, may be published too."
 )
-COMPARE = "grep -v '^last_envelope' poll.toml | sha256sum"
 LATER = (
     "The poll is not changed any more, but for one line that it may get when the vote closes, last_envelope: it says how many "
     "ballots were in time. The sum and the command leave it out."
@@ -73,7 +73,7 @@ class Call:
     @property
     def compare(self) -> str:
         """The command that answers the sum of the poll."""
-        return COMPARE_SECRET if self.is_secret else COMPARE
+        return COMPARE_SECRET if self.is_secret else poll_file.COMPARE
 
     def how_words(self) -> str:
         """How a ballot is written."""

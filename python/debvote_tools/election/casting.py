@@ -80,7 +80,7 @@ def findings_of(election: Election, poll: bytes, lines: list[Line]) -> tuple[dic
     The lines are asked about alone, and without the last envelope: so what is late does not hide what is wrong, and names that
     are near to an earlier line's do not use up the hints.
     """
-    with in_memory(without_last_envelope(poll)) as path:
+    with in_memory(poll_file.without_last_envelope(poll)) as path:
         of_changed = found_in(election, path, [line.changed for line in lines])
         others = [at for at in of_changed if lines[at].kept != lines[at].changed]
         of_kept = found_in(election, path, [lines[at].kept for at in others]) if others else {}
@@ -91,17 +91,6 @@ def found_in(election: Election, poll: str, lines: list[bytes]) -> dict[int, Fin
     """What debvote finds of some lines, each by its place, from 0."""
     answer = asked_of(election, "explain", poll, b"".join(line + b"\n" for line in lines))
     return {finding.envelope - 1: finding for finding in findings_in(answer.text).refused}
-
-
-def without_last_envelope(poll: bytes) -> bytes:
-    """The poll in which no envelope is late, however its line is written."""
-    text = poll_file.text_of(poll)
-    for statement in poll_file.statements(text):
-        if statement.key is None:
-            break
-        if statement.key == poll_file.LAST_ENVELOPE:
-            return (text[: statement.start] + text[statement.end :]).encode()
-    return poll
 
 
 def asked_of(election: Election, task: str, poll: str, ballots: bytes) -> Answer:

@@ -6,6 +6,7 @@ It is looked for beside the new one, and in the folder of the election.
 import os
 import pathlib
 
+from debvote_tools.ballots import in_normal_form
 from debvote_tools.election import poll_file
 from debvote_tools.election.folder import Election
 from debvote_tools.election.telling import count_of
@@ -50,5 +51,14 @@ def aliases_in(folder: pathlib.Path) -> set[str]:
 
 
 def lines_in(folder: pathlib.Path) -> set[bytes]:
-    """The published ballots of a folder."""
-    return set(read_at_most(folder / BALLOTS, BALLOTS_LIMIT).splitlines())
+    """The published ballots of a folder, with ranks in normal form: version 1.0.0 published them as they were typed."""
+    return set(map(in_form, read_at_most(folder / BALLOTS, BALLOTS_LIMIT).splitlines()))
+
+
+def in_form(line: bytes) -> bytes:
+    """A ballot in normal form; a line that is none stays as it is."""
+    alias, space, ranks = line.partition(b" ")
+    try:
+        return alias + space + in_normal_form(ranks.decode("ascii")).encode()
+    except ValueError:
+        return line

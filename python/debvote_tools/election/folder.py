@@ -204,8 +204,8 @@ class Election:
         """Stops where the poll is no more the one that was called, its last envelope left out."""
         if not self.is_called():
             return
-        called = poll_file.without_last_envelope(self.called_poll.read_bytes())
-        now = poll_file.without_last_envelope(files.poll)
+        called = poll_file.as_announced(self.called_poll.read_bytes())
+        now = poll_file.as_announced(files.poll)
         if called != now:
             raise Fault(
                 f"{self.poll}: it was changed after the call for votes: {difference(called, now)}; put this right (the poll that "

@@ -9,6 +9,13 @@ from debvote_tools.faults import Fault, Status
 
 LAST_ENVELOPE = "last_envelope"
 
+# the lines that a poll may get after it was announced, each as a whole: the last envelope, and a later deadline. The second has no
+# sign that ends a text or goes on with it, so neither line changes what the others mean. A line of Windows has a sign more.
+LATER = r"""(last_envelope = [0-9]+|extended_to = "[0-9T:+ -]*")\s?"""
+# what leaves them out, as a reader types it; a letter has both lines whole
+AS_ANNOUNCED = f"grep -vxE '{LATER}' \\\n  poll.toml"
+COMPARE = f"{AS_ANNOUNCED} | sha256sum"
+
 # what Windows puts before a text in UTF-8
 MARK = "\ufeff"
 
@@ -136,7 +143,19 @@ def says(data: bytes, wanted: dict[str, object]) -> bool:
         return False
 
 
-def without_last_envelope(data: bytes) -> bytes:
-    """What `grep -v '^last_envelope'` leaves of a poll: it ends a last line that has no line feed."""
+def as_announced(data: bytes) -> bytes:
+    """The poll as it was announced, without the lines that it may get later: what `AS_ANNOUNCED` leaves of it.
+
+    As `grep` does, it ends a last line that has no line feed.
+    """
     ended = data if data.endswith(b"\n") or not data else data + b"\n"
-    return re.sub(rb"(?m)^last_envelope[^\n]*\n", b"", ended)
+    is_later = re.compile(LATER.encode()).fullmatch
+    return b"".join(line + b"\n" for line in ended.split(b"\n")[:-1] if not is_later(line))
+
+
+def without_last_envelope(data: bytes) -> bytes:
+    """The poll in which no envelope is late, however its line is written. It is to be asked about, and never to be compared."""
+    text = text_of(data)
+    above = itertools.takewhile(lambda statement: statement.key is not None, statements(text))
+    line = next((statement for statement in above if statement.key == LAST_ENVELOPE), None)
+    return data if line is None else (text[: line.start] + text[line.end :]).encode()

@@ -5,7 +5,7 @@ import os
 import pathlib
 import re
 
-from debvote_tools.election.poll_file import without_last_envelope
+from debvote_tools.election.poll_file import as_announced
 from debvote_tools.faults import Doubt
 from debvote_tools.files import read_at_most, sum_of
 
@@ -29,7 +29,7 @@ class Called:
 
 def called_of(poll: bytes, has_last_envelope: bool, announced: str | None) -> Called:
     """What is said of the call, for the bytes of the published poll."""
-    return Called(sum_of(without_last_envelope(poll)), has_last_envelope, announced)
+    return Called(sum_of(as_announced(poll)), has_last_envelope, announced)
 
 
 def folders_of(file: str) -> list[pathlib.Path]:

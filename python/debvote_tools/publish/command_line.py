@@ -59,6 +59,9 @@ def main(beside: pathlib.Path, words: Sequence[str] | None = None) -> int:
     for number in (signal.SIGHUP, signal.SIGINT, signal.SIGTERM):
         signal.signal(number, lambda number, _: sys.exit(128 + number))
     asked = parser().parse_args(words)
+    # a label that the terminal can't show is no reason to stop
+    if sys.stdout is not None:
+        sys.stdout.reconfigure(errors="backslashreplace")
     try:
         said, status = publish(asked, beside)
     except Fault as fault:

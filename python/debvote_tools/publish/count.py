@@ -1,7 +1,5 @@
 """The parts of the page that say how the result came about: options, votes, defeats with their picture, and rounds."""
 
-from html import escape
-
 from debvote_tools.pages import joined, listed, paragraph, part, wide
 from debvote_tools.publish.data import ended
 from debvote_tools.publish.picture import MOST_IN_PAGE, least_width, picture_in_page
@@ -30,11 +28,10 @@ def style(found: Published) -> str:
 
 
 def options(found: Published) -> str:
-    """The options with their ratios, in a list that bears their numbers; with a label also the name of the poll."""
+    """The options with their ratios, in a list that bears their numbers."""
     sheet = found.sheet
     kinds = {option: f"majority ratio {ratio}" for option, ratio in sheet.ratios.items()}
-    in_poll = {option: f" (in the poll: {escape(sheet.names[option])})" for option in found.labels.options}
-    entries = [f"{found.option(o)}{in_poll.get(o, '')}, {kinds.get(o, 'the default option')}" for o in sheet.names]
+    entries = [f"{found.option(o)}, {kinds.get(o, 'the default option')}" for o in sheet.names]
     return part("Options", listed("ul", entries))
 
 
@@ -62,7 +59,7 @@ def row(found: Published, a: int) -> str:
     kind = f' class="{"dropped" if a in found.sheet.dropped else end}"' if end in MARKS else ""
     mark = f' <span class="ended">{MARKS[end]}</span>' if end in MARKS else ""
     cells = "".join(cell(found.sheet, a, b) for b in found.sheet.names)
-    return f'<tr{kind}><th scope="row">{a} {found.name(a)}{mark}</th>{cells}</tr>\n'
+    return f'<tr{kind}><th scope="row">{a} {found.name(a)}{found.place_of_name(a)}{mark}</th>{cells}</tr>\n'
 
 
 def cell(sheet: Sheet, a: int, b: int) -> str:

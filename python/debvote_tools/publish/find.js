@@ -49,9 +49,12 @@
     } else if (place.closest(".ballots") === null) {
       say(paragraph(`Your alias is ${alias}. It is on the roll, and no ballot counts under it.`));
     } else {
-      say(paragraph(`This ballot counts for ${name}:`), ballotNode(place));
+      say(paragraph(`This ballot counts for ${name}:`), ballotNode(place), ...namesInPoll());
     }
   }
+
+  // What the options are called in the poll, where the page has labels for them.
+  const namesInPoll = () => [...document.querySelectorAll(".in-poll")].map((part) => part.cloneNode(true));
 
   async function show() {
     const name = nameTyped();

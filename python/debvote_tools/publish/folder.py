@@ -15,7 +15,7 @@ from debvote_tools.publish import doubts, recounting, secret
 from debvote_tools.publish.called import about_call, announced_sum, called_of
 from debvote_tools.publish.calls import BALLOTS, POLL, SHEET, Calls, calls_in
 from debvote_tools.publish.data import result_json, votes_csv
-from debvote_tools.publish.labels import labels_in, labels_of
+from debvote_tools.publish.labels import labels_in, labels_of, told
 from debvote_tools.publish.page import page_of
 from debvote_tools.publish.picture import picture_of
 from debvote_tools.publish.published import File, Further, Published
@@ -130,6 +130,7 @@ def make(calls: Calls, text: str, given: Given, found: list[Doubt], further: Fur
     """
     folder, sheet = calls.debvote.folder, sheet_in(text)
     labels = labels_of(given.labels_file, given.labels, sheet)
+    print(told(labels, sheet), end="", flush=True)
     version, standing, refused = calls.version(), calls.standing(), findings_in(calls.explain()).refused
     write_public(folder / SHEET, text.encode())
     verified, picture = calls.verify(), picture_of(calls.picture(), len(sheet.names))

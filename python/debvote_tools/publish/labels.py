@@ -8,6 +8,7 @@ A line has a number, a tab and a text. The number is that of an option, or 0 for
 
 import dataclasses
 import re
+import unicodedata
 
 from debvote_tools.faults import Fault, Status
 from debvote_tools.publish.texts import text_in
@@ -19,6 +20,12 @@ TITLE = 0
 LONGEST = 200
 
 HOW = "a line is a number, a tab and a text, as 1<TAB>At the lake"
+
+# the kinds of signs that a reader does not see, or sees as part of another: accents, and marks that steer the direction
+UNSEEN = ("Mn", "Mc", "Me", "Cf")
+
+# what the page says beside a label
+IN_POLL = "inthepoll"
 
 
 @dataclasses.dataclass(frozen=True)
@@ -69,8 +76,42 @@ def labels_of(file: str | None, found: dict[int, tuple[int, str]], sheet: Sheet)
         if number != TITLE and number not in sheet.names:
             words = f"the poll has no option {number}: its options are 1 to {sheet.default}, and 0 stands for the title"
             raise bad_label(f"{file}:{place}", words)
+    demand_unlike(file, found, sheet)
     texts = {number: text for number, (_, text) in found.items()}
     return Labels(texts.pop(TITLE, None), texts)
+
+
+def demand_unlike(file: str | None, found: dict[int, tuple[int, str]], sheet: Sheet) -> None:
+    """Stops where a label would be read as another option: it is the name of one in the poll, or its label."""
+    names = {alike(name): number for number, name in sheet.names.items()}
+    labelled: dict[str, int] = {}
+    for number, (place, text) in found.items():
+        if number == TITLE:
+            continue
+        form = alike(text)
+        if IN_POLL in form:
+            raise bad_label(f"{file}:{place}", "it says what an option is called in the poll, and the page says that itself")
+        cure = "call each option by a text of its own"
+        if form in names and form != alike(sheet.names[number]):
+            words = f"option {number} would be called as option {names[form]}, {sheet.names[names[form]]}, is in the poll"
+            raise bad_label(f"{file}:{place}", f"{words}; {cure}")
+        if labelled.setdefault(form, number) != number:
+            raise bad_label(f"{file}:{place}", f"option {number} would be called as option {labelled[form]} is; {cure}")
+
+
+def alike(text: str) -> str:
+    """What of a text tells it from others at a glance: case, accents, spaces and signs that are not seen do not."""
+    signs = unicodedata.normalize("NFKD", text.casefold())
+    return "".join(sign for sign in signs if not sign.isspace() and unicodedata.category(sign) not in UNSEEN).casefold()
+
+
+def told(labels: Labels, sheet: Sheet) -> str:
+    """The number of each option with its name in the poll and its label, for who publishes; nothing where there are none."""
+    if labels.is_empty:
+        return ""
+    title = [] if labels.title is None else [f"  the title {sheet.facts['Poll']}: {labels.title}"]
+    options = [f"  {number} {name}: {labels.options.get(number, '(no label)')}" for number, name in sheet.names.items()]
+    return "\n".join(["The page calls them so, each behind its name in the poll:", *title, *options, ""])
 
 
 def bad_label(where: str, words: str) -> Fault:

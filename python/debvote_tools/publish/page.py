@@ -5,7 +5,7 @@ import shlex
 from html import escape
 
 from debvote_tools import ballots, pages
-from debvote_tools.election.call_words import COMPARE
+from debvote_tools.election.poll_file import COMPARE
 from debvote_tools.pages import command_block, joined, listed, paragraph, part
 from debvote_tools.publish import count, result
 from debvote_tools.publish.calls import BALLOTS, FILES, POLL, SHEET
@@ -27,7 +27,7 @@ def page_of(found: Published, files: list[File]) -> str:
     parts = [why(found), count.options(found), count.votes(found), count.defeats(found), count.rounds(found)]
     parts += [standing_ballots(found), refused(found), *found.further.parts, check(found, files)]
     about = result.about(found)
-    sections = result.result(found) + "".join(about) + contents(parts) + "".join(parts)
+    sections = "".join(map(found.with_names, [result.result(found), *about, contents(parts), *parts]))
     style = pages.STYLE + count.style(found) + (result.DOUBTS_STYLE if found.doubts else "")
     style += (result.ABOUT_STYLE if about else "") + found.further.style
     title = found.title()
@@ -64,7 +64,14 @@ def standing_ballots(found: Published) -> str:
     entries = "".join(
         f'<li id="{voter}"><b>{voter}</b> <code>{ranks}</code>: {ballot_in_words(ranks, shown)}</li>\n' for voter, ranks in cast
     )
-    return part("Ballots", paragraph(said), f'<ul class="ballots">\n{entries}</ul>')
+    called = [names_in_poll(found)] if has_names and found.labels.options else []
+    return part("Ballots", paragraph(said), *called, f'<ul class="ballots">\n{entries}</ul>')
+
+
+def names_in_poll(found: Published) -> str:
+    """What the options of the ballots are called in the poll, where they have labels. The script shows it below a ballot too."""
+    names = joined(f"{option} {found.name(option)}{found.in_poll(option)}" for option in found.labels.options)
+    return f'<p class="in-poll">{names}</p>'
 
 
 def ballot_in_words(ranks: str, shown: dict[int, str]) -> str:

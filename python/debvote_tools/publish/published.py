@@ -1,6 +1,7 @@
 """What is published: the records from which the page and the files of a folder are made."""
 
 import dataclasses
+import re
 from collections.abc import Mapping, Sequence
 from html import escape
 
@@ -73,7 +74,27 @@ class Published:
 
     def option(self, option: int) -> str:
         """An option as it is called in a sentence, by its number and its name."""
-        return f"<b>{option} {self.name(option)}</b>"
+        return f"<b>{option} {self.name(option)}</b>{self.place_of_name(option)}"
+
+    def place_of_name(self, option: int) -> str:
+        """Where the name of the poll may come to stand beside a label; no text has these two signs."""
+        return f"\x02{option}\x03" if option in self.labels.options else ""
+
+    def in_poll(self, option: int) -> str:
+        """What an option is called in the poll, as it stands beside its label."""
+        return f" (in the poll: {escape(self.sheet.names[option])})"
+
+    def with_names(self, section: str) -> str:
+        """A section of the page in which the name of the poll stands beside the first label of each option."""
+        told: set[str] = set()
+
+        def name_of(place: re.Match[str]) -> str:
+            if place[1] in told:
+                return ""
+            told.add(place[1])
+            return self.in_poll(int(place[1]))
+
+        return re.sub("\x02(\\d+)\x03", name_of, section)
 
 
 def shown(label: str | None, name: str) -> str:

@@ -171,7 +171,8 @@ def further_of(hidden: Hidden, totals: Totals, *, with_voters: bool) -> Further:
     files = [File(VOTERS, what, "".join(f"{name}\n" for name in hidden.voters).encode())] if with_voters else []
     said = (
         "The vote is secret: each ballot that counts stands under the alias of its elector, and the aliases stand in their own "
-        "order, which tells nothing. Ballots that an elector has replaced are not published."
+        "order, which tells nothing. The ranks are 1, 2 and so on in the order that the elector gave them; equal ones are equal. "
+        "Ballots that an elector has replaced are not published."
     )
     return Further(
         unlisted=totals,

@@ -7,7 +7,7 @@ import pathlib
 import re
 
 from debvote_tools import journal, secret
-from debvote_tools.election.poll_file import without_last_envelope
+from debvote_tools.election.poll_file import as_announced
 from debvote_tools.faults import Fault, Status
 from debvote_tools.files import sum_of
 from debvote_tools.secret import Holder
@@ -64,6 +64,6 @@ def ballot_with_name(holders: list[Holder], options: list[str]) -> re.Pattern[st
 
 def private_sums(poll: bytes, ballots: bytes, election: pathlib.Path | None) -> set[str]:
     """The sums of the private files, as they are and as they were."""
-    sums = {sum_of(data) for data in (poll, without_last_envelope(poll), ballots)}
+    sums = {sum_of(data) for data in (poll, as_announced(poll), ballots)}
     entries = [] if election is None else journal.entries_in(election / journal.NAME)
     return sums.union(*({entry.sums.poll, entry.sums.ballots} for entry in entries))

@@ -138,7 +138,7 @@ def demand_covered(election: Election, poll: bytes) -> None:
 
     A line may begin with these letters and go on with anything within a text of several lines.
     """
-    bare = poll_file.without_last_envelope(poll)
+    bare = poll_file.as_announced(poll)
     has_line = len(bare) < len(poll)
     if has_line and sheet_without_last(election, poll) != sheet_without_last(election, bare):
         words = "a line begins with last_envelope and is more than that; the sum of the call would leave it out"
@@ -150,7 +150,7 @@ def demand_unvoted(election: Election, files: Files) -> None:
     given = given_already(election, files)
     if given is None or not election.called_poll.exists():
         return
-    called, now = map(poll_file.without_last_envelope, (election.called_poll.read_bytes(), files.poll))
+    called, now = map(poll_file.as_announced, (election.called_poll.read_bytes(), files.poll))
     if called != now:
         words = f"it is another poll than the one that was called: {difference(called, now)}; {given}"
         raise Fault(f"{election.poll}: {words}", Status.DOUBT)
@@ -194,7 +194,7 @@ def public_poll(election: Election, files: Files) -> bytes:
 def call_of(election: Election, sheet: Sheet, poll: bytes, asked: argparse.Namespace) -> Call:
     """What is called for, with the poll that is public."""
     is_secret = election.is_secret()
-    poll_sum = sum_of(poll_file.without_last_envelope(poll))
+    poll_sum = sum_of(poll_file.as_announced(poll))
     roll = None if asked.no_roll or is_secret else poll_file.roll_of(poll)
     return Call(sheet, poll_sum, asked.until, asked.to, roll, has_poll=not asked.no_roll, is_secret=is_secret)
 
@@ -240,7 +240,7 @@ def keep_called(election: Election, files: Files) -> None:
     """Keeps the poll that is called; of one that was called before, and taken back, a copy."""
     kept = election.called_poll
     if kept.exists():
-        if poll_file.without_last_envelope(kept.read_bytes()) == poll_file.without_last_envelope(files.poll):
+        if poll_file.as_announced(kept.read_bytes()) == poll_file.as_announced(files.poll):
             return
         election.keep_copy(kept)
     election.backup.mkdir(exist_ok=True)

@@ -98,7 +98,7 @@ def closed_poll(election: Election, files: Files, number: int) -> bytes:
     answer = election.debvote.ask("explain", "--poll", "/dev/stdin", given=poll)
     is_refused = answer.status not in (Status.DECIDED, Status.DOUBT)
     sheet = None if is_refused else sheet_of_all(election, Files(poll, files.ballots))
-    is_same = poll_file.without_last_envelope(poll) == poll_file.without_last_envelope(files.poll)
+    is_same = poll_file.as_announced(poll) == poll_file.as_announced(files.poll)
     if sheet is None or sheet.facts.get(LAST) != str(number) or sheet.facts["Lines"] != str(number) or not is_same:
         words = f"debvote does not read `last_envelope = {number}` where it would be written; nothing was changed"
         raise Fault(f"{election.poll}: {words}: ask {command(election, 'check')}", Status.BAD_POLL)
@@ -135,7 +135,7 @@ def poll_sums(election: Election, after: Files) -> list[str]:
         return [f"Sum of {election.poll}: {after.sums.poll}"]
     if election.is_secret():
         return [*called_sum(election), f"Sum of {election.poll} as it is now: {after.sums.poll}"]
-    of_call = sum_of(poll_file.without_last_envelope(after.poll))
+    of_call = sum_of(poll_file.as_announced(after.poll))
     return [
         f"Without this line {election.poll} is the poll that was called, with the sum of the call: {of_call}",
         f"Sum of {election.poll} as it is now, with this line: {after.sums.poll}",

@@ -123,7 +123,7 @@ def demand_same_call(election: Election, files: Files, poll: bytes, members: Mem
     """Stops where the call for votes was made with another roll than the list has now."""
     if not election.call.exists() or not election.called_poll.exists():
         return
-    called, now = map(poll_file.without_last_envelope, (election.called_poll.read_bytes(), poll))
+    called, now = map(poll_file.as_announced, (election.called_poll.read_bytes(), poll))
     if called != now:
         words = f"the call for votes was made with another roll than this list has: {roll_difference(called, now)}"
         anew = f"to call anew with this one, first remove the folder {election.call}"
