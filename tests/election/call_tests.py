@@ -101,7 +101,7 @@ class CallTest(support.ElectionTest):
         self.assertEqual(self.read("call/SHA256SUMS").decode(), wanted)
 
     def leftovers(self) -> list[str]:
-        return [file.name for file in self.folder.glob(".call.*")]
+        return [file.name for file in self.folder.glob(".debvote-*")]
 
 
 class MadeTest(CallTest):

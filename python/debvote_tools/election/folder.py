@@ -10,7 +10,7 @@ from collections.abc import Iterator
 from debvote_tools import closed, journal, secret
 from debvote_tools.election import poll_file
 from debvote_tools.faults import Fault, Status
-from debvote_tools.files import BALLOTS_LIMIT, POLL_LIMIT, locked, read_at_most, write_new, write_whole
+from debvote_tools.files import BALLOTS_LIMIT, POLL_LIMIT, locked, read_at_most, take_away_temporaries, write_new, write_whole
 from debvote_tools.journal import Entry, Sums
 from debvote_tools.program import Debvote
 from debvote_tools.sheet import Sheet
@@ -85,15 +85,8 @@ class Election:
 
     def settle(self, files: Files) -> None:
         """Notes an act that was cut off, and takes away what a run that was killed has left half written."""
-        for name in (self.poll.name, self.ballots.name, self.members.name):
-            for file in self.folder.glob(f".{name}.*"):
-                file.unlink()
-        for folder in (self.received, self.backup):
-            for file in [*folder.glob(".[0-9]*"), *folder.glob(f".{self.closed_ballots.name}.*")]:
-                file.unlink()
-        for name in (self.codes.name, self.slips.name, self.called_aliases.name, "[0-9]*"):
-            for file in self.private.glob(f".{name}.*"):
-                file.unlink()
+        for folder in (self.folder, self.received, self.backup, self.private):
+            take_away_temporaries(folder)
         begun = journal.begun(self.journal)
         is_undone = begun is not None and begun.sums != files.sums
         self.cut_off = begun if is_undone else None

@@ -18,7 +18,7 @@ from debvote_tools.election.checking import checked
 from debvote_tools.election.folder import Election, Files, difference
 from debvote_tools.election.secrecy import aliases_now, demand_own_folder, told_apart
 from debvote_tools.faults import Fault, Status
-from debvote_tools.files import sum_of, sync_folder, umask, write_new, write_whole
+from debvote_tools.files import TEMPORARY, sum_of, sync_folder, take_away_temporaries, umask, write_new, write_whole
 from debvote_tools.sheet import Sheet
 
 HELP = "Make the call for votes, a page and a letter; the poll is not changed any more"
@@ -27,7 +27,7 @@ SUMS = "SHA256SUMS"
 NAMES = ("index.html", "call.txt", "poll.toml", SUMS)
 
 # how the name of a folder begins that is not in its place yet, or no more
-LEFTOVER = ".call."
+LEFTOVER = f"{TEMPORARY}call-"
 
 ADDRESS = re.compile(r"[A-Za-z0-9_][A-Za-z0-9._+=-]*@[A-Za-z0-9-]+(\.[A-Za-z0-9-]+)*")
 ADDRESS_LIMIT = 254
@@ -287,8 +287,7 @@ def take_away(folder: pathlib.Path) -> None:
 def take_away_leftovers(election: Election) -> None:
     """Removes what runs that were killed have left beside the call."""
     for folder in election.folder.glob(f"{LEFTOVER}*"):
-        for file in folder.glob(".*") if folder.is_dir() else ():
-            file.unlink()
+        take_away_temporaries(folder)
         take_away(folder)
 
 
