@@ -10,12 +10,12 @@ import stat
 import tempfile
 import unicodedata
 
-from debvote_tools import journal, secret
-from debvote_tools.election import call_letter, call_page, poll_file
+from debvote_tools import called, journal, secret
+from debvote_tools.election import call_letter, call_page, poll_file, taking_back
 from debvote_tools.election.asking import NO_BALLOTS, command, given_already
 from debvote_tools.election.call_words import Call
 from debvote_tools.election.checking import checked
-from debvote_tools.election.folder import Election, Files, difference
+from debvote_tools.election.folder import Election, Files
 from debvote_tools.election.secrecy import aliases_now, demand_own_folder, told_apart
 from debvote_tools.faults import Fault, Status
 from debvote_tools.files import TEMPORARY, sum_of, sync_folder, take_away_temporaries, umask, write_new, write_whole
@@ -42,11 +42,14 @@ def options(parser: argparse.ArgumentParser) -> None:
     parser.add_argument("--until", metavar="TEXT", help=until)
     parser.add_argument("--to", metavar="ADDRESS", help="The mail address that ballots are sent to")
     parser.add_argument("--no-roll", action="store_true", help=no_roll)
+    taking_back.options(parser)
 
 
 def run(election: Election, asked: argparse.Namespace) -> int:
     demand_until(asked.until)
     demand_address(asked.to)
+    if asked.take_back:
+        return taking_back.run(election, asked)
     with election.changing() as files:
         sheet = checked(election, files)
         demand_unvoted(election, files)
@@ -150,9 +153,9 @@ def demand_unvoted(election: Election, files: Files) -> None:
     given = given_already(election, files)
     if given is None or not election.called_poll.exists():
         return
-    called, now = map(poll_file.without_last_envelope, (election.called_poll.read_bytes(), files.poll))
-    if called != now:
-        words = f"it is another poll than the one that was called: {difference(called, now)}; {given}"
+    before, now = map(poll_file.without_last_envelope, (election.called_poll.read_bytes(), files.poll))
+    if before != now:
+        words = f"it is another poll than the one that was called: {called.difference(before, now)}; {given}"
         raise Fault(f"{election.poll}: {words}", Status.DOUBT)
 
 
