@@ -8,11 +8,15 @@ import os
 import pathlib
 import re
 import signal
+import stat
 import tempfile
 from collections.abc import Iterator
 
 # in bytes; one more is read of a longer file, so that debvote says that it is too long
 POLL_LIMIT, BALLOTS_LIMIT = 1_048_576, 33_554_432
+
+# how each temporary begins, and no file of anybody else: an editor puts its own beside a file, as `.poll.toml.swp`
+TEMPORARY = ".debvote-"
 
 
 def sum_of(data: bytes) -> str:
@@ -42,7 +46,7 @@ def write_whole(file: pathlib.Path, data: bytes, mode: int = 0o644) -> None:
     is as it was.
     """
     mode = file.stat().st_mode & 0o777 if file.exists() else mode & ~umask()
-    handle, name = tempfile.mkstemp(prefix=f".{file.name}.", dir=file.parent)
+    handle, name = tempfile.mkstemp(prefix=TEMPORARY, dir=file.parent)
     try:
         with os.fdopen(handle, "wb") as target:
             target.write(data)
@@ -57,6 +61,13 @@ def write_whole(file: pathlib.Path, data: bytes, mode: int = 0o644) -> None:
             error.filename = str(file)
         raise
     sync_folder(file.parent)
+
+
+def take_away_temporaries(folder: pathlib.Path) -> None:
+    """Removes the temporaries that runs that were killed have left in a folder, and no other file."""
+    for file in folder.glob(f"{TEMPORARY}*"):
+        if stat.S_ISREG(file.lstat().st_mode):
+            file.unlink()
 
 
 def write_public(file: pathlib.Path, data: bytes) -> None:

@@ -83,6 +83,11 @@ def last_entries(file: pathlib.Path) -> list[Entry]:
     return entries if done(entries) else entries_in(file)
 
 
+def in_words(time: str) -> str:
+    """A time of the journal, as a person writes it."""
+    return time.replace("T", " ").replace("Z", " UTC")
+
+
 def begun(file: pathlib.Path) -> Entry | None:
     """The entry of an act that was begun, where it is not noted that it was done."""
     try:

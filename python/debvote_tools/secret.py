@@ -17,7 +17,7 @@ import secrets
 import stat
 from collections.abc import Iterable
 
-from debvote_tools import journal
+from debvote_tools import called, journal
 from debvote_tools.ballots import in_normal_form
 from debvote_tools.election import poll_file
 from debvote_tools.faults import Fault, Status
@@ -230,24 +230,24 @@ def ballots_of(standing: dict[str, str], aliases: dict[str, str]) -> bytes:
 
 
 def is_taken_back(codes: pathlib.Path) -> bool:
-    """Whether the folder of the call is gone that was made with these codes: it was taken back, or moved to a web site."""
-    return (codes.parent / CALLED).exists() and not (codes.parent.parent / "call").exists()
+    """Whether the call that was made with these codes was taken back."""
+    return (codes.parent / CALLED).exists() and called.call_of(codes.parent.parent) is None
 
 
 def demand_called(codes: pathlib.Path, poll: bytes, *, is_published: bool = False) -> None:
     """Stops where the poll under aliases is not the one that was called, which lies beside the codes.
 
-    Where the folder of the call is gone, another poll may be called, and none may be published.
+    Where the call was taken back, another poll may be called, and none may be published.
     """
-    called = codes.parent / CALLED
-    if not called.exists() or (is_taken_back(codes) and not is_published):
+    kept = codes.parent / CALLED
+    if not kept.exists() or (is_taken_back(codes) and not is_published):
         return
-    before = private_bytes(called)
+    before = private_bytes(kept)
     if before == poll:
         return
     then, now = (set(map(str, poll_file.document(data)["roll"])) for data in (before, poll))
     if then == now:
-        raise Fault(f"{called}: it is not the poll of this vote under aliases; find out who changed it", Status.DOUBT)
+        raise Fault(f"{kept}: it is not the poll of this vote under aliases; find out who changed it", Status.DOUBT)
     who = [holder.name for holder in holders_in(codes) if holder.alias in now - then]
     words = f"the alias of {some(who)} is not on the roll that was called" if who else "an alias that was called is missing"
     cure = "call again, if nobody has seen the earlier call; whoever compares two calls sees whose alias is new"

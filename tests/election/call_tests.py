@@ -100,8 +100,14 @@ class CallTest(support.ElectionTest):
         wanted = "".join(f"{sum_of(self.read(f'call/{name}'))}  {name}\n" for name in names if name != "SHA256SUMS")
         self.assertEqual(self.read("call/SHA256SUMS").decode(), wanted)
 
+    def take_back(self) -> None:
+        """Takes the call back, where there is one."""
+        if (self.folder / "call").exists():
+            ended = self.election("call", "--take-back")
+            self.assertEqual((ended.status, ended.faults), (0, ""))
+
     def leftovers(self) -> list[str]:
-        return [file.name for file in self.folder.glob(".call.*")]
+        return [file.name for file in self.folder.glob(".debvote-*")]
 
 
 class MadeTest(CallTest):
@@ -161,7 +167,7 @@ class MadeTest(CallTest):
             (POLL.replace("quorum = 1", "quorum = 3"), "The quorum is 5 votes: at least 5 electors must prefer"),
             (POLL[: POLL.index("roll")] + 'roll = ["ada"]\n', "The quorum is 1 vote: at least 1 elector must prefer an option"),
         ):
-            shutil.rmtree(self.folder / "call", ignore_errors=True)
+            self.take_back()
             self.write("poll.toml", poll)
             self.call()
             self.assertIn(words, " ".join(self.read("call/call.txt").decode().split()))
@@ -202,7 +208,7 @@ class MadeTest(CallTest):
         self.assertIn("roll. It is published with the result. So that", " ".join(letter.split()))
         self.assertNotIn("THE ROLL", letter)
         for count, is_listed in {200: True, 201: False}.items():
-            shutil.rmtree(self.folder / "call")
+            self.take_back()
             names = [f"an-elector-with-a-long-name-{number:04}" for number in range(count)]
             self.write("poll.toml", POLL.split("roll = ")[0] + f"roll = {json.dumps(names)}\n")
             self.call()
@@ -224,7 +230,7 @@ class MadeTest(CallTest):
             names = [f"{number} of the options, as long as it may be....."[:40] for number in range(1, size)]
             keys = {"title": "A title of many words " * 3, "options": names, "ratios": [2] * (size - 1), "default": "None"}
             keys |= {"quorum": 10, "roll": ["name"]}
-            shutil.rmtree(self.folder / "call", ignore_errors=True)
+            self.take_back()
             self.write("poll.toml", "".join(f"{key} = {json.dumps(value)}\n" for key, value in keys.items()))
             self.call("--until", "some day, " * 30)
             letter = self.read("call/call.txt").decode()
@@ -376,17 +382,17 @@ class ChangedTest(CallTest):
             self.assert_fault(ended, 9, "poll.toml: it was changed after the call", "line 5 was `quorum = 1`", "line 5 is `quorum = 2`")
             self.assertEqual(self.contents(), before)
 
-    def test_called_anew_after_the_folder_was_removed(self) -> None:
-        shutil.rmtree(self.folder / "call")
+    def test_called_anew_after_it_was_taken_back(self) -> None:
+        self.take_back()
         changed = self.called.replace(b"quorum = 1", b"quorum = 2")
         self.write("poll.toml", changed)
         self.call()
         self.assertEqual(self.read("backup/poll.toml.called"), changed)
-        self.assertEqual(self.read("backup/0001-poll.toml.called"), self.called)
+        self.assertEqual(self.read("backup/0002-poll.toml.called"), self.called)
         self.assert_whole()
 
     def test_called_anew_where_ballots_are_in_the_box(self) -> None:
-        shutil.rmtree(self.folder / "call")
+        self.take_back()
         changed = self.called.replace(b"quorum = 1", b"quorum = 2")
         for ballots, lines in {
             b"ada 1,2,3,4\n": "1 line already that was given for that poll",
@@ -404,9 +410,9 @@ class ChangedTest(CallTest):
         # an empty box, or the poll that was called with a last envelope, stops nothing
         self.write("poll.toml", self.called + b"last_envelope = 3\n")
         self.call()
-        shutil.rmtree(self.folder / "call")
         self.write("poll.toml", changed)
         self.write("ballots", b"")
+        self.take_back()
         self.call()
         self.assertEqual(self.read("backup/poll.toml.called"), changed)
 

@@ -80,7 +80,8 @@ class EditedByHand(DangerTest):
         self.assertRegex(ended.output, rf"^Note: ballots was changed by hand since {TIME} \(add\): {words}")
         self.assertIn("2 counted  eve: ", ended.output)
         self.write("ballots", "cleo 1,2,4,3\n")
-        ended = self.election("close")
+        self.assert_fault(self.election("close"), 9, "ballots: lines that came were taken out, changed or put in another order by hand")
+        ended = self.election("close", "--even-so")
         self.assertRegex(ended.output, rf"Note: ballots was changed by hand since {TIME} \(cast\): {words}")
         self.assertIn("Closed: 1 line came in time. ", ended.output)
 

@@ -162,12 +162,13 @@ class Folder(support.ElectionTest):
     def test_what_a_kill_has_left_half_written_is_taken_away(self) -> None:
         for name in ("received", "backup"):
             (self.folder / name).mkdir()
-        left = [".ballots.abc", ".poll.toml.x_1", ".members.csv.q", "received/.0001-more.txt.abc", "backup/.0002-poll.toml.abc"]
-        for name in [*left, "received/0001-more.txt", ".gitignore", "received/.hidden"]:
+        left = [".debvote-abc", "received/.debvote-x_1", "backup/.debvote-q"]
+        others = [".gitignore", ".poll.toml.swp", "received/.0001-more.txt.abc", "received/.hidden", "received/0001-more.txt"]
+        for name in [*left, *others]:
             self.write(name, "x")
         with self.election_of.changing():
             pass
-        self.assertEqual(sorted(self.contents()), [".gitignore", "poll.toml", "received/.hidden", "received/0001-more.txt"])
+        self.assertEqual(sorted(self.contents()), sorted([*others, "poll.toml"]))
 
     def test_a_first_add_that_was_cut_off(self) -> None:
         with self.election_of.changing() as files:

@@ -260,7 +260,7 @@ class AfterTheCall(RollTest):
         self.write("members.csv", GOOD + "cleo,,\n")
         before = self.contents()
         ended = self.election("roll")
-        self.assert_fault(ended, 9, "members.csv: the call for votes was made with another roll than this list has: new are cleo; put the list back", "first remove the folder call")
+        self.assert_fault(ended, 9, "members.csv: the call for votes was made with another roll than this list has: new are cleo; put the list back", "first take the call back: debvote-election call --take-back")
         self.assert_unchanged(before)
 
     def test_another_roll_where_ballots_are_in_the_box(self) -> None:
@@ -269,7 +269,7 @@ class AfterTheCall(RollTest):
         before = self.contents()
         ended = self.election("roll")
         self.assert_fault(ended, 9, "with another roll", "ballots has 1 line already", "put the list right", "a new election in a new folder")
-        self.assertNotIn("remove the folder", ended.faults)
+        self.assertNotIn("take-back", ended.faults)
         self.assert_unchanged(before)
 
     def test_the_same_roll_is_no_change(self) -> None:
@@ -285,7 +285,7 @@ class AfterTheCall(RollTest):
 
     def test_once_the_call_is_taken_back_it_is_written(self) -> None:
         self.write("members.csv", GOOD + "cleo,,\n")
-        (self.folder / "call").rmdir()
+        self.assertEqual(self.election("call", "--take-back").status, 0)
         self.assertEqual(self.election("roll").status, 0)
         self.assertEqual(self.roll_of(), ["ada", "ben", "cleo"])
 

@@ -284,10 +284,10 @@ class CallTest(SecretTest):
         self.done("call")
         before = self.contents()
         ended = self.election("codes")
-        cure = "where no ballot has come yet, remove the folder call, run debvote-election codes, and call again"
+        cure = "where no ballot has come yet, run debvote-election call --take-back and debvote-election codes, and call again"
         self.assert_fault(ended, 9, "call: it was made for an open vote", "codes come before the call", cure)
         self.assertEqual(self.contents(), before)
-        shutil.rmtree(self.folder / "call")
+        self.done("call", "--take-back")
         self.done("codes")
         self.done("call")
         self.assertTrue((self.folder / "private" / "poll.toml.called").exists())
@@ -313,7 +313,7 @@ class CallTest(SecretTest):
         self.done("codes")
         self.done("call")
         first = self.read("private/poll.toml.called")
-        shutil.rmtree(self.folder / "call")
+        self.done("call", "--take-back")
         self.write("members.csv", MEMBERS + "jon,Jon,\n")
         self.done("roll")
         self.done("codes")

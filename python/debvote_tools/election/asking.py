@@ -1,6 +1,5 @@
 """What the commands ask debvote, and what they say where it refuses."""
 
-import pathlib
 import shlex
 from collections.abc import Iterable
 
@@ -14,8 +13,7 @@ NO_BALLOTS = "/dev/null"
 
 def command(election: Election, *words: str) -> str:
     """A command as the user types it from where the user is."""
-    where = [] if election.folder == pathlib.Path(".") else ["--folder", str(election.folder)]
-    return shlex.join(["debvote-election", *where, *words])
+    return election.command(*words)
 
 
 def call_command(election: Election) -> str:

@@ -2,15 +2,14 @@
 
 import contextlib
 import dataclasses
-import difflib
 import functools
 import pathlib
+import shlex
 from collections.abc import Iterator
 
-from debvote_tools import closed, journal, secret
-from debvote_tools.election import poll_file
+from debvote_tools import called, closed, journal, secret
 from debvote_tools.faults import Fault, Status
-from debvote_tools.files import BALLOTS_LIMIT, POLL_LIMIT, locked, read_at_most, write_new, write_whole
+from debvote_tools.files import BALLOTS_LIMIT, POLL_LIMIT, locked, read_at_most, take_away_temporaries, write_new, write_whole
 from debvote_tools.journal import Entry, Sums
 from debvote_tools.program import Debvote
 from debvote_tools.sheet import Sheet
@@ -39,8 +38,8 @@ class Election:
         self.members = folder / "members.csv"
         self.received = folder / "received"
         self.backup = folder / "backup"
-        self.call = folder / "call"
-        self.called_poll = self.backup / "poll.toml.called"
+        self.call = folder / called.FOLDER
+        self.called_poll = folder / called.KEPT
         self.closed_ballots = folder / closed.KEPT
         self.result = folder / "result"
         self.private = folder / secret.PRIVATE
@@ -54,6 +53,11 @@ class Election:
         # the act that the last `changing` has found not done
         self.cut_off: Entry | None = None
 
+    def command(self, *words: str) -> str:
+        """A command as the user types it from where the user is."""
+        where = [] if self.folder == pathlib.Path(".") else ["--folder", str(self.folder)]
+        return shlex.join(["debvote-election", *where, *words])
+
     # ------------------------------------------------------------ the lock
     @contextlib.contextmanager
     def reading(self) -> Iterator[Files]:
@@ -65,13 +69,16 @@ class Election:
             yield files
 
     @contextlib.contextmanager
-    def changing(self) -> Iterator[Files]:
-        """Holds the lock alone. First it notes an act that was cut off, and stops where the called poll was changed."""
+    def changing(self, *, any_poll: bool = False) -> Iterator[Files]:
+        """Holds the lock alone. First it notes an act that was cut off, and stops where the called poll was changed, unless any
+        poll is right.
+        """
         self.check_folder()
         with locked(self.lock):
             files = self.files()
             self.settle(files)
-            self.check_called(files)
+            if not any_poll:
+                self.check_called(files)
             yield files
 
     def check_folder(self) -> None:
@@ -85,15 +92,8 @@ class Election:
 
     def settle(self, files: Files) -> None:
         """Notes an act that was cut off, and takes away what a run that was killed has left half written."""
-        for name in (self.poll.name, self.ballots.name, self.members.name):
-            for file in self.folder.glob(f".{name}.*"):
-                file.unlink()
-        for folder in (self.received, self.backup):
-            for file in [*folder.glob(".[0-9]*"), *folder.glob(f".{self.closed_ballots.name}.*")]:
-                file.unlink()
-        for name in (self.codes.name, self.slips.name, self.called_aliases.name, "[0-9]*"):
-            for file in self.private.glob(f".{name}.*"):
-                file.unlink()
+        for folder in (self.folder, self.received, self.backup, self.private):
+            take_away_temporaries(folder)
         begun = journal.begun(self.journal)
         is_undone = begun is not None and begun.sums != files.sums
         self.cut_off = begun if is_undone else None
@@ -197,22 +197,26 @@ class Election:
 
     # ------------------------------------------------------------ the call
     def is_called(self) -> bool:
-        """Whether the poll was called, and the call was not taken back."""
-        return self.call.exists() and self.called_poll.exists()
+        """Whether the poll was called, and the call was not taken back; its folder may be gone."""
+        return called.call_of(self.folder) is not None
 
     def check_called(self, files: Files) -> None:
         """Stops where the poll is no more the one that was called, its last envelope left out."""
-        if not self.is_called():
-            return
-        called = poll_file.as_announced(self.called_poll.read_bytes())
-        now = poll_file.as_announced(files.poll)
-        if called != now:
-            raise Fault(
-                f"{self.poll}: it was changed after the call for votes: {difference(called, now)}; put this right (the poll that "
-                f"was called is {self.called_poll}{self.and_its_last_envelope()}), or, where no ballot has come yet, remove the "
-                f"folder {self.call} and call again",
-                Status.DOUBT,
-            )
+        call = called.call_of(self.folder)
+        if call is not None and not call.is_of(files.poll):
+            right = f"put this right (the poll that was called is {self.called_poll}{self.and_its_last_envelope()})"
+            anew = f"where no ballot has come yet, take the call back: {self.command('call', '--take-back')}"
+            change = f"it was changed after the call for votes: {call.change_in(files.poll)}"
+            raise Fault(f"{self.poll}: {change}; {right}, or, {anew}", Status.DOUBT)
+
+    def missing_call(self) -> str | None:
+        """That the folder of the call is gone, and what to do; none where it is there, or where there was no call."""
+        call = called.call_of(self.folder)
+        if call is None or called.has_folder(self.folder):
+            return None
+        when = "" if call.time is None else f" at {journal.in_words(call.time)}"
+        cure = f"put it back as it was sent out, or make it anew with {self.command('call')}, which says the same"
+        return f"the call for votes was made{when}, and its folder {self.call} is gone; {cure}"
 
     def and_its_last_envelope(self) -> str:
         """The line that the close has put into the poll: who copies the called poll back has to write it again."""
@@ -230,14 +234,3 @@ def bytes_of(file: pathlib.Path, limit: int, status: int, cure: str) -> bytes:
     except OSError as error:
         raise Fault(f"{file}: {error.strerror}; {cure}", status) from None
 
-
-def difference(before: bytes, after: bytes) -> str:
-    """The lines in which two polls differ, each with its number, at most six of them."""
-    old, new = (data.decode("utf-8", "backslashreplace").splitlines() for data in (before, after))
-    said = []
-    for kind, a, b, c, d in difflib.SequenceMatcher(None, old, new, autojunk=False).get_opcodes():
-        if kind != "equal":
-            said += [f"line {place + 1} was `{old[place]}`" for place in range(a, b)]
-            said += [f"line {place + 1} is `{new[place]}`" for place in range(c, d)]
-    shown = said[:6] + ([f"and {len(said) - 6} more"] if len(said) > 6 else [])
-    return ", ".join(shown) if shown else "its line ends differ"

@@ -22,7 +22,7 @@ def count_of(number: int, what: str) -> str:
 
 def time_of(entry: Entry) -> str:
     """The time of an act, as a person writes it."""
-    return entry.time.replace("T", " ").replace("Z", " UTC")
+    return journal.in_words(entry.time)
 
 
 def tell_time(election: Election, what: str) -> None:
@@ -30,8 +30,16 @@ def tell_time(election: Election, what: str) -> None:
     closed = election.closed()
     if closed is not None:
         tell(f"Note: the election was closed at {time_of(closed)}; {what} now is late.")
-    elif not election.call.exists() and journal.last(election.entries(), "call") is None:
+    elif not election.call.exists() and not election.is_called():
         tell("Note: the call for votes has not been made yet.")
+    tell_missing_call(election)
+
+
+def tell_missing_call(election: Election) -> None:
+    """Says that the folder of the call is gone."""
+    missing = election.missing_call()
+    if missing is not None:
+        tell(f"Note: {missing}.")
 
 
 def tell_edits(election: Election, files: Files) -> None:

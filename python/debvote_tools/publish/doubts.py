@@ -10,12 +10,14 @@ import re
 import shlex
 import sys
 
-from debvote_tools import journal
+from debvote_tools import by_hand, called, journal
 from debvote_tools.closed import Counted, changed_since
+from debvote_tools.election.poll_file import as_announced
 from debvote_tools.faults import Doubt, Fault, Status
+from debvote_tools.files import sum_of
 from debvote_tools.journal import Sums
 from debvote_tools.program import Debvote, Findings, Totals, findings_in
-from debvote_tools.publish.called import folders_of
+from debvote_tools.publish.called import announced_sum, folders_of
 from debvote_tools.publish.calls import BALLOTS, POLL, Calls
 from debvote_tools.sheet import Sheet
 
@@ -187,13 +189,46 @@ def about_election(made: pathlib.Path, poll: str, ballots: str, sheet: Sheet) ->
     folder = election_of(poll)
     if folder is None:
         return []
-    data = (made / BALLOTS).read_bytes()
-    now = Sums.of((made / POLL).read_bytes(), data)
-    close = journal.last(journal.acts_done(folder / journal.NAME, now), "close")
+    data, called_for = (made / BALLOTS).read_bytes(), (made / POLL).read_bytes()
+    found = about_call(folder, poll, called_for)
+    acts = journal.acts_done(folder / journal.NAME, Sums.of(called_for, data))
+    found += by_hand.doubts_about(by_hand.changes_in(folder, acts, data), ballots)
+    close = journal.last(acts, "close")
     if close is None:
-        return [not_closed(folder)]
+        return [*found, not_closed(folder)]
     changes = changed_since(close, folder, Counted(poll, ballots, data, sheet))
-    return [dataclasses.replace(doubt, in_secret=NOT_AS_CLOSED) for doubt in changes]
+    return [*found, *(dataclasses.replace(doubt, in_secret=NOT_AS_CLOSED) for doubt in changes)]
+
+
+def about_call(folder: pathlib.Path, poll: str, data: bytes) -> list[Doubt]:
+    """That the folder of the call is gone, and that the poll is not the one that was called. Where the folder is there, what it
+    announced is compared elsewhere.
+    """
+    call = called.call_of(folder)
+    if call is None:
+        return []
+    announced = announced_sum(poll)
+    found = [] if announced is not None else [no_folder(folder, call)]
+    if not call.is_of(data) and announced in (None, sum_of(as_announced(data))):
+        change = f"it was changed after the call for votes: {call.change_in(data)}"
+        cure = "find out who changed it, and publish the poll that was called"
+        sentence = "The poll is not the one that was called."
+        found.append(Doubt(poll, change, cure, sentence, sentence))
+    return found
+
+
+def no_folder(folder: pathlib.Path, call: called.Called) -> Doubt:
+    """That the folder of the call is gone, so that nobody has compared what it announced."""
+    when = "" if call.time is None else f" at {journal.in_words(call.time)}"
+    where = [] if folder == pathlib.Path() else ["--folder", str(folder)]
+    anew = shlex.join(["debvote-election", *where, "call"])
+    sentence = (
+        "The folder of the call for votes was gone when this page was made, so the sum that it announced was not compared with "
+        "that of the poll."
+    )
+    reason = f"the call for votes was made{when}, and its folder is gone"
+    cure = f"put it back as it was sent out, or make it anew: {anew}"
+    return Doubt(str(folder / called.FOLDER), reason, cure, sentence, sentence)
 
 
 def election_of(poll: str) -> pathlib.Path | None:

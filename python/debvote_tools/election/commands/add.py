@@ -8,6 +8,7 @@ import pathlib
 import re
 import sys
 
+from debvote_tools.by_hand import OF_TABLE
 from debvote_tools.election.asking import command
 from debvote_tools.election.casting import Batch, cast, sheet_of, summary
 from debvote_tools.election.doubts import Part, stop_at_added_before, stop_at_no_ballot
@@ -67,15 +68,17 @@ def run(election: Election, asked: argparse.Namespace) -> int:
         found = lines_of(election, files, inputs, asked)
         tell_time(election, "what is added")
 
+        parts: list[Part] = []
+
         def look(batch: Batch) -> None:
+            parts.extend(parts_of(inputs, found, batch))
             if not asked.even_so:
-                parts = parts_of(inputs, found, batch)
                 stop_at_no_ballot(parts, asked.csv)
                 stop_at_added_before(election, files, parts, asked.csv)
             tell_empty(found)
 
         full = [line for lines in found for line in lines if not line.is_empty]
-        batch = cast(election, "add", files, full, lambda: keep(election, inputs), look)
+        batch = cast(election, "add", files, full, lambda: keep(election, inputs, parts if asked.csv else []), look)
     tell(f"Added {summary([batch])}.")
     tell(f"Next: {what_next(election)}")
     return Status.DECIDED
@@ -148,10 +151,12 @@ def reads_as_poll(election: Election, data: bytes) -> bool:
     return election.debvote.ask("check", "--poll", "/dev/stdin", given=data).status == Status.DECIDED
 
 
-def keep(election: Election, inputs: list[Input]) -> None:
-    """Keeps what came, as it came."""
+def keep(election: Election, inputs: list[Input], tables: list[Part]) -> None:
+    """Keeps what came, as it came, and of each table the lines that its rows have made, so that they can be looked for."""
     for source in inputs:
         write_new(election.received, source.kept_as, source.data)
+    for source, table in zip(inputs, tables):
+        write_new(election.received, f"{source.kept_as}{OF_TABLE}", b"".join(ballot.text + b"\n" for ballot in table.ballots))
 
 
 # ---------------------------------------------------------------- lines

@@ -10,15 +10,15 @@ import stat
 import tempfile
 import unicodedata
 
-from debvote_tools import journal, secret
-from debvote_tools.election import call_letter, call_page, poll_file
+from debvote_tools import called, journal, secret
+from debvote_tools.election import call_letter, call_page, poll_file, taking_back
 from debvote_tools.election.asking import NO_BALLOTS, command, given_already
 from debvote_tools.election.call_words import Call
 from debvote_tools.election.checking import checked
-from debvote_tools.election.folder import Election, Files, difference
+from debvote_tools.election.folder import Election, Files
 from debvote_tools.election.secrecy import aliases_now, demand_own_folder, told_apart
 from debvote_tools.faults import Fault, Status
-from debvote_tools.files import sum_of, sync_folder, umask, write_new, write_whole
+from debvote_tools.files import TEMPORARY, sum_of, sync_folder, take_away_temporaries, umask, write_new, write_whole
 from debvote_tools.sheet import Sheet
 
 HELP = "Make the call for votes, a page and a letter; the poll is not changed any more"
@@ -27,7 +27,7 @@ SUMS = "SHA256SUMS"
 NAMES = ("index.html", "call.txt", "poll.toml", SUMS)
 
 # how the name of a folder begins that is not in its place yet, or no more
-LEFTOVER = ".call."
+LEFTOVER = f"{TEMPORARY}call-"
 
 ADDRESS = re.compile(r"[A-Za-z0-9_][A-Za-z0-9._+=-]*@[A-Za-z0-9-]+(\.[A-Za-z0-9-]+)*")
 ADDRESS_LIMIT = 254
@@ -42,11 +42,14 @@ def options(parser: argparse.ArgumentParser) -> None:
     parser.add_argument("--until", metavar="TEXT", help=until)
     parser.add_argument("--to", metavar="ADDRESS", help="The mail address that ballots are sent to")
     parser.add_argument("--no-roll", action="store_true", help=no_roll)
+    taking_back.options(parser)
 
 
 def run(election: Election, asked: argparse.Namespace) -> int:
     demand_until(asked.until)
     demand_address(asked.to)
+    if asked.take_back:
+        return taking_back.run(election, asked)
     with election.changing() as files:
         sheet = checked(election, files)
         demand_unvoted(election, files)
@@ -150,9 +153,9 @@ def demand_unvoted(election: Election, files: Files) -> None:
     given = given_already(election, files)
     if given is None or not election.called_poll.exists():
         return
-    called, now = map(poll_file.as_announced, (election.called_poll.read_bytes(), files.poll))
-    if called != now:
-        words = f"it is another poll than the one that was called: {difference(called, now)}; {given}"
+    before, now = map(poll_file.as_announced, (election.called_poll.read_bytes(), files.poll))
+    if before != now:
+        words = f"it is another poll than the one that was called: {called.difference(before, now)}; {given}"
         raise Fault(f"{election.poll}: {words}", Status.DOUBT)
 
 
@@ -287,8 +290,7 @@ def take_away(folder: pathlib.Path) -> None:
 def take_away_leftovers(election: Election) -> None:
     """Removes what runs that were killed have left beside the call."""
     for folder in election.folder.glob(f"{LEFTOVER}*"):
-        for file in folder.glob(".*") if folder.is_dir() else ():
-            file.unlink()
+        take_away_temporaries(folder)
         take_away(folder)
 
 

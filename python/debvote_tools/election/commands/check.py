@@ -30,7 +30,7 @@ def run(election: Election, asked: argparse.Namespace) -> int:
 
 def what_next(election: Election, files: Files) -> str:
     """The command that the election needs next."""
-    if election.call.exists():
+    if election.call.exists() or election.is_called():
         return command(election, "status")
     if election.is_secret() and without_code(election, files.poll):
         return f"{command(election, 'codes')}, for an elector has no code yet"

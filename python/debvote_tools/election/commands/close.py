@@ -6,9 +6,10 @@ import re
 from debvote_tools import journal, secret
 from debvote_tools.election import poll_file
 from debvote_tools.election.asking import NO_BALLOTS, command, refused
+from debvote_tools.election.edited import EVEN_SO, stop_at_changes
 from debvote_tools.election.folder import Election, Files
 from debvote_tools.election.secrecy import demand_own_folder
-from debvote_tools.election.telling import count_of, tell, tell_edits, time_of
+from debvote_tools.election.telling import count_of, tell, tell_edits, tell_missing_call, time_of
 from debvote_tools.faults import Fault, Status
 from debvote_tools.files import in_memory, sum_of, uninterrupted
 from debvote_tools.journal import Entry
@@ -20,18 +21,20 @@ LAST = "Last envelope"
 
 
 def options(parser: argparse.ArgumentParser) -> None:
-    """It has none of its own."""
+    parser.add_argument("--even-so", action="store_true", help=EVEN_SO)
 
 
 def run(election: Election, asked: argparse.Namespace) -> int:
     with election.changing() as files:
         demand_own_folder(election)
         tell_edits(election, files)
+        tell_missing_call(election)
         sheet = sheet_of_all(election, files)
         before = election.closed()
         if before is not None:
             return say_again(election, sheet, before)
         stop_at_a_last_envelope(election, files, sheet)
+        stop_at_changes(election, files, even_so=asked.even_so)
         files = end_last_line(election, files)
         number = int(sheet.facts["Lines"])
         poll = closed_poll(election, files, number)

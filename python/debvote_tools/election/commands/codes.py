@@ -37,7 +37,7 @@ def run(election: Election, asked: argparse.Namespace) -> int:
         demand_uncalled(election)
         before = holders_before(election)
         is_strange = bool(before) and journal.last(election.entries(), secret.ACT) is None
-        if election.call.exists():
+        if election.is_called():
             # the aliases are public: one that is not among them can't be added
             aliases_now(election, files.poll)
         people = people_of(election, roll)
@@ -60,10 +60,10 @@ def run(election: Election, asked: argparse.Namespace) -> int:
 # ---------------------------------------------------------------- what is there already
 def demand_uncalled(election: Election) -> None:
     """Stops where the call for votes was made without codes: it says that all see who voted what."""
-    if not election.call.exists() or election.called_aliases.exists():
+    if not election.is_called() or election.called_aliases.exists():
         return
     words = "it was made for an open vote, and says that ballots are published with names; codes come before the call"
-    anew = f"where no ballot has come yet, remove the folder {election.call}, run {command(election, 'codes')}, and call again"
+    anew = f"where no ballot has come yet, run {command(election, 'call', '--take-back')} and {command(election, 'codes')}, and call again"
     raise Fault(f"{election.call}: {words}: {anew}", Status.DOUBT)
 
 
@@ -183,7 +183,7 @@ def write(election: Election, files: Files, before: list[Holder], holders: list[
 
     Before the call the poll gets the line that says that the vote is secret: so no copy of it is published with its names.
     """
-    poll = files.poll if election.call.exists() else secret.saying_secret(files.poll)
+    poll = files.poll if election.is_called() else secret.saying_secret(files.poll)
     if holders != before:
         keep_copy(election, election.codes.name)
         write_whole(election.codes, secret.text_of(holders), FILE_MODE)
@@ -233,7 +233,7 @@ def say(
         tell(f"Note: {secret.some(gone)} {have} not on the roll; {count} for nothing.")
     if has_slips:
         tell(f"The slips, to print and cut out: {election.slips}")
-    if election.call.exists():
+    if election.is_called():
         tell(f"Next: {command(election, 'status')}")
     else:
         tell(f"Next: give each elector their slip, so that nobody else sees it; then {call_command(election)}")

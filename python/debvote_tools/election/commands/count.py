@@ -39,6 +39,9 @@ def run(election: Election, asked: argparse.Namespace) -> int:
     sys.stdout.write(answer.text)
     sys.stdout.flush()
     print(*(f"Note: {change}\n" for change in changes), sep="", end="", file=sys.stderr)
+    missing = election.missing_call()
+    if missing is not None:
+        print(f"Note: {missing}.", file=sys.stderr)
     print(f"Next: {what_next(election, sheet, asked.casting)}", file=sys.stderr)
     return answer.status
 

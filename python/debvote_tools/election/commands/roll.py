@@ -6,6 +6,7 @@ import pathlib
 import re
 from collections.abc import Callable
 
+from debvote_tools import called
 from debvote_tools.election import poll_file
 from debvote_tools.election.asking import command, empty_sheet, explained, given_already, quorum_words
 from debvote_tools.election.folder import Election, Files
@@ -121,21 +122,19 @@ def tell_alike(members: Members, column: str, key: Callable[[Member], str]) -> N
 # ---------------------------------------------------------------- the poll
 def demand_same_call(election: Election, files: Files, poll: bytes, members: Members) -> None:
     """Stops where the call for votes was made with another roll than the list has now."""
-    if not election.call.exists() or not election.called_poll.exists():
-        return
-    called, now = map(poll_file.as_announced, (election.called_poll.read_bytes(), poll))
-    if called != now:
-        words = f"the call for votes was made with another roll than this list has: {roll_difference(called, now)}"
-        anew = f"to call anew with this one, first remove the folder {election.call}"
+    call = called.call_of(election.folder)
+    if call is not None and not call.is_of(poll):
+        words = f"the call for votes was made with another roll than this list has: {roll_difference(files.poll, poll)}"
+        anew = f"to call anew with this one, first take the call back: {command(election, 'call', '--take-back')}"
         cure = given_already(election, files, "the list") or f"put the list back as it was; {anew}"
         raise Fault(f"{members.file}: {words}; {cure}", Status.DOUBT)
 
 
-def roll_difference(called: bytes, now: bytes) -> str:
+def roll_difference(before: bytes, after: bytes) -> str:
     """Which names came and went; where the names are the same, that their order is another one."""
-    before, after = (poll_file.roll_of(poll) for poll in (called, now))
-    said = [f"new are {names_of([name for name in after if name not in set(before)])}"] if set(after) - set(before) else []
-    said += [f"gone are {names_of([name for name in before if name not in set(after)])}"] if set(before) - set(after) else []
+    then, now = (poll_file.roll_of(poll) for poll in (before, after))
+    said = [f"new are {names_of([name for name in now if name not in set(then)])}"] if set(now) - set(then) else []
+    said += [f"gone are {names_of([name for name in then if name not in set(now)])}"] if set(then) - set(now) else []
     return ", ".join(said) or "the names are the same, in another order"
 
 

@@ -6,9 +6,10 @@ import itertools
 import re
 import textwrap
 
-from debvote_tools import journal
+from debvote_tools import called, journal
 from debvote_tools.election import poll_file
 from debvote_tools.election.asking import call_command, command, files_of, quorum_words, refused
+from debvote_tools.election.edited import changes_of
 from debvote_tools.election.folder import Election, Files
 from debvote_tools.election.members import shown
 from debvote_tools.election.secrecy import aliases_now, demand_own_folder, publish_words
@@ -53,7 +54,7 @@ def run(election: Election, asked: argparse.Namespace) -> int:
         acts = acts_of(election, files)
         tell_edited(election, files, acts)
         state = state_of(election, files)
-        changed = election.changed_since_close(files, state.sheet)
+        changed = [*changes_of(election, files).lines(), *election.changed_since_close(files, state.sheet)]
     print(f"Title: {state.sheet.facts['Poll']}")
     tell_secrecy(election, files)
     tell_stage(election, acts, state.sheet)
@@ -124,11 +125,14 @@ def tell_secrecy(election: Election, files: Files) -> None:
 
 def tell_stage(election: Election, acts: list[Entry], sheet: Sheet) -> None:
     """Says whether the election is called and closed."""
-    call = journal.last(acts, "call")
-    if election.call.exists():
+    call = journal.last(acts, called.MADE)
+    if election.call.exists() or election.is_called():
         print(f"Call for votes: made{f' at {time_of(call)}' if call else ''}")
     else:
         print("Call for votes: not made yet")
+    missing = election.missing_call()
+    if missing is not None:
+        print(f"Note: {missing}.")
     close = journal.last(acts, "close")
     last = sheet.facts.get("Last envelope")
     if close is not None:
@@ -142,7 +146,7 @@ def tell_stage(election: Election, acts: list[Entry], sheet: Sheet) -> None:
 def what_next(election: Election, acts: list[Entry], state: State) -> str:
     """The command that the election needs next."""
     add = f"{command(election, 'add', 'FILE')}, or {command(election, 'desk')}"
-    if not election.call.exists() and not state.findings.totals.lines:
+    if not election.call.exists() and not election.is_called() and not state.findings.totals.lines:
         return call_command(election)
     if journal.last(acts, "close") is None:
         return f"add the ballots as they come: {add}; when the vote is over: {command(election, 'close')}"

@@ -1,0 +1,174 @@
+"""What was done by hand to the ballots before the close: lines that came, and were taken out, changed, or put in another order.
+
+The journal has the sum of the ballots after each act, so it tells whether anybody has edited them; received/ has what came, so it
+tells which lines. Lines that were put in by hand are told too: like those of a desk they are typed by the secretary.
+"""
+
+import collections
+import dataclasses
+import hashlib
+import pathlib
+import re
+from collections.abc import Sequence
+
+from debvote_tools import journal
+from debvote_tools.closed import KEPT, beyond, lines_of, number_of
+from debvote_tools.election.lines import lines_in, shown
+from debvote_tools.faults import Doubt
+from debvote_tools.files import sum_of
+from debvote_tools.journal import Entry
+
+# what came, in the folder of the election
+RECEIVED = "received"
+
+# the end of the name under which the lines are kept that the rows of a table have made
+OF_TABLE = ".lines"
+
+# what has the shape of a ballot: a row of a table has not
+BALLOT = re.compile(rb"[^\s,;]+ (?:-|\d{1,2})(?:,(?:-|\d{1,2}))*")
+
+# so many lines of each kind are told, each with its text
+MOST = 5
+
+# the acts that cast lines
+CASTING = ("add", "cast")
+
+
+@dataclasses.dataclass(frozen=True)
+class Came:
+    """A line that came: where it is kept, such as `received/0001-monday.txt:3`, and its text as it goes in, or went in."""
+
+    where: str
+    text: bytes
+    kept: bytes
+
+
+@dataclasses.dataclass(frozen=True)
+class Changes:
+    """What differs from what came: lines that are not there, lines that are there and did not come, each with its number, and
+    whether the lines that came stand in another order.
+    """
+
+    missing: list[Came]
+    added: list[tuple[int, bytes]]
+    is_reordered: bool
+
+    @property
+    def is_loss(self) -> bool:
+        """Whether something that came does not count as it came."""
+        return bool(self.missing) or self.is_reordered
+
+    def lines(self) -> list[str]:
+        """A sentence for each line that differs, of many the first ones."""
+        found = [f"`{shown(came.text)}` came ({came.where}), and is not among the ballots" for came in self.missing[:MOST]]
+        found += more(len(self.missing) - MOST, "came, and not among the ballots")
+        found += [f"line {number}, `{shown(line)}`, is not among what came" for number, line in self.added[:MOST]]
+        found += more(len(self.added) - MOST, "not among what came")
+        return found + (["the lines stand in another order than that in which they came"] if self.is_reordered else [])
+
+
+NOTHING = Changes([], [], False)
+
+
+def more(number: int, what: str) -> list[str]:
+    return [] if number <= 0 else [f"and {number} more {'is' if number == 1 else 'are'} {what}"]
+
+
+# ---------------------------------------------------------------- what was changed
+def changes_in(folder: pathlib.Path, acts: Sequence[Entry], ballots: bytes) -> Changes:
+    """What was done by hand before the close to the ballots of the election in this folder, or up to now where it is open.
+
+    The acts are those that were done. Where the journal says that nobody has edited the ballots, nothing more is read.
+    """
+    before, late = parted(folder, acts, ballots)
+    until = acts_until_close(acts)
+    now = {sum_of(b"".join(line + b"\n" for line in before)), sum_of(ballots), *([] if ballots else [journal.NONE])}
+    first = first_edit(until, now)
+    if first is None:
+        return NOTHING
+    came = came_in(folder)
+    there = collections.Counter(before + late)
+    missing = [line for line in came if not taken(there, line)]
+    added = not_come(came, before)
+    is_reordered = not missing and not stand_as_cast(until[:first], before, {number for number, _ in added})
+    return Changes(missing, added, is_reordered)
+
+
+def parted(folder: pathlib.Path, acts: Sequence[Entry], ballots: bytes) -> tuple[list[bytes], list[bytes]]:
+    """The lines at the close, as their copy has them, and those behind it; all of them where the election is open."""
+    close = journal.last(list(acts), "close")
+    lines = lines_of(ballots)
+    number = None if close is None else number_of(close)
+    if number is None:
+        return lines, []
+    kept = folder / KEPT
+    before = lines_of(kept.read_bytes()) if kept.is_file() else lines[:number]
+    return before, lines[number:]
+
+
+def acts_until_close(acts: Sequence[Entry]) -> list[Entry]:
+    """The acts up to the close, and with it."""
+    closes = [at for at, entry in enumerate(acts) if entry.act == "close"]
+    return list(acts[: closes[-1] + 1]) if closes else list(acts)
+
+
+def first_edit(acts: Sequence[Entry], now: set[str]) -> int | None:
+    """The place behind the last act before somebody first edited the ballots; none where nobody has."""
+    sums = [journal.NONE, *(entry.sums.ballots for entry in acts)]
+    for at, entry in enumerate(acts):
+        if entry.act == journal.FOUND and entry.sums.ballots != sums[at]:
+            return at
+    is_closed = bool(acts) and acts[-1].act == "close"
+    return None if not acts or is_closed or acts[-1].sums.ballots in now else len(acts)
+
+
+def came_in(folder: pathlib.Path) -> list[Came]:
+    """The lines of ballots that came, of all files that are kept."""
+    place = folder / RECEIVED
+    names = sorted(file.name for file in place.iterdir() if re.match(r"\d+-", file.name)) if place.is_dir() else []
+    found = []
+    for name in names:
+        if (place / name).is_file():
+            lines = lines_in((place / name).read_bytes(), f"{RECEIVED}/{name}")
+            found += [Came(line.where, line.changed, line.kept) for line in lines if BALLOT.fullmatch(line.changed)]
+    return found
+
+
+def taken(there: collections.Counter[bytes], line: Came) -> bool:
+    """Whether a line that came is among those that are left, and takes it away."""
+    text = next((text for text in (line.text, line.kept) if there[text] > 0), None)
+    if text is not None:
+        there[text] -= 1
+    return text is not None
+
+
+def not_come(came: list[Came], lines: list[bytes]) -> list[tuple[int, bytes]]:
+    """The lines, each with its number, that have the shape of a ballot, and stand more often here than they came."""
+    texts = [text for line in came for text in {line.text, line.kept}]
+    return [(number, line) for number, line in beyond(lines, texts) if BALLOT.fullmatch(line)]
+
+
+def stand_as_cast(acts: Sequence[Entry], lines: list[bytes], left_out: set[int]) -> bool:
+    """Whether the lines, but for these, begin with what the last of the acts that cast lines has left."""
+    last = next((entry for entry in reversed(acts) if entry.act in CASTING), None)
+    if last is None:
+        return True
+    own = [line for number, line in enumerate(lines, start=1) if number not in left_out]
+    count = int(last.envelopes.rpartition("-")[2])
+    found = hashlib.sha256(b"".join(line + b"\n" for line in own[:count]))
+    return found.hexdigest() == last.sums.ballots
+
+
+# ---------------------------------------------------------------- the publication
+def doubts_about(changes: Changes, ballots: str) -> list[Doubt]:
+    """That lines which came do not count as they came: in an open vote which."""
+    if not changes.is_loss:
+        return []
+    many = len(changes.missing)
+    what = f"{many} {'line' if many == 1 else 'lines'} that came" if many else "the order of lines that came"
+    was = "was" if many == 1 or not many else "were"
+    reason = f"{what} {was} changed or taken out by hand before the close" if many else f"{what} was changed by hand before the close"
+    cure = "look who did it, and why; what came is kept in received"
+    said = f"{reason[0].upper()}{reason[1:]}."
+    which = "; ".join(changes.lines())
+    return [Doubt(ballots, f"{reason}: {which}", cure, f"{said[:-1]}: {which}.", said)]

@@ -1,0 +1,68 @@
+"""`call --take-back`: a call that was made, and is not to hold. It is there as long as no ballot has come."""
+
+import argparse
+import os
+import re
+
+from debvote_tools import called
+from debvote_tools.election.asking import command, given_already
+from debvote_tools.election.folder import Election, Files
+from debvote_tools.election.telling import tell, time_of
+from debvote_tools.faults import Fault, Status
+from debvote_tools.files import sync_folder, uninterrupted
+
+
+def options(parser: argparse.ArgumentParser) -> None:
+    said = "Take the call back, where no ballot has come yet: then the poll can be changed, and called anew"
+    parser.add_argument("--take-back", action="store_true", help=said)
+
+
+def run(election: Election, asked: argparse.Namespace) -> int:
+    if asked.until is not None or asked.to is not None or asked.no_roll:
+        raise Fault("--take-back: it stands alone; first take the call back, then call anew", Status.BAD_WORDS)
+    with election.changing(any_poll=True) as files:
+        demand_call(election)
+        demand_unvoted(election, files)
+        with uninterrupted():
+            kept = move_folder(election)
+            election.act(called.TAKEN_BACK, files)
+            say(election, kept)
+    return Status.DECIDED
+
+
+def demand_call(election: Election) -> None:
+    """Stops where there is no call."""
+    if not election.is_called():
+        words = "there is no call that could be taken back; nothing was changed"
+        raise Fault(f"{election.call}: {words}: to make one, run {command(election, 'call')}", Status.DOUBT)
+
+
+def demand_unvoted(election: Election, files: Files) -> None:
+    """Stops where ballots were given for the poll of the call, or the vote is over."""
+    given = given_already(election, files)
+    if given is not None:
+        raise Fault(f"{election.call}: the call can't be taken back any more: {given}", Status.DOUBT)
+    closed = election.closed()
+    if closed is not None:
+        words = f"the election was closed at {time_of(closed)}, and its call can't be taken back any more; nothing was changed"
+        raise Fault(f"{election.call}: {words}: hold a new election in a new folder: debvote-election new FOLDER", Status.DOUBT)
+
+
+def move_folder(election: Election) -> str | None:
+    """Moves the folder of the call to backup/, by number, and says where it is; none where it is gone already."""
+    if not os.path.lexists(election.call):
+        return None
+    election.backup.mkdir(exist_ok=True)
+    numbers = [int(found[1]) for file in election.backup.iterdir() if (found := re.match(r"(\d+)-", file.name))]
+    kept = election.backup / f"{max(numbers, default=0) + 1:04}-{called.FOLDER}"
+    os.rename(election.call, kept)
+    for folder in (election.backup, election.folder):
+        sync_folder(folder)
+    return str(kept)
+
+
+def say(election: Election, kept: str | None) -> None:
+    """Says what was done, and what comes next."""
+    tell(f"The call is taken back{f'; its folder is kept as {kept}' if kept else ''}.")
+    tell("Whoever has seen it knows its sum: take it off the web site, and tell the electors that another call comes.")
+    tell(f"Next: change the poll or the roll, then run {command(election, 'check')}, and call anew: {command(election, 'call')}")
