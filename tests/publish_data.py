@@ -1,6 +1,7 @@
 """Meets what debvote-publish makes with tests/reference.py on random polls: the data, the sentences of Why, the refused lines.
 
-`result.json` and `votes.csv` are made a second time from the count of the reference. Each sentence is taken apart, and each
+`result.json` and `votes.csv` are made a second time from the count of the reference, and each part of the page is met with it
+(publish_page.py). Each sentence is taken apart, and each
 of its clauses has to hold by the votes and the rounds of the reference; what a sentence must say is looked for. The refused
 lines have to be those of `tests/reference_checks.py`. In each fifth folder `recount.py` must print the sheet.
 """
@@ -22,6 +23,7 @@ import subprocess
 import sys
 import tempfile
 
+import publish_page
 import reference
 import reference_checks
 
@@ -58,13 +60,18 @@ class Count:
     poll: reference.Poll
     lines: list
     replies: list
-    voters: int
+    # the ranks of the last valid ballot of each voter, by number
+    last: dict
     votes: dict
     dropped: dict
     defeats: set
     rounds: list
     # the option that the casting vote is for
     casting: int | None
+
+    @property
+    def voters(self):
+        return len(self.last)
 
     @property
     def final(self):
@@ -86,7 +93,7 @@ def count_of(poll_data, ballots, casting_name):
     kept = [option for option in poll.options if option not in dropped]
     casting = next((option for option in poll.options if poll.names[option] == casting_name), None)
     defeats, rounds = reference.defeats_among(kept, votes), reference.rounds_of(kept, votes)
-    return Count(poll, lines, replies, len(last), votes, dropped, defeats, rounds, casting)
+    return Count(poll, lines, replies, last, votes, dropped, defeats, rounds, casting)
 
 
 # ---------------------------------------------------------------- the data
@@ -385,13 +392,23 @@ def try_refused(page, count):
     """The page has each refused line with its cause, in their order, and nothing else."""
     part = page.partition('<h2 id="Refused-lines">')[2].partition("</section>")[0]
     found = []
-    for first, last, cause in re.findall(r"<li><b>lines? (\d+)(?: to (\d+))?</b>: (.*)</li>", part):
+    for entry in publish_page.sections_of(page)["Refused-lines"].all("li"):
+        first, last, text, cause = re.fullmatch(r"lines? (\d+)(?: to (\d+))?: (.*?): ((?:late|bad [a-z ]+): .*)", entry.text(), re.DOTALL).groups()
+        for number in range(int(first), int(last or first) + 1):
+            demand(text == line_shown(count.lines[number - 1]), f"the text of line {number}: {text}")
         # what a person calls the shape stands behind it
-        bare = re.sub(r"^(bad shape: .*?) \([^()]*\)$", r"\1", html.unescape(cause))
+        bare = re.sub(r"^(bad shape: .*?) \([^()]*\)$", r"\1", cause)
         found += [f"ballots:{number}: {bare}" for number in range(int(first), int(last or first) + 1)]
     wanted = list(reference_checks.refusals(count.poll, count.lines, count.replies))
     demand(found == wanted, f"refused lines {found[:3]} in place of {wanted[:3]}")
     demand(("No line was refused" in part) == (not wanted), "that no line was refused")
+
+
+def line_shown(line):
+    """A line as the page shows it."""
+    text = line.decode("utf-8", "backslashreplace")
+    seen = "".join(sign if sign.isprintable() else f"\\u{ord(sign):04X}" for sign in text[:100])
+    return seen + (f" (the first 100 of {len(text)} characters)" if len(text) > 100 else "") if line else "(an empty line)"
 
 
 # ---------------------------------------------------------------- one poll
@@ -414,7 +431,7 @@ def meet(seed):
     with tempfile.TemporaryDirectory() as name:
         try:
             return try_folder(pathlib.Path(name), seed, election, count, casting), None
-        except (Wrong, KeyError, ValueError, OSError) as wrong:
+        except (Wrong, publish_page.Wrong, KeyError, ValueError, AttributeError, OSError) as wrong:
             return collections.Counter(), f"seed {seed}: {type(wrong).__name__}: {wrong}"
 
 
@@ -455,7 +472,18 @@ def try_made(folder, count, labels):
     for number, text in labels.items():
         demand(f"<bdi>{html.escape(text)}</bdi>" in page, f"label of {number}")
     try_refused(page, count)
+    publish_page.try_parts(page, count, labels)
     return try_sentences(page, count, labels)
+
+
+def try_made_of(folder, labels):
+    """What is wrong with a folder that is there and has these labels, or none."""
+    count = count_of((folder / "poll.toml").read_bytes(), (folder / "ballots.txt").read_bytes(), None)
+    try:
+        try_made(folder, count, labels)
+    except (Wrong, publish_page.Wrong) as wrong:
+        return str(wrong)
+    return None
 
 
 def try_published(expect, name, folder, casting):
@@ -463,7 +491,7 @@ def try_published(expect, name, folder, casting):
     count = count_of((folder / "poll.toml").read_bytes(), (folder / "ballots.txt").read_bytes(), casting)
     try:
         kinds, wrong = try_made(folder, count, {}), None
-    except Wrong as found:
+    except (Wrong, publish_page.Wrong) as found:
         kinds, wrong = collections.Counter(), str(found)
     expect(f"{name}: data, sentences and refused lines", wrong, None)
     return kinds

@@ -7,6 +7,7 @@ largest page is made, and of a folder each command of the page is typed.
 
 import hashlib
 import html
+import json
 import os
 import pathlib
 import random
@@ -16,6 +17,8 @@ import subprocess
 import sys
 import time
 
+import publish_data
+import publish_page
 import publish_slips
 
 ROOT = pathlib.Path(__file__).resolve().parent.parent
@@ -32,6 +35,8 @@ SECONDS = 300
 
 # what pages and runs of the largest election come to at most
 LARGEST_PAGE, LONGEST_RUN = 6_000_000, 120
+
+WHOSE = "In the words of those who publish this page. The program has not checked them:"
 
 HOSTILE = "</b><script>alert(1)</script> & \"'<img src=x onerror=alert(1)>"
 
@@ -110,6 +115,7 @@ def try_labels(expect, scratch):
         ("a ballot", f"2 Write guidelines; then 3 {label[3]}; then 1 {label[1]}</li>"),
         *([("the picture", "The picture has the names of the poll.")] if HAS_PICTURES else []),
         ("about", '<p class="about"><bdi>Certified by &lt;b&gt;Anna&lt;/b&gt; &amp; Ben\non 3 May 2026.</bdi></p>'),
+        ("about, whose words", f'<div class="given" role="note" aria-label="Not the words of the program">\n<p class="whose">{WHOSE}</p>'),
         ("about, further", '<p class="about"><bdi>Über alles: \u200f&amp;amp;</bdi></p>'),
     ]:
         expect(f"labels: {name}", wanted in page, True)
@@ -156,6 +162,177 @@ def try_bad(expect, room, option, name, data, wanted):
     (room / option).write_bytes(before)
 
 
+def try_hostile_labels(expect, scratch, poll, ballots):
+    """A name that looks like markup is text beside its label too, wherever both stand."""
+    room = scratch / "hostile-labels"
+    room.mkdir()
+    (room / "poll.toml").write_text(poll)
+    (room / "ballots").write_text(ballots)
+    labels = {0: HOSTILE, 1: "<i>1</i>", 2: "&amp; & &#60;", 7: "</li></ul>"}
+    (room / "labels").write_text("".join(f"{number}\t{text}\n" for number, text in labels.items()))
+    expect("hostile labels: what is said", publish(room, *FILES, "--labels", "labels", "result")[1:], ("", 0))
+    met = publish_data.try_made_of(room / "result", labels)
+    expect("hostile labels: each part of the page", met, None)
+
+
+# ---------------------------------------------------------------- what is known, and who says it
+def try_honest_words(expect, scratch):
+    """The page says what it knows, what it does not, and what is enough for an elector."""
+    room = room_with(scratch / "honest", "supermajority_and_recasts")
+    expect("honest words: the status", publish(room, *FILES, "result")[2], 0)
+    page = (room / "result" / "index.html").read_text()
+    sections = publish_page.sections_of(page)
+    unseen = sections["What-nobody-can-see-from-here"]
+    rows = [entry.text() for entry in unseen.all("li")]
+    for start, check in [
+        ("A ballot that came and was left out, if its elector does not look. ", "Look for your own ballot under Ballots"),
+        ("A vote in the name of an elector who did not vote. ", "you must stand among those who did not"),
+        ("An elector that is no person, or a person with two names. ", "with your list of members"),
+        ("The hand that typed: ", "Keep a copy of what you send, and compare your ballot here with it"),
+        ("The clock: ", "Keep what shows when you sent your ballot"),
+        ("Another page for another reader: ", "with other electors"),
+    ]:
+        expect(f"nobody can see: {start}", [check in row for row in rows if row.startswith(start)], [True])
+    expect("nobody can see: how many", len(rows), 6)
+    verify = sections["How-to-verify"]
+    heads = [head.text() for head in verify.all("h3")]
+    program = subprocess.run([PROGRAM, "--version"], capture_output=True, text=True).stdout.strip()
+    wanted = ["What is enough for an elector", "To count again", f"With the program {program}", "Without debvote"]
+    expect("how to verify: what is enough comes first", heads, wanted)
+    own, letter, *_ = [entry.text() for entry in verify.all("li")]
+    poll_sum = hashlib.sha256((room / "poll.toml").read_bytes()).hexdigest()
+    expect("how to verify: one's own ballot", own.startswith("Your own ballot. It stands under Ballots as you sent it."), True)
+    expect("how to verify: one's own letter", letter.endswith(f"must have this sum, the poll's: {poll_sum}."), True)
+    text = verify.text()
+    for said in ["Ask your secretary where to get it", "It is better taken from elsewhere", "/usr/share/doc/debvote/reference.py"]:
+        expect(f"how to verify: {said}", said in text, True)
+    expect("how to verify: it promises no count in the browser", "browser" in text, False)
+    whole = publish_page.tree_of(page).text()
+    expect("ballots in the order of what?", ("in the order in which they were entered" in whole, "they came" in whole), (True, False))
+    expect("nothing is said to be announced", "announced" in whole, False)
+
+
+MEMBERS = "mail;who;name\nmail-of-ada@x.example;Ada <b>Lovelace</b> & Co;ada\n;Zoë \u05d3\u05d9\u05d5\u05df;ben\n;;cleo\n;Nobody Here;none\n"
+
+
+def try_who(expect, scratch):
+    """With the list of members the real names stand beside those of the roll, and nothing else of it. Returns the folder."""
+    room = room_with(scratch / "who", "cycle_and_casting_vote")
+    roll = re.findall(r'"([a-z0-9.-]+)"', (room / "poll.toml").read_text().partition("roll")[2])
+    rows = MEMBERS + "".join(f"{name}@x.example;Member {name};{name}\n" for name in roll if name not in ("ada", "ben", "cleo"))
+    (room / "members.csv").write_text(rows, encoding="utf-8")
+    (room / "ballots").write_text("".join(f"{line}\n" for line in (room / "ballots").read_text().splitlines()[:-1]))
+    expect("who: what is said", publish(room, *FILES, "--who", "members.csv", "result")[1], "")
+    section = publish_page.sections_of((room / "result" / "index.html").read_text())["Who-voted"]
+    found = {entry.text() for entry in section.all("li")}
+    known = {"ada": "ada Ada <b>Lovelace</b> & Co", "ben": "ben Zoë \u05d3\u05d9\u05d5\u05df", "cleo": "cleo"}
+    wanted = {known.get(name, f"{name} Member {name}") for name in roll}
+    expect("who: the real names", found, wanted)
+    said = "whether each stands where they belong, and whether each is a person, is the check that every member can make"
+    expect("who: what it is for", said in section.text(), True)
+    for file in (room / "result").iterdir():
+        data = file.read_text(encoding="utf-8")
+        expect(f"who: {file.name} has no address, and nobody else", ("x.example" in data, "Nobody Here" in data), (False, False))
+        expect(f"who: {file.name} has real names", "Lovelace" in data, file.name == "index.html")
+    return room / "result"
+
+
+def try_bad_who(expect, scratch):
+    """A list of members that is another one, or has signs that no name has, is told, and nothing is made."""
+    room = room_with(scratch / "bad-who", "plain_win")
+    roll = re.findall(r'"([a-z0-9.-]+)"', (room / "poll.toml").read_text().partition("roll")[2])
+    whole = "name,who,mail\n" + "".join(f"{name},Member {name},\n" for name in roll)
+    missing = f"{roll[0]} of the roll has no row there; nothing was published: give the list of members of this vote with --who"
+    turned = f"the real name of {roll[1]} has the sign U+202E, which no name has; take it out"
+    for name, text, wanted, status in [
+        ("a row is missing", whole.replace(f"{roll[0]},Member {roll[0]},\n", ""), f"m.csv: {missing}", 9),
+        ("a sign that turns", whole.replace(f"Member {roll[1]}", "\u202eMember"), f"m.csv:3: {turned}", 2),
+        ("no table", "ada 1,2,3\n", "m.csv:1: the head line has no column `name`", 9),
+    ]:
+        (room / "m.csv").write_text(text, encoding="utf-8")
+        output, faults, found = publish(room, *FILES, "--who", "m.csv", "result")
+        told = (output, faults.startswith(f"debvote-publish: {wanted}"), faults.count("\n"), found, (room / "result").exists())
+        expect(f"who, {name}: {faults}", told, ("", True, 1, status, False))
+
+
+def try_because(expect, scratch):
+    """The reason of the secretary stands below the doubts, and as theirs. Without a doubt there is nothing to give one for."""
+    room = scratch / "because"
+    publish_slips.Slip("because").write(room)
+    (room / "ballots").write_text((room / "ballots").read_text().removesuffix("\n"))
+    reason = "The editor took it <b>away</b>.\n\nI have looked."
+    bad = [
+        (["--because", "x"], "--because: it goes with --even-so: it says why a doubt is none; leave it out"),
+        (["--even-so", "--because", " "], "--because: the text is empty; write it, or leave --because out"),
+        (["--even-so", "--because", "a\u202eb"], "--because: the text has the sign U+202E, which no plain text has; take it out"),
+        (["--even-so", "--because", "x" * 2001], "--because: the text has 2001 characters, 2000 are the most; shorten it"),
+    ]
+    for words, wanted in bad:
+        expect(f"because {words[-1][:9]}", publish(room, *FILES, *words, "bad"), ("", f"debvote-publish: {wanted}\n", 2))
+    expect("because: what is said", publish(room, *FILES, "--even-so", "--because", reason, "result")[1:], ("", 0))
+    result = publish_page.sections_of((room / "result" / "index.html").read_text())["Result"]
+    (box,) = result.all("div", "given")
+    texts = [text.text() for text in box.all("p")]
+    whose = "Why this is published even so, in the words of those who publish this page. The program has not checked them:"
+    expect("because: on the page", texts, [whose, "The editor took it <b>away</b>.", "I have looked."])
+    order = [node.attributes["class"] for node in result.all("div")]
+    expect("because: below the doubts", order, ["doubts", "given"])
+    expect("because: the doubts have a guide", "READING-A-SHEET.md says what a doubt is" in result.one("div", "doubts").text(), True)
+    (room / "ballots").write_text((room / "ballots").read_text() + "\n")
+    none = "debvote-publish: --because: there is no doubt that it could speak of; nothing was published: leave it out\n"
+    expect("because of no doubt", publish(room, *FILES, "--even-so", "--because", "x", "none"), ("", none, 2))
+    expect("because: what is left", sorted(os.listdir(room)), ["ballots", "poll.toml", "result"])
+    return room / "result"
+
+
+def try_refused_texts(expect, scratch):
+    """Each refused line stands there with its text, escaped and cut, and with the words that belong to it."""
+    room = scratch / "refused-texts"
+    publish_slips.Slip("refused").write(room)
+    long = "x" * 180 + ">" + "y" * 200
+    lines = ["ada;1,2,3", "<b>ada</b> 1,2,3", "", "ben 1.,2,3", "zoe 1,2,3", "zoe 1,2,3", long, "ada 1,2", "caf\u00e9\u202e 1,2,3", "cleo 1,\t2,3"]
+    (room / "ballots").write_text((room / "ballots").read_text() + "".join(f"{line}\n" for line in lines))
+    expect("refused texts: the status", publish(room, *FILES, "--even-so", "result")[2], 0)
+    page = (room / "result" / "index.html").read_text()
+    found = [entry.text() for entry in publish_page.sections_of(page)["Refused-lines"].all("li")]
+    expect("refused texts", found, REFUSED_TEXTS)
+    (room / "ballots").write_text((room / "ballots").read_text() + "".join(f"{'y' * 150}{place}\n" for place in range(8_000)))
+    expect("many refused texts: the status", publish(room, *FILES, "--even-so", "many")[2], 0)
+    page = (room / "many" / "index.html").read_text()
+    part = publish_page.sections_of(page)["Refused-lines"]
+    (told,) = re.findall(r"The texts from line (\d+) on are too many for this page: see ballots.txt.", part.text())
+    last = [entry.text() for entry in part.all("li")][-1]
+    cause = 'bad shape: column 33: "y" (it is one word; a ballot has a name, a space and the ranks)'
+    expect("many refused texts: the last ones", last, f"lines {told} to 8013: {cause}")
+    expect("many refused texts: so many are shown", (int(told) > 5_000, len(page) < LARGEST_PAGE), (True, True))
+
+
+REFUSED_TEXTS = [
+    'line 4: ada;1,2,3: bad shape: column 4: ";" (it has a semicolon; between the ranks stand commas)',
+    'line 5: <b>ada</b> 1,2,3: bad shape: column 1: "<" '
+    "(it has the sign >; a ballot has numbers with commas between, a rank for each option)",
+    "line 6: (an empty line): bad shape: column 1: end of line",
+    'line 7: ben 1.,2,3: bad shape: column 6: "." (a rank is a number alone, without a point or a bracket behind it)',
+    "lines 8 to 9: zoe 1,2,3: bad not on roll: zoe is not on the roll",
+    f'line 10: {"x" * 100} (the first 100 of 381 characters): bad shape: column 33: "x" '
+    "(it has 381 bytes, and no ballot has more than 200)",
+    "line 11: ada 1,2: bad rank count: 2 ranks, the poll has 3 options",
+    "line 12: café\\u202E 1,2,3: bad shape: column 4: byte 0xC3",
+    "line 13: cleo 1,\\u00092,3: bad shape: column 8: tab",
+]
+
+
+def try_a_name_with_words_of_the_sheet(expect, scratch):
+    """An option whose name has the words of a casting vote outside of a tie, and which wins, is told as the winner alone."""
+    room = room_with(scratch / "words", "plain_win")
+    poll = (room / "poll.toml").read_text()
+    first = re.search(r'options\s*=\s*\["(.*?)"', poll)[1]
+    (room / "poll.toml").write_text(poll.replace(f'"{first}"', '"A, casting option 2 is not among them"'))
+    expect("words of the sheet: the status", publish(room, *FILES, "result")[2], 0)
+    outcome = json.loads((room / "result" / "result.json").read_text())["outcome"]
+    expect("words of the sheet: the outcome", (outcome["winner"], outcome["casting_vote_outside"]), (1, None))
+
+
 # ---------------------------------------------------------------- the call
 def try_call(expect, scratch):
     """The sum of the call is taken from the letter beside the poll; where the poll has another one the run stops."""
@@ -168,7 +345,7 @@ def try_call(expect, scratch):
     (room / "poll.toml").write_bytes(poll + b"last_envelope = 9\n")
     expect("a call: its status", publish(room, *FILES, "result")[1:], ("", 0))
     page = (room / "result" / "index.html").read_text()
-    said = f"The call for votes announced this sum (SHA-256) of the poll: <code>{called}</code>. The poll below has it, but for its"
+    said = f"The secretary's copy of the call has this sum (SHA-256) of the poll: <code>{called}</code>. The poll below has it, but for its"
     expect("a call: what the page says", (said in page, f"<pre><code>{called}  -</code></pre>" in page), (True, True))
     (room / "poll.toml").write_bytes(poll)
     expect("a call without a close: its status", publish(room, *FILES, "open")[1:], ("", 0))
@@ -267,7 +444,7 @@ def publish_large(expect, scratch, options, electors):
     is_small = (sizes["index.html"] < LARGEST_PAGE, seconds < LONGEST_RUN)
     expect(f"{name}: its seconds and its bytes", is_small, (True, True))
     page = (room / name / "index.html").read_text()
-    has_picture = ("<svg" in page, 'href="picture.svg"' in page, "scrolls sideways by itself" in page)
+    has_picture = ('<div class="picture">\n<svg' in page, 'href="picture.svg"' in page, "scrolls sideways by itself" in page)
     if "picture.svg" in sizes:
         expect(f"{name}: its picture", has_picture, (True, True, True) if options <= 12 else (False, True, False))
     return room / name

@@ -31,3 +31,5 @@ complete -c debvote-election -n "__fish_seen_subcommand_from publish" -l secret 
 complete -c debvote-election -n "__fish_seen_subcommand_from publish" -l voters -d "List who voted, in a secret vote"
 complete -c debvote-election -n "__fish_seen_subcommand_from publish" -l labels -r -F -d "What title and options are called on the page"
 complete -c debvote-election -n "__fish_seen_subcommand_from publish" -l about -r -F -d "A text for the page"
+complete -c debvote-election -n "__fish_seen_subcommand_from publish" -l who -r -F -d "The list of members, with real names"
+complete -c debvote-election -n "__fish_seen_subcommand_from publish" -l because -x -d "Why the doubts are none"

@@ -47,6 +47,13 @@ pre { background: var(--shade); padding: 0.6rem 0.8rem; white-space: pre-wrap; }
 code { font-family: ui-monospace, monospace; }
 """
 
+# a text that is not the program's stands in a frame; it was given as lines, and keeps them
+GIVEN_STYLE = """.given { margin: 1rem 0; padding: 0.25rem 1rem; border: 2px dashed var(--line); }
+.whose { font-weight: 600; }
+.about { white-space: pre-line; }
+"""
+WHOSE = "In the words of those who publish this page. The program has not checked them:"
+
 # behind it, the style of a page on which something is typed or chosen
 FIELDS_STYLE = """
 [hidden] { display: none !important; }
@@ -114,6 +121,15 @@ def paragraph(text: str) -> str:
 def listed(kind: str, entries: Iterable[str]) -> str:
     """A list of the kind `ul` or `ol`."""
     return f"<{kind}>\n" + "".join(f"<li>{entry}</li>\n" for entry in entries) + f"</{kind}>"
+
+
+def in_their_words(texts: Iterable[str], whose: str = WHOSE) -> str:
+    """What those who publish the page say themselves, a text a paragraph: in a frame, below words that say whose it is.
+
+    The texts are plain; they may be written from right to left, and turn nothing around them.
+    """
+    said = "\n".join(f'<p class="about"><bdi>{escape(text)}</bdi></p>' for text in texts)
+    return f'<div class="given" role="note" aria-label="Not the words of the program">\n<p class="whose">{whose}</p>\n{said}\n</div>'
 
 
 def joined(entries: Iterable[str]) -> str:

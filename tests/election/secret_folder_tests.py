@@ -125,13 +125,23 @@ class RandomTest(SecretTest):
         """No file has any of the texts, and no number of a line."""
         files = {file.name: file.read_bytes() for file in (room / "result").iterdir()}
         self.assertEqual(files.pop("recount.py"), (support.ROOT / "tests" / "reference.py").read_bytes())
+        # its examples have names and numbers
+        self.assertEqual(files.pop("READING-A-SHEET.md"), (support.ROOT / "docs" / "READING-A-SHEET.md").read_bytes())
         self.assertGreater(len(files), 7)
         numbers = set(map(str, found.numbers))
         for name, data in files.items():
             text = data.decode()
             self.assertEqual([word for word in found.texts if word.lower() in text.lower()], [], name)
             self.assertEqual(set(re.findall(r"(?<![\w.-])\d+(?![\w.])", text)) & numbers, set(), name)
+        self.check_absent(room, files)
         self.check_sheet(room, files)
+
+    def check_absent(self, room: pathlib.Path, files: dict[str, bytes]) -> None:
+        """The aliases without a ballot stand in their own order, and not in that of the roll, which would tell whose they are."""
+        lists = re.findall(r'<ul class="absent">\n(.*?)</ul>', files["index.html"].decode(), re.DOTALL)
+        absent = re.findall(r'<li id="([0-9a-f]{32})">', "".join(lists))
+        aliases = {holder.alias for holder in secret.holders_in(room / "private" / "codes.csv")}
+        self.assertEqual(absent, sorted(aliases - {line.split()[0] for line in files["ballots.txt"].decode().splitlines()}))
 
     def check_sheet(self, room: pathlib.Path, files: dict[str, bytes]) -> None:
         """The sheet is the one of the private files, and the ballots are theirs, under the aliases."""
@@ -199,7 +209,7 @@ class KilledTest(SecretTest):
             left = [file for file in self.folder.rglob("*") if file.is_file() and str(file.relative_to(self.folder)) not in before]
             left += [file for file in scratch.rglob("*") if file.is_file()]
             for file in left:
-                if file.name not in (".lock", "recount.py"):
+                if file.name not in (".lock", "recount.py", "READING-A-SHEET.md"):
                     self.assertEqual([name for name in NAMES if has_word(file.read_bytes(), name)], [], file)
             shutil.rmtree(self.folder / "result", ignore_errors=True)
         self.assertGreater(killed, 3)
@@ -218,6 +228,19 @@ async function ask(doc, { name, code }) {
   await wait(30);
   return doc.getElementById("answer").textContent;
 }
+// What stands there when the name is changed in the moment in which the ballot of another one is asked for.
+async function hasty(doc, { name, code, next }) {
+  const type = (id, text) => {
+    doc.getElementById(id).value = text;
+    doc.getElementById(id).dispatchEvent(new Event("input", { bubbles: true }));
+  };
+  type("name", name);
+  type("code", code);
+  doc.getElementById("show").click();
+  type("name", next);
+  await wait(200);
+  return doc.getElementById("answer").textContent;
+}
 async function run(job) {
   const frame = document.createElement("iframe");
   frame.width = job.width; frame.height = 700; frame.style.border = "0";
@@ -229,7 +252,7 @@ async function run(job) {
   const win = frame.contentWindow, doc = win.document, violations = [];
   doc.addEventListener("securitypolicyviolation", (event) => violations.push(event.violatedDirective));
   const answers = [];
-  for (const asked of job.asked) answers.push(await ask(doc, asked));
+  for (const asked of job.asked) answers.push(await (asked.next ? hasty : ask)(doc, asked));
   let forgotten = null;
   if (job.asked.length > 0) {
     doc.getElementById("code").dispatchEvent(new Event("input", { bubbles: true }));
@@ -297,6 +320,16 @@ class PageTest(SecretTest):
             self.assertIn(f"No elector of this vote has the alias {alias}.", answer)
         self.assertIn("Type your name", nameless)
         self.assertIn("A code has 32 digits", short)
+
+    def test_an_answer_to_what_was_typed_before_is_not_shown(self) -> None:
+        self.closed()
+        self.done("publish", "--secret")
+        code = self.rows()[0]["code"]
+        asked = [{"name": "ada", "code": code, "next": "ben"}, {"name": "ada", "code": code}]
+        page = (self.folder / "result/index.html").as_uri()
+        hasty, shown = browse(self.scratch, [{"page": page, "width": 360, "asked": asked}])[0]["answers"]
+        self.assertEqual(hasty, "")
+        self.assertTrue(shown.startswith("This ballot counts for ada:"), shown)
 
     def test_the_page_runs_its_own_script_alone_and_reaches_nobody(self) -> None:
         self.closed()

@@ -425,10 +425,47 @@ class PublishTest(SecretTest):
         page = self.read("result/index.html").decode()
         self.assertIn("5 electors have a ballot that counts.", page)
         self.assertIn('<a href="voters.txt">voters.txt</a>', page)
-        files = [file for file in (self.folder / "result").iterdir() if file.name not in ("voters.txt", "recount.py")]
+        files = [file for file in (self.folder / "result").iterdir() if file.name not in ("voters.txt", "recount.py", "READING-A-SHEET.md")]
         others = b"".join(file.read_bytes() for file in files)
         self.assertEqual([name for name in ("ada", "ben", "cleo", "dan", "gus") if has_word(others, name)], [])
         self.assertEqual(self.run_program("sha256sum", "-c", "SHA256SUMS", cwd=self.folder / "result").status, 0)
+
+    def test_the_list_of_voters_with_real_names(self) -> None:
+        """They stand on the page beside those who voted, and nobody else does; without --voters they are not told at all."""
+        self.closed()
+        stops = self.election("publish", "--secret", "--who", "members.csv")
+        self.assert_fault(stops, 2, "--who: in a secret vote it goes with --voters")
+        self.done("publish", "--secret", "--voters", "--who", "members.csv")
+        page = self.read("result/index.html").decode()
+        who = {row["name"]: row["who"] for row in self.rows()}
+        listed = re.search(r'<h2 id="Who-voted">.*?<ul class="roll">\n(.*?)</ul>', page, re.DOTALL)[1]
+        wanted = [f"<li>{name} <bdi>{html.escape(who[name])}</bdi></li>" for name in ("ada", "ben", "cleo", "dan", "gus")]
+        self.assertEqual(listed.splitlines(), wanted)
+        absent = set(who) - {"ada", "ben", "cleo", "dan", "gus"}
+        self.assertTrue(absent)
+        for name in absent:
+            self.assertFalse(has_word(page.encode(), name), name)
+            self.assertNotIn(who[name], page)
+        self.assertEqual(self.read("result/voters.txt").decode(), "ada\nben\ncleo\ndan\ngus\n")
+
+    def test_what_nobody_can_see(self) -> None:
+        """The page of a secret vote says it too, and names the parts that it has."""
+        self.closed()
+        self.done("publish", "--secret")
+        page = self.read("result/index.html").decode()
+        part = re.search(r'<h2 id="What-nobody-can-see-from-here">(.*?)</section>', page, re.DOTALL)[1]
+        for said in ("was left out", "The hand that typed", "The clock", '<a href="#Find-your-ballot">', "What is not hidden"):
+            self.assertIn(said, part)
+        places = set(re.findall(r' id="(.*?)"', page))
+        self.assertEqual([place for place in re.findall(r'href="#(.*?)"', page) if place not in places], [])
+
+    def test_the_reason_for_a_doubt_tells_nothing_private(self) -> None:
+        self.closed()
+        code = self.rows()[0]["code"]
+        (self.folder / "ballots").write_bytes(self.read("ballots").removesuffix(b"\n"))
+        stops = self.election("publish", "--secret", "--even-so", "--because", f"ada has {code}")
+        self.assert_fault(stops, 9, "--because: it has the code of an elector; nothing was published")
+        self.assertFalse((self.folder / "result").exists())
 
     def test_an_open_publication_of_a_secret_vote_stops(self) -> None:
         self.closed()

@@ -45,12 +45,16 @@ def page_options(parser: argparse.ArgumentParser) -> None:
     about = "A plain text in UTF-8 for the page: who certifies the result, and when"
     parser.add_argument("--labels", metavar="FILE", help=labels)
     parser.add_argument("--about", metavar="FILE", help=about)
+    who = "The list of members, whose real names stand beside those of the roll; in a secret vote with --voters alone"
+    parser.add_argument("--who", metavar="FILE", help=who)
+    because = "With --even-so: why the doubts are none, in your words; the page says that they are yours"
+    parser.add_argument("--because", metavar="TEXT", help=because)
 
 
 def page_words(asked: argparse.Namespace) -> list[str]:
     """The words that pass these options on."""
-    given = [("--labels", asked.labels), ("--about", asked.about)]
-    return [f"{name}={file}" for name, file in given if file is not None]
+    given = [("--labels", asked.labels), ("--about", asked.about), ("--who", asked.who), ("--because", asked.because)]
+    return [f"{name}={value}" for name, value in given if value is not None]
 
 
 def main(beside: pathlib.Path, words: Sequence[str] | None = None) -> int:

@@ -10,8 +10,9 @@ import tempfile
 from debvote_tools.faults import Doubt, Fault, Status
 from debvote_tools.files import BALLOTS_LIMIT, POLL_LIMIT, read_at_most, sum_of, sync_folder, write_public
 from debvote_tools.closed import LAST, lines_of
+from debvote_tools.election.poll_file import roll_of
 from debvote_tools.program import findings_in, standing_in
-from debvote_tools.publish import doubts, recounting, secret
+from debvote_tools.publish import doubts, recounting, roll, secret
 from debvote_tools.publish.called import about_call, announced_sum, called_of
 from debvote_tools.publish.calls import BALLOTS, POLL, SHEET, Calls, calls_in
 from debvote_tools.publish.data import result_json, votes_csv
@@ -19,7 +20,7 @@ from debvote_tools.publish.labels import labels_in, labels_of, told
 from debvote_tools.publish.page import page_of
 from debvote_tools.publish.picture import picture_of
 from debvote_tools.publish.published import File, Further, Published
-from debvote_tools.publish.texts import text_in
+from debvote_tools.publish.texts import reason_in, text_in
 from debvote_tools.sheet import sheet_in
 
 PAGE, SUMS = "index.html", "SHA256SUMS"
@@ -33,6 +34,11 @@ class Given:
     labels_file: str | None
     labels: dict[int, tuple[int, str]]
     about: str | None
+    # the list of members that gives the real names, and these by the names of the roll
+    who_file: str | None
+    who: dict[str, str]
+    # why the doubts are none, in the words of the one who publishes
+    because: str | None
     # the sum that the call for votes beside the poll announced
     announced: str | None
 
@@ -68,19 +74,27 @@ def demand_words(asked: argparse.Namespace) -> None:
         secret.demand_open(asked.poll, asked.ballots)
         if asked.voters:
             raise Fault("--voters: it goes with --secret; in an open vote the page has who voted what", Status.BAD_WORDS)
+    elif asked.who is not None and not asked.voters:
+        words = "in a secret vote it goes with --voters, since it tells who voted; leave --who out, or give --voters too"
+        raise Fault(f"--who: {words}", Status.BAD_WORDS)
+    if asked.because is not None and not asked.even_so:
+        raise Fault("--because: it goes with --even-so: it says why a doubt is none; leave it out", Status.BAD_WORDS)
 
 
 def given_in(asked: argparse.Namespace) -> Given:
     """Reads what is given beside poll and ballots. A fault of it is told before anything is counted."""
     labels = {} if asked.labels is None else labels_in(asked.labels)
     about = None if asked.about is None else text_in(asked.about, "about")
-    return Given(asked.labels, labels, about, announced_sum(asked.poll))
+    who = {} if asked.who is None else roll.who_in(asked.who)
+    because = None if asked.because is None else reason_in(asked.because)
+    return Given(asked.labels, labels, about, asked.who, who, because, announced_sum(asked.poll))
 
 
 def texts_of(asked: argparse.Namespace, given: Given) -> dict[str, str]:
     """The texts that are given for the page, by their files."""
     labels = "\n".join(text for _, text in given.labels.values())
-    return {file: text for file, text in ((asked.labels, labels), (asked.about, given.about)) if file is not None}
+    found = {file: text for file, text in ((asked.labels, labels), (asked.about, given.about)) if file is not None}
+    return found if given.because is None else found | {"--because": given.because}
 
 
 def fill(folder: pathlib.Path, asked: argparse.Namespace, given: Given, beside: pathlib.Path) -> tuple[str, int]:
@@ -93,8 +107,7 @@ def fill(folder: pathlib.Path, asked: argparse.Namespace, given: Given, beside: 
     text, status = count(calls, asked)
     found = doubts.found_in(calls, asked.poll, asked.ballots, sheet_in(text))
     found += about_call(asked.poll, called_of(poll, LAST in sheet_in(text).facts, given.announced))
-    if found and not asked.even_so:
-        raise doubts.stop(found)
+    settle(found, asked)
     return make(calls, text, given, found, Further()), status
 
 
@@ -109,8 +122,7 @@ def fill_secret(folder: pathlib.Path, asked: argparse.Namespace, given: Given, b
         found = doubts.found_in(private, asked.poll, asked.ballots, sheet_in(text))
         hidden = secret.hidden_of(codes, poll, standing_in(private.standing()))
         found += about_call(asked.poll, called_of(hidden.poll, False, given.announced))
-        if found and not asked.even_so:
-            raise doubts.stop(found)
+        settle(found, asked)
         totals = findings_in(private.explain()).totals
     write_public(folder / POLL, hidden.poll)
     write_public(folder / BALLOTS, hidden.ballots)
@@ -121,6 +133,26 @@ def fill_secret(folder: pathlib.Path, asked: argparse.Namespace, given: Given, b
     said = make(calls, published, given, secret.without_names(found), further)
     secret.demand_no_code(folder, codes)
     return said, status
+
+
+def settle(found: list[Doubt], asked: argparse.Namespace) -> None:
+    """Stops at doubts, unless it is published even so; and at a reason that is given although there is no doubt."""
+    if found and not asked.even_so:
+        raise doubts.stop(found)
+    if asked.because is not None and not found:
+        raise Fault("--because: there is no doubt that it could speak of; nothing was published: leave it out", Status.BAD_WORDS)
+
+
+def voting_of(poll: bytes, standing: str, given: Given, further: Further) -> roll.Voting | None:
+    """Who voted and who did not; in a secret vote who voted alone, and only where that is told."""
+    if further.unlisted is None:
+        found = roll.voting_of(roll_of(poll), standing_in(standing), given.who)
+    elif further.voters is not None:
+        found = roll.Voting(further.voters, None, given.who)
+    else:
+        return None
+    roll.demand_all(given.who_file, given.who, [*found.voted, *(found.absent or [])])
+    return found
 
 
 def make(calls: Calls, text: str, given: Given, found: list[Doubt], further: Further) -> str:
@@ -138,7 +170,7 @@ def make(calls: Calls, text: str, given: Given, found: list[Doubt], further: Fur
     lines = lines_of((folder / BALLOTS).read_bytes())
     published = Published(
         sheet, standing, refused, lines, picture, calls.casting, verified.rstrip("\n"), version, found, called, labels,
-        given.about, further,
+        given.about, further, voting_of((folder / POLL).read_bytes(), standing, given, further), given.because,
     )  # fmt: skip
     write_files(folder, published)
     return f"{sheet.last_line}\n{verified}"
@@ -151,7 +183,7 @@ def write_files(folder: pathlib.Path, found: Published) -> None:
         write_public(folder / file.name, file.data)
     there = [
         File(POLL, "the poll: title, options, quorum and roll", b""),
-        File(BALLOTS, "the ballots, a line each, in the order in which they came", b""),
+        File(BALLOTS, "the ballots, a line each, in the order in which they were entered", b""),
         File(SHEET, "the result sheet, from which this page is made", b""),
         *made,
         File(SUMS, "the sums of these files and of this page", b""),
@@ -167,6 +199,7 @@ def made_of(found: Published) -> list[File]:
         File("result.json", "what the sheet says, for programs", result_json(found.sheet, found.labels, found.version).encode()),
         File("votes.csv", "the table of votes, for spreadsheets", votes_csv(found.sheet).encode()),
         File(recounting.NAME, "a second count, in Python", recounting.recount_program()),
+        File(recounting.GUIDE, "how to read the sheet, what to check, and what a doubt is", recounting.guide()),
     ]
     if found.picture is not None:
         files.append(File("picture.svg", "the picture of the defeats", found.picture))

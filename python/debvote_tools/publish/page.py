@@ -7,29 +7,49 @@ from html import escape
 from debvote_tools import ballots, pages
 from debvote_tools.election.poll_file import COMPARE
 from debvote_tools.pages import command_block, joined, listed, paragraph, part
-from debvote_tools.publish import count, result
+from debvote_tools.publish import bars, count, result, roll
 from debvote_tools.publish.calls import BALLOTS, FILES, POLL, SHEET
 from debvote_tools.publish.picture import words_for_dot
 from debvote_tools.publish.published import File, Published
-from debvote_tools.publish.recounting import NAME as RECOUNT
+from debvote_tools.publish.recounting import GUIDE, NAME as RECOUNT
 from debvote_tools.publish.refused import refused
+from debvote_tools.publish.unseen import unseen
 from debvote_tools.publish.why import why
 
 # in bytes; where the names of the options in all ballots come to more, ballots have their numbers alone
 NAMES_LIMIT = 2_000_000
 
-CALLED = "The poll is that of the call, but for its last envelope: this answers the sum that stands in the call for votes."
-ANNOUNCED = "The sum of the poll without its last envelope, which the call for votes announced:"
+COMPARE_SUM = "The sum of the poll without its last envelope. Compare it with the one in <strong>your</strong> letter of the call:"
+
+OWN = (
+    '<b>Your own ballot.</b> It stands under <a href="#Ballots">Ballots</a> as you sent it. If you did not vote, you stand under '
+    '<a href="#Who-voted">Who voted</a> as one who did not.'
+)
+OWN_IN_SECRET = (
+    '<b>Your own ballot.</b> <a href="#Find-your-ballot">Find your ballot</a> shows it as you sent it. If you did not vote, none '
+    "counts under your alias."
+)
+LETTER = "<b>The sum in your letter.</b> The letter of the call that came to you must have this sum, the poll's: <code>{}</code>."
+TOGETHER = (
+    "Where every elector does so on the same files, no ballot was left out or changed unseen, and nobody has changed what was voted "
+    "on. Anybody can count the rest again; one who does is enough for all who trust them."
+)
+WHERE_DEBVOTE = "Ask your secretary where to get it, or take it from the system on which you trust it."
+FROM_ELSEWHERE = (
+    "The one that lies here is from the same web site as what it checks. It is better taken from elsewhere: the package debvote has "
+    "it as <code>/usr/share/doc/debvote/reference.py</code>; lay it into your folder under the name <code>recount.py</code>."
+)
 
 
 def page_of(found: Published, files: list[File]) -> str:
     """The page, whole. The files are those of the folder, in the order in which the page names them."""
     parts = [why(found), count.options(found), count.votes(found), count.defeats(found), count.rounds(found)]
-    parts += [standing_ballots(found), refused(found), *found.further.parts, check(found, files)]
+    parts += [standing_ballots(found), *([] if found.voting is None else [roll.roll(found.voting)]), refused(found)]
+    parts += [*found.further.parts, unseen(found), check(found, files)]
     about = result.about(found)
-    sections = "".join(map(found.with_names, [result.result(found), *about, contents(parts), *parts]))
-    style = pages.STYLE + count.style(found) + (result.DOUBTS_STYLE if found.doubts else "")
-    style += (result.ABOUT_STYLE if about else "") + found.further.style
+    sections = "".join(map(found.with_names, [result.result(found), bars.bars(found), *about, contents(parts), *parts]))
+    style = pages.STYLE + bars.STYLE + count.style(found) + roll.STYLE + (result.DOUBTS_STYLE if found.doubts else "")
+    style += (pages.GIVEN_STYLE if about or found.because else "") + found.further.style
     title = found.title()
     return pages.page(f"Result: {head_of(found)}", title, sections, style=style, script=found.further.script)
 
@@ -86,26 +106,35 @@ def ballot_in_words(ranks: str, shown: dict[int, str]) -> str:
 
 # ---------------------------------------------------------------- what the reader can do
 def check(found: Published, files: list[File]) -> str:
-    """The files of the folder, and the commands with which a reader counts again, by debvote and by Python alone."""
+    """What is enough for an elector; then the files, and the commands with which a reader counts again, by debvote and by Python."""
     what = {file.name: file.what for file in files} | found.further.described
     shown = [f'<a href="{file.name}">{file.name}</a>: {what[file.name]}' for file in files]
-    said = (
-        "Each reader can count again. Put these files and this page, as index.html, into one folder, open a terminal there, and "
-        "type these commands:"
-    )
-    by_debvote = f"With the program <code>{escape(found.version)}</code>:"
+    said = "Put these files and this page, as index.html, into one folder, open a terminal there, and type these commands:"
     alone = (
         f"With Python alone, 3.11 or later: <code>{RECOUNT}</code> counts anew, and shares nothing with debvote. "
-        "It is made to be read."
+        f"It is made to be read. {FROM_ELSEWHERE}"
     )
     blocks = [
+        "<h3>What is enough for an elector</h3>",
+        *enough(found),
+        "<h3>To count again</h3>",
+        paragraph(said),
+        listed("ul", shown),
         *(command_block(*command) for command in whole_commands(found)),
-        f"<h3>{by_debvote}</h3>",
+        f"<h3>With the program <code>{escape(found.version)}</code></h3>\n{paragraph(WHERE_DEBVOTE)}",
         *(command_block(*command) for command in debvote_commands(found)),
         f"<h3>Without debvote</h3>\n{paragraph(alone)}",
         *(command_block(*command) for command in python_commands(found)),
     ]
-    return part("How to verify", paragraph(said), listed("ul", shown), *blocks)
+    return part("How to verify", *blocks)
+
+
+def enough(found: Published) -> list[str]:
+    """What an elector looks at who does not count again."""
+    is_secret = found.further.unlisted is not None
+    entries = [OWN_IN_SECRET if is_secret else OWN, LETTER.format(found.called.poll_sum)]
+    guide = f'<a href="{GUIDE}">{GUIDE}</a> says how, and how to read all that is here.'
+    return [listed("ul", entries), paragraph(TOGETHER), paragraph(guide)]
 
 
 Command = tuple[str, str, str | None]
@@ -115,8 +144,7 @@ def whole_commands(found: Published) -> list[Command]:
     """What shows that the files are those that were published, and the poll the one that was called."""
     commands: list[Command] = [("The files came whole:", "sha256sum -c SHA256SUMS", None)]
     if found.called.has_last_envelope or found.called.announced is not None:
-        words = CALLED if found.called.announced is None else ANNOUNCED
-        commands.append((words, COMPARE, f"{found.called.poll_sum}  -"))
+        commands.append((COMPARE_SUM, COMPARE, f"{found.called.poll_sum}  -"))
     return commands
 
 

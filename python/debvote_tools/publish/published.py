@@ -9,6 +9,7 @@ from debvote_tools.faults import Doubt
 from debvote_tools.program import Finding, Totals
 from debvote_tools.publish.called import Called
 from debvote_tools.publish.labels import Labels
+from debvote_tools.publish.roll import Voting
 from debvote_tools.sheet import Sheet
 
 
@@ -30,6 +31,8 @@ class Further:
 
     # where the lines that were refused or late are not among the published ballots: the numbers of all lines, which are told
     unlisted: Totals | None = None
+    # where the published roll has no names: the electors who have voted, if they are told
+    voters: Sequence[str] | None = None
     # what stands above the ballots, in place of the ordinary sentences
     about_ballots: str | None = None
     # whole parts of the page (`pages.part`), which stand before that about verification
@@ -63,6 +66,10 @@ class Published:
     labels: Labels
     about: str | None
     further: Further
+    # who voted and who did not, as far as that is told
+    voting: Voting | None = None
+    # why the doubts are none, in the words of those who publish
+    because: str | None = None
 
     def title(self) -> str:
         """What the election is called on the page, in HTML."""

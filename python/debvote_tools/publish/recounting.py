@@ -1,21 +1,30 @@
-"""The second count, a program in Python that shares nothing with debvote, as it lies beside what is published."""
+"""What lies beside what is published, as it is: the second count, a program in Python that shares nothing with debvote, and the
+guide for electors."""
 
 import pathlib
 
 from debvote_tools.faults import Fault, Status
 
 NAME = "recount.py"
+GUIDE = "READING-A-SHEET.md"
 
-# the folder that debvote_tools lies in
+# the folder that debvote_tools lies in; the package has both there, and a checkout has them elsewhere
 PLACE = pathlib.Path(__file__).resolve().parents[2]
-
-# where the package has it, and where a checkout has it
-PLACES = (PLACE / NAME, PLACE.parent / "tests" / "reference.py")
 
 
 def recount_program() -> bytes:
     """The bytes of the program."""
-    file = next((place for place in PLACES if place.is_file()), None)
+    return bytes_of("the second count", PLACE / NAME, PLACE.parent / "tests" / "reference.py")
+
+
+def guide() -> bytes:
+    """The bytes of the guide."""
+    return bytes_of("the guide for electors", PLACE / GUIDE, PLACE.parent / "docs" / GUIDE)
+
+
+def bytes_of(what: str, *places: pathlib.Path) -> bytes:
+    """The bytes of the first of these files that is there."""
+    file = next((place for place in places if place.is_file()), None)
     if file is None:
-        raise Fault(f"{PLACES[0]}: the second count is not there; install the package debvote again", Status.NOT_FOUND)
+        raise Fault(f"{places[0]}: {what} is not there; install the package debvote again", Status.NOT_FOUND)
     return file.read_bytes()

@@ -6,18 +6,25 @@ from html import escape
 from debvote_tools.election.shapes import plainly
 from debvote_tools.pages import listed, paragraph, part
 from debvote_tools.program import Finding, Totals
+from debvote_tools.publish.calls import BALLOTS
 from debvote_tools.publish.published import Published
 
 HEADING = "Refused lines"
 
+# so many characters of a line are shown, and texts of so many bytes in all, or a few more
+SHOWN = 100
+TEXTS_LIMIT = 1_000_000
+
 
 @dataclasses.dataclass
 class Run:
-    """Lines one behind the other that have the same cause."""
+    """Lines one behind the other that have the same cause and the same text, or whose texts are not shown."""
 
     first: int
     last: int
     cause: str
+    # in HTML
+    text: str | None
 
 
 def refused(found: Published) -> str:
@@ -27,10 +34,13 @@ def refused(found: Published) -> str:
     if not found.refused:
         return part(HEADING, paragraph("No line was refused, and none came late."))
     said = (
-        "These lines of the ballot file count for nothing. Each is told by its number in the file, from 1, with its cause; "
-        "a column is a place in the line, from 1 too."
+        "These lines of the ballot file count for nothing. Each is told by its number in the file, from 1, with its text and its "
+        "cause; a column is a place in the line, from 1 too."
     )
-    return part(HEADING, paragraph(said), listed("ul", map(entry, runs_of(found.refused, found.lines))))
+    runs = runs_of(found.refused, found.lines)
+    untold = next((run.first for run in runs if run.text is None), None)
+    more = [] if untold is None else [paragraph(f"The texts from line {untold} on are too many for this page: see {BALLOTS}.")]
+    return part(HEADING, paragraph(said), *more, listed("ul", map(entry, runs)))
 
 
 def numbers_alone(totals: Totals) -> str:
@@ -44,15 +54,28 @@ def numbers_alone(totals: Totals) -> str:
 
 
 def runs_of(findings: list[Finding], lines: list[bytes]) -> list[Run]:
-    """The lines, those together that stand one behind the other and have the same cause."""
+    """The lines, those together that stand one behind the other and are alike. When the texts are too many, no further ones."""
     runs: list[Run] = []
+    left = TEXTS_LIMIT
     for finding in findings:
-        cause = cause_of(finding, lines[finding.envelope - 1])
-        if runs and runs[-1].cause == cause and runs[-1].last == finding.envelope - 1:
+        line = lines[finding.envelope - 1]
+        cause, text = cause_of(finding, line), text_of(line) if left > 0 else None
+        if runs and runs[-1].last == finding.envelope - 1 and (runs[-1].cause, runs[-1].text) == (cause, text):
             runs[-1].last = finding.envelope
         else:
-            runs.append(Run(finding.envelope, finding.envelope, cause))
+            runs.append(Run(finding.envelope, finding.envelope, cause, text))
+            left -= len(text or "")
     return runs
+
+
+def text_of(line: bytes) -> str:
+    """A line as it stands on the page, in HTML: characters that are not seen stand by their numbers, and a long one is cut."""
+    if not line:
+        return "(an empty line)"
+    text = line.decode("utf-8", "backslashreplace")
+    seen = "".join(sign if sign.isprintable() else f"\\u{ord(sign):04X}" for sign in text[:SHOWN])
+    cut = f" (the first {SHOWN} of {len(text)} characters)" if len(text) > SHOWN else ""
+    return f"<code><bdi>{escape(seen)}</bdi></code>{cut}"
 
 
 def cause_of(finding: Finding, line: bytes) -> str:
@@ -62,4 +85,5 @@ def cause_of(finding: Finding, line: bytes) -> str:
 
 def entry(run: Run) -> str:
     which = f"line {run.first}" if run.first == run.last else f"lines {run.first} to {run.last}"
-    return f"<b>{which}</b>: {escape(run.cause)}"
+    text = "" if run.text is None else f" {run.text}:"
+    return f"<b>{which}</b>:{text} {escape(run.cause)}"

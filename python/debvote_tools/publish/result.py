@@ -2,10 +2,14 @@
 
 from html import escape
 
-from debvote_tools.pages import joined, listed, paragraph, part
+from debvote_tools.pages import in_their_words, joined, listed, paragraph, part
 from debvote_tools.publish.doubts import Doubt
 from debvote_tools.publish.published import Published
+from debvote_tools.publish.recounting import GUIDE
+from debvote_tools.publish.texts import paragraphs_of
 from debvote_tools.sheet import Sheet
+
+COMPARE_LETTER = "Compare it with the one in <strong>your</strong> letter."
 
 # the style of a page that has doubts, behind that of all pages: a frame and a word mark a doubt, and not colour alone
 DOUBTS_STYLE = """.doubts { --warning: #8f1d00; --warned: #fff0e6; margin: 1rem 0; padding: 0.5rem 1rem;
@@ -15,8 +19,7 @@ DOUBTS_STYLE = """.doubts { --warning: #8f1d00; --warned: #fff0e6; margin: 1rem 
 @media (prefers-color-scheme: dark) { .doubts { --warning: #ffb38a; --warned: #3d1d0c; } }
 """
 
-# a text that was given as lines keeps them
-ABOUT_STYLE = ".about { white-space: pre-line; }\n"
+WHY_NONE = "Why this is published even so, in the words of those who publish this page. The program has not checked them:"
 
 
 def outcome(found: Published) -> str:
@@ -81,12 +84,15 @@ def facts(found: Published) -> str:
 def doubts_list(doubts: list[Doubt]) -> str:
     """The doubts for readers, each with a word before it that says what it is."""
     entries = (f"<strong>Doubt:</strong> {escape(doubt.sentence)}" for doubt in doubts)
-    return f'<div class="doubts" role="note" aria-label="Doubts about this result">\n{listed("ul", entries)}\n</div>'
+    guide = paragraph(f'<a href="{GUIDE}">{GUIDE}</a> says what a doubt is, and what you can ask.')
+    return f'<div class="doubts" role="note" aria-label="Doubts about this result">\n{listed("ul", entries)}\n{guide}\n</div>'
 
 
 def result(found: Published) -> str:
     """The part with which the page begins."""
     marked = [doubts_list(found.doubts)] if found.doubts else []
+    if found.because is not None:
+        marked.append(in_their_words(paragraphs_of(found.because), WHY_NONE))
     in_poll = []
     if found.labels.title is not None:
         in_poll = [paragraph(f"In the poll the title is: {escape(found.sheet.facts['Poll'])}")]
@@ -95,23 +101,20 @@ def result(found: Published) -> str:
 
 # ---------------------------------------------------------------- what the society says of it
 def about(found: Published) -> list[str]:
-    """The part with the text that was given, and with the sum that the call announced; none where there is neither."""
-    blocks = []
-    if found.about is not None:
-        texts = [text.strip("\n") for text in found.about.split("\n\n")]
-        blocks = [f'<p class="about"><bdi>{escape(text)}</bdi></p>' for text in texts if text.strip()]
+    """The part with the text that was given, and with the sum of the poll that was called; none where there is neither."""
+    blocks = [] if found.about is None else [in_their_words(paragraphs_of(found.about))]
     if found.called.announced is not None:
         blocks.append(paragraph(announced(found)))
     return [part("About this vote", *blocks)] if blocks else []
 
 
 def announced(found: Published) -> str:
-    """What the call for votes has announced, and whether it is this poll."""
+    """The sum of the poll that was called, as far as the secretary's copy of the call shows it, and whether it is this poll."""
     called = found.called
     is_same = called.announced == called.poll_sum
     said = "The poll below has it" + (", but for its last envelope." if called.has_last_envelope else ".")
     how = '<a href="#How-to-verify">How to verify</a> has the command that compares them.'
     return (
-        f"The call for votes announced this sum (SHA-256) of the poll: <code>{called.announced}</code>. "
-        f"{said if is_same else 'The poll below has another one.'} {how}"
+        f"The secretary's copy of the call has this sum (SHA-256) of the poll: <code>{called.announced}</code>. "
+        f"{said if is_same else 'The poll below has another one.'} {COMPARE_LETTER} {how}"
     )

@@ -19,9 +19,8 @@ from debvote_tools.publish import untelling
 from debvote_tools.publish.called import folders_of
 from debvote_tools.publish.calls import BALLOTS, POLL
 from debvote_tools.publish.published import File, Further
+from debvote_tools.publish.roll import VOTERS
 from debvote_tools.secret_words import ALIAS, BY_OPENSSL, BY_PYTHON, FIND, REMAINS
-
-VOTERS = "voters.txt"
 
 SCRIPT = pathlib.Path(__file__).with_name("find.js")
 
@@ -176,8 +175,9 @@ def further_of(hidden: Hidden, totals: Totals, *, with_voters: bool) -> Further:
     )
     return Further(
         unlisted=totals,
+        voters=hidden.voters if with_voters else None,
         about_ballots=said,
-        parts=[find(hidden), *(who_voted(hidden) if with_voters else []), remains()],
+        parts=[find(hidden), remains()],
         style=pages.FIELDS_STYLE + STYLE,
         script=SCRIPT.read_text(encoding="utf-8"),
         files=files,
@@ -195,14 +195,6 @@ def find(hidden: Hidden) -> str:
         absent = [f'<details>\n{head}\n<ul class="absent">\n{aliases}</ul>\n</details>']
     commands = [(ALONE, BY_PYTHON), (WITH_OPENSSL, BY_OPENSSL), (THEN, "grep '^ALIAS ' standing.txt")]
     return part(FIND, FORM, paragraph(ABSTAINED), paragraph(ALIAS), *(command_block(*command) for command in commands), *absent)
-
-
-def who_voted(hidden: Hidden) -> list[str]:
-    """Where the list of who voted is."""
-    voters = len(hidden.voters)
-    said = f"{'1 elector has' if voters == 1 else f'{voters} electors have'} a ballot that counts."
-    link = f'Their names, in the order of the roll and without their votes: <a href="{VOTERS}">{VOTERS}</a>'
-    return [part("Who voted", paragraph(said), paragraph(link))]
 
 
 def remains() -> str:

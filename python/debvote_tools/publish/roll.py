@@ -1,0 +1,102 @@
+"""The part of the page that says who voted and who did not, and the list of members that gives the real names."""
+
+import dataclasses
+import pathlib
+from collections.abc import Iterable, Mapping, Sequence
+from html import escape
+
+from debvote_tools.election.members import members_in
+from debvote_tools.faults import Fault, Status
+from debvote_tools.pages import paragraph, part
+from debvote_tools.publish.texts import odd_sign
+
+HEADING = "Who voted"
+
+# in a secret vote the list of who voted, a name a line
+VOTERS = "voters.txt"
+
+# so many names are told
+SHOWN = 5
+
+STYLE = ".roll { columns: 14rem; padding: 0; list-style: none; }\n"
+
+LOOK = (
+    "Look for yourself, and for those whom you know: whether each stands where they belong, and whether each is a person, is the "
+    "check that every member can make."
+)
+NONE_COUNTS = "Of these no ballot counts: they did not vote, or all that came of them was refused or late."
+
+
+@dataclasses.dataclass(frozen=True)
+class Voting:
+    """Who voted, by the names of the roll and in its order, and the real names as far as they are given.
+
+    `absent` are the others. In a secret vote they are not told: it is none.
+    """
+
+    voted: Sequence[str]
+    absent: Sequence[str] | None
+    who: Mapping[str, str]
+
+
+def voting_of(roll: Sequence[str], standing: Iterable[str], who: Mapping[str, str]) -> Voting:
+    """Who of the roll has a ballot that stands, and who has none."""
+    voted = set(standing)
+    return Voting([name for name in roll if name in voted], [name for name in roll if name not in voted], who)
+
+
+# ---------------------------------------------------------------- the real names
+def who_in(file: str) -> dict[str, str]:
+    """The real names of a list of members, by the names of the roll."""
+    found = {}
+    for member in members_in(pathlib.Path(file)).members:
+        sign = odd_sign(member.who)
+        if sign is not None:
+            words = f"the real name of {member.name or 'a member'} has the sign U+{ord(sign):04X}, which no name has; take it out"
+            raise Fault(f"{file}:{member.line}: {words}", Status.BAD_WORDS)
+        found[member.name] = member.who
+    return found
+
+
+def demand_all(file: str | None, who: Mapping[str, str], names: Sequence[str]) -> None:
+    """Stops where somebody who is told has no row in the list of members, as where it is the list of another vote."""
+    missing = [] if file is None else [name for name in names if name not in who]
+    if missing:
+        more = f" and {len(missing) - SHOWN} more" if len(missing) > SHOWN else ""
+        told = f"{', '.join(missing[:SHOWN])}{more} of the roll {'has' if len(missing) == 1 else 'have'} no row there"
+        cure = "give the list of members of this vote with --who, or leave --who out"
+        raise Fault(f"{file}: {told}; nothing was published: {cure}", Status.DOUBT)
+
+
+# ---------------------------------------------------------------- the part
+def roll(voting: Voting) -> str:
+    """Who voted and who did not, each in the order of the roll; in a secret vote who voted alone, and the page has real names."""
+    blocks = [paragraph(said(voting))]
+    if voting.absent is None:
+        link = f'Their names, in the order of the roll and without their votes: <a href="{VOTERS}">{VOTERS}</a>'
+        return part(HEADING, *blocks, paragraph(link), *([names_list(voting.voted, voting, has_places=False)] if voting.who else []))
+    blocks.append(paragraph(LOOK))
+    blocks.append(f"<h3>Voted ({len(voting.voted)})</h3>")
+    # those who have a ballot have their place there
+    blocks.append(names_list(voting.voted, voting, has_places=False) if voting.voted else paragraph("Nobody."))
+    blocks.append(f"<h3>No ballot that counts ({len(voting.absent)})</h3>")
+    blocks += [paragraph(NONE_COUNTS), names_list(voting.absent, voting, has_places=True)] if voting.absent else [paragraph("Nobody.")]
+    return part(HEADING, *blocks)
+
+
+def said(voting: Voting) -> str:
+    """How many have voted."""
+    voters = len(voting.voted)
+    of = "" if voting.absent is None else f" of {voters + len(voting.absent)}"
+    has = "elector has" if voters == 1 and not of else "electors have"
+    return f"{voters}{of} {has} a ballot that counts."
+
+
+def names_list(names: Sequence[str], voting: Voting, *, has_places: bool) -> str:
+    """The names of the roll, each with the real name where it is known; with places each can be named in an address."""
+    entries = []
+    for name in names:
+        place = f' id="{name}"' if has_places else ""
+        who = voting.who.get(name, "")
+        entries.append(f"<li{place}>{name}{f' <bdi>{escape(who)}</bdi>' if who else ''}</li>\n")
+    return f'<ul class="roll">\n{"".join(entries)}</ul>'
