@@ -12,6 +12,8 @@ use Rattle.vote_count.specs.Sets.{In, IsAlone, Pairs}
 use Rattle.vote_count.specs.Votes.{Votes, votes}
 
 -- One round over the defeats that are left: its set is the Schwartz set, and it removes the weakest defeats within that set.
+-- A.5.6: "We construct the Schwartz set from the set of transitive defeats."
+-- A.5.7: "If there are defeats between options in the Schwartz set, we drop the weakest such defeats from the list of pairwise defeats"
 pub record IsRound (options : ℕ → Type 0) (matrix : Votes) (defeats : ℕ → ℕ → Type 0) (round : Round) : Type 0 where
   pub set : (a : ℕ) → In round.set a ↔ InSchwartzSet options (TransitivelyDefeats defeats) a
   pub removed : (a b : ℕ) → Pairs round.removed a b ↔ IsWeakest matrix (In round.set) defeats a b
@@ -23,19 +25,21 @@ abbrev pub RemovesSome : Round → Type 0
 RemovesSome round = (a : ℕ) × (b : ℕ) × Pairs round.removed a b
 
 -- The rounds of a count: the last removes nothing, and each round before it something, which the next goes without.
+-- A.5.7: "we drop the weakest such defeats from the list of pairwise defeats, and return to step 5."
 abbrev pub AreRounds : (ℕ → Type 0) → Votes → (ℕ → ℕ → Type 0) → List Round → Type 0
 AreRounds options matrix defeats [] = ⊥
 AreRounds options matrix defeats (round ∷ []) = IsRound options matrix defeats round × RemovesNothing round
 AreRounds options matrix defeats (round ∷ next ∷ later) =
     IsRound options matrix defeats round × RemovesSome round × AreRounds options matrix (Without defeats (Pairs round.removed)) (next ∷ later)
 
--- the set of the last round
+-- The set of the last round.
+-- A.5.8: "If there are no defeats within the Schwartz set, then the winner is chosen from the options in the Schwartz set."
 abbrev pub final_set : List Round → List Bool
 final_set [] = []
 final_set (round ∷ []) = round.set
 final_set (round ∷ next ∷ later) = final_set (next ∷ later)
 
--- why an option is dropped, if it is: for the quorum, where it fails both
+-- Why an option is dropped, if it is, by A.5.2 or A.5.3: for the quorum, where it fails both.
 abbrev pub HasCause : PollContent → Votes → ℕ → Option Cause → Type 0
 HasCause poll matrix o None = IsKept poll matrix o
 HasCause poll matrix o (Some Quorum) = (o < option_count poll) × ¬ MeetsQuorum poll (votes matrix o (option_count poll))
@@ -59,7 +63,8 @@ RoundsAreDetermined =
     let defeats = PairwiseDefeats (IsKept poll matrix) matrix in
     AreRounds (IsKept poll matrix) matrix defeats rounds → AreRounds (IsKept poll matrix) matrix defeats others → AreSameRounds rounds others
 
--- where no option is alone in the set, the casting vote decides
+-- Where no option is alone in the set, the casting vote decides.
+-- A.5.8: "If there are multiple options, the elector with the casting vote chooses which of those options wins."
 abbrev pub IsByCasting : List Bool → Option ℕ → Decision → Type 0
 IsByCasting set None decision = decision ≡ Tie
 IsByCasting set (Some choice) decision = (In set choice × (decision ≡ Winner choice)) ⊎ (¬ In set choice × (decision ≡ CastingOutside choice))
@@ -73,7 +78,7 @@ pub record VerdictState : Type 0 where
 abbrev pub cause_of : VerdictState → ℕ → Option Cause
 cause_of outcome o = at_option outcome.causes o None
 
--- what a count of the matrix comes to: who is dropped and why, the defeats between the options that are kept, and the rounds
+-- What a count of the matrix comes to, by A.5.2 to A.5.7: who is dropped and why, the defeats between the options that are kept, and the rounds.
 pub record IsOutcome (poll : PollContent) (matrix : Votes) (outcome : VerdictState) : Type 0 where
   pub causes : (o : ℕ) → IsOption (option_count poll) o → HasCause poll matrix o (cause_of outcome o)
   pub defeats : (a b : ℕ) → Pairs outcome.defeats a b ↔ PairwiseDefeats (IsKept poll matrix) matrix a b
@@ -81,7 +86,8 @@ pub record IsOutcome (poll : PollContent) (matrix : Votes) (outcome : VerdictSta
       let kept = IsKept poll matrix in
       AreRounds kept matrix (PairwiseDefeats kept matrix) outcome.rounds
 
--- an option that is alone in the final set wins, and else the casting vote decides
+-- An option that is alone in the final set wins, and else the casting vote decides.
+-- A.5.8: "If there is only one such option, it is the winner."
 pub record IsDecision (set : List Bool) (casting : Option ℕ) (decision : Decision) : Type 0 where
   pub alone : (o : ℕ) → IsAlone set o → decision ≡ Winner o
   pub several : ((o : ℕ) → ¬ IsAlone set o) → IsByCasting set casting decision

@@ -5,7 +5,9 @@ use Rattle.vote_poll.specs.declared.wording.Wording.{Wording}
 use Rattle.vote_poll.specs.declared.wording.Wording.TheVariants.{AtLeast, MoreThan}
 use Rattle.vote_count.specs.Votes.{Votes, votes}
 
--- `n` votes are as many as the quorum (section 4.2): the poll's multiple of Q, which is half of the square root of the number of electors
+-- `n` votes are as many as the quorum, the poll's multiple of Q.
+-- 4.2.7: "Q is half of the square root of the number of current Developers." "Q and K need not be integers and are not rounded."
+-- A.5.2: "at least R votes ranking that option above the default option"
 abbrev pub MeetsQuorum : PollContent → ℕ → Type 0
 MeetsQuorum poll n = poll.quorum_multiple ^ 2 * elector_count poll ≤ (2 * n) ^ 2
 
@@ -14,6 +16,7 @@ abbrev pub IsQuorum : PollContent → ℕ → Type 0
 IsQuorum poll n = MeetsQuorum poll n × ((m : ℕ) → MeetsQuorum poll m → n ≤ m)
 
 -- So many votes for an option and so many for the default are a majority of this ratio. In the Constitution's wording they are at least the ratio times as many, and more; in the other one they are more than the ratio times as many.
+-- A.5.3: "An option A defeats the default option D by a majority ratio N, if V(A,D) is greater or equal to N * V(D,A) and V(A,D) is strictly greater than V(D,A)."
 abbrev pub IsMajority : Wording → ℕ → ℕ → ℕ → Type 0
 IsMajority AtLeast ratio won lost = (ratio * lost ≤ won) × (lost < won)
 IsMajority MoreThan ratio won lost = ratio * lost < won
@@ -39,13 +42,16 @@ MeetsMajority poll matrix a =
     let default = option_count poll in
     IsMajority poll.wording (ratio_of poll a) (votes matrix a default) (votes matrix default a)
 
--- A is not dropped: it is the default option, or it meets the quorum and its majority
+-- A is not dropped: it is the default option, or it meets the quorum and its majority.
+-- A.5.2: "If the ballot has a quorum requirement R any options other than the default option which do not receive at least R votes ranking that option above the default option are dropped from consideration."
+-- A.5.3: "Any (non-default) option which does not defeat the default option by its required majority ratio is dropped from consideration."
 abbrev pub IsKept : PollContent → Votes → ℕ → Type 0
 IsKept poll matrix a =
     let default = option_count poll in
     (a ≡ default) ⊎ ((1 ≤ a) × (a < default) × MeetsQuorum poll (votes matrix a default) × MeetsMajority poll matrix a)
 
--- A is one of the options and defeats B, which is another of them
+-- A is one of the options and defeats B, which is another of them.
+-- A.5.4: "From the list of undropped options, we generate a list of pairwise defeats." "An option A defeats an option B, if V(A,B) is strictly greater than V(B,A)."
 abbrev pub PairwiseDefeats : (ℕ → Type 0) → Votes → ℕ → ℕ → Type 0
 PairwiseDefeats options matrix a b = options a × options b × (votes matrix b a < votes matrix a b)
 
@@ -55,7 +61,8 @@ EachDefeatsNext defeats [] = ⊤
 EachDefeatsNext defeats (a ∷ []) = ⊤
 EachDefeatsNext defeats (a ∷ b ∷ rest) = defeats a b × EachDefeatsNext defeats (b ∷ rest)
 
--- A transitively defeats C: there is a list of options, from A to C, each of which defeats the next one
+-- A transitively defeats C: there is a list of options, from A to C, each of which defeats the next one.
+-- A.5.5: "An option A transitively defeats an option C if A defeats C or if there is some other option B where A defeats B AND B transitively defeats C."
 abbrev pub TransitivelyDefeats : (ℕ → ℕ → Type 0) → ℕ → ℕ → Type 0
 TransitivelyDefeats defeats a c = (between : List ℕ) × EachDefeatsNext defeats (a ∷ between ++ c ∷ [])
 
@@ -63,11 +70,13 @@ TransitivelyDefeats defeats a c = (between : List ℕ) × EachDefeatsNext defeat
 abbrev pub IsUnbeaten : (ℕ → Type 0) → (ℕ → ℕ → Type 0) → ℕ → Type 0
 IsUnbeaten options transitively_defeats a = (b : ℕ) → options b → transitively_defeats a b ⊎ ¬ transitively_defeats b a
 
--- A is in the Schwartz set: for each option B, A transitively defeats B, or B does not transitively defeat A
+-- A is in the Schwartz set.
+-- A.5.6: "An option A is in the Schwartz set if for all options B, either A transitively defeats B, or B does not transitively defeat A."
 abbrev pub InSchwartzSet : (ℕ → Type 0) → (ℕ → ℕ → Type 0) → ℕ → Type 0
 InSchwartzSet options transitively_defeats a = options a × IsUnbeaten options transitively_defeats a
 
--- the defeat (A,X) is weaker than the defeat (B,Y)
+-- The defeat (A,X) is weaker than the defeat (B,Y).
+-- A.5.7: "A defeat (A,X) is weaker than a defeat (B,Y) if V(A,X) is less than V(B,Y). Also, (A,X) is weaker than (B,Y) if V(A,X) is equal to V(B,Y) and V(X,A) is greater than V(Y,B)."
 abbrev pub IsWeaker : Votes → ℕ → ℕ → ℕ → ℕ → Type 0
 IsWeaker matrix a x b y =
     (votes matrix a x < votes matrix b y) ⊎ ((votes matrix a x ≡ votes matrix b y) × (votes matrix y b < votes matrix x a))
@@ -76,7 +85,8 @@ IsWeaker matrix a x b y =
 abbrev pub Within : (ℕ → Type 0) → (ℕ → ℕ → Type 0) → ℕ → ℕ → Type 0
 Within set defeats a b = defeats a b × set a × set b
 
--- (A,B) is a weakest of the defeats between options of a set: no other is weaker
+-- (A,B) is a weakest of the defeats between options of a set.
+-- A.5.7: "A weakest defeat is a defeat that has no other defeat weaker than it. There may be more than one such defeat."
 abbrev pub IsWeakest : Votes → (ℕ → Type 0) → (ℕ → ℕ → Type 0) → ℕ → ℕ → Type 0
 IsWeakest matrix set defeats a b = Within set defeats a b × ((x y : ℕ) → Within set defeats x y → ¬ IsWeaker matrix x y a b)
 

@@ -28,7 +28,8 @@ option_count poll = length poll.options
 abbrev pub elector_count : PollContent → ℕ
 elector_count poll = length poll.roll
 
--- the majority ratio of an option other than the default
+-- The majority ratio of an option other than the default.
+-- A.5.3: "If a supermajority of S:1 is required for A, its majority ratio is S; otherwise, its majority ratio is 1."
 abbrev pub ratio_of : PollContent → ℕ → ℕ
 ratio_of poll option = at_option poll.ratios option 0
 

@@ -3,10 +3,13 @@
 use Rattle.std.specs.Prelude.{ℕ, List, Bool, true, false, nat_lt, Option, Some, None}
 use Rattle.vote_poll.specs.Options.{at_option}
 
+-- The rank that a ballot gives an option, or none.
+-- A.5.1: "Each voter's ballot ranks the options being voted on. Not all options need be ranked."
 abbrev pub rank_of : List (Option ℕ) → ℕ → Option ℕ
 rank_of ranks option = at_option ranks option None
 
--- whether one rank is preferred to another: any rank to none, and of two ranks the smaller
+-- Whether one rank is preferred to another: any rank to none, and of two ranks the smaller.
+-- A.5.1: "Ranked options are considered preferred to all unranked options. Voters may rank options equally. Unranked options are considered to be ranked equally with one another."
 abbrev pub is_preferred : Option ℕ → Option ℕ → Bool
 is_preferred None other = false
 is_preferred (Some rank) None = true

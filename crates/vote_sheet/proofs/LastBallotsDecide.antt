@@ -1,18 +1,19 @@
--- From the line `Voters:` on a sheet says nothing but what the poll, without its names and its last envelope, and the last valid ballots come to.
-use Rattle.std.proofs.Common.{◌≡◌, ℕ, ◌<◌, ◌++◌, [], ◌∷◌, List, Some, length, map, refl, sym, ap, ◌∙◌, subst, arith, decimal, codes, append_assoc}
+-- From the line `Voters:` on a sheet says nothing but what the poll, without its names and its last envelope, and the orders of the last valid ballots come to.
+use Rattle.std.proofs.Common.{◌≡◌, ℕ, ◌<◌, ◌++◌, [], ◌∷◌, List, None, Some, get_or, length, map, refl, sym, ap, ◌∙◌, subst, arith, decimal, codes, append_assoc}
 use Rattle.std.specs.Prelude.{slice_get}
 use Rattle.std.specs.List.{range_with_len}
 use Rattle.std.proofs.lemmas.List.FromFn.{get_or-map-range_with_len, length-map-range_with_len}
 use Rattle.std.proofs.lemmas.Option.{same_Some, slice_get-get_or}
-use Rattle.vote_poll.specs.PollContent.{PollContent, elector_count}
+use Rattle.vote_poll.specs.PollContent.{PollContent, elector_count, option_count}
 use Rattle.vote_steps.specs.Recasts.{last_ballot}
-use Rattle.vote_sheet.specs.ElectorLaws.{HaveTheSameLastBallots, IsOneToOne, OnlyLastBallotsDecide}
-use Rattle.vote_sheet.specs.LastBallots.{readings_in_time, refused_count, valid_count}
+use Rattle.vote_sheet.specs.ElectorLaws.{BallotsThatOrderAlikeCountAlike, HaveLastBallotsAlike, IsOneToOne, OnlyLastBallotsDecide, OrderAlike}
+use Rattle.vote_sheet.specs.LastBallots.{last_valid_ballots, readings_in_time, refused_count, valid_count}
 use Rattle.vote_sheet.specs.Sheet.{Sheet, Text, count_text, head_text, last_text, line, options_text, sheet_text, totals_text}
 use Rattle.vote_sheet.specs.SheetOf.{IsSheet, IsSheetOf, SheetIsUnique}
 use Rattle.vote_sheet.specs.Standing.{StandingHasTheSameSheet, StandingSaysTheSame}
-use Rattle.vote_sheet.proofs.Renaming.{AreLastAlike, vote_the_same}
+use Rattle.vote_sheet.proofs.Renaming.{AreLastAlike, same_order, vote_the_same}
 use Rattle.vote_sheet.proofs.SameSheets.{VoteTheSame, sheet_there, with_lines, with_roll}
+use Rattle.vote_sheet.proofs.StandingLemmas.{Entry}
 
 -- ---- the parts of a sheet
 front_of : Sheet → Text
@@ -33,17 +34,23 @@ entry_at f n v below =
     slice_get-get_or (map f (range_with_len 0 n)) v (f v) (omega (arith, below, length-map-range_with_len f 0 n))
     ∙ ap Some (get_or-map-range_with_len f 0 n v v (f v) below (omega arith))
 
+pub entry_or_none : (f : ℕ → Entry) (n v : ℕ) → v < n → get_or (map f (range_with_len 0 n)) v None ≡ f v
+entry_or_none f n v below = get_or-map-range_with_len f 0 n v v None below (omega arith)
+
 are_last_alike : (poll again : PollContent) (lines others : List Text) (mapped : ℕ → ℕ) → elector_count again ≡ elector_count poll → IsOneToOne (elector_count poll) mapped
-    → HaveTheSameLastBallots mapped poll lines again others → AreLastAlike mapped poll lines again others
-are_last_alike poll again lines others mapped electors one_to_one same v below =
+    → HaveLastBallotsAlike mapped poll lines again others → AreLastAlike mapped poll lines again others
+are_last_alike poll again lines others mapped electors one_to_one alike v below =
     let f = last_ballot (readings_in_time poll lines) in
     let g = last_ballot (readings_in_time again others) in
-    let within : mapped v < elector_count again = omega (arith, electors, one_to_one.on_roll v below) in
-    same_Some (g (mapped v)) (f v) (sym (entry_at g (elector_count again) (mapped v) within) ∙ same v below ∙ entry_at f (elector_count poll) v below)
+    let here = entry_or_none f (elector_count poll) v below in
+    let there = entry_or_none g (elector_count again) (mapped v) (omega (arith, electors, one_to_one.on_roll v below)) in
+    let P : Entry → Type 0 = λ entry. OrderAlike (option_count poll) entry (get_or (last_valid_ballots again others) (mapped v) None) in
+    let Q : Entry → Type 0 = λ entry. OrderAlike (option_count poll) (f v) entry in
+    subst Q there (subst P here (alike v below))
 
-pub only_last_ballots : SheetIsUnique → OnlyLastBallotsDecide
+pub order_alike_counts_alike : SheetIsUnique → BallotsThatOrderAlikeCountAlike
 unfolding rest_of
-only_last_ballots unique poll again lines others mapped casting text other differ one_to_one last h k =
+order_alike_counts_alike unique poll again lines others mapped casting text other differ one_to_one last h k =
     let there = with_roll poll again.roll again.last_envelope in
     let alike = are_last_alike poll again lines others mapped differ.electors one_to_one last in
     let P : PollContent → Type 0 = λ q. VoteTheSame poll lines q others in
@@ -61,6 +68,18 @@ only_last_ballots unique poll again lines others mapped casting text other diffe
       h.2 ∙ at_voters s,
       unique again others casting other (sheet_text t) k (subst Q (sym differ.all_else) (t, of, refl)) ∙ at_voters t,
     )
+
+-- the same ballots order the options alike
+pub only_last_ballots : BallotsThatOrderAlikeCountAlike → OnlyLastBallotsDecide
+only_last_ballots alike poll again lines others mapped casting text other differ one_to_one same h k =
+    let f = last_ballot (readings_in_time poll lines) in
+    let g = last_ballot (readings_in_time again others) in
+    let order : HaveLastBallotsAlike mapped poll lines again others = λ v below.
+    let within : mapped v < elector_count again = omega (arith, differ.electors, one_to_one.on_roll v below) in
+    let last = same_Some (g (mapped v)) (f v) (sym (entry_at g (elector_count again) (mapped v) within) ∙ same v below ∙ entry_at f (elector_count poll) v below) in
+    same_order (option_count poll) (get_or (last_valid_ballots poll lines) v None) (get_or (last_valid_ballots again others) (mapped v) None)
+    (entry_or_none g (elector_count again) (mapped v) within ∙ last ∙ sym (entry_or_none f (elector_count poll) v below)) in
+    alike poll again lines others mapped casting text other differ one_to_one order h k
 
 -- `standing` has the last valid ballots of its file
 pub same_sheets : OnlyLastBallotsDecide → StandingSaysTheSame → StandingHasTheSameSheet

@@ -16,4 +16,5 @@ pub mod SameSheets
 pub mod ElectorLaws
 pub mod Renaming
 pub mod LastBallotsDecide
+pub mod NormalRanks
 pub mod Publishing

@@ -1,6 +1,6 @@
 -- What is published of a secret vote says the same as the files that came.
 use Rattle.std.proofs.Common.{◌≡◌, ℕ, zero, suc, ◌+◌, ◌*◌, ◌<◌, ◌≤◌, ◌⊎◌, true, cond, List, [], ◌∷◌, ◌++◌, Option, Some, None, length, length-append, get_or, map, inl, inr, refl, sym, ap, ◌∙◌, subst, arith}
-use Rattle.std.specs.Prelude.{count_by, is_some}
+use Rattle.std.specs.Prelude.{count_by, is_some, option_map, slice_get}
 use Rattle.std.specs.List.{All, Contains, join_with_byte, list_all, range_with_len}
 use Rattle.std.specs.Option.{option_or}
 use Rattle.std.proofs.lemmas.Bool.{and_parts, cases_eq, eq-eqb, ne_eqb}
@@ -9,6 +9,8 @@ use Rattle.std.proofs.lemmas.Fmt.{length-decimal-le}
 use Rattle.std.proofs.lemmas.List.{length-map, take_all}
 use Rattle.std.proofs.lemmas.List.Elements.{All-head, All-tail, Contains-append_left, Contains-append_right}
 use Rattle.std.proofs.lemmas.List.FromFn.{get_or-map-range_with_len, length-map-range_with_len}
+use Rattle.std.proofs.lemmas.Option.{same_Some}
+use Rattle.std.proofs.lemmas.Simd.{map-map}
 use Rattle.std.proofs.lemmas.List.Sorted.{All-permutation, Contains-permutation, length_permutation}
 use Rattle.std.proofs.lemmas.List.Sums.{count_by-le-length}
 use Rattle.vote_poll.specs.BallotLine.{IsBallotLine, IsRank, line_text, rank_text}
@@ -22,13 +24,14 @@ use Rattle.vote_poll.specs.declared.TheConstants.{MAX_LINE, MAX_OPTIONS}
 use Rattle.vote_poll_text.specs.Names.{is_voter_byte, is_voter_name, is_within}
 use Rattle.vote_poll_text.specs.declared.TheConstants.{MAX_VOTER_NAME}
 use Rattle.vote_steps.specs.Recasts.{last_ballot, ranks_read}
-use Rattle.vote_sheet.specs.ElectorLaws.{OnlyLastBallotsDecide}
+use Rattle.vote_sheet.specs.ElectorLaws.{BallotsThatOrderAlikeCountAlike, HaveLastBallotsAlike, OrderAlike}
 use Rattle.vote_sheet.specs.LastBallots.{last_valid_ballots, readings_in_time, valid_count, voter_count}
-use Rattle.vote_sheet.specs.Publishing.{ArePublished, PublishedFilesHaveTheSameSheet, PublishedFilesSayTheSame, other_names, renamed_lines}
+use Rattle.vote_sheet.specs.Publishing.{ArePublished, KeepsTheOrder, PublishedFilesHaveTheSameSheet, PublishedFilesSayTheSame, other_names, renamed_lines}
 use Rattle.vote_sheet.specs.Sheet.{Text}
 use Rattle.vote_sheet.specs.Standing.{ballot_line, ballot_lines}
-use Rattle.vote_sheet.proofs.LastBallotsDecide.{entry_at}
+use Rattle.vote_sheet.proofs.LastBallotsDecide.{entry_at, entry_or_none}
 use Rattle.vote_sheet.proofs.ElectorLaws.{some_ranks}
+use Rattle.vote_sheet.proofs.Renaming.{same_order}
 use Rattle.vote_sheet.proofs.ElectorSums.{entry_count, valid-refused}
 use Rattle.vote_sheet.proofs.StandingLemmas.{EachLineIsRead, Entry, OfEachLine, count-cons, each_line, has_line, last_of, one, spell}
 
@@ -114,85 +117,136 @@ decided (Some ranks) found is some =
       | inr same ↦ same
     ]
 
+-- ---- a ballot that stands, and how it is written
+-- there is such a ballot, of a poll with so many options
+record IsGiven (options : ℕ) (ranks : List (Option ℕ)) : Type 0 where
+  pub are_ranks : All IsRank ranks
+  pub has_rank : 1 ≤ length ranks
+  pub count : length ranks ≡ options
+
+are_given : EachLineIsRead → (poll : PollContent) (lines : List Text) (v : ℕ) (ranks : List (Option ℕ)) → last_of poll lines v ≡ Some ranks → IsGiven (option_count poll) ranks
+are_given read poll lines v ranks is =
+    let found = has_line poll (last_in_time poll) lines v ranks is in
+    let means : IsReading poll found.0 (Ballot v ranks) = subst (IsReading poll found.0) found.1 (read poll found.0) in
+    record { are_ranks = means.1.are_ranks; has_rank = means.1.has_rank; count = means.2 }
+
+written_of : (written : List (Option ℕ) → List (Option ℕ)) (entry : Entry) (ranks : List (Option ℕ)) → option_map written entry ≡ Some ranks
+    → (own : List (Option ℕ)) × (entry ≡ Some own) × (written own ≡ ranks)
+written_of written None ranks is = cc
+written_of written (Some own) ranks is = (own, refl, same_Some (written own) ranks is)
+
+written_count : (written : List (Option ℕ) → List (Option ℕ)) (f : ℕ → Entry) (vs : List ℕ) → count_by is_some (map (λ v. option_map written (f v)) vs) ≡ count_by is_some (map f vs)
+written_count written f [] = refl
+written_count written f (v ∷ vs) =
+    omega (
+      arith,
+      count-cons is_some (option_map written (f v)) (map (λ v. option_map written (f v)) vs),
+      count-cons is_some (f v) (map f vs),
+      ap one (is_there (f v)),
+      written_count written f vs,
+    )
+  where
+    is_there : (entry : Entry) → is_some (option_map written entry) ≡ is_some entry
+    is_there None = refl
+    is_there (Some ranks) = refl
+
+ordered_alike : (written : List (Option ℕ) → List (Option ℕ)) → KeepsTheOrder written → (options : ℕ) (entry : Entry) → ((ranks : List (Option ℕ)) → entry ≡ Some ranks → IsGiven options ranks)
+    → OrderAlike options entry (option_map written entry)
+ordered_alike written keeps options None given = same_order options None None refl
+ordered_alike written keeps options (Some ranks) given =
+    let is = given ranks refl in
+    let P : ℕ → Type 0 = λ n. OrderAlike n (Some ranks) (Some (written ranks)) in
+    subst P is.count (keeps.alike ranks is.are_ranks)
+
 -- ---- the published lines
-module _ (read : EachLineIsRead) (unique : ReadingsAreUnique) (distinct : NamesAreDistinct) (mapped : ℕ → ℕ) (poll : PollContent) (lines : List Text) (again : PollContent) (others : List Text) (are : ArePublished mapped poll lines again others) where
+module _ (read : EachLineIsRead) (unique : ReadingsAreUnique) (distinct : NamesAreDistinct) (written : List (Option ℕ) → List (Option ℕ)) (mapped : ℕ → ℕ) (poll : PollContent) (lines : List Text) (again : PollContent) (others : List Text) (are : ArePublished written mapped poll lines again others) where
+  -- the ballot that stands, as it is written
+  abbrev entry_of : ℕ → Entry
+  entry_of v = option_map written (last_of poll lines v)
+
   -- each ballot that stands is read under the other name
-  reads_there : (v : ℕ) (ranks : List (Option ℕ)) → v < elector_count poll → last_of poll lines v ≡ Some ranks
+  reads_there : (v : ℕ) (ranks : List (Option ℕ)) → v < elector_count poll → entry_of v ≡ Some ranks
       → reading again (line_text (get_or again.roll (mapped v) []) ranks) ≡ Ballot (mapped v) ranks
   reads_there v ranks below is =
       let name = get_or again.roll (mapped v) [] in
       let line = line_text name ranks in
-      let found = has_line poll (last_in_time poll) lines v ranks is in
-      let means : IsReading poll found.0 (Ballot v ranks) = subst (IsReading poll found.0) found.1 (read poll found.0) in
+      let own = written_of written (last_of poll lines v) ranks is in
+      let given = are_given read poll lines v own.0 own.1 in
+      let P : List (Option ℕ) → Type 0 = All IsRank in
+      let are_ranks : All IsRank ranks = subst P own.2 (are.keeps.are_ranks own.0 given.are_ranks) in
+      let count : length ranks ≡ option_count poll = sym (ap length own.2) ∙ are.keeps.as_many own.0 given.are_ranks ∙ given.count in
       let options : option_count again ≡ option_count poll = ap option_count are.all_else.all_else in
       let at = distinct again.roll (mapped v) are.is_poll.voter_names (omega (arith, are.all_else.electors, are.one_to_one.on_roll v below)) in
       let is_line : IsBallotLine line name ranks = record {
         is_text = refl;
         is_name = at.1;
-        are_ranks = means.1.are_ranks;
-        has_rank = means.1.has_rank;
-        is_short = line_is_short name ranks at.1 means.1.are_ranks (omega (arith, means.2, options, are.is_poll.options_max));
+        are_ranks = are_ranks;
+        has_rank = omega (arith, given.has_rank, given.count, count);
+        is_short = line_is_short name ranks at.1 are_ranks (omega (arith, count, options, are.is_poll.options_max));
       } in
-      unique again line (reading again line) (Ballot (mapped v) ranks) (read again line) (name, is_line, means.2 ∙ sym options, at.0)
+      unique again line (reading again line) (Ballot (mapped v) ranks) (read again line) (name, is_line, count ∙ sym options, at.0)
 
   -- a reading is the ballot that stands of an elector
   abbrev Stands : Reading → Type 0
-  Stands r = (v : ℕ) × (ranks : List (Option ℕ)) × (v < elector_count poll) × (last_of poll lines v ≡ Some ranks) × (r ≡ Ballot (mapped v) ranks)
+  Stands r = (v : ℕ) × (ranks : List (Option ℕ)) × (v < elector_count poll) × (entry_of v ≡ Some ranks) × (r ≡ Ballot (mapped v) ranks)
 
   many : length (other_names mapped poll again) ≡ elector_count poll
   many = length-map-range_with_len (λ v. get_or again.roll (mapped v) []) 0 (elector_count poll)
 
-  spelled_there : spell (last_of poll lines) 0 (other_names mapped poll again) ≡ renamed_lines mapped poll lines again
-  spelled_there = ap (λ n. ballot_lines (other_names mapped poll again) (map (last_of poll lines) (range_with_len 0 n))) many
+  spelled_there : spell entry_of 0 (other_names mapped poll again) ≡ renamed_lines written mapped poll lines again
+  spelled_there =
+      ap (λ n. ballot_lines (other_names mapped poll again) (map entry_of (range_with_len 0 n))) many
+      ∙ sym (ap (ballot_lines (other_names mapped poll again)) (map-map (option_map written) (last_of poll lines) (range_with_len 0 (elector_count poll))))
 
   name_there : (v : ℕ) → v < elector_count poll → get_or (other_names mapped poll again) v [] ≡ get_or again.roll (mapped v) []
   name_there v below = get_or-map-range_with_len (λ v. get_or again.roll (mapped v) []) 0 (elector_count poll) v v [] below (omega arith)
 
-  line_stands : OfEachLine (last_of poll lines) 0 (other_names mapped poll again) (λ v ranks line. Stands (reading again line))
+  line_stands : OfEachLine entry_of 0 (other_names mapped poll again) (λ v ranks line. Stands (reading again line))
   line_stands v ranks below is =
       let within : v < elector_count poll = omega (arith, below, many) in
-      let here : last_of poll lines v ≡ Some ranks = ap (last_of poll lines) (omega arith) ∙ is in
+      let here : entry_of v ≡ Some ranks = ap entry_of (omega arith) ∙ is in
       (v, ranks, within, here, ap (λ name. reading again (line_text name ranks)) (name_there v within) ∙ reads_there v ranks within here)
 
   all_stand : All (λ line. Stands (reading again line)) others
   all_stand =
       let P : Text → Type 0 = λ line. Stands (reading again line) in
-      All-permutation P (renamed_lines mapped poll lines again) others are.ballots
-      (subst (All P) spelled_there (each_line P (last_of poll lines) 0 (other_names mapped poll again) line_stands))
+      All-permutation P (renamed_lines written mapped poll lines again) others are.ballots
+      (subst (All P) spelled_there (each_line P entry_of 0 (other_names mapped poll again) line_stands))
 
   -- none or the ballot that stands
-  of_one : (r : Reading) → Stands r → (v : ℕ) → v < elector_count poll → IsNoneOr (last_of poll lines v) (ranks_read (mapped v) r)
+  of_one : (r : Reading) → Stands r → (v : ℕ) → v < elector_count poll → IsNoneOr (entry_of v) (ranks_read (mapped v) r)
   of_one r (u, ranks, below_u, here, is) v below =
       let read : ranks_read (mapped v) r ≡ ranks_read (mapped v) (Ballot (mapped u) ranks) = ap (ranks_read (mapped v)) is in
       elim (cases_eq u v) [
-        | inl same ↦ inr (read ∙ ap (λ t. cond t (Some ranks) None) (eq-eqb (mapped u) (mapped v) (ap mapped same)) ∙ sym here ∙ ap (last_of poll lines) same)
+        | inl same ↦ inr (read ∙ ap (λ t. cond t (Some ranks) None) (eq-eqb (mapped u) (mapped v) (ap mapped same)) ∙ sym here ∙ ap entry_of same)
         | inr other ↦ inl (read ∙ ap (λ t. cond t (Some ranks) None) (ne_eqb (mapped u) (mapped v) (λ is_same. other (are.one_to_one.apart u v below_u below is_same))))
       ]
 
-  of_all : (some : List Text) → All (λ line. Stands (reading again line)) some → (v : ℕ) → v < elector_count poll → IsNoneOr (last_of poll lines v) (last_ballot (readings again some) (mapped v))
+  of_all : (some : List Text) → All (λ line. Stands (reading again line)) some → (v : ℕ) → v < elector_count poll → IsNoneOr (entry_of v) (last_ballot (readings again some) (mapped v))
   of_all [] stand v below = inl refl
   of_all (line ∷ some) stand v below =
       let P : Text → Type 0 = λ line. Stands (reading again line) in
-      either_is (last_of poll lines v) (last_ballot (readings again some) (mapped v)) (ranks_read (mapped v) (reading again line))
+      either_is (entry_of v) (last_ballot (readings again some) (mapped v)) (ranks_read (mapped v) (reading again line))
       (of_all some (All-tail P line some stand) v below)
       (of_one (reading again line) (All-head P line some stand) v below)
 
   -- the ballot that stands is there
-  is_there : (v : ℕ) (ranks : List (Option ℕ)) → v < elector_count poll → last_of poll lines v ≡ Some ranks
+  is_there : (v : ℕ) (ranks : List (Option ℕ)) → v < elector_count poll → entry_of v ≡ Some ranks
       → (other : List (Option ℕ)) × (last_ballot (readings again others) (mapped v) ≡ Some other)
   is_there v ranks below is =
       let line = line_text (get_or (other_names mapped poll again) v []) ranks in
       let P : List Text → Type 0 = λ ls. Contains ls line in
-      let at = Contains-permutation (renamed_lines mapped poll lines again) others line are.ballots
-      (subst P spelled_there (has_spelled (last_of poll lines) 0 (other_names mapped poll again) v ranks (omega (arith, below, many)) (ap (last_of poll lines) (omega arith) ∙ is))) in
+      let at = Contains-permutation (renamed_lines written mapped poll lines again) others line are.ballots
+      (subst P spelled_there (has_spelled entry_of 0 (other_names mapped poll again) v ranks (omega (arith, below, many)) (ap entry_of (omega arith) ∙ is))) in
       has_last again others (mapped v) at.0 ranks line (ap (λ name. reading again (line_text name ranks)) (name_there v below) ∙ reads_there v ranks below is) at.1 at.2
 
   as_many : length others ≡ voter_count poll lines
   as_many =
-      length_permutation (renamed_lines mapped poll lines again) others are.ballots
+      length_permutation (renamed_lines written mapped poll lines again) others are.ballots
       ∙ sym (ap length spelled_there)
-      ∙ spelled_count (last_of poll lines) 0 (other_names mapped poll again)
-      ∙ ap (λ n. count_by is_some (map (last_of poll lines) (range_with_len 0 n))) many
+      ∙ spelled_count entry_of 0 (other_names mapped poll again)
+      ∙ ap (λ n. count_by is_some (map entry_of (range_with_len 0 n))) many
+      ∙ written_count written (last_of poll lines) (range_with_len 0 (elector_count poll))
 
   none_late : readings_in_time again others ≡ readings again others
   none_late =
@@ -223,26 +277,41 @@ module _ (read : EachLineIsRead) (unique : ReadingsAreUnique) (distinct : NamesA
   all_valid : valid_count again others ≡ length others
   all_valid = ap (count_by is_ballot) none_late ∙ all_ballots others all_stand
 
-  same_last : (v : ℕ) → v < elector_count poll → last_ballot (readings_in_time again others) (mapped v) ≡ last_of poll lines v
+  same_last : (v : ℕ) → v < elector_count poll → last_ballot (readings_in_time again others) (mapped v) ≡ entry_of v
   same_last v below =
       ap (λ rs. last_ballot rs (mapped v)) none_late
-      ∙ decided (last_of poll lines v) (last_ballot (readings again others) (mapped v)) (of_all others all_stand v below) (λ ranks is. is_there v ranks below is)
+      ∙ decided (entry_of v) (last_ballot (readings again others) (mapped v)) (of_all others all_stand v below) (λ ranks is. is_there v ranks below is)
 
 pub say_the_same : EachLineIsRead → ReadingsAreUnique → NamesAreDistinct → PublishedFilesSayTheSame
-say_the_same read unique distinct poll again lines others mapped are =
+say_the_same read unique distinct written poll again lines others mapped are =
     let within : (v : ℕ) → v < elector_count poll → mapped v < elector_count again = λ v below. omega (arith, are.all_else.electors, are.one_to_one.on_roll v below) in
-    let many = as_many read unique distinct mapped poll lines again others are in
-    let valid = all_valid read unique distinct mapped poll lines again others are in
+    let many = as_many read unique distinct written mapped poll lines again others are in
+    let valid = all_valid read unique distinct written mapped poll lines again others are in
     record {
       count = many;
       valid = valid ∙ many;
       refused = omega (arith, valid, valid-refused again others);
       last = λ v below.
           entry_at (last_ballot (readings_in_time again others)) (elector_count again) (mapped v) (within v below)
-          ∙ ap Some (same_last read unique distinct mapped poll lines again others are v below)
-          ∙ sym (entry_at (last_of poll lines) (elector_count poll) v below);
+          ∙ ap Some (same_last read unique distinct written mapped poll lines again others are v below)
+          ∙ sym (entry_at (λ v. option_map written (last_of poll lines v)) (elector_count poll) v below)
+          ∙ sym (ap (λ entries. slice_get entries v) (map-map (option_map written) (last_of poll lines) (range_with_len 0 (elector_count poll))));
     }
 
-pub have_the_same_sheet : OnlyLastBallotsDecide → PublishedFilesSayTheSame → PublishedFilesHaveTheSameSheet
-have_the_same_sheet decide say poll again lines others mapped casting text other are =
-    decide poll again lines others mapped casting text other are.all_else are.one_to_one (say poll again lines others mapped are).last
+pub have_the_same_sheet : EachLineIsRead → BallotsThatOrderAlikeCountAlike → PublishedFilesSayTheSame → PublishedFilesHaveTheSameSheet
+have_the_same_sheet read alike say written poll again lines others mapped casting text other are =
+    let g = last_ballot (readings_in_time again others) in
+    let order : HaveLastBallotsAlike mapped poll lines again others = λ v below.
+    let within : mapped v < elector_count again = omega (arith, are.all_else.electors, are.one_to_one.on_roll v below) in
+    let is : g (mapped v) ≡ option_map written (last_of poll lines v) =
+    same_Some (g (mapped v)) (option_map written (last_of poll lines v))
+    (sym (entry_at g (elector_count again) (mapped v) within)
+    ∙ (say written poll again lines others mapped are).last v below
+    ∙ ap (λ entries. slice_get entries v) (map-map (option_map written) (last_of poll lines) (range_with_len 0 (elector_count poll)))
+    ∙ entry_at (λ v. option_map written (last_of poll lines v)) (elector_count poll) v below) in
+    let P : Entry → Type 0 = λ entry. OrderAlike (option_count poll) entry (get_or (last_valid_ballots again others) (mapped v) None) in
+    let Q : Entry → Type 0 = λ entry. OrderAlike (option_count poll) (last_of poll lines v) entry in
+    subst P (sym (entry_or_none (last_of poll lines) (elector_count poll) v below))
+    (subst Q (sym (entry_or_none g (elector_count again) (mapped v) within ∙ is))
+    (ordered_alike written are.keeps (option_count poll) (last_of poll lines v) (λ ranks stands. are_given read poll lines v ranks stands))) in
+    alike poll again lines others mapped casting text other are.all_else are.one_to_one order

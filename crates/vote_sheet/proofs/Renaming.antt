@@ -7,13 +7,13 @@ use Rattle.std.specs.Str.{bytes_eq}
 use Rattle.std.proofs.lemmas.Bool.{cases_eq, eq-eqb, ne_eqb}
 use Rattle.std.proofs.lemmas.List.FromFn.{length-range_with_len}
 use Rattle.std.proofs.lemmas.List.Quantifiers.{position-Some}
-use Rattle.vote_poll.specs.PollContent.{PollContent, elector_count, last_in_time}
+use Rattle.vote_poll.specs.PollContent.{PollContent, elector_count, last_in_time, option_count}
 use Rattle.vote_poll.specs.Readings.{IsReading, is_ballot, reading, readings}
 use Rattle.vote_poll.specs.declared.Reading.{Reading}
 use Rattle.vote_poll.specs.declared.Reading.TheVariants.{Bad, Ballot}
 use Rattle.vote_count.specs.Ballots.{entry_prefers}
 use Rattle.vote_steps.specs.Recasts.{last_ballot, ranks_read}
-use Rattle.vote_sheet.specs.ElectorLaws.{HaveSameSheets, IsOneToOne, NamesDoNotMatter, ReadAlike}
+use Rattle.vote_sheet.specs.ElectorLaws.{HaveSameSheets, IsOneToOne, NamesDoNotMatter, OrderAlike, ReadAlike}
 use Rattle.vote_sheet.specs.LastBallots.{last_valid_ballots, readings_in_time}
 use Rattle.vote_sheet.specs.Sheet.{Text}
 use Rattle.vote_sheet.proofs.ElectorLaws.{no_ballot}
@@ -105,13 +105,13 @@ count-map : {X : Type 0} (p : X → Bool) (f : ℕ → X) (ns : List ℕ) → co
 count-map p f [] = refl
 count-map p f (n ∷ ns) = omega (arith, count-cons p (f n) (map f ns), count-cons (λ m. p (f m)) n ns, count-map p f ns)
 
--- entries by the places of two rolls, the same at places that are mapped to each other
-count_mapped : {X : Type 0} (n : ℕ) (mapped : ℕ → ℕ) → IsOneToOne n mapped → (f g : ℕ → X) → ((v : ℕ) → v < n → g (mapped v) ≡ f v)
-    → (p : X → Bool) → count_by p (map g (range_with_len 0 n)) ≡ count_by p (map f (range_with_len 0 n))
-count_mapped n mapped one_to_one f g same p =
+-- as many entries pass a test by the places of two rolls, where those at places that are mapped to each other pass it alike
+count_mapped : {X : Type 0} (n : ℕ) (mapped : ℕ → ℕ) → IsOneToOne n mapped → (f g : ℕ → X) (p : X → Bool) → ((v : ℕ) → v < n → p (g (mapped v)) ≡ p (f v))
+    → count_by p (map g (range_with_len 0 n)) ≡ count_by p (map f (range_with_len 0 n))
+count_mapped n mapped one_to_one f g p same =
     count-map p g (range_with_len 0 n)
     ∙ sym (tally_mapped n mapped one_to_one (λ v. p (g v)))
-    ∙ tally_same (λ v. p (g (mapped v))) (λ v. p (f v)) 0 n (λ v low high. ap p (same v (omega (arith, high))))
+    ∙ tally_same (λ v. p (g (mapped v))) (λ v. p (f v)) 0 n (λ v low high. same v (omega (arith, high)))
     ∙ sym (count-map p f (range_with_len 0 n))
 
 -- ---- lines that read alike
@@ -164,27 +164,37 @@ valid_alike mapped (r ∷ rs) [] alike = absurd alike
 valid_alike mapped (r ∷ rs) (s ∷ ss) alike =
     omega (arith, count-cons is_ballot r rs, count-cons is_ballot s ss, ap one (kind_alike mapped r s alike.0), valid_alike mapped rs ss alike.1)
 
--- ---- two files with the same last valid ballots
--- the last ballot of each place of a roll is, in the other file, that of the place that this one is mapped to
+-- ---- two files whose last valid ballots order the options alike
+-- the last ballot of each place of a roll and, in the other file, that of the place that this one is mapped to
 abbrev pub AreLastAlike : (ℕ → ℕ) → PollContent → List Text → PollContent → List Text → Type 0
 AreLastAlike mapped poll lines again others =
-    (v : ℕ) → v < elector_count poll → last_ballot (readings_in_time again others) (mapped v) ≡ last_ballot (readings_in_time poll lines) v
+    (v : ℕ) → v < elector_count poll → OrderAlike (option_count poll) (last_ballot (readings_in_time poll lines) v) (last_ballot (readings_in_time again others) (mapped v))
+
+-- the same ballot orders the options alike
+pub same_order : (options : ℕ) (entry other : Entry) → other ≡ entry → OrderAlike options entry other
+same_order options entry other same = record { voted = ap is_some same; preferred = λ a b of_a of_b. ap (entry_prefers a b) same }
 
 pub vote_the_same : (poll again : PollContent) (lines others : List Text) (mapped : ℕ → ℕ) → elector_count again ≡ elector_count poll → IsOneToOne (elector_count poll) mapped
     → AreLastAlike mapped poll lines again others → VoteTheSame poll lines again others
 vote_the_same poll again lines others mapped electors one_to_one alike =
     let rs = readings_in_time poll lines in
     let ss = readings_in_time again others in
-    let same : (p : Entry → Bool) → count_by p (last_valid_ballots again others) ≡ count_by p (last_valid_ballots poll lines) =
-    λ p. ap (λ k. count_by p (map (last_ballot ss) (range_with_len 0 k))) electors
-    ∙ count_mapped (elector_count poll) mapped one_to_one (last_ballot rs) (last_ballot ss) alike p in
-    record { voters = same is_some; counts = λ a b. same (entry_prefers a b) }
+    let same : (p : Entry → Bool) → ((v : ℕ) → v < elector_count poll → p (last_ballot ss (mapped v)) ≡ p (last_ballot rs v))
+    → count_by p (last_valid_ballots again others) ≡ count_by p (last_valid_ballots poll lines) =
+    λ p each. ap (λ k. count_by p (map (last_ballot ss) (range_with_len 0 k))) electors
+    ∙ count_mapped (elector_count poll) mapped one_to_one (last_ballot rs) (last_ballot ss) p each in
+    record {
+      voters = same is_some (λ v below. (alike v below).voted);
+      counts = λ a b of_a of_b. same (entry_prefers a b) (λ v below. (alike v below).preferred a b of_a of_b);
+    }
 
 pub names_lem : EachLineIsRead → NamesDoNotMatter
 names_lem read poll again lines others mapped differ one_to_one alike =
     let rs = readings_in_time poll lines in
     let ss = readings_in_time again others in
-    let last = last_alike (elector_count poll) mapped one_to_one rs ss alike.alike (are_on_roll read poll (last_in_time poll) lines) in
+    let last : AreLastAlike mapped poll lines again others = λ v below.
+    same_order (option_count poll) (last_ballot rs v) (last_ballot ss (mapped v))
+    (last_alike (elector_count poll) mapped one_to_one rs ss alike.alike (are_on_roll read poll (last_in_time poll) lines) v below) in
     let counts : CountTheSame poll lines again others = record {
       as_long = alike.as_long;
       valid = valid_alike mapped rs ss alike.alike;

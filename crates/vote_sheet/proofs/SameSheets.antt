@@ -2,7 +2,7 @@
 use Rattle.std.proofs.Common.{◌≡◌, ℕ, ◌*◌, ◌^◌, ◌<◌, ◌≤◌, ◌⊎◌, ◌↔◌, List, Option, None, Some, length, refl, sym, ap, ◌∙◌, subst, arith}
 use Rattle.std.specs.Prelude.{count_by, is_some}
 use Rattle.vote_poll.specs.PollContent.{PollContent, elector_count, option_count}
-use Rattle.vote_count.specs.Ballots.{entry_prefers}
+use Rattle.vote_count.specs.Ballots.{EachTwo, entry_prefers}
 use Rattle.vote_count.specs.declared.Cause.{Cause}
 use Rattle.vote_count.specs.declared.Cause.TheVariants.{Quorum, Majority}
 use Rattle.vote_count.specs.Rounds.{AreRounds, HasCause, IsOutcome, VerdictState, cause_of}
@@ -22,7 +22,7 @@ with_roll poll roll last = record poll { roll = roll; last_envelope = last }
 -- there are as many voters in two files, and their votes are the same
 pub record VoteTheSame (poll : PollContent) (lines : List Text) (again : PollContent) (others : List Text) : Type 0 where
   pub voters : voter_count again others ≡ voter_count poll lines
-  pub counts : (a b : ℕ) → votes_for again others a b ≡ votes_for poll lines a b
+  pub counts : EachTwo (option_count poll) (λ a b. votes_for again others a b ≡ votes_for poll lines a b)
 
 -- what a sheet counts of two files is the same
 pub record CountTheSame (poll : PollContent) (lines : List Text) (again : PollContent) (others : List Text) : Type 0 where
@@ -30,11 +30,15 @@ pub record CountTheSame (poll : PollContent) (lines : List Text) (again : PollCo
   pub valid : valid_count again others ≡ valid_count poll lines
   pub votes : VoteTheSame poll lines again others
 
-pub count_the_same-back : (poll : PollContent) (lines : List Text) (again : PollContent) (others : List Text) → CountTheSame poll lines again others → CountTheSame again others poll lines
-count_the_same-back poll lines again others same = record {
+pub count_the_same-back : (poll : PollContent) (lines : List Text) (again : PollContent) (others : List Text) → option_count again ≡ option_count poll → CountTheSame poll lines again others
+    → CountTheSame again others poll lines
+count_the_same-back poll lines again others options same = record {
   as_long = sym same.as_long;
   valid = sym same.valid;
-  votes = record { voters = sym same.votes.voters; counts = λ a b. sym (same.votes.counts a b) };
+  votes = record {
+    voters = sym same.votes.voters;
+    counts = λ a b of_a of_b. sym (same.votes.counts a b (of_a.0, omega (arith, of_a.1, options)) (of_b.0, omega (arith, of_b.1, options)));
+  };
 }
 
 -- files of one poll with the same last valid ballots, as many lines and as many valid ones count the same
@@ -43,7 +47,7 @@ pub from_last_ballots : (poll : PollContent) (lines others : List Text) → leng
 from_last_ballots poll lines others long valid last = record {
   as_long = long;
   valid = valid;
-  votes = record { voters = ap (count_by is_some) last; counts = λ a b. ap (count_by (entry_prefers a b)) last };
+  votes = record { voters = ap (count_by is_some) last; counts = λ a b of_a of_b. ap (count_by (entry_prefers a b)) last };
 }
 
 -- ---- what a poll has to do with its roll: of how many electors it is
@@ -107,7 +111,7 @@ sheet_there poll roll last electors lines others same casting s is n e valid ref
       refused = of.refused;
       voters = is.voters ∙ sym same.voters;
       size = is.size;
-      counted = λ a b of_a of_b. is.counted a b of_a of_b ∙ sym (same.counts a b);
+      counted = λ a b of_a of_b. is.counted a b of_a of_b ∙ sym (same.counts a b of_a of_b);
       outcome = outcome_there poll s.matrix roll last electors s.outcome is.outcome;
       decision = is.decision;
     }
@@ -134,7 +138,7 @@ same_sheets_there poll roll electors lines others same casting text =
       λ h. (h.0, same_sheet_there poll roll electors lines others same casting h.0 h.1, h.2),
       λ h. (
         h.0,
-        same_sheet_there again poll.roll (sym electors) others lines (count_the_same-back poll lines again others same) casting h.0 h.1,
+        same_sheet_there again poll.roll (sym electors) others lines (count_the_same-back poll lines again others refl same) casting h.0 h.1,
         h.2,
       ),
     )

@@ -1,11 +1,12 @@
 -- What an elector can rely on: laws of the sheet that is printed. It counts nobody twice, knows no names, and shows nothing of a refused or an outdated line but that it is there; and one ballot moves each of its counts by one at most.
-use Rattle.std.specs.Prelude.{◌≡◌, ◌≢◌, ℕ, ◌+◌, ◌<◌, ◌≤◌, ◌⊎◌, ◌↔◌, false, List, [], ◌∷◌, ◌++◌, length, take, slice_get, Option}
+use Rattle.std.specs.Prelude.{◌≡◌, ◌≢◌, ℕ, ◌+◌, ◌<◌, ◌≤◌, ◌⊎◌, ◌↔◌, false, is_some, List, [], ◌∷◌, ◌++◌, length, take, slice_get, slice_index_or, Option, None}
 use Rattle.std.specs.List.{AllZip}
 use Rattle.vote_poll.specs.Options.{IsOption}
 use Rattle.vote_poll.specs.PollContent.{PollContent, elector_count, last_in_time, option_count}
 use Rattle.vote_poll.specs.Readings.{is_ballot, reading}
 use Rattle.vote_poll.specs.declared.Reading.{Reading}
 use Rattle.vote_poll.specs.declared.Reading.TheVariants.{Bad, Ballot}
+use Rattle.vote_count.specs.Ballots.{EachTwo, entry_prefers}
 use Rattle.vote_count.specs.Votes.{votes}
 use Rattle.vote_sheet.specs.LastBallots.{last_valid_ballots, readings_in_time}
 use Rattle.vote_sheet.specs.Sheet.{Sheet, Text}
@@ -118,6 +119,25 @@ abbrev pub OnlyLastBallotsDecide : Type 0
 OnlyLastBallotsDecide =
     (poll again : PollContent) (lines others : List Text) (mapped : ℕ → ℕ) (casting : Option ℕ) (text other : Text) →
     DifferInNamesAndLastEnvelope poll again → IsOneToOne (elector_count poll) mapped → HaveTheSameLastBallots mapped poll lines again others →
+    IsSheet poll lines casting text → IsSheet again others casting other → AreSameFromVoters text other
+
+-- ---- ballots that order the options alike
+
+-- Of two electors, both have a ballot or neither has one, and of each two options the one prefers the first to the second exactly when the other does. By which numbers is not asked.
+pub record OrderAlike (options : ℕ) (entry other : Option (List (Option ℕ))) : Type 0 where
+  pub voted : is_some other ≡ is_some entry
+  pub preferred : EachTwo options (λ a b. entry_prefers a b other ≡ entry_prefers a b entry)
+
+-- the last valid ballot of each elector of the first poll, and that of the elector that this one is mapped to in the second file, order the options alike
+abbrev pub HaveLastBallotsAlike : (ℕ → ℕ) → PollContent → List Text → PollContent → List Text → Type 0
+HaveLastBallotsAlike mapped poll lines again others =
+    (v : ℕ) → v < elector_count poll → OrderAlike (option_count poll) (slice_index_or (last_valid_ballots poll lines) v None) (slice_index_or (last_valid_ballots again others) (mapped v) None)
+
+-- Two ballots that order the options alike count alike: if two polls differ in names and last envelope alone, and the last valid ballots of two files order the options alike, then for every casting vote their sheets are the same from the line `Voters:` on.
+abbrev pub BallotsThatOrderAlikeCountAlike : Type 0
+BallotsThatOrderAlikeCountAlike =
+    (poll again : PollContent) (lines others : List Text) (mapped : ℕ → ℕ) (casting : Option ℕ) (text other : Text) →
+    DifferInNamesAndLastEnvelope poll again → IsOneToOne (elector_count poll) mapped → HaveLastBallotsAlike mapped poll lines again others →
     IsSheet poll lines casting text → IsSheet again others casting other → AreSameFromVoters text other
 
 -- ---- one ballot

@@ -1,44 +1,77 @@
--- What is published of a secret vote: the poll with other names on its roll and without its last envelope, and the ballots that stand under these names. It says the same of the electors, and from the line `Voters:` on it has the same sheet.
-use Rattle.std.specs.Prelude.{◌≡◌, ℕ, List, length, map, Option, None, IsPermutation}
-use Rattle.std.specs.List.{range_with_len}
+-- What is published of a secret vote: the poll with other names on its roll and without its last envelope, and the ballots that stand under these names, with their ranks in a form that keeps the order of the options. It says the same of the electors, and from the line `Voters:` on it has the same sheet.
+use Rattle.std.specs.Prelude.{◌≡◌, ℕ, ◌+◌, ◌-◌, ◌<◌, ◌==◌, Bool, false, List, All, length, map, count_by, slice_get, Option, None, Some, option_map, IsPermutation}
+use Rattle.std.specs.List.{list_any, range_with_len}
+use Rattle.vote_poll.specs.BallotLine.{IsRank}
 use Rattle.vote_poll.specs.PollContent.{IsPoll, PollContent, elector_count}
-use Rattle.vote_sheet.specs.ElectorLaws.{DifferInNamesAndLastEnvelope, HaveTheSameLastBallots, IsOneToOne}
+use Rattle.vote_sheet.specs.ElectorLaws.{DifferInNamesAndLastEnvelope, IsOneToOne, OrderAlike}
 use Rattle.vote_sheet.specs.LastBallots.{last_valid_ballots, refused_count, valid_count, voter_count}
 use Rattle.vote_sheet.specs.SheetOf.{IsSheet}
 use Rattle.vote_sheet.specs.Standing.{AreSameFromVoters, ballot_lines, voter_at}
 use Rattle.vote_sheet.specs.Texts.{Text}
 
+-- ---- how ranks are written
+
+-- A form of ranks keeps the order: a ballot has as many ranks in it, each from 1 to the greatest rank or none, and orders the options alike.
+pub record KeepsTheOrder (written : List (Option ℕ) → List (Option ℕ)) : Type 0 where
+  pub as_many : (ranks : List (Option ℕ)) → All IsRank ranks → length (written ranks) ≡ length ranks
+  pub are_ranks : (ranks : List (Option ℕ)) → All IsRank ranks → All IsRank (written ranks)
+  pub alike : (ranks : List (Option ℕ)) → All IsRank ranks → OrderAlike (length ranks) (Some ranks) (Some (written ranks))
+
+-- whether a rank is this number
+abbrev pub is_number : ℕ → Option ℕ → Bool
+is_number number None = false
+is_number number (Some rank) = rank == number
+
+-- whether a ballot with these ranks gives an option this one
+abbrev pub gives_rank : List (Option ℕ) → ℕ → Bool
+gives_rank ranks number = list_any (is_number number) ranks
+
+-- a rank as it is among those of a ballot: 1 where it is the smallest, and for each smaller one that the ballot gives one more
+abbrev pub place_of : List (Option ℕ) → ℕ → ℕ
+place_of ranks number = 1 + count_by (gives_rank ranks) (range_with_len 1 (number - 1))
+
+-- The ranks in normal form: 1, 2 and so on, in the same order, equal ones equal, and none where there is none.
+abbrev pub normal_ranks : List (Option ℕ) → List (Option ℕ)
+normal_ranks ranks = map (option_map (place_of ranks)) ranks
+
+-- ---- what is published
+
 -- of each elector, in the order of the roll, the name on the other roll
 abbrev pub other_names : (ℕ → ℕ) → PollContent → PollContent → List Text
 other_names mapped poll again = map (λ v. voter_at again (mapped v)) (range_with_len 0 (elector_count poll))
 
--- the lines of `standing`, each with the voter's name on the other roll in the place of the name
-abbrev pub renamed_lines : (ℕ → ℕ) → PollContent → List Text → PollContent → List Text
-renamed_lines mapped poll lines again = ballot_lines (other_names mapped poll again) (last_valid_ballots poll lines)
+-- the last valid ballots, with their ranks in this form
+abbrev pub written_ballots : (List (Option ℕ) → List (Option ℕ)) → PollContent → List Text → List (Option (List (Option ℕ)))
+written_ballots written poll lines = map (option_map written) (last_valid_ballots poll lines)
 
--- The second poll is the first with other names, in another order, and without a last envelope. The second lines are those of `standing` with these names, in any order.
-pub record ArePublished (mapped : ℕ → ℕ) (poll : PollContent) (lines : List Text) (again : PollContent) (others : List Text) : Type 0 where
+-- the lines of `standing`, each with the voter's name on the other roll in the place of the name, and its ranks in this form
+abbrev pub renamed_lines : (List (Option ℕ) → List (Option ℕ)) → (ℕ → ℕ) → PollContent → List Text → PollContent → List Text
+renamed_lines written mapped poll lines again = ballot_lines (other_names mapped poll again) (written_ballots written poll lines)
+
+-- The second poll is the first with other names, in another order, and without a last envelope. The second lines are those of `standing` with these names and with their ranks in a form that keeps the order, in any order.
+pub record ArePublished (written : List (Option ℕ) → List (Option ℕ)) (mapped : ℕ → ℕ) (poll : PollContent) (lines : List Text) (again : PollContent) (others : List Text) : Type 0 where
+  pub keeps : KeepsTheOrder written
   pub is_poll : IsPoll again
   pub all_else : DifferInNamesAndLastEnvelope poll again
   pub no_last : again.last_envelope ≡ None
   pub one_to_one : IsOneToOne (elector_count poll) mapped
-  pub ballots : IsPermutation (renamed_lines mapped poll lines again) others
+  pub ballots : IsPermutation (renamed_lines written mapped poll lines again) others
 
--- The second lines say of the electors what the first say, and nothing else: there are as many as voters, each is a ballot that is not late, and the last valid ballot of each elector is the same.
-pub record SaysTheSameByOtherNames (mapped : ℕ → ℕ) (poll : PollContent) (lines : List Text) (again : PollContent) (others : List Text) : Type 0 where
+-- The second lines say of the electors what the first say, and nothing else: there are as many as voters, each is a ballot that is not late, and the last valid ballot of each elector is the same, with its ranks in this form.
+pub record SaysTheSameByOtherNames (written : List (Option ℕ) → List (Option ℕ)) (mapped : ℕ → ℕ) (poll : PollContent) (lines : List Text) (again : PollContent) (others : List Text) : Type 0 where
   pub count : length others ≡ voter_count poll lines
   pub valid : valid_count again others ≡ voter_count poll lines
   pub refused : refused_count again others ≡ 0
-  pub last : HaveTheSameLastBallots mapped poll lines again others
+  pub last : (v : ℕ) → v < elector_count poll → slice_get (last_valid_ballots again others) (mapped v) ≡ slice_get (written_ballots written poll lines) v
 
 -- a law: what is published says the same
 abbrev pub PublishedFilesSayTheSame : Type 0
 PublishedFilesSayTheSame =
-    (poll again : PollContent) (lines others : List Text) (mapped : ℕ → ℕ) →
-    ArePublished mapped poll lines again others → SaysTheSameByOtherNames mapped poll lines again others
+    (written : List (Option ℕ) → List (Option ℕ)) (poll again : PollContent) (lines others : List Text) (mapped : ℕ → ℕ) →
+    ArePublished written mapped poll lines again others → SaysTheSameByOtherNames written mapped poll lines again others
 
 -- a law: for every casting vote the sheet of what is published and that of the files that came are the same from the line `Voters:` on
 abbrev pub PublishedFilesHaveTheSameSheet : Type 0
 PublishedFilesHaveTheSameSheet =
-    (poll again : PollContent) (lines others : List Text) (mapped : ℕ → ℕ) (casting : Option ℕ) (text other : Text) →
-    ArePublished mapped poll lines again others → IsSheet poll lines casting text → IsSheet again others casting other → AreSameFromVoters text other
+    (written : List (Option ℕ) → List (Option ℕ)) (poll again : PollContent) (lines others : List Text) (mapped : ℕ → ℕ) (casting : Option ℕ) (text other : Text) →
+    ArePublished written mapped poll lines again others → IsSheet poll lines casting text → IsSheet again others casting other → AreSameFromVoters text other

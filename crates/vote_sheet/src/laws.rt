@@ -1,8 +1,8 @@
 //! Laws of the count on what people see, from the lines of a ballot file to the sheet. Each function does nothing but call the laws
 //! of the count that it stands on: its contract is the law, and that is proved.
-ghost use Rattle.vote_sheet.specs.ElectorLaws.{NamesDoNotMatter, NobodyCountsTwice, OneBallotMovesEachCountByOne, OnlyLastBallotsDecide, OnlyTheLastBallotCounts, RefusedLinesAreOnlyCounted, RefusedLinesHaveNoInfluence};
+ghost use Rattle.vote_sheet.specs.ElectorLaws.{BallotsThatOrderAlikeCountAlike, NamesDoNotMatter, NobodyCountsTwice, OneBallotMovesEachCountByOne, OnlyLastBallotsDecide, OnlyTheLastBallotCounts, RefusedLinesAreOnlyCounted, RefusedLinesHaveNoInfluence};
 ghost use Rattle.vote_sheet.specs.Limits.{LimitsAreAsWritten};
-ghost use Rattle.vote_sheet.specs.Publishing.{PublishedFilesHaveTheSameSheet, PublishedFilesSayTheSame};
+ghost use Rattle.vote_sheet.specs.Publishing.{KeepsTheOrder, PublishedFilesHaveTheSameSheet, PublishedFilesSayTheSame, normal_ranks};
 ghost use Rattle.vote_sheet.specs.SheetLaws.{CondorcetWinnersAreNamed, LikedOptionsStay, LikedWinnersStay, UnanimityRules};
 ghost use Rattle.vote_sheet.specs.Standing.{StandingHasTheSameSheet, StandingSaysTheSame};
 ghost use Rattle.vote_sheet.specs.Verify.{NamesTheFirstLine};
@@ -65,9 +65,16 @@ pub fn standing_has_the_same_sheet()
     standing_says_the_same();
 }
 
+/// Ranks in normal form, which are 1, 2 and so on, keep the order of the options; so do ranks as they are.
+pub fn normal_ranks_keep_the_order()
+    ensures normal { KeepsTheOrder normal_ranks }
+    ensures as_they_are { KeepsTheOrder (λ ranks. ranks) }
+{}
+
 /// What is published of a secret vote is the poll with other names on its roll and without a last envelope, and the lines of
-/// `standing` with these names, in any order. It says the same: there are as many lines as voters, each is a ballot that is not
-/// late, and the last valid ballot of each elector is the same.
+/// `standing` with these names, in any order, and with their ranks in a form that keeps the order, as `normal_ranks`. It says the
+/// same: there are as many lines as voters, each is a ballot that is not late, and the last valid ballot of each elector is the
+/// same in this form.
 pub fn published_files_say_the_same()
     ensures { PublishedFilesSayTheSame }
 {
@@ -81,7 +88,8 @@ pub fn published_files_say_the_same()
 pub fn published_files_have_the_same_sheet()
     ensures { PublishedFilesHaveTheSameSheet }
 {
-    only_last_ballots_decide();
+    each_line_is_read();
+    ballots_that_order_alike_count_alike();
     published_files_say_the_same();
 }
 
@@ -128,6 +136,15 @@ pub fn names_do_not_matter()
 /// valid ballots, then for each casting vote their sheets are the same from the line `Voters:` on.
 pub fn only_last_ballots_decide()
     ensures { OnlyLastBallotsDecide }
+{
+    ballots_that_order_alike_count_alike();
+}
+
+/// Two ballots that order the options alike count alike: if two polls differ in names and last envelope alone, and of each elector
+/// the last valid ballots of two files prefer the same options to the same others, whatever the numbers of their ranks, then for
+/// each casting vote their sheets are the same from the line `Voters:` on.
+pub fn ballots_that_order_alike_count_alike()
+    ensures { BallotsThatOrderAlikeCountAlike }
 {
     sheet_is_unique();
 }
