@@ -15,7 +15,7 @@ use Rattle.vote_desks.specs.declared.worked.Stop.TheVariants.{Barred, Refused}
 use Rattle.vote_desks_box.specs.declared.EnterFault.{EnterFault}
 use Rattle.vote_desks_box.specs.declared.EnterFault.TheVariants.{StampUsed}
 use Rattle.vote_desks.specs.Faults.{CanStopVotes, IsOfDesk, IsAuditFaultOf}
-use Rattle.vote_desks.specs.Stops.{stop_fault, IsLeastStop}
+use Rattle.vote_desks.specs.Stops.{IsBarredBy, stop_fault, IsLeastStop}
 use Rattle.vote_desks_box.proofs.Ranges.{at_range}
 
 -- desks that are numbered in order, of which the first at this place stopped early
@@ -50,6 +50,10 @@ pub can_stop : (bars : ℕ → Bool) (desk : ℕ) (stop : Stop) → (stop ≡ Ba
     → CanStopVotes bars (stop_fault desk stop)
 can_stop bars desk Barred barred used = barred refl
 can_stop bars desk (Refused fault) barred used = used fault refl
+
+-- one that the box refused was not barred
+pub refused_barred : (bars : ℕ → Bool) (desk : ℕ) (fault : EnterFault) → IsBarredBy bars desk (Some (Refused fault))
+refused_barred bars desk fault = λ e. cc
 
 -- what stops votes without a gate stops them with any
 pub without_gate : (bars : ℕ → Bool) (fault : VoteFault) → CanStopVotes (λ _. false) fault → CanStopVotes bars fault
