@@ -1,5 +1,5 @@
 -- The least desk that stopped early, and what an audit may find.
-use Rattle.std.proofs.Common.{◌≡◌, ℕ, Bool, false, IsTrue, ◌+◌, ◌<◌, ◌≤◌, List, Option, Some, None, length, get_or, map, refl, sym, ap, ◌∙◌, ⊎_elim, arith}
+use Rattle.std.proofs.Common.{◌≡◌, ℕ, Bool, IsTrue, ◌+◌, ◌<◌, ◌≤◌, List, Option, Some, None, length, get_or, map, refl, sym, ap, ◌∙◌, ⊎_elim, arith}
 use Rattle.std.specs.List.{range_with_len, count_by}
 use Rattle.std.proofs.lemmas.Bool.{cases_lt}
 use Rattle.std.proofs.lemmas.List.{get_or-map, length-map}
@@ -14,8 +14,8 @@ use Rattle.vote_desks.specs.declared.worked.Stop.{Stop}
 use Rattle.vote_desks.specs.declared.worked.Stop.TheVariants.{Barred, Refused}
 use Rattle.vote_desks_box.specs.declared.EnterFault.{EnterFault}
 use Rattle.vote_desks_box.specs.declared.EnterFault.TheVariants.{StampUsed}
-use Rattle.vote_desks.specs.Faults.{CanStopVotes, IsOfDesk, IsAuditFaultOf}
-use Rattle.vote_desks.specs.Stops.{stop_fault, IsLeastStop}
+use Rattle.vote_desks.specs.Faults.{CanStopAudit, CanStopVotes, IsOfDesk, IsAuditFaultOf}
+use Rattle.vote_desks.specs.Stops.{IsBarredBy, stop_fault, IsLeastStop}
 use Rattle.vote_desks_box.proofs.Ranges.{at_range}
 
 -- desks that are numbered in order, of which the first at this place stopped early
@@ -51,14 +51,18 @@ pub can_stop : (bars : ℕ → Bool) (desk : ℕ) (stop : Stop) → (stop ≡ Ba
 can_stop bars desk Barred barred used = barred refl
 can_stop bars desk (Refused fault) barred used = used fault refl
 
--- what stops votes without a gate stops them with any
-pub without_gate : (bars : ℕ → Bool) (fault : VoteFault) → CanStopVotes (λ _. false) fault → CanStopVotes bars fault
-without_gate bars Memory can = tt
-without_gate bars Thread can = tt
-without_gate bars (Gate desk) can = cc
-without_gate bars (Enter desk fault) can = can
-without_gate bars (Desk fault) can = can
-without_gate bars (Audit fault) can = can
+-- one that the box refused was not barred
+pub refused_barred : (bars : ℕ → Bool) (desk : ℕ) (fault : EnterFault) → IsBarredBy bars desk (Some (Refused fault))
+refused_barred bars desk fault = λ e. cc
+
+-- what can stop the audit can stop votes
+pub stops_votes : (bars : ℕ → Bool) (fault : VoteFault) → CanStopAudit fault → CanStopVotes bars fault
+stops_votes bars Memory can = tt
+stops_votes bars Thread can = absurd can
+stops_votes bars (Gate desk) can = absurd can
+stops_votes bars (Enter desk fault) can = absurd can
+stops_votes bars (Desk fault) can = can
+stops_votes bars (Audit fault) can = can
 
 pub of_desk : (desks desk : ℕ) (stop : Stop) → 1 ≤ desk → desk ≤ desks → IsOfDesk desks (stop_fault desk stop)
 of_desk desks desk Barred low high = (low, high)
@@ -66,9 +70,9 @@ of_desk desks desk (Refused fault) low high = (low, high)
 
 -- an audit finds neither of these two in a box with the sizes of the poll and a cast for each line
 pub can_stop_audit : (poll : PollContent) (lines : List (List ℕ)) (s : SealedState) (fault : VoteFault)
-    → HasSizes poll lines s.ballot_box → count_by is_cast s.ballot_box.steps ≡ length lines → IsAuditFaultOf poll lines s fault → CanStopVotes (λ _. false) fault
+    → HasSizes poll lines s.ballot_box → count_by is_cast s.ballot_box.steps ≡ length lines → IsAuditFaultOf poll lines s fault → CanStopAudit fault
 can_stop_audit poll lines s Memory sizes casts found = tt
-can_stop_audit poll lines s Thread sizes casts found = tt
+can_stop_audit poll lines s Thread sizes casts found = absurd found
 can_stop_audit poll lines s (Gate desk) sizes casts found = absurd found
 can_stop_audit poll lines s (Enter desk fault) sizes casts found = absurd found
 can_stop_audit poll lines s (Desk fault) sizes casts found = found

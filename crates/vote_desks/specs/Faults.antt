@@ -18,6 +18,15 @@ CanStopVotes bars (Enter desk fault) = fault ≡ StampUsed
 CanStopVotes bars (Desk fault) = ⊥
 CanStopVotes bars (Audit fault) = (fault ≢ SizeDiffers) × (fault ≢ CountDiffers)
 
+-- once the desks have cast all lines: no memory to gather them, or what the audit finds, as above
+abbrev pub CanStopAudit : VoteFault → Type 0
+CanStopAudit Memory = Unit {0}
+CanStopAudit Thread = ⊥
+CanStopAudit (Gate desk) = ⊥
+CanStopAudit (Enter desk fault) = ⊥
+CanStopAudit (Desk fault) = ⊥
+CanStopAudit (Audit fault) = (fault ≢ SizeDiffers) × (fault ≢ CountDiffers)
+
 -- a fault of one desk is of one of so many, which are numbered from 1
 abbrev pub IsOfDesk : ℕ → VoteFault → Type 0
 IsOfDesk desks Memory = Unit {0}

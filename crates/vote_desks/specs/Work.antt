@@ -1,8 +1,9 @@
 -- What a worker is given, and what it gives back.
-use Rattle.std.specs.Prelude.{◌≡◌, ℕ, ◌+◌, ◌≤◌, List, [], ◌++◌, map, length, All}
+use Rattle.std.specs.Prelude.{◌≡◌, ℕ, ◌+◌, ◌-◌, ◌*◌, ◌≤◌, List, [], ◌++◌, map, length, All}
 use Rattle.std.specs.List.{range_with_len}
 use Rattle.std.specs.List.Sorted.{IsStrictlyIncreasing}
 use Rattle.vote_tray.specs.Passes.{TrayId, PassState, new_pass}
+use Rattle.vote_steps.specs.declared.TheConstants.{MAX_DESKS}
 use Rattle.vote_desks_box.specs.Slips.{Rises, stamps_of}
 use Rattle.vote_desks_box.specs.Desks.{DeskState}
 
@@ -48,3 +49,15 @@ pub record IsRising (pass : PassState) : Type 0 where
   pub below : All (λ stamp. stamp ≤ pass.seen) (stamps_taken pass)
   pub few : length (stamps_taken pass) ≤ pass.seen
   pub within : pass.seen ≤ pass.tray.size
+
+-- the pass took no envelope with a greater stamp
+abbrev pub HasTakenUpTo : PassState → ℕ → Type 0
+HasTakenUpTo pass last = All (λ stamp. stamp ≤ last) (stamps_taken pass)
+
+-- a batch for each desk is at most half of what is left, but for an envelope each
+abbrev pub IsShareOf : ℕ → ℕ → Type 0
+IsShareOf left batch = 2 * (MAX_DESKS * (batch - 1)) ≤ left
+
+-- a batch is a share of so many lines, and of those behind each envelope that the pass took
+abbrev pub LeavesShares : ℕ → PassState → ℕ → Type 0
+LeavesShares lines pass batch = IsShareOf lines batch × All (λ stamp. IsShareOf (lines - stamp) batch) (stamps_taken pass)

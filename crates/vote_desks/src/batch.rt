@@ -1,9 +1,8 @@
 //! Batches of envelopes, which a worker takes at once.
-ghost use Rattle.std.specs.Prelude.{◌≡◌, ◌+◌, ◌-◌, ◌*◌, ◌<◌, ◌≤◌, ◌^◌, ◌++◌, All, IsTrue, length, take};
+ghost use Rattle.std.specs.Prelude.{◌≡◌, ◌+◌, ◌-◌, ◌<◌, ◌≤◌, ◌^◌, ◌++◌, All, IsTrue, length, take, slice_index};
 ghost use Rattle.vote_poll.specs.PollContent.{elector_count, option_count};
 ghost use Rattle.vote_poll.specs.Readings.{ReadingFits};
-ghost use Rattle.vote_steps.specs.declared.TheConstants.{MAX_DESKS};
-ghost use Rattle.vote_desks.specs.Work.{IsRising, IsStampOf, stamps_taken};
+ghost use Rattle.vote_desks.specs.Work.{HasTakenUpTo, IsRising, IsShareOf, IsStampOf, LeavesShares, stamps_taken};
 
 use vote_poll::{Lines, Poll, Reading, read_line};
 use vote_tray::{Pass, Tray};
@@ -22,7 +21,7 @@ const LEFT_FOR_EACH: usize = 16;
 pub(crate) fn batch_length(may_wait: bool, left: usize) -> usize
     ensures range { (1 ≤ result) × (result ≤ BATCH) }
     ensures one { IsTrue may_wait → result ≡ 1 }
-    ensures share { 2 * (MAX_DESKS * (result - 1)) ≤ left }
+    ensures share { IsShareOf left result }
 {
     if may_wait {
         1
@@ -33,17 +32,30 @@ pub(crate) fn batch_length(may_wait: bool, left: usize) -> usize
     }
 }
 
+/// How many envelopes a worker takes next, if its pass took none behind the one with this stamp.
+pub(crate) fn next_length(may_wait: bool, lines: usize, pass: &Pass, last: usize) -> usize
+    requires { HasTakenUpTo pass.now last }
+    ensures range { (1 ≤ result) × (result ≤ BATCH) }
+    ensures one { IsTrue may_wait → result ≡ 1 }
+    ensures share { LeavesShares lines pass.now result }
+{
+    let _ = pass;
+    batch_length(may_wait, lines.saturating_sub(last))
+}
+
 /// Takes the places of the next envelopes, and notes their stamps. There are fewer than wanted only
 /// if no place is left.
 pub(crate) fn take_batch(tray: &Tray, pass: &mut Pass, most: usize, stamps: &mut [u32]) -> usize
     requires tray { (pass.old.tray ≡ tray.now) × (tray.now.size < 2 ^ 32) }
     requires most { (1 ≤ most) × (most ≤ length stamps.old) }
+    requires share { LeavesShares tray.now.size pass.old most }
     requires rising { IsRising pass.old }
     ensures kept { (pass.new.tray ≡ pass.old.tray) × (pass.new.parts ≡ pass.old.parts) }
     ensures rising { IsRising pass.new }
     ensures room { (result ≤ most) × (length stamps.new ≡ length stamps.old) }
     ensures taken { stamps_taken pass.new ≡ stamps_taken pass.old ++ take result stamps.new }
     ensures stamps { All (IsStampOf tray.now.size) (take result stamps.new) }
+    ensures behind { 0 < result → HasTakenUpTo pass.new (slice_index stamps.new (result - 1)) }
     ensures further { pass.old.seen + result ≤ pass.new.seen }
     ensures none { result ≡ 0 → pass.new.seen ≡ tray.now.size }
 {

@@ -1,5 +1,5 @@
 //! Taking the votes of all lines.
-ghost use Rattle.std.specs.Prelude.{◌≡◌, ◌<◌, [], false, IfOk, IfErr, IfSome, IsNone, All, None, length, map, vec_len};
+ghost use Rattle.std.specs.Prelude.{◌≡◌, ◌<◌, [], IfOk, IfErr, IfSome, IsNone, All, None, length, map, vec_len};
 ghost use Rattle.std.specs.List.{range_with_len};
 ghost use Rattle.vote_steps.specs.Boxes.{box_of};
 ghost use Rattle.vote_steps.specs.Desks.{AreDesks};
@@ -8,7 +8,7 @@ ghost use Rattle.vote_desks_box.specs.Desks.{fresh_desks};
 ghost use Rattle.vote_desks.specs.Audit.{IsAuditedFor};
 ghost use Rattle.vote_desks.specs.Back.{AreAllHandedIn, AreBackFrom, casts_at};
 ghost use Rattle.vote_desks.specs.Stops.{stop_fault, IsLeastStop, StopsWorkers};
-ghost use Rattle.vote_desks.specs.Faults.{CanStopVotes, IsOfDesk, IsAuditFaultOf};
+ghost use Rattle.vote_desks.specs.Faults.{CanStopAudit, CanStopVotes, IsOfDesk, IsAuditFaultOf};
 ghost use Rattle.vote_desks.specs.Work.{new_passes, tray_and_parts};
 ghost use Rattle.vote_desks.specs.Workers.{AreBarredBy, numbers_back, numbers_of, pairs_back, parts_back, stops_back};
 
@@ -209,7 +209,7 @@ fn gather_and_audit<VL: Tally, RL: Tally, R: Threads + Sync>(
     ensures audited { IfOk result (IsAuditedFor poll.now lines.now) }
     ensures desks { IfOk result (λ audited. length audited.sheets ≡ shared.desks) }
     ensures rising { IfOk result (λ audited. All Rises audited.sheets) }
-    ensures fault { IfErr result (CanStopVotes (λ _. false)) }
+    ensures fault { IfErr result CanStopAudit }
     ensures desk { IfErr result (IsOfDesk shared.desks) }
 {
     let sealed = match gather(alloc, shared, desks) {

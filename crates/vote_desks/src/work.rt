@@ -1,5 +1,5 @@
 //! Workers, each of which serves a desk in a thread of its own.
-ghost use Rattle.std.specs.Prelude.{◌≡◌, ℕ, Bool, true, false, ◌+◌, ◌<◌, ◌≤◌, ◌^◌, [], None, Ok, Some, All, IsNone, IsTrue, IfOk, IfErr, map, length, vec_len};
+ghost use Rattle.std.specs.Prelude.{◌≡◌, ℕ, Bool, true, false, ◌+◌, ◌<◌, ◌≤◌, ◌^◌, [], None, Ok, Some, All, IsNone, IsSome, IsTrue, IfOk, IfErr, map, length, vec_len};
 ghost use Rattle.std.specs.List.{AllByRecursion};
 ghost use Rattle.vote_steps.specs.Boxes.{box_of};
 ghost use Rattle.vote_desks_box.specs.Desks.{FitsBox};
@@ -8,13 +8,13 @@ ghost use Rattle.vote_desks.specs.Workers.{AreBarredBy, desks_promised, numbers_
 ghost use Rattle.vote_desks.specs.Stops.{IsBarredBy, IsRefusedAsUsed};
 ghost use Rattle.vote_desks.specs.Faults.{IsStartFault};
 
-use crate::batch::{BATCH, batch_length, read_batch, take_batch};
+use crate::batch::{BATCH, next_length, read_batch, take_batch};
 use crate::fault::VoteFault;
 use crate::worked::{Stop, WorkerResult};
 use std::alloc::Global;
 use std::marker::PhantomData;
 use std::snapshot::Snapshot;
-use std::sync::{Mutex, Wait};
+use std::sync::{Mutex, MutexGuard, Wait};
 use std::thread;
 use std::thread::{Promise, PromisedHandle, Scope, SpawnError, Threads};
 use vote_desks_box::{Desk, EnterFault, SharedBox, Slip, Tally};
@@ -82,15 +82,17 @@ impl<VL: Tally, RL: Tally, G: Gate> Promise<WorkerResult<VL, RL>> for WorkerProm
 }
 
 /// Casts the envelopes with these stamps, each as one step, until the gate or the box stops the
-/// desk.
+/// desk. For more than one the desk has taken its turn.
 fn cast_each<VL: Tally, RL: Tally, G: Gate, R: Wait>(
     rt: &R,
     workplace: &Workplace<'_, '_, VL, RL, G>,
     desk: &mut Desk<VL, RL>,
     stamps: &[u32],
     readings: &[Reading],
+    turn: &Option<MutexGuard<'_, ()>>,
 ) -> Option<Stop>
     requires stamps { All (IsStampOf (length workplace.now.lines.now)) stamps.now }
+    requires turn { 1 < length stamps.now → IsSome turn.now }
     requires each { length stamps.now ≤ length readings.now }
     requires readings { All (FitsBox workplace.now.shared.now.opened) readings.now }
     requires room { length desk.old.slips + length stamps.now ≤ desk.old.limit }
@@ -99,6 +101,7 @@ fn cast_each<VL: Tally, RL: Tally, G: Gate, R: Wait>(
     ensures barred { IsBarredBy G.bars desk.old.number result }
     ensures refused { IsRefusedAsUsed result }
 {
+    let _ = turn;
     for place in 0..stamps.len() {
         let stamp = stamps[place];
         if !workplace.gate.before(desk.number(), stamp) {
@@ -136,12 +139,12 @@ fn cast_batch<VL: Tally, RL: Tally, G: Gate, R: Wait>(
     ensures barred { IsBarredBy G.bars desk.old.number result }
     ensures refused { IsRefusedAsUsed result }
 {
-    let _turn = if stamps.len() > 1 {
+    let turn = if stamps.len() > 1 {
         Some(workplace.turn.lock(rt))
     } else {
         None
     };
-    cast_each(rt, workplace, desk, stamps, readings)
+    cast_each(rt, workplace, desk, stamps, readings, &turn)
 }
 
 /// Casts envelopes at one desk until the tray is empty, or the gate or the box stops the desk. It
@@ -166,8 +169,9 @@ fn cast_batches<VL: Tally, RL: Tally, G: Gate, R: Wait>(
     let lines = workplace.lines.len();
     let mut stamps = [0; BATCH];
     let mut readings = [Reading::Bad(LineFault::Shape); BATCH];
-    let mut most = batch_length(workplace.may_wait, lines);
+    let mut last = 0;
     loop {
+        let most = next_length(workplace.may_wait, lines, pass, last);
         let count = take_batch(workplace.tray, pass, most, &mut stamps);
         if count == 0 {
             return None;
@@ -178,10 +182,7 @@ fn cast_batches<VL: Tally, RL: Tally, G: Gate, R: Wait>(
         if stopped.is_some() {
             return stopped;
         }
-        most = batch_length(
-            workplace.may_wait,
-            lines.saturating_sub(stamps[count - 1] as usize),
-        );
+        last = stamps[count - 1] as usize;
     }
 }
 

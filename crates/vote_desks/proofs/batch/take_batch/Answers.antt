@@ -1,5 +1,6 @@
-use Rattle.std.proofs.Common.{◌≡◌, ◌+◌, ◌<◌, [], ◌∷◌, ◌++◌, length, take, sym, ap, ◌∙◌, subst, arith, length-set, append_assoc}
+use Rattle.std.proofs.Common.{◌≡◌, ◌+◌, ◌-◌, ◌<◌, [], ◌∷◌, ◌++◌, length, take, sym, ap, ◌∙◌, subst, arith, length-set, append_assoc}
 use Rattle.std.specs.List.{All}
+use Rattle.std.proofs.lemmas.Grind.{get_or-set_at}
 use Rattle.std.proofs.lemmas.List.{map_push, take_more_set}
 use Rattle.std.proofs.lemmas.List.Elements.{All-push}
 use Rattle.vote_tray.specs.Passes.{PassState, TrayId}
@@ -22,13 +23,16 @@ loop-count-preserved c =
     let high = some.1 in
     let seen = ap (λ (p : PassState). p.seen) some.2 in
     let further = kept.further in
+    let rising = subst IsRising (sym some.2) (rising_with before place kept.rising low (omega arith)) in
+    let last = get_or-set_at stamps count (count + 1 - 1) (place + 1) 0 (omega arith) inside in
     record {
       same_tray = c.in-Some.ensures.kept.0 ∙ kept.same_tray;
       parts = c.in-Some.ensures.kept.1 ∙ kept.parts;
-      rising = subst IsRising (sym some.2) (rising_with before place kept.rising low (omega arith));
+      rising = rising;
       long = length-set stamps count (place + 1) ∙ kept.long;
       taken = ap stamps_taken some.2 ∙ map_push (λ p. p + 1) before.places place ∙ ap (λ xs. xs ++ (place + 1) ∷ []) kept.taken
           ∙ append_assoc (stamps_taken c.args.pass.now) (take count stamps) ((place + 1) ∷ []) ∙ ap (λ xs. stamps_taken c.args.pass.now ++ xs) (sym more);
       stamps = subst (All (IsStampOf c.args.tray.now.size)) (sym more) (All-push (IsStampOf c.args.tray.now.size) (take count stamps) (place + 1) kept.stamps (omega arith, omega arith));
+      behind = λ _ k d lt. let below = rising.below k d lt in omega arith;
       further = omega arith;
     }

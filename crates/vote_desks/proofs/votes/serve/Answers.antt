@@ -2,7 +2,7 @@ use Rattle.std.proofs.Common.{◌≡◌, IfOk, IfErr, length, ap, subst}
 use Rattle.vote_desks_box.specs.Desks.{SharedState}
 use Rattle.vote_desks.specs.Faults.{IsOfDesk}
 use Rattle.std.proofs.lemmas.Result.{IfErr-weaker}
-use Rattle.vote_desks.proofs.StopLemmas.{without_gate}
+use Rattle.vote_desks.proofs.StopLemmas.{stops_votes}
 use Rattle.vote_desks.proofs.votes.serve.Goals as goal
 
 pub returns-clause-desks : goal.returns-clause-desks
@@ -16,4 +16,4 @@ returns-clause-desk g c =
     subst (λ n. IfErr c.gather_and_audit.result (IsOfDesk n)) desks c.gather_and_audit.ensures.desk
 
 pub returns-clause-fault : goal.returns-clause-fault
-returns-clause-fault g c = IfErr-weaker c.gather_and_audit.result _ _ (without_gate g.G.Gate.bars) c.gather_and_audit.ensures.fault
+returns-clause-fault g c = IfErr-weaker c.gather_and_audit.result _ _ (stops_votes g.G.Gate.bars) c.gather_and_audit.ensures.fault

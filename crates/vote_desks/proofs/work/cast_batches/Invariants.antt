@@ -1,9 +1,9 @@
-use Rattle.std.proofs.Common.{◌≡◌, ◌-◌, ◌≤◌, IsTrue, length}
+use Rattle.std.proofs.Common.{◌≡◌, ◌-◌, length}
 use Rattle.std.specs.List.{All}
 use Rattle.vote_desks.specs.declared.batch.TheConstants.{BATCH}
 use Rattle.vote_desks_box.specs.Slips.{stamps_of}
 use Rattle.vote_desks_box.specs.Desks.{FitsBox}
-use Rattle.vote_desks.specs.Work.{IsRising, stamps_taken}
+use Rattle.vote_desks.specs.Work.{HasTakenUpTo, IsRising, stamps_taken}
 use Rattle.vote_desks.proofs.work.cast_batches.Given as goal
 
 abbrev pub invariant-loop-stamps : goal.invariant-loop-stamps
@@ -15,8 +15,7 @@ invariant-loop-stamps g l = record {
   parts : l.pass.parts ≡ l.initial.pass.parts;
   cast : stamps_of l.desk.slips ≡ stamps_taken l.pass;
   rising : IsRising l.pass;
-  most : (1 ≤ l.most) × (l.most ≤ BATCH);
-  alone : IsTrue l.workplace.may_wait → l.most ≡ 1;
+  behind : HasTakenUpTo l.pass l.last;
   stamps : length l.stamps ≡ BATCH;
   readings : length l.readings ≡ BATCH;
   fit : All (FitsBox l.workplace.shared.now.opened) l.readings;

@@ -2,6 +2,7 @@ use Rattle.std.proofs.Common.{◌++◌, ◌∷◌, [], length, take, sym, ap, �
 use Rattle.std.proofs.lemmas.List.{map-append, take_more}
 use Rattle.vote_desks_box.specs.Slips.{stamps_of}
 use Rattle.vote_desks_box.specs.Desks.{DeskState}
+use Rattle.vote_desks.proofs.StopLemmas.{refused_barred}
 use Rattle.vote_desks.proofs.work.cast_each.Goals as goal
 
 pub loop-place-preserved : goal.loop-place-preserved
@@ -18,3 +19,6 @@ loop-place-preserved g c =
           ∙ ap (λ stamp. before ++ (cast ++ stamp ∷ [])) c.in-Ok.ensures.stamp ∙ ap (λ stamps. before ++ stamps) (sym (take_more c.args.stamps.now c.loop-place.place 0 c.loop-place-test.true));
       few = omega (arith, ap (λ (d : DeskState). length d.slips) noted, length-append c.loop-place.desk.slips (c.in-Ok.slip ∷ []), c.loop-place.invariant.few);
     }
+
+pub returns-in-Err-clause-barred : goal.returns-in-Err-clause-barred
+returns-in-Err-clause-barred g c = refused_barred g.G.Gate.bars c.args.desk.now.number c.in-Err.fault
