@@ -390,7 +390,7 @@ def try_commands(expect, scratch):
     before = {file.name: file.read_bytes() for file in folder.iterdir()}
     page = (folder / "index.html").read_text().partition('<h2 id="How-to-verify">')[2]
     found = re.findall(r"<pre><code>(.*?)</code></pre>\n(?:<p>It answers:</p>\n<pre><code>(.*?)</code></pre>)?", page, re.DOTALL)
-    expect("commands: how many", len({command for command, _ in found}), 9)
+    expect("commands: how many", len({command for command, _ in found}), 13)
     answers = {}
     for command, wanted in found:
         if "| dot " in command and not HAS_PICTURES:
@@ -403,7 +403,7 @@ def try_commands(expect, scratch):
         if wanted:
             expect(f"commands: {command}: what it answers", ended.stdout, html.unescape(wanted) + "\n")
     sheet = (folder / "sheet.txt").read_text()
-    recount = "python3 recount.py count --poll poll.toml --ballots ballots.txt --casting Bottle"
+    recount = "python3 -I recount.py count --poll poll.toml --ballots ballots.txt --casting Bottle"
     expect("commands: the second count prints the sheet", answers[recount], sheet)
     expect("commands: and so does debvote", answers["debvote count --poll poll.toml --ballots ballots.txt --casting Bottle"], sheet)
     after = {file.name: file.read_bytes() for file in folder.iterdir()}

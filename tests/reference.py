@@ -39,6 +39,7 @@ class Poll:
         self.default = len(self.names)
         self.quorum = table["quorum"]
         self.roll = table["roll"]
+        self.voters = {name: voter for voter, name in enumerate(self.roll)}
         self.last_envelope = table.get("last_envelope")
         self.is_more_than = table.get("wording") == "more_than"
 
@@ -60,7 +61,7 @@ def has_a_number_too_large(value):
 def toml_of(data):
     """Poll file: its table. (Python reads TOML 1.0. The program reads 1.1, which allows a little more.)"""
     try:
-        table = tomllib.loads(data.decode("utf-8"))
+        table = tomllib.loads(data.decode("utf-8").removeprefix("\ufeff"))
     except (ValueError, RecursionError):
         table = None
     if table is None or has_a_number_too_large(table):
@@ -76,9 +77,11 @@ VOTER_NAME = r"[a-z0-9.-]{1,32}"
 
 def bad_places(names, shape):
     """The positions, from 0, of the names that have another shape or repeat an earlier name."""
+    earlier = set()
     for place, name in enumerate(names):
-        if not re.fullmatch(shape, name) or name in names[:place]:
+        if not re.fullmatch(shape, name) or name in earlier:
             yield place
+        earlier.add(name)
 
 
 def refused(words):
@@ -141,10 +144,8 @@ def reading(poll, line):
     ranks = [None if rank == b"-" else int(rank) for rank in shape[2].split(b",")]
     if len(ranks) != len(poll.names):
         return "bad rank count"
-    voter = shape[1].decode()
-    if voter not in poll.roll:
-        return "bad not on roll"
-    return poll.roll.index(voter), ranks
+    voter = poll.voters.get(shape[1].decode())
+    return "bad not on roll" if voter is None else (voter, ranks)
 
 
 def replies_and_last_ballots(poll, lines):
@@ -333,6 +334,14 @@ def steps(poll_data, ballots):
     return text_of(f"{envelope} {reply}" for envelope, reply in enumerate(replies, start=1))
 
 
+def standing(poll_data, ballots):
+    """Ballots that stand: of each voter, in the order of the roll, the last valid ballot."""
+    poll = poll_in(poll_data)
+    _, last_ballots = replies_and_last_ballots(poll, lines_of(ballots))
+    lines = [(poll.roll[voter], last_ballots[voter]) for voter in sorted(last_ballots)]
+    return text_of(f"{name} {','.join('-' if rank is None else str(rank) for rank in ranks)}" for name, ranks in lines)
+
+
 def check(poll_data):
     """Lines of `check`: its one line."""
     poll = poll_in(poll_data)
@@ -343,6 +352,22 @@ def joined_parts(data):
     """Joined input: the bytes before and behind the first line that is exactly %%. Without one, all bytes are the poll's."""
     separator = re.search(rb"^%%(\n|\Z)", data, re.MULTILINE)
     return (data[: separator.start()], data[separator.end() :]) if separator else (data, b"")
+
+
+# ---------------------------------------------------------------- secret votes
+def wrong_in_secret(poll_data, ballots):
+    """Secret votes: what shows that these are not the published files of one, or None. In those each line counts, once."""
+    table = toml_of(poll_data)
+    if table.get("secret") is not True:
+        return None
+    for key in ("last_envelope", "extended_to"):
+        if key in table:
+            return f"the poll of a secret vote is published without {key}, and this one has it"
+    replies, _ = replies_and_last_ballots(poll_in(poll_data), lines_of(ballots))
+    envelope = next((envelope for envelope, reply in enumerate(replies, start=1) if reply != "counted"), None)
+    if envelope is None:
+        return None
+    return f"in a secret vote each published line counts, once, and the reply to line {envelope} is: {replies[envelope - 1]}"
 
 
 # ---------------------------------------------------------------- the command line
@@ -363,7 +388,8 @@ def command_line(words):
     """Command line: the command and its values, if there are words. A fault of the words ends with status 2."""
     parser = argparse.ArgumentParser(allow_abbrev=False)
     commands = parser.add_subparsers(dest="command")
-    for command, options in [("count", "poll ballots desks casting"), ("steps", "poll ballots"), ("check", "poll")]:
+    known_options = {"count": "poll ballots desks casting", "standing": "poll ballots", "steps": "poll ballots", "check": "poll"}
+    for command, options in known_options.items():
         known = commands.add_parser(command, allow_abbrev=False)
         for option in options.split():
             choices = list("12345678") if option == "desks" else None
@@ -382,7 +408,13 @@ def answer(words):
     ballots = read_file(asked.ballots, BALLOTS_LIMIT, "ballots")
     if asked.command == "steps":
         return steps(poll_data, ballots), 0
-    return count(poll_data, ballots, asked.casting)
+    text, status = standing(poll_data, ballots), 0
+    if asked.command == "count":
+        text, status = count(poll_data, ballots, asked.casting)
+    wrong = wrong_in_secret(poll_data, ballots)
+    if wrong is not None:
+        raise Fault(f"this is no published secret vote, and nothing is counted: {wrong}", 9)
+    return text, status
 
 
 def main():
@@ -391,7 +423,7 @@ def main():
         sys.stdout.write(text)
     except Fault as fault:
         words, status = fault.args
-        sys.stderr.write(f"debvote: {words}\n")
+        sys.stderr.write(f"{'recount' if status == 9 else 'debvote'}: {words}\n")
     sys.exit(status)
 
 

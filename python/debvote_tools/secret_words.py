@@ -2,7 +2,7 @@
 
 # what an elector types to find their alias; the first asks for both, so that no history of commands keeps the code
 BY_PYTHON = (
-    "python3 -c \"import hmac; print(hmac.new(input('Code: ').replace(' ', '').encode(), input('Name: ').encode(), 'sha256').hexdigest()[:32])\""
+    "python3 -I -c \"import hmac; print(hmac.new(input('Code: ').replace(' ', '').encode(), input('Name: ').encode(), 'sha256').hexdigest()[:32])\""
 )
 BY_OPENSSL = "printf %s NAME | openssl dgst -sha256 -hmac CODE -r | cut -c1-32"
 

@@ -54,7 +54,7 @@ class Publish(PublishTest):
     def test_an_option_that_has_won(self) -> None:
         before = self.contents()
         ended = self.election("publish")
-        said = "Winner: 1 At the lake\nverified\nNext: put the folder result on the web site as it is\n"
+        said = "Winner: 1 At the lake\nverified\nNext: put the folder result on the web site as it is, and send result/letter.txt to each elector\n"
         self.assertEqual((ended.output, ended.faults, ended.status), (said, "", 0))
         self.assert_published(self.folder / "result")
         kept = {name: data for name, data in self.contents().items() if not name.startswith("result/")}
@@ -73,7 +73,7 @@ class Publish(PublishTest):
         self.assertEqual(self.contents(), before)
         ended = self.election("publish", "result-2")
         self.assertEqual(
-            (ended.status, ended.output.splitlines()[-1]), (0, "Next: put the folder result-2 on the web site as it is")
+            (ended.status, ended.output.splitlines()[-1]), (0, "Next: put the folder result-2 on the web site as it is, and send result-2/letter.txt to each elector")
         )
         self.assert_published(self.folder / "result-2")
 

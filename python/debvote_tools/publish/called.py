@@ -5,7 +5,7 @@ import os
 import pathlib
 import re
 
-from debvote_tools.election.poll_file import as_announced
+from debvote_tools.election.poll_file import COMPARE, as_announced
 from debvote_tools.faults import Doubt
 from debvote_tools.files import read_at_most, sum_of
 
@@ -14,22 +14,42 @@ LETTER = pathlib.Path("call", "call.txt")
 SUM = re.compile(rb"(?m)^  ([0-9a-f]{64})$")
 LETTER_LIMIT = 1_048_576
 
+# what answers the sum of the poll as it is
+WHOLE = "sha256sum poll.toml"
+
 
 @dataclasses.dataclass(frozen=True)
 class Called:
-    """The sum of the published poll without its last envelope, whether it has one, and the sum that the call announced.
+    """The sum of the published poll as it was announced, and that of the file as it is; the last envelope; and what was announced.
 
-    The last is none where there is no call beside the poll that was given.
+    In a secret vote both sums are that of the file: it has no line that came later. The last envelope is none where the poll has
+    none, and the announced sum where there is no call beside the poll that was given.
     """
 
     poll_sum: str
-    has_last_envelope: bool
+    whole_sum: str
+    last_envelope: str | None
     announced: str | None
+    is_secret: bool
+
+    @property
+    def has_last_envelope(self) -> bool:
+        return self.last_envelope is not None
+
+    @property
+    def command(self) -> str:
+        """What answers the sum as it was announced, typed in the folder, and what it answers."""
+        return WHOLE if self.is_secret else COMPARE
+
+    @property
+    def answer(self) -> str:
+        return f"{self.whole_sum}  poll.toml" if self.is_secret else f"{self.poll_sum}  -"
 
 
-def called_of(poll: bytes, has_last_envelope: bool, announced: str | None) -> Called:
+def called_of(poll: bytes, last_envelope: str | None, announced: str | None, *, is_secret: bool = False) -> Called:
     """What is said of the call, for the bytes of the published poll."""
-    return Called(sum_of(as_announced(poll)), has_last_envelope, announced)
+    whole = sum_of(poll)
+    return Called(whole if is_secret else sum_of(as_announced(poll)), whole, last_envelope, announced, is_secret)
 
 
 def folders_of(file: str) -> list[pathlib.Path]:

@@ -1,5 +1,5 @@
-// Shows an elector the ballot that stands under their alias, which is made here of the name and the code that they type.
-// Nothing is sent, and nothing is kept. All texts that are shown stand in the page already.
+// Shows an elector the ballot that counts under their alias, which is made here of the name and the code that they type. The
+// ballot is taken from a count of the files that the page carries. Nothing is sent, and nothing is kept.
 "use strict";
 
 (() => {
@@ -42,11 +42,45 @@
     return node;
   }
 
+  const LINE = /^([a-z0-9.-]{1,32}) ((?:-|[1-9][0-9]?)(?:,(?:-|[1-9][0-9]?))*)$/;
+  const linesOf = (id) => byId(id).textContent.split("\n").filter((line) => line !== "");
+
+  // The poll that the page carries: a published poll has a line for each key, with its value as JSON.
+  const keyAndValue = (line) => [line.slice(0, line.indexOf(" = ")), JSON.parse(line.slice(line.indexOf(" = ") + 3))];
+  const pollOf = () => new Map(linesOf("poll-file").map(keyAndValue));
+
+  // The ballots of the page that count, by their aliases. In a secret vote each line counts, and nothing is late.
+  function countOf(poll) {
+    const later = ["last_envelope", "extended_to"].find((key) => poll.has(key));
+    if (later !== undefined) throw new Error(`the poll has ${later}`);
+    const roll = new Set(poll.get("roll"));
+    const options = poll.get("options").length + 1;
+    const counted = new Map();
+    for (const [place, line] of linesOf("ballots-file").entries()) {
+      const [, alias, ranks] = LINE.exec(line) ?? [];
+      const counts = roll.has(alias) && ranks.split(",").length === options && !counted.has(alias);
+      if (!counts) throw new Error(`line ${place + 1} of the ballots does not count`);
+      counted.set(alias, ranks);
+    }
+    return counted;
+  }
+
   function showAlias(name, alias) {
     const place = byId(alias);
-    if (place === null) {
+    let roll, ranks;
+    try {
+      const poll = pollOf();
+      roll = poll.get("roll");
+      ranks = countOf(poll).get(alias);
+      const shown = place?.closest(".ballots") ? place.querySelector("code").textContent : undefined;
+      if (ranks !== shown) throw new Error("this page shows other ballots than its files have");
+    } catch (fault) {
+      say(paragraph(`This is no secret vote as it is published: ${fault.message}. Tell it to the other electors.`));
+      return;
+    }
+    if (!roll.includes(alias)) {
       say(paragraph(`No elector of this vote has the alias ${alias}. Type name and code as they stand on your slip.`));
-    } else if (place.closest(".ballots") === null) {
+    } else if (ranks === undefined) {
       say(paragraph(`Your alias is ${alias}. It is on the roll, and no ballot counts under it.`));
     } else {
       say(paragraph(`This ballot counts for ${name}:`), ballotNode(place), ...namesInPoll());

@@ -12,7 +12,7 @@ from debvote_tools.files import BALLOTS_LIMIT, POLL_LIMIT, read_at_most, sum_of,
 from debvote_tools.closed import LAST, lines_of
 from debvote_tools.election.poll_file import roll_of
 from debvote_tools.program import findings_in, standing_in
-from debvote_tools.publish import doubts, recounting, roll, secret
+from debvote_tools.publish import doubts, letter, recounting, roll, second_count, secret
 from debvote_tools.publish.called import about_call, announced_sum, called_of
 from debvote_tools.publish.calls import BALLOTS, POLL, SHEET, Calls, calls_in
 from debvote_tools.publish.data import result_json, votes_csv
@@ -106,7 +106,7 @@ def fill(folder: pathlib.Path, asked: argparse.Namespace, given: Given, beside: 
     write_public(folder / BALLOTS, ballots)
     text, status = count(calls, asked)
     found = doubts.found_in(calls, asked.poll, asked.ballots, sheet_in(text))
-    found += about_call(asked.poll, called_of(poll, LAST in sheet_in(text).facts, given.announced))
+    found += about_call(asked.poll, called_of(poll, sheet_in(text).facts.get(LAST), given.announced))
     settle(found, asked)
     return make(calls, text, given, found, Further()), status
 
@@ -121,7 +121,7 @@ def fill_secret(folder: pathlib.Path, asked: argparse.Namespace, given: Given, b
         text = count(private, asked)[0]
         found = doubts.found_in(private, asked.poll, asked.ballots, sheet_in(text))
         hidden = secret.hidden_of(codes, poll, standing_in(private.standing()))
-        found += about_call(asked.poll, called_of(hidden.poll, False, given.announced))
+        found += about_call(asked.poll, called_of(hidden.poll, None, given.announced, is_secret=True))
         settle(found, asked)
         totals = findings_in(private.explain()).totals
     write_public(folder / POLL, hidden.poll)
@@ -129,6 +129,7 @@ def fill_secret(folder: pathlib.Path, asked: argparse.Namespace, given: Given, b
     calls = calls_in(folder, beside, asked.casting, asked.desks)
     published, status = calls.count()
     secret.demand_same(text, published)
+    secret.demand_all_count(published)
     further = secret.further_of(hidden, totals, with_voters=asked.voters)
     said = make(calls, published, given, secret.without_names(found), further)
     secret.demand_no_code(folder, codes)
@@ -166,19 +167,21 @@ def make(calls: Calls, text: str, given: Given, found: list[Doubt], further: Fur
     version, standing, refused = calls.version(), calls.standing(), findings_in(calls.explain()).refused
     write_public(folder / SHEET, text.encode())
     verified, picture = calls.verify(), picture_of(calls.picture(), len(sheet.names))
-    called = called_of((folder / POLL).read_bytes(), LAST in sheet.facts, given.announced)
-    lines = lines_of((folder / BALLOTS).read_bytes())
+    poll, ballots = ((folder / name).read_bytes() for name in (POLL, BALLOTS))
+    called = called_of(poll, sheet.facts.get(LAST), given.announced, is_secret=further.unlisted is not None)
+    lines = lines_of(ballots)
     published = Published(
         sheet, standing, refused, lines, picture, calls.casting, verified.rstrip("\n"), version, found, called, labels,
         given.about, further, voting_of((folder / POLL).read_bytes(), standing, given, further), given.because,
     )  # fmt: skip
-    write_files(folder, published)
+    write_files(folder, published, poll, ballots)
+    second_count.demand_same(folder, calls.casting, text, standing)
     return f"{sheet.last_line}\n{verified}"
 
 
-def write_files(folder: pathlib.Path, found: Published) -> None:
+def write_files(folder: pathlib.Path, found: Published, poll: bytes, ballots: bytes) -> None:
     """Writes what follows from the sheet, the page and the sums last."""
-    made = made_of(found)
+    made = made_of(found, poll, ballots)
     for file in made:
         write_public(folder / file.name, file.data)
     there = [
@@ -192,8 +195,8 @@ def write_files(folder: pathlib.Path, found: Published) -> None:
     write_public(folder / SUMS, sums_of(folder).encode())
 
 
-def made_of(found: Published) -> list[File]:
-    """The files that follow from the sheet, and the further ones."""
+def made_of(found: Published, poll: bytes, ballots: bytes) -> list[File]:
+    """The files that follow from poll, ballots and sheet, and the further ones."""
     files = [
         File("standing.txt", "of each elector the ballot that stands", found.standing.encode()),
         File("result.json", "what the sheet says, for programs", result_json(found.sheet, found.labels, found.version).encode()),
@@ -203,6 +206,7 @@ def made_of(found: Published) -> list[File]:
     ]
     if found.picture is not None:
         files.append(File("picture.svg", "the picture of the defeats", found.picture))
+    files.append(File(letter.NAME, letter.WHAT, letter.letter_of(found, poll, ballots)))
     return [*files, *found.further.files]
 
 

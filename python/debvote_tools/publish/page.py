@@ -5,20 +5,22 @@ import shlex
 from html import escape
 
 from debvote_tools import ballots, pages
-from debvote_tools.election.poll_file import COMPARE
 from debvote_tools.pages import command_block, joined, listed, paragraph, part
 from debvote_tools.publish import bars, count, result, roll
-from debvote_tools.publish.calls import BALLOTS, FILES, POLL, SHEET
+from debvote_tools.publish.called import WHOLE
+from debvote_tools.publish.calls import FILES, POLL, SHEET
 from debvote_tools.publish.picture import words_for_dot
 from debvote_tools.publish.published import File, Published
 from debvote_tools.publish.recounting import GUIDE, NAME as RECOUNT
 from debvote_tools.publish.refused import refused
+from debvote_tools.publish.second_count import ISOLATED
 from debvote_tools.publish.unseen import unseen
 from debvote_tools.publish.why import why
 
 # in bytes; where the names of the options in all ballots come to more, ballots have their numbers alone
 NAMES_LIMIT = 2_000_000
 
+COMPARE_WHOLE_SUM = "The sum of the poll. Compare it with the one in <strong>your</strong> letter of the call:"
 COMPARE_SUM = "The sum of the poll without its last envelope. Compare it with the one in <strong>your</strong> letter of the call:"
 
 OWN = (
@@ -39,6 +41,9 @@ FROM_ELSEWHERE = (
     "The one that lies here is from the same web site as what it checks. It is better taken from elsewhere: the package debvote has "
     "it as <code>/usr/share/doc/debvote/reference.py</code>; lay it into your folder under the name <code>recount.py</code>."
 )
+
+NO_OTHER = "No file lies in the folder that is not named there. Look at this before you run anything in it:"
+NO_OTHER_FILE = "ls -A | grep -vxF \"$(cut -c67- SHA256SUMS)\""
 
 
 def page_of(found: Published, files: list[File]) -> str:
@@ -142,10 +147,23 @@ Command = tuple[str, str, str | None]
 
 def whole_commands(found: Published) -> list[Command]:
     """What shows that the files are those that were published, and the poll the one that was called."""
-    commands: list[Command] = [("The files came whole:", "sha256sum -c SHA256SUMS", None)]
+    commands: list[Command] = [("The files came whole:", "sha256sum -c SHA256SUMS", None), (NO_OTHER, NO_OTHER_FILE, "SHA256SUMS")]
+    if found.called.has_last_envelope:
+        is_as_it_is = f"The poll as it is, with {later(found)}, has the sum that stands in the letter of the result:"
+        commands.append((is_as_it_is, WHOLE, f"{found.called.whole_sum}  {POLL}"))
     if found.called.has_last_envelope or found.called.announced is not None:
-        commands.append((COMPARE_SUM, COMPARE, f"{found.called.poll_sum}  -"))
+        words = COMPARE_WHOLE_SUM if found.called.is_secret else COMPARE_SUM
+        commands.append((words, found.called.command, found.called.answer))
     return commands
+
+
+def later(found: Published) -> str:
+    """The last envelope, as each check names it that rests on it."""
+    return f"its last envelope, {found.called.last_envelope}"
+
+
+def with_later(found: Published) -> str:
+    return f", with {later(found)}" if found.called.has_last_envelope else ""
 
 
 def debvote_commands(found: Published) -> list[Command]:
@@ -153,8 +171,9 @@ def debvote_commands(found: Published) -> list[Command]:
     voter = found.standing.partition(" ")[0] or "NAME"
     draw = shlex.join(words_for_dot(len(found.sheet.names)))
     return [
-        ("The sheet is that of the poll and the ballots:", debvote("verify", *FILES, "--sheet", SHEET), found.verified),
-        (f"The ballot of {voter}:", debvote("standing", *FILES) + f" | grep '^{voter} '", None),
+        (f"The sheet is that of the poll{with_later(found)}, and the ballots:", debvote("verify", *FILES, "--sheet", SHEET), found.verified),
+        (f"The ballot of {voter}{in_time(found)}:", debvote("standing", *FILES) + f" | grep '^{voter} '", None),
+        ("The ballots that stand are those of standing.txt:", same_standing(debvote("standing", *FILES)), "the same"),
         ("What became of each line of the ballot file:", debvote("steps", *FILES), None),
         ("The sheet anew:", debvote("count", *FILES, *found.casting), None),
         ("The picture, with Graphviz:", f"{debvote('picture', *FILES, *found.casting)} | {draw} > picture.svg", None),
@@ -163,11 +182,21 @@ def debvote_commands(found: Published) -> list[Command]:
 
 def python_commands(found: Published) -> list[Command]:
     """What the second count says of them."""
-    words = shlex.join(["python3", RECOUNT, "count", "--poll", POLL, "--ballots", BALLOTS, *found.casting])
+    words = shlex.join([*ISOLATED, RECOUNT, "count", *FILES, *found.casting])
     return [
         ("The sheet anew:", words, None),
-        ("It is the published one:", f"{words} | cmp - {SHEET} && echo the same", "the same"),
+        (f"It is the published one{with_later(found)}:", f"{words} | cmp - {SHEET} && echo the same", "the same"),
+        ("The ballots that stand are those of standing.txt:", same_standing(shlex.join([*ISOLATED, RECOUNT, "standing", *FILES])), "the same"),
     ]
+
+
+def in_time(found: Published) -> str:
+    return f", among the first {found.called.last_envelope} lines" if found.called.has_last_envelope else ""
+
+
+def same_standing(command: str) -> str:
+    """Compares the ballots that stand by a count with the file of them, which nothing else binds."""
+    return f"{command} | cmp - standing.txt && echo the same"
 
 
 def debvote(*words: str) -> str:

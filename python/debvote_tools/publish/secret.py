@@ -48,12 +48,21 @@ nothing.</p>
 </div>"""
 
 ABSTAINED = "If you did not vote, look too: no ballot may count under your alias."
-ALONE = "You need not trust the page: somebody may have changed it. Your alias with Python, which asks for code and name:"
+ALONE = (
+    "You need not trust the page: somebody may have changed it. Your alias with Python, which asks for code and name; type this "
+    "outside of the folder of the files, in a terminal that you have just opened:"
+)
 WITH_OPENSSL = (
     "Or with openssl, on a computer that you alone use, since others may see the code while it runs, and the terminal keeps the "
     "line; write your name in place of NAME, and your code in place of CODE:"
 )
-THEN = "Then the ballot under it, in the folder of the files below; write the alias in place of ALIAS:"
+THEN = (
+    "Then the ballot under it, in the folder of the files below; write the alias in place of ALIAS. In a secret vote each "
+    "published ballot counts: where one does not, this says that the two differ, or at which line it stops, and shows no ballot. "
+    "With debvote:"
+)
+THEN_BY_PYTHON = "Or without it:"
+OWN = "standing --poll poll.toml --ballots ballots.txt | cmp - ballots.txt && grep '^ALIAS ' ballots.txt"
 
 REMAINS_HEADING = "What is not hidden"
 
@@ -150,6 +159,13 @@ def head_of(sheet: str) -> list[str]:
     return lines[:1] + [line for line in lines[1:] if not re.match("(Lines|Last envelope|Valid|Refused): ", line)]
 
 
+def demand_all_count(published: str) -> None:
+    """Stops where a line of the published ballots would not count, or counts no more."""
+    facts = dict(re.findall("(?m)^(Lines|Last envelope|Valid|Voters): ([0-9]+)$", published.partition("\nOptions:\n")[0]))
+    if len(facts) != 3 or len(set(facts.values())) != 1:
+        raise Fault("not each of the ballots under aliases would count, once; nothing was published", Status.DIFFERS)
+
+
 def demand_no_code(folder: pathlib.Path, codes: pathlib.Path) -> None:
     """Stops where a code stands in a file of the folder: somebody may have given the file of codes for the page."""
     known = {holder.code.encode() for holder in secret.holders_in(codes)}
@@ -193,8 +209,16 @@ def find(hidden: Hidden) -> str:
         aliases = "".join(f'<li id="{alias}">{alias}</li>\n' for alias in hidden.absent)
         head = f"<summary>Aliases under which no ballot counts ({number})</summary>"
         absent = [f'<details>\n{head}\n<ul class="absent">\n{aliases}</ul>\n</details>']
-    commands = [(ALONE, BY_PYTHON), (WITH_OPENSSL, BY_OPENSSL), (THEN, "grep '^ALIAS ' standing.txt")]
-    return part(FIND, FORM, paragraph(ABSTAINED), paragraph(ALIAS), *(command_block(*command) for command in commands), *absent)
+    commands = [(ALONE, BY_PYTHON), (WITH_OPENSSL, BY_OPENSSL), (THEN, f"debvote {OWN}")]
+    commands.append((THEN_BY_PYTHON, f"python3 -I recount.py {OWN}"))
+    blocks = [command_block(*command) for command in commands]
+    return part(FIND, FORM, paragraph(ABSTAINED), paragraph(ALIAS), *blocks, *absent, *carried(hidden))
+
+
+def carried(hidden: Hidden) -> list[str]:
+    """The two files, for the script: it counts them, and trusts nothing else of the page. Without script nobody sees them."""
+    files = {"poll-file": hidden.poll, "ballots-file": hidden.ballots}
+    return [f'<pre id="{name}" hidden>{escape(data.decode("utf-8"))}</pre>' for name, data in files.items()]
 
 
 def remains() -> str:

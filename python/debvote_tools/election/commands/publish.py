@@ -15,6 +15,7 @@ from debvote_tools.election.folder import Election, Files
 from debvote_tools.election.secrecy import demand_own_folder
 from debvote_tools.faults import Fault, Status
 from debvote_tools.program import casting_words
+from debvote_tools.publish import letter
 from debvote_tools.publish.command_line import page_options, page_words, voters_option
 
 HELP = "Make the folder of the result for a web site"
@@ -136,7 +137,7 @@ def free_name(target: pathlib.Path) -> pathlib.Path:
 def what_next(election: Election, asked: argparse.Namespace, target: pathlib.Path, status: int) -> str:
     """What the secretary does with the folder."""
     if status == Status.DECIDED:
-        return f"put the folder {target} on the web site as it is"
+        return f"put the folder {target} on the web site as it is, and send {target / letter.NAME} to each elector"
     more = [*(["--secret"] if asked.secret else []), *(["--voters"] if asked.voters else [])]
     # the ordinary folder is taken where it is free
     place = "" if not os.path.lexists(election.result) else f" {shlex.quote(str(free_name(election.result)))}"

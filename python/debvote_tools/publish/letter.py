@@ -1,0 +1,40 @@
+"""The letter of the result: what an elector compares with the web site, sent by a way that does not lead over it."""
+
+from debvote_tools.election.call_letter import copied, heading, wrapped
+from debvote_tools.files import sum_of
+from debvote_tools.publish.published import Published
+
+NAME = "letter.txt"
+
+WHAT = "the sums of poll and ballots, to be sent to each elector as a letter"
+
+LATER = (
+    "The poll has the last envelope {}: later lines are late, and count for nothing. Without the lines that came after the call it "
+    "has this sum, which stands in your letter of the call, if one came to you:"
+)
+SAME = "This sum stands in your letter of the call, too, if one came to you."
+HOW = (
+    "Whoever keeps the web site could show each reader another folder. So compare: this command, typed in the folder with the files "
+    "of the result, has to answer the two sums above."
+)
+THEN = "The page index.html, under How to verify, says how to look at your own ballot, and how to count again."
+
+
+def letter_of(found: Published, poll: bytes, ballots: bytes) -> bytes:
+    """The letter, in plain text. The names are those of the poll."""
+    called = found.called
+    said = [wrapped(SAME)] if called.last_envelope is None else [wrapped(LATER.format(called.last_envelope)), copied(called.poll_sum)]
+    parts = [
+        wrapped(found.sheet.facts["Poll"]),
+        wrapped(found.sheet.last_line),
+        heading("The files of the result"),
+        wrapped("The sum (SHA-256) of the file poll.toml:"),
+        copied(sum_of(poll)),
+        *said,
+        wrapped("The sum of the file ballots.txt:"),
+        copied(sum_of(ballots)),
+        wrapped(HOW),
+        copied("sha256sum poll.toml ballots.txt"),
+        wrapped(THEN),
+    ]
+    return "\n".join(parts).encode("ascii")
