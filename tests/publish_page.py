@@ -157,6 +157,12 @@ class Parts:
         default, least = poll.default, least_of(count)
         whole = max(count.voters, least, 1)
         entries = list(self.sections["The-result-in-bars"].one("ol", "bars").all("li"))
+        legend = next(self.sections["The-result-in-bars"].all("p"))
+        has = "elector has" if count.voters == 1 else "electors have"
+        said = (f"default option, {self.name(default)}." in self.said(legend), "dashed mark" in legend.text())
+        demand_equal("the legend of the bars", said, (True, poll.quorum > 0))
+        end = f"The whole width stands for {whole}, and {count.voters} {has} voted."
+        demand_equal("the end of the legend", legend.text()[-len(end) :], end)
         last = {o: max((n for n, (kept, _) in enumerate(count.rounds, 1) if o in kept), default=0) for o in poll.options}
         order = sorted(poll.options, key=lambda o: (o != count.winner, o in count.dropped, -last[o], o))
         demand_equal("how many bars", len(entries), len(order))

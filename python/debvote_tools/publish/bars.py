@@ -62,8 +62,14 @@ def legend(found: Published) -> str:
         f"Each option is compared with the default option, {found.option(sheet.default)}. The full bar is the number of electors who "
         "prefer the option to it, the hollow bar the number of those who prefer it to the option. "
         f"{quorum}The solid mark is the least number that is a majority for the option. "
-        f"The whole width stands for {whole_width(sheet)}; {sheet.facts['Voters']} electors have voted."
+        f"The whole width stands for {whole_width(sheet)}, and {voted(sheet)}."
     )
+
+
+def voted(sheet: Sheet) -> str:
+    """How many have voted."""
+    number = sheet.facts["Voters"]
+    return f"{number} {'elector has' if number == '1' else 'electors have'} voted"
 
 
 def has_quorum(sheet: Sheet) -> bool:

@@ -34,7 +34,7 @@ TOGETHER = (
     "Where every elector does so on the same files, no ballot was left out or changed unseen, and nobody has changed what was voted "
     "on. Anybody can count the rest again; one who does is enough for all who trust them."
 )
-WHERE_DEBVOTE = "Ask your secretary where to get it, or take it from the system on which you trust it."
+WHERE_DEBVOTE = "Ask your secretary where to get it: it is in the package debvote."
 FROM_ELSEWHERE = (
     "The one that lies here is from the same web site as what it checks. It is better taken from elsewhere: the package debvote has "
     "it as <code>/usr/share/doc/debvote/reference.py</code>; lay it into your folder under the name <code>recount.py</code>."
