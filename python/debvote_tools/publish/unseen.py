@@ -11,8 +11,7 @@ from debvote_tools.publish.published import Published
 HEADING = "What nobody can see from here"
 
 SAID = (
-    "The count is exact for the files in this folder. Whether these files are what the electors sent, no count shows. "
-    "Each of the following is seen by electors alone, and where they look:"
+    "Each of the following may be wrong although the count of the files is right. It is seen by electors alone, and where they look:"
 )
 
 
