@@ -47,7 +47,8 @@ def page_of(found: Published, files: list[File]) -> str:
     parts += [standing_ballots(found), *([] if found.voting is None else [roll.roll(found.voting)]), refused(found)]
     parts += [*found.further.parts, unseen(found), check(found, files)]
     about = result.about(found)
-    sections = result.result(found) + bars.bars(found) + "".join(about) + contents(parts) + "".join(parts)
+    parts = [bars.bars(found), *about, *parts]
+    sections = result.result(found) + contents(parts) + "".join(parts)
     style = pages.STYLE + bars.STYLE + count.style(found) + roll.STYLE + (result.DOUBTS_STYLE if found.doubts else "")
     style += (pages.GIVEN_STYLE if about or found.because else "") + found.further.style
     title = found.title()
