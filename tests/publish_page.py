@@ -127,7 +127,8 @@ class Parts:
         lines = f"{len(count.lines)} in the ballot file: {valid} valid, {len(count.lines) - valid} refused"
         if valid != count.voters:
             of = "1 voter has" if count.voters == 1 else f"{count.voters} voters have"
-            lines += f". {of} {valid} valid lines: electors who voted again account for the difference, and the last valid line of each counts"
+            lines += f". {of} {valid} valid lines: electors who voted again account for the difference, "
+            lines += "and the last valid line of each counts"
         electors = len(poll.roll)
         quorum = f"{least_of(count)} votes: at least {poll.quorum}Q, where Q is half of the square root of the number of electors"
         wanted = {

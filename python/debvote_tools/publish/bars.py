@@ -59,8 +59,8 @@ def legend(found: Published) -> str:
     sheet = found.sheet
     quorum = "The dashed mark is the quorum. " if has_quorum(sheet) else ""
     return (
-        f"Each option is compared with the default option, {found.option(sheet.default)}. The full bar is the number of electors who "
-        "prefer the option to it, the hollow bar the number of those who prefer it to the option. "
+        f"Each option is compared with the default option, {found.option(sheet.default)}. The full bar is the number of electors "
+        "who prefer the option to it, the hollow bar the number of those who prefer it to the option. "
         f"{quorum}The solid mark is the least number that is a majority for the option. "
         f"The whole width stands for {whole_width(sheet)}, and {voted(sheet)}."
     )

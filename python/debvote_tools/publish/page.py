@@ -19,7 +19,9 @@ from debvote_tools.publish.why import why
 # in bytes; where the names of the options in all ballots come to more, ballots have their numbers alone
 NAMES_LIMIT = 2_000_000
 
-COMPARE_SUM = "The sum of the poll without its last envelope. Compare it with the one in <strong>your</strong> letter of the call:"
+COMPARE_SUM = (
+    "The sum of the poll without its last envelope. Compare it with the one in <strong>your</strong> letter of the call:"
+)
 
 OWN = (
     '<b>Your own ballot.</b> It stands under <a href="#Ballots">Ballots</a> as you sent it. If you did not vote, you stand under '
@@ -31,13 +33,13 @@ OWN_IN_SECRET = (
 )
 LETTER = "<b>The sum in your letter.</b> The letter of the call that came to you must have this sum, the poll's: <code>{}</code>."
 TOGETHER = (
-    "Where every elector does so on the same files, no ballot was left out or changed unseen, and nobody has changed what was voted "
-    "on. Anybody can count the rest again; one who does is enough for all who trust them."
+    "Where every elector does so on the same files, no ballot was left out or changed unseen, and nobody has changed what was "
+    "voted on. Anybody can count the rest again; one who does is enough for all who trust them."
 )
 WHERE_DEBVOTE = "Ask your secretary where to get it: it is in the package debvote."
 FROM_ELSEWHERE = (
-    "The one that lies here is from the same web site as what it checks. It is better taken from elsewhere: the package debvote has "
-    "it as <code>/usr/share/doc/debvote/reference.py</code>; lay it into your folder under the name <code>recount.py</code>."
+    "The one that lies here is from the same web site as what it checks. It is better taken from elsewhere: the package debvote "
+    "has it as <code>/usr/share/doc/debvote/reference.py</code>; lay it into your folder under the name <code>recount.py</code>."
 )
 
 
@@ -100,7 +102,7 @@ def ballot_in_words(ranks: str, shown: dict[int, str]) -> str:
 
 # ---------------------------------------------------------------- what the reader can do
 def check(found: Published, files: list[File]) -> str:
-    """What is enough for an elector; then the files, and the commands with which a reader counts again, by debvote and by Python."""
+    """What is enough for an elector; then the files, and the commands with which a reader counts again."""
     what = {file.name: file.what for file in files} | found.further.described
     shown = [f'<a href="{file.name}">{file.name}</a>: {what[file.name]}' for file in files]
     said = "Put these files and this page, as index.html, into one folder, open a terminal there, and type these commands:"

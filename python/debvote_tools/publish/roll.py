@@ -25,9 +25,10 @@ LOOK = (
     "check that every member can make."
 )
 LOOK_IN_SECRET = (
-    "Look for yourself, and for those whom you know: who voted must stand there, who did not must not. Whether each is a person is "
-    "a check that every member can make."
+    "Look for yourself, and for those whom you know: who voted must stand there, who did not must not. Whether each is a person "
+    "is a check that every member can make."
 )
+NOBODY = paragraph("Nobody.")
 NONE_COUNTS = "Of these no ballot counts: they did not vote, or all that came of them was refused or late."
 
 
@@ -83,9 +84,9 @@ def roll(voting: Voting) -> str:
     blocks.append(paragraph(LOOK))
     blocks.append(f"<h3>Voted ({len(voting.voted)})</h3>")
     # those who have a ballot have their place there
-    blocks.append(names_list(voting.voted, voting, has_places=False) if voting.voted else paragraph("Nobody."))
+    blocks.append(names_list(voting.voted, voting, has_places=False) if voting.voted else NOBODY)
     blocks.append(f"<h3>No ballot that counts ({len(voting.absent)})</h3>")
-    blocks += [paragraph(NONE_COUNTS), names_list(voting.absent, voting, has_places=True)] if voting.absent else [paragraph("Nobody.")]
+    blocks += [paragraph(NONE_COUNTS), names_list(voting.absent, voting, has_places=True)] if voting.absent else [NOBODY]
     return part(HEADING, *blocks)
 
 
