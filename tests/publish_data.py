@@ -393,7 +393,8 @@ def try_refused(page, count):
     part = page.partition('<h2 id="Refused-lines">')[2].partition("</section>")[0]
     found = []
     for entry in publish_page.sections_of(page)["Refused-lines"].all("li"):
-        first, last, text, cause = re.fullmatch(r"lines? (\d+)(?: to (\d+))?: (.*?): ((?:late|bad [a-z ]+): .*)", entry.text(), re.DOTALL).groups()
+        which = re.fullmatch(r"lines? (\d+)(?: to (\d+))?: (.*?): ((?:late|bad [a-z ]+): .*)", entry.text(), re.DOTALL)
+        first, last, text, cause = which.groups()
         for number in range(int(first), int(last or first) + 1):
             demand(text == line_shown(count.lines[number - 1]), f"the text of line {number}: {text}")
         # what a person calls the shape stands behind it

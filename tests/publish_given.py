@@ -182,6 +182,8 @@ def try_honest_words(expect, scratch):
     expect("honest words: the status", publish(room, *FILES, "result")[2], 0)
     page = (room / "result" / "index.html").read_text()
     sections = publish_page.sections_of(page)
+    said = "This is the count of the files in this folder. Whether they are what the electors sent, no count shows: "
+    expect("honest words: below the result", said in sections["Result"].text(), True)
     unseen = sections["What-nobody-can-see-from-here"]
     rows = [entry.text() for entry in unseen.all("li")]
     for start, check in [
@@ -193,7 +195,8 @@ def try_honest_words(expect, scratch):
         ("Another page for another reader: ", "with other electors"),
     ]:
         expect(f"nobody can see: {start}", [check in row for row in rows if row.startswith(start)], [True])
-    expect("nobody can see: how many", len(rows), 6)
+    table = (ROOT / "SECURITY.md").read_text(encoding="utf-8").partition("## Who could do what")[2]
+    expect("nobody can see: as many as SECURITY.md has", len(rows), table.count("| **nobody from the page**"))
     verify = sections["How-to-verify"]
     heads = [head.text() for head in verify.all("h3")]
     program = subprocess.run([PROGRAM, "--version"], capture_output=True, text=True).stdout.strip()
@@ -296,13 +299,13 @@ def try_refused_texts(expect, scratch):
     page = (room / "result" / "index.html").read_text()
     found = [entry.text() for entry in publish_page.sections_of(page)["Refused-lines"].all("li")]
     expect("refused texts", found, REFUSED_TEXTS)
-    (room / "ballots").write_text((room / "ballots").read_text() + "".join(f"{'y' * 150}{place}\n" for place in range(8_000)))
+    (room / "ballots").write_text((room / "ballots").read_text() + "".join(f"y{place}{'z' * 150}\n" for place in range(8_000)))
     expect("many refused texts: the status", publish(room, *FILES, "--even-so", "many")[2], 0)
     page = (room / "many" / "index.html").read_text()
     part = publish_page.sections_of(page)["Refused-lines"]
     (told,) = re.findall(r"The texts from line (\d+) on are too many for this page: see ballots.txt.", part.text())
     last = [entry.text() for entry in part.all("li")][-1]
-    cause = 'bad shape: column 33: "y" (it is one word; a ballot has a name, a space and the ranks)'
+    cause = 'bad shape: column 33: "z" (it is one word; a ballot has a name, a space and the ranks)'
     expect("many refused texts: the last ones", last, f"lines {told} to 8013: {cause}")
     expect("many refused texts: so many are shown", (int(told) > 5_000, len(page) < LARGEST_PAGE), (True, True))
 

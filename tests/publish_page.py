@@ -127,7 +127,8 @@ class Parts:
         lines = f"{len(count.lines)} in the ballot file: {valid} valid, {len(count.lines) - valid} refused"
         if valid != count.voters:
             of = "1 voter has" if count.voters == 1 else f"{count.voters} voters have"
-            lines += f". {of} {valid} valid lines: electors who voted again account for the difference, and the last valid line of each counts"
+            lines += f". {of} {valid} valid lines: electors who voted again account for the difference, "
+            lines += "and the last valid line of each counts"
         electors = len(poll.roll)
         quorum = f"{least_of(count)} votes: at least {poll.quorum}Q, where Q is half of the square root of the number of electors"
         wanted = {
@@ -157,6 +158,12 @@ class Parts:
         default, least = poll.default, least_of(count)
         whole = max(count.voters, least, 1)
         entries = list(self.sections["The-result-in-bars"].one("ol", "bars").all("li"))
+        legend = next(self.sections["The-result-in-bars"].all("p"))
+        has = "elector has" if count.voters == 1 else "electors have"
+        said = (f"default option, {self.name(default)}." in self.said(legend), "dashed mark" in legend.text())
+        demand_equal("the legend of the bars", said, (True, poll.quorum > 0))
+        end = f"The whole width stands for {whole}, and {count.voters} {has} voted."
+        demand_equal("the end of the legend", legend.text()[-len(end) :], end)
         last = {o: max((n for n, (kept, _) in enumerate(count.rounds, 1) if o in kept), default=0) for o in poll.options}
         order = sorted(poll.options, key=lambda o: (o != count.winner, o in count.dropped, -last[o], o))
         demand_equal("how many bars", len(entries), len(order))

@@ -129,7 +129,8 @@ def in_their_words(texts: Iterable[str], whose: str = WHOSE) -> str:
     The texts are plain; they may be written from right to left, and turn nothing around them.
     """
     said = "\n".join(f'<p class="about"><bdi>{escape(text)}</bdi></p>' for text in texts)
-    return f'<div class="given" role="note" aria-label="Not the words of the program">\n<p class="whose">{whose}</p>\n{said}\n</div>'
+    frame = '<div class="given" role="note" aria-label="Not the words of the program">'
+    return f'{frame}\n<p class="whose">{whose}</p>\n{said}\n</div>'
 
 
 def joined(entries: Iterable[str]) -> str:

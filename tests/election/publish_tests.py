@@ -9,6 +9,7 @@ import signal
 import subprocess
 import sys
 import time
+import tomllib
 
 import support
 
@@ -103,6 +104,21 @@ class Publish(PublishTest):
         ended = self.election(*words, "other", cwd=self.scratch)
         self.assertEqual((ended.status, ended.output), (2, ""))
         self.assertIn("debvote-publish: labels:1: the poll has no option 9", ended.faults)
+
+    def test_real_names_and_a_reason(self) -> None:
+        """The list of members of the election gives the real names; the reason for a doubt stands as the secretary's words."""
+        roll = tomllib.loads(self.read("poll.toml").decode())["roll"]
+        self.write("members.csv", "name,who,mail\n" + "".join(f"{name},Zoë {name.upper()},{name}@x.example\n" for name in roll))
+        self.assertEqual(self.election("publish", "--who", "members.csv").status, 0)
+        page = self.read("result/index.html").decode()
+        for name in roll:
+            self.assertIn(f">{name} <bdi>Zoë {name.upper()}</bdi></li>", page)
+        self.assertNotIn("x.example", page)
+        self.write("ballots", self.read("ballots") + b"dan 1,2,3,4")
+        self.assert_fault(self.election("publish", "--because", "x", "other"), 2, "--because: it goes with --even-so")
+        self.assertEqual(self.election("publish", "--even-so", "--because", "Its end is <b>whole</b>.", "other").status, 0)
+        page = self.read("other/index.html").decode()
+        self.assertIn('<p class="about"><bdi>Its end is &lt;b&gt;whole&lt;/b&gt;.</bdi></p>', page)
 
     def test_an_empty_folder_is_taken(self) -> None:
         (self.folder / "result").mkdir()
@@ -220,6 +236,9 @@ class Words(PublishTest):
         self.assertEqual(self.asked("publish", "--casting", "At the lake")[1], [*files, "--casting", "At the lake", "result"])
         given = ["--labels=my labels", "--about=--even-so"]
         self.assertEqual(self.asked("publish", "--about=--even-so", "--labels", "my labels")[1], [*files, *given, "result"])
+        given = ["--even-so", "--who=my members", "--because=--no doubt"]
+        words = ["--because=--no doubt", "--who", "my members", "--even-so"]
+        self.assertEqual(self.asked("publish", *words)[1], [*files, *given, "result"])
         where = ["--poll", "election/poll.toml", "--ballots", "election/ballots", "election/result"]
         self.assertEqual(self.asked("--folder", "election", "publish", cwd=self.scratch)[1], where)
 

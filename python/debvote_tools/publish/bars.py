@@ -59,11 +59,17 @@ def legend(found: Published) -> str:
     sheet = found.sheet
     quorum = "The dashed mark is the quorum. " if has_quorum(sheet) else ""
     return (
-        f"Each option is compared with the default option, {found.option(sheet.default)}. The full bar is the number of electors who "
-        "prefer the option to it, the hollow bar the number of those who prefer it to the option. "
+        f"Each option is compared with the default option, {found.option(sheet.default)}. The full bar is the number of electors "
+        "who prefer the option to it, the hollow bar the number of those who prefer it to the option. "
         f"{quorum}The solid mark is the least number that is a majority for the option. "
-        f"The whole width stands for {whole_width(sheet)}; {sheet.facts['Voters']} electors have voted."
+        f"The whole width stands for {whole_width(sheet)}, and {voted(sheet)}."
     )
+
+
+def voted(sheet: Sheet) -> str:
+    """How many have voted."""
+    number = sheet.facts["Voters"]
+    return f"{number} {'elector has' if number == '1' else 'electors have'} voted"
 
 
 def has_quorum(sheet: Sheet) -> bool:

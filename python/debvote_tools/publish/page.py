@@ -33,13 +33,13 @@ OWN_IN_SECRET = (
 )
 LETTER = "<b>The sum in your letter.</b> The letter of the call that came to you must have this sum, the poll's: <code>{}</code>."
 TOGETHER = (
-    "Where every elector does so on the same files, no ballot was left out or changed unseen, and nobody has changed what was voted "
-    "on. Anybody can count the rest again; one who does is enough for all who trust them."
+    "Where every elector does so on the same files, no ballot was left out or changed unseen, and nobody has changed what was "
+    "voted on. Anybody can count the rest again; one who does is enough for all who trust them."
 )
-WHERE_DEBVOTE = "Ask your secretary where to get it, or take it from the system on which you trust it."
+WHERE_DEBVOTE = "Ask your secretary where to get it: it is in the package debvote."
 FROM_ELSEWHERE = (
-    "The one that lies here is from the same web site as what it checks. It is better taken from elsewhere: the package debvote has "
-    "it as <code>/usr/share/doc/debvote/reference.py</code>; lay it into your folder under the name <code>recount.py</code>."
+    "The one that lies here is from the same web site as what it checks. It is better taken from elsewhere: the package debvote "
+    "has it as <code>/usr/share/doc/debvote/reference.py</code>; lay it into your folder under the name <code>recount.py</code>."
 )
 
 NO_OTHER = "No file lies in the folder that is not named there. Look at this before you run anything in it:"
@@ -52,7 +52,8 @@ def page_of(found: Published, files: list[File]) -> str:
     parts += [standing_ballots(found), *([] if found.voting is None else [roll.roll(found.voting)]), refused(found)]
     parts += [*found.further.parts, unseen(found), check(found, files)]
     about = result.about(found)
-    sections = "".join(map(found.with_names, [result.result(found), bars.bars(found), *about, contents(parts), *parts]))
+    parts = [bars.bars(found), *about, *parts]
+    sections = "".join(map(found.with_names, [result.result(found), contents(parts), *parts]))
     style = pages.STYLE + bars.STYLE + count.style(found) + roll.STYLE + (result.DOUBTS_STYLE if found.doubts else "")
     style += (pages.GIVEN_STYLE if about or found.because else "") + found.further.style
     title = found.title()
@@ -111,7 +112,7 @@ def ballot_in_words(ranks: str, shown: dict[int, str]) -> str:
 
 # ---------------------------------------------------------------- what the reader can do
 def check(found: Published, files: list[File]) -> str:
-    """What is enough for an elector; then the files, and the commands with which a reader counts again, by debvote and by Python."""
+    """What is enough for an elector; then the files, and the commands with which a reader counts again."""
     what = {file.name: file.what for file in files} | found.further.described
     shown = [f'<a href="{file.name}">{file.name}</a>: {what[file.name]}' for file in files]
     said = "Put these files and this page, as index.html, into one folder, open a terminal there, and type these commands:"

@@ -9,6 +9,10 @@ from debvote_tools.publish.recounting import GUIDE
 from debvote_tools.publish.texts import paragraphs_of
 from debvote_tools.sheet import Sheet
 
+COUNTED = (
+    "This is the count of the files in this folder. Whether they are what the electors sent, no count shows: "
+    '<a href="#What-nobody-can-see-from-here">What nobody can see from here</a>.'
+)
 COMPARE_LETTER = "Compare it with the one in <strong>your</strong> letter."
 
 # the style of a page that has doubts, behind that of all pages: a frame and a word mark a doubt, and not colour alone
@@ -96,7 +100,7 @@ def result(found: Published) -> str:
     in_poll = []
     if found.labels.title is not None:
         in_poll = [paragraph(f"In the poll the title is: {escape(found.sheet.facts['Poll'])}")]
-    return part("Result", *in_poll, f'<p class="outcome">{outcome(found)}</p>', *marked, facts(found))
+    return part("Result", *in_poll, f'<p class="outcome">{outcome(found)}</p>', *marked, facts(found), paragraph(COUNTED))
 
 
 # ---------------------------------------------------------------- what the society says of it

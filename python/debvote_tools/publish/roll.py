@@ -24,6 +24,11 @@ LOOK = (
     "Look for yourself, and for those whom you know: whether each stands where they belong, and whether each is a person, is the "
     "check that every member can make."
 )
+LOOK_IN_SECRET = (
+    "Look for yourself, and for those whom you know: who voted must stand there, who did not must not. Whether each is a person "
+    "is a check that every member can make."
+)
+NOBODY = paragraph("Nobody.")
 NONE_COUNTS = "Of these no ballot counts: they did not vote, or all that came of them was refused or late."
 
 
@@ -74,13 +79,14 @@ def roll(voting: Voting) -> str:
     blocks = [paragraph(said(voting))]
     if voting.absent is None:
         link = f'Their names, in the order of the roll and without their votes: <a href="{VOTERS}">{VOTERS}</a>'
-        return part(HEADING, *blocks, paragraph(link), *([names_list(voting.voted, voting, has_places=False)] if voting.who else []))
+        blocks += [paragraph(LOOK_IN_SECRET), paragraph(link)]
+        return part(HEADING, *blocks, *([names_list(voting.voted, voting, has_places=False)] if voting.who else []))
     blocks.append(paragraph(LOOK))
     blocks.append(f"<h3>Voted ({len(voting.voted)})</h3>")
     # those who have a ballot have their place there
-    blocks.append(names_list(voting.voted, voting, has_places=False) if voting.voted else paragraph("Nobody."))
+    blocks.append(names_list(voting.voted, voting, has_places=False) if voting.voted else NOBODY)
     blocks.append(f"<h3>No ballot that counts ({len(voting.absent)})</h3>")
-    blocks += [paragraph(NONE_COUNTS), names_list(voting.absent, voting, has_places=True)] if voting.absent else [paragraph("Nobody.")]
+    blocks += [paragraph(NONE_COUNTS), names_list(voting.absent, voting, has_places=True)] if voting.absent else [NOBODY]
     return part(HEADING, *blocks)
 
 

@@ -11,8 +11,7 @@ from debvote_tools.publish.published import Published
 HEADING = "What nobody can see from here"
 
 SAID = (
-    "The count is exact for the files in this folder. Whether these files are what the electors sent, no count shows. "
-    "Each of the following is seen by electors alone, and where they look:"
+    "Each of the following may be wrong although the count of the files is right. Electors alone can see it, if they look:"
 )
 
 
@@ -25,6 +24,12 @@ class Unseen:
     # in a secret vote; none where `secret_words.REMAINS` says it already
     check_in_secret: str | None
 
+
+# the same in both kinds of votes
+KEEP_COPY = "Keep a copy of what you send, and compare your ballot here with it, rank by rank."
+KEEP_REPLY = (
+    "Keep what shows when you sent your ballot, and the reply to it. If your ballot came in time and does not count, show both."
+)
 
 UNSEEN = (
     Unseen(
@@ -46,13 +51,13 @@ UNSEEN = (
     ),
     Unseen(
         "The hand that typed: a ballot on paper or in a letter may have been entered otherwise than it was sent.",
-        "Keep a copy of what you send, and compare your ballot here with it, rank by rank.",
-        "Keep a copy of what you send, and compare your ballot here with it, rank by rank.",
+        KEEP_COPY,
+        KEEP_COPY,
     ),
     Unseen(
         "The clock: which ballot was late, and when the vote was closed, is known by the secretary's computer alone.",
-        "Keep what shows when you sent your ballot, and the reply to it. If your ballot came in time and does not count, show both.",
-        "Keep what shows when you sent your ballot, and the reply to it. If your ballot came in time and does not count, show both.",
+        KEEP_REPLY,
+        KEEP_REPLY,
     ),
     Unseen(
         "Another page for another reader: whoever keeps the web site can show each reader another folder.",
