@@ -18,3 +18,4 @@ mod Turns
 mod RunningLemmas
 pub mod Determined
 mod Filled
+pub mod Examples

@@ -207,3 +207,18 @@ FinalSetIsPareto =
     let kept = IsKept poll matrix in
     IsMatrixOf (option_count poll) ballots matrix → AreRounds kept matrix (PairwiseDefeats kept matrix) rounds →
     kept a → a ≢ b → IsUnanimous a b ballots → ¬ In (final_set rounds) b
+
+-- Examples to check by hand, of three defeats: 1 defeats 2 by 5 votes to 3, 3 defeats 4 by 5 to 2, and 5 defeats 6 by 4 to 0.
+pub record AreThreeDefeats (matrix : Votes) : Type 0 where
+  pub first : (votes matrix 1 2 ≡ 5) × (votes matrix 2 1 ≡ 3)
+  pub second : (votes matrix 3 4 ≡ 5) × (votes matrix 4 3 ≡ 2)
+  pub third : (votes matrix 5 6 ≡ 4) × (votes matrix 6 5 ≡ 0)
+
+-- The third is the weakest, with the fewest votes for it, though none are against it. Of the others, with as many for them, the first is the weaker one, since more are against it.
+pub record AreOrderedByStrength (matrix : Votes) : Type 0 where
+  pub third_and_first : IsWeaker matrix 5 6 1 2 × ¬ IsWeaker matrix 1 2 5 6
+  pub first_and_second : IsWeaker matrix 1 2 3 4 × ¬ IsWeaker matrix 3 4 1 2
+  pub itself : ¬ IsWeaker matrix 1 2 1 2
+
+abbrev pub WeakerDefeatsAsInTheExamples : Type 0
+WeakerDefeatsAsInTheExamples = (matrix : Votes) → AreThreeDefeats matrix → AreOrderedByStrength matrix

@@ -1,5 +1,5 @@
 //! Laws of the count. Each function does nothing: its contract is the law, and that is proved.
-ghost use Rattle.vote_count.specs.Laws.{BallotsAreAnonymous, CondorcetWinnersWin, FinalSetIsInSmithSet, FinalSetIsSchulze, RaisedWinnersWin, RaisedBallotsRaise, FinalSetIsCloneproof, ClonesOnBallotsAreClones, CloneSetsAreIndependent, CloneSetsOnBallotsAreCloneSets, FinalSetIsPareto, OutcomesAreDetermined, DecisionsAreDetermined, WinnersAreInTheSet};
+ghost use Rattle.vote_count.specs.Laws.{BallotsAreAnonymous, CondorcetWinnersWin, FinalSetIsInSmithSet, FinalSetIsSchulze, RaisedWinnersWin, RaisedBallotsRaise, FinalSetIsCloneproof, ClonesOnBallotsAreClones, CloneSetsAreIndependent, CloneSetsOnBallotsAreCloneSets, FinalSetIsPareto, OutcomesAreDetermined, DecisionsAreDetermined, WeakerDefeatsAsInTheExamples, WinnersAreInTheSet};
 ghost use Rattle.vote_count.specs.Rounds.{RoundsAreDetermined};
 
 /// The rules leave no choice: two lists of rounds of the same poll and matrix are the same.
@@ -88,4 +88,10 @@ pub fn clone_sets_on_ballots_are_clone_sets()
 /// other is not in the final set.
 pub fn final_set_is_pareto()
     ensures { FinalSetIsPareto }
+{}
+
+/// Examples in numbers of which defeat is the weaker: the one with fewer votes for it, and of two with as many for them the one
+/// with more against it.
+pub fn weaker_defeats_are_as_in_the_examples()
+    ensures { WeakerDefeatsAsInTheExamples }
 {}

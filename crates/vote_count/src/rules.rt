@@ -13,8 +13,7 @@ use vote_poll::{MAX_OPTIONS, Poll, Wording};
 /// The fewest votes that meet the quorum (section 4.2): the poll's multiple of Q, which is half of
 /// the square root of the number of electors, and is not rounded. With a multiple of 0 it is 0.
 pub fn quorum_votes(poll: &Poll) -> u64
-    ensures enough { MeetsQuorum poll.now result }
-    ensures least { (n : ℕ) → MeetsQuorum poll.now n → result ≤ n }
+    ensures { IsQuorum poll.now result }
 {
     let multiple = u64::from(poll.quorum_multiple());
     let bound = multiple * multiple * poll.electors() as u64;

@@ -18,3 +18,4 @@ pub mod Renaming
 pub mod LastBallotsDecide
 pub mod NormalRanks
 pub mod Publishing
+pub mod VerifiedOnce

@@ -104,8 +104,7 @@ sheet_there poll roll last electors lines others same casting s is n e valid ref
       quorum_multiple = is.quorum_multiple;
       wording = is.wording;
       last_envelope = of.last_envelope;
-      quorum_met = subst P electors is.quorum_met;
-      quorum_least = subst Q electors is.quorum_least;
+      quorum = (subst P electors is.quorum.0, subst Q electors is.quorum.1);
       line_count = of.line_count;
       valid = of.valid;
       refused = of.refused;

@@ -203,7 +203,7 @@ same_sheet outcomes decisions poll lines casting s t is_s is_t =
     (count_text s.names s.matrix s.outcome s.decision) (count_text t.names t.matrix t.outcome t.decision)
     (head_text_same s.title t.title s.electors t.electors s.quorum_multiple t.quorum_multiple s.quorum_votes t.quorum_votes s.wording t.wording
     (is_s.title ∙ sym is_t.title) (is_s.electors ∙ sym is_t.electors) (is_s.quorum_multiple ∙ sym is_t.quorum_multiple)
-    (omega (arith, is_s.quorum_least t.quorum_votes is_t.quorum_met, is_t.quorum_least s.quorum_votes is_s.quorum_met))
+    (omega (arith, is_s.quorum.1 t.quorum_votes is_t.quorum.0, is_t.quorum.1 s.quorum_votes is_s.quorum.0))
     (is_s.wording ∙ sym is_t.wording))
     (totals_text_same s.line_count t.line_count s.last_envelope t.last_envelope s.valid t.valid s.refused t.refused s.voters t.voters
     (is_s.line_count ∙ sym is_t.line_count) (is_s.last_envelope ∙ sym is_t.last_envelope) (is_s.valid ∙ sym is_t.valid) (is_s.refused ∙ sym is_t.refused) (is_s.voters ∙ sym is_t.voters))

@@ -4,7 +4,7 @@ use Rattle.std.specs.declared.string.String.{String}
 use Rattle.vote_poll.specs.Options.{IsOption}
 use Rattle.vote_poll.specs.PollContent.{PollContent, elector_count, option_count}
 use Rattle.vote_count.specs.Votes.{votes}
-use Rattle.vote_count.specs.Rules.{MeetsQuorum}
+use Rattle.vote_count.specs.Rules.{IsQuorum}
 use Rattle.vote_count.specs.Rounds.{IsDecision, IsOutcome, final_set}
 use Rattle.vote_count.specs.declared.Decision.{Decision}
 use Rattle.vote_sheet.specs.LastBallots.{refused_count, valid_count, voter_count, votes_for}
@@ -19,9 +19,7 @@ pub record IsSheetOf (poll : PollContent) (lines : List Text) (casting : Option 
   pub quorum_multiple : s.quorum_multiple ≡ poll.quorum_multiple
   pub wording : s.wording ≡ poll.wording
   pub last_envelope : s.last_envelope ≡ poll.last_envelope
-  -- the least number of votes that meets the quorum
-  pub quorum_met : MeetsQuorum poll s.quorum_votes
-  pub quorum_least : (n : ℕ) → MeetsQuorum poll n → s.quorum_votes ≤ n
+  pub quorum : IsQuorum poll s.quorum_votes
   -- what the lines are
   pub line_count : s.line_count ≡ length lines
   pub valid : s.valid ≡ valid_count poll lines

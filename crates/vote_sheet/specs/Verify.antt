@@ -126,6 +126,13 @@ AreVerificationWords poll lines text (MatchesCasting o) words = words ≡ verifi
 AreVerificationWords poll lines text Differs words =
     (casting : Option ℕ) × (sheet : Text) × AgreesLongest poll (IsSheet poll lines) text casting sheet × (words ≡ difference_text text sheet)
 
+-- a law: a poll, its lines and a text leave no choice in what is said of the text, nor in its words
+abbrev pub VerificationsAreDetermined : Type 0
+VerificationsAreDetermined =
+    (poll : PollContent) (lines : List Text) (text words others : Text) (said other : Verification) →
+    IsVerification poll lines text said → AreVerificationWords poll lines text said words →
+    IsVerification poll lines text other → AreVerificationWords poll lines text other others → (said ≡ other) × (words ≡ others)
+
 -- the words of what was said of a text are those of the sheet that it is, or of how it differs
 abbrev pub SaysInWords : {Z : Type 0} → PollContent → List Text → Text → String Z × Verification → Type 0
 SaysInWords poll lines text said = AreVerificationWords poll lines text said.1 (string_bytes said.0)

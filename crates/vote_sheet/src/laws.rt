@@ -5,7 +5,7 @@ ghost use Rattle.vote_sheet.specs.Limits.{LimitsAreAsWritten};
 ghost use Rattle.vote_sheet.specs.Publishing.{KeepsTheOrder, PublishedFilesHaveTheSameSheet, PublishedFilesSayTheSame, normal_ranks};
 ghost use Rattle.vote_sheet.specs.SheetLaws.{CondorcetWinnersAreNamed, LikedOptionsStay, LikedWinnersStay, UnanimityRules};
 ghost use Rattle.vote_sheet.specs.Standing.{StandingHasTheSameSheet, StandingSaysTheSame};
-ghost use Rattle.vote_sheet.specs.Verify.{NamesTheFirstLine};
+ghost use Rattle.vote_sheet.specs.Verify.{NamesTheFirstLine, VerificationsAreDetermined};
 
 use crate::sheet::sheet_is_unique;
 use vote_count::{
@@ -98,6 +98,13 @@ pub fn published_files_have_the_same_sheet()
 pub fn the_first_line_is_named()
     ensures { NamesTheFirstLine }
 {}
+
+/// Poll, lines and text leave no choice in what `verify` says of the text, nor in its words.
+pub fn verifications_are_determined()
+    ensures { VerificationsAreDetermined }
+{
+    sheet_is_unique();
+}
 
 /// The sums of a sheet show that nobody counts twice: of two options a voter is for one at most, each voter is an elector and has a
 /// valid line, and each line is valid or refused.

@@ -7,3 +7,4 @@ pub mod RecastLemmas
 pub mod StandingLemmas
 pub mod LineLemmas
 pub mod CastLemmas
+pub mod Examples

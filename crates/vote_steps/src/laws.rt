@@ -1,6 +1,6 @@
 //! What the definitions on histories mean: each law is the contract of a function that does nothing.
 ghost use Rattle.vote_steps.specs.Recasts.{OrderDoesNotMatter, TheGreatestStands, EachCastIsCounted};
-ghost use Rattle.vote_steps.specs.Laws.{StampsAreDistinct, EachStampIsUsed, ClosesOnce, HasRoomForAll, VotesAreRecounted};
+ghost use Rattle.vote_steps.specs.Laws.{CastsAreAtDesks, RepliesAsInTheExamples, StampsAreDistinct, EachStampIsUsed, ClosesOnce, HasRoomForAll, VotesAreRecounted};
 ghost use Rattle.vote_steps.specs.Casting.{OrderLeavesNoChoice};
 ghost use Rattle.vote_steps.specs.Standing.{LastLinesStand, LinesAreCounted};
 
@@ -27,6 +27,18 @@ pub fn stamps_are_distinct()
 /// A legal history with as many casts as stamps uses each stamp.
 pub fn each_stamp_is_used()
     ensures { EachStampIsUsed }
+{}
+
+/// Each cast of a legal history is at a desk from 1 to 8.
+#[tactic(auto, using(crate::proofs::Examples::casts_are_at_desks))]
+pub fn casts_are_at_desks()
+    ensures { CastsAreAtDesks }
+{}
+
+/// Examples in numbers of the reply to an envelope: an earlier one of the same voter is superseded, a later one replaces.
+#[tactic(auto, using(crate::proofs::Examples::replies_in_examples))]
+pub fn replies_are_as_in_the_examples()
+    ensures { RepliesAsInTheExamples }
 {}
 
 /// A legal history has at most one close.

@@ -22,11 +22,11 @@ loop-votes-preserved c = record {
   within = omega (arith, le_double_square c.loop-votes.votes);
 }
 
-pub returns-clause-enough : goal.returns-clause-enough
-returns-clause-enough c = omega (arith, square_is (2 * c.loop-votes.votes))
-
-pub returns-clause-least : goal.returns-clause-least
-returns-clause-least c n meets = elim (cases_lt n c.loop-votes.votes) [
-  | inl fewer ↦ absurd (omega (arith, meets, c.loop-votes.invariant.below n fewer, c.loop-votes.invariant.bound))
-  | inr enough ↦ enough
-]
+pub returns : goal.returns
+returns c = (
+  omega (arith, square_is (2 * c.loop-votes.votes)),
+  λ n meets. elim (cases_lt n c.loop-votes.votes) [
+    | inl fewer ↦ absurd (omega (arith, meets, c.loop-votes.invariant.below n fewer, c.loop-votes.invariant.bound))
+    | inr enough ↦ enough
+  ],
+)
