@@ -149,10 +149,12 @@ def cast(
         batch = judged(election, files, lines)
     except Fault:
         with uninterrupted():
+            election.begin_journal()
             keep()
         raise
     look(batch)
     with uninterrupted():
+        election.begin_journal()
         keep()
     first, last = batch.ballots[0].envelope, batch.ballots[-1].envelope
     envelopes = str(first) if first == last else f"{first}-{last}"

@@ -17,6 +17,10 @@ PROGRAM = "debvote-election"
 COMMANDS = ("new", "roll", "check", "codes", "call", "add", "desk", "status", "close", "count", "publish")
 
 
+# the commands that change nothing
+QUIET = ("check", "status", "count")
+
+
 def parser() -> argparse.ArgumentParser:
     """The command line: each command with its options."""
     # --folder may stand before the command and behind it
@@ -63,8 +67,12 @@ def main(beside: pathlib.Path, words: Sequence[str] | None = None) -> int:
     except OSError as error:
         # a file that can't be read or written is named; what has no name is the output
         if error.filename is None:
+            # whoever reads the first lines alone, as `head` does, has what was asked for
+            if isinstance(error, BrokenPipeError) and asked.command in QUIET:
+                return failed(None, 128 + signal.SIGPIPE)
             return failed("the output failed; what was told is done: ask debvote-election status", Status.BAD_OUTPUT)
-        words = f"{error.filename}: {error.strerror}; it is as it was; put this right, then run the command again"
+        state = "it is written, but perhaps not on the disk yet" if getattr(error, "is_written", False) else "it is as it was"
+        words = f"{error.filename}: {error.strerror}; {state}; put this right, then run the command again"
         return failed(words, Status.BAD_OUTPUT)
 
 

@@ -140,3 +140,11 @@ def without_last_envelope(data: bytes) -> bytes:
     """What `grep -v '^last_envelope'` leaves of a poll: it ends a last line that has no line feed."""
     ended = data if data.endswith(b"\n") or not data else data + b"\n"
     return re.sub(rb"(?m)^last_envelope[^\n]*\n", b"", ended)
+
+
+def has_last_envelope(data: bytes) -> bool:
+    """Whether a poll says which envelope is the last one; what can't be read as TOML says nothing."""
+    try:
+        return LAST_ENVELOPE in document(data)
+    except Fault:
+        return False

@@ -47,6 +47,9 @@ def tell_edits(election: Election, files: Files) -> None:
 
     The caller holds the lock alone.
     """
+    lost = election.lost_journal(files)
+    if lost is not None:
+        tell(f"Note: {lost}. Find out who took it away; what comes late, and what is changed by hand, may go unseen.")
     undone = election.cut_off
     if undone is not None:
         many = "envelopes" if "-" in undone.envelopes else "envelope"

@@ -54,10 +54,13 @@ def run(election: Election, asked: argparse.Namespace) -> int:
         acts = acts_of(election, files)
         tell_edited(election, files, acts)
         state = state_of(election, files)
+        lost = election.lost_journal(files)
         changed = [*changes_of(election, files).lines(), *election.changed_since_close(files, state.sheet)]
     print(f"Title: {state.sheet.facts['Poll']}")
     tell_secrecy(election, files)
     tell_stage(election, acts, state.sheet)
+    if lost is not None:
+        print(f"Note: {lost}. Find out who took it away; what comes late, and what is changed by hand, may go unseen.")
     for line in changed:
         print(f"Note: {line}")
     print(quorum_words(state.sheet))
