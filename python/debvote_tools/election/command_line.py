@@ -10,6 +10,7 @@ from collections.abc import Sequence
 
 from debvote_tools.election.folder import Election
 from debvote_tools.faults import Fault, Status
+from debvote_tools.signs import written
 
 PROGRAM = "debvote-election"
 
@@ -85,5 +86,5 @@ def failed(words: str | None, status: int) -> int:
     except OSError:
         os.dup2(os.open(os.devnull, os.O_WRONLY), sys.stdout.fileno())
     if words is not None:
-        print(f"{PROGRAM}: {words}", file=sys.stderr)
+        print(f"{PROGRAM}: {written(words)}", file=sys.stderr)
     return status

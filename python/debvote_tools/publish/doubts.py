@@ -20,6 +20,7 @@ from debvote_tools.program import Debvote, Findings, Totals, findings_in
 from debvote_tools.publish.called import announced_sum, folders_of
 from debvote_tools.publish.calls import BALLOTS, POLL, Calls
 from debvote_tools.sheet import Sheet
+from debvote_tools.signs import written
 
 EVEN_SO = "(or publish it as it is, with --even-so)"
 
@@ -45,7 +46,7 @@ REQUIRED_KEYS = 6
 def tell(lines: list[str]) -> None:
     """Tells each line on standard error."""
     for line in lines:
-        print(f"debvote-publish: {line}", file=sys.stderr)
+        print(f"debvote-publish: {written(line)}", file=sys.stderr)
 
 
 def stop(found: list[Doubt]) -> Fault:

@@ -71,7 +71,8 @@ class Desk:
 
     def open_received(self) -> None:
         """Makes the file for what comes, while nothing is read yet: so it waits for no other desk once something is."""
-        with self.election.changing():
+        with self.election.changing() as files:
+            tell_edits(self.election, files)
             self.election.begin_journal()
             self.received = write_new(self.election.received, "desk", b"")
         self.handle = os.open(self.received, os.O_RDWR | os.O_CLOEXEC)
