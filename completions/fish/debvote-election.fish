@@ -19,6 +19,7 @@ complete -c debvote-election -n "__fish_seen_subcommand_from new publish" -a "(_
 complete -c debvote-election -n "__fish_seen_subcommand_from call" -l until -x -d "Until when ballots are taken"
 complete -c debvote-election -n "__fish_seen_subcommand_from call" -l to -x -d "The address to which ballots are sent"
 complete -c debvote-election -n "__fish_seen_subcommand_from call" -l no-roll -d "Publish the sum of the poll alone"
+complete -c debvote-election -n "__fish_seen_subcommand_from roll check" -l all -d "Print all names"
 complete -c debvote-election -n "__fish_seen_subcommand_from call" -l take-back -d "Take the call back, where no ballot has come"
 complete -c debvote-election -n "__fish_seen_subcommand_from add" -l csv -d "The files are tables of a web form"
 complete -c debvote-election -n "__fish_seen_subcommand_from add" -l name -x -d "The column with the name"

@@ -12,8 +12,13 @@ import stat
 import tempfile
 from collections.abc import Iterator
 
+from debvote_tools.faults import Fault, Status
+
 # in bytes; one more is read of a longer file, so that debvote says that it is too long
 POLL_LIMIT, BALLOTS_LIMIT = 1_048_576, 33_554_432
+
+# where a process has its open files by their numbers
+OWN_FILES = "/proc/self/fd"
 
 # how each temporary begins, and no file of anybody else: an editor puts its own beside a file, as `.poll.toml.swp`
 TEMPORARY = ".debvote-"
@@ -43,7 +48,7 @@ def write_whole(file: pathlib.Path, data: bytes, mode: int = 0o644) -> None:
     """Writes a file whole or not at all: a temporary beside it is brought to the disk, and takes its place.
 
     A file that was there keeps its mode; a new one gets this mode, less what the umask takes. Raises OSError, and then the file
-    is as it was.
+    is as it was, unless the error has `is_written`: then it is written, and its name may not be on the disk yet.
     """
     mode = file.stat().st_mode & 0o777 if file.exists() else mode & ~umask()
     handle, name = tempfile.mkstemp(prefix=TEMPORARY, dir=file.parent)
@@ -60,7 +65,12 @@ def write_whole(file: pathlib.Path, data: bytes, mode: int = 0o644) -> None:
         if isinstance(error, OSError):
             error.filename = str(file)
         raise
-    sync_folder(file.parent)
+    try:
+        sync_folder(file.parent)
+    except OSError as error:
+        # the file is there, and may be gone after a power cut
+        error.filename, error.is_written = str(file), True
+        raise
 
 
 def take_away_temporaries(folder: pathlib.Path) -> None:
@@ -144,7 +154,14 @@ def locked(file: pathlib.Path, is_shared: bool = False) -> Iterator[None]:
 @contextlib.contextmanager
 def in_memory(data: bytes) -> Iterator[str]:
     """A file in memory, which other programs can read by this path as long as it lasts, and of which a kill leaves nothing."""
-    handle = os.memfd_create("debvote")
+    if not os.path.isdir(OWN_FILES):
+        words = f"{OWN_FILES}: it is not there, and programs are given their input by it; nothing was changed"
+        raise Fault(f"{words}: have /proc mounted, then run the command again", Status.BAD_OUTPUT)
+    try:
+        handle = os.memfd_create("debvote")
+    except OSError as error:
+        words = f"memory: there is none for a copy of the input ({error.strerror}); nothing was changed"
+        raise Fault(f"{words}: run the command again", Status.BAD_OUTPUT) from None
     try:
         with open(handle, "wb", closefd=False) as target:
             target.write(data)

@@ -8,6 +8,7 @@ import shutil
 import subprocess
 
 from debvote_tools.faults import Fault, Status
+from debvote_tools.files import OWN_FILES
 
 @dataclasses.dataclass(frozen=True)
 class Answer:
@@ -64,7 +65,14 @@ class Debvote:
     def ask(self, *words: str | os.PathLike[str], given: bytes | None = None) -> Answer:
         """Runs debvote with these words, and with these bytes as its standard input."""
         how = {"stdin": subprocess.DEVNULL} if given is None else {"input": given}
-        ended = subprocess.run([self.path, *map(os.fspath, words)], cwd=self.folder, capture_output=True, **how)
+        if given is not None and not os.path.isdir(OWN_FILES):
+            words_of = f"{OWN_FILES}: it is not there, and debvote is given its input by it; nothing was counted"
+            raise Fault(f"{words_of}: have /proc mounted, then run the command again", Status.BAD_OUTPUT)
+        try:
+            ended = subprocess.run([self.path, *map(os.fspath, words)], cwd=self.folder, capture_output=True, **how)
+        except OSError as error:
+            words_of = f"it can't be started ({error.strerror}); nothing was counted, and no file was changed by it"
+            raise Fault(f"{self.path}: {words_of}: run the command again", Status.BAD_OUTPUT) from None
         status = ended.returncode if ended.returncode >= 0 else 128 - ended.returncode
         return Answer(ended.stdout.decode("ascii", "replace"), ended.stderr.decode("utf-8", "replace"), status)
 

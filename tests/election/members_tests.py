@@ -191,8 +191,8 @@ class Proposals(MembersTest):
         self.assertEqual(self.names(";李明;", ";李明;李@x", ";Ada;"), [None, None, "ada"])
 
     def test_doubles_get_a_number(self) -> None:
-        self.assertEqual(self.names(";Ann Lee;", ";ann lee;", ";Ánn-Lee;"), ["ann-lee", "ann-lee-2", "ann-lee-3"])
-        self.assertEqual(self.names(f";{'a' * 32};", f";{'a' * 33};"), ["a" * 32, "a" * 30 + "-2"])
+        self.assertEqual(self.names(";Ann Lee;", ";ann lee;", ";Ánn-Lee;"), ["ann-lee-1", "ann-lee-2", "ann-lee-3"])
+        self.assertEqual(self.names(f";{'a' * 32};", f";{'a' * 33};"), ["a" * 30 + "-1", "a" * 30 + "-2"])
 
     def test_names_that_are_there_are_not_taken(self) -> None:
         self.assertEqual(self.names(";Ann;", "ann;Other;", "ann-2;Another;", ";Ann;"), ["ann-3", None, None, "ann-4"])

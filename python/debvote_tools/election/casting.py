@@ -2,6 +2,7 @@
 
 import collections
 import dataclasses
+import re
 from collections.abc import Callable, Iterator
 
 from debvote_tools.ballots import in_words
@@ -13,6 +14,7 @@ from debvote_tools.election.shapes import plainly
 from debvote_tools.election.telling import count_of, tell
 from debvote_tools.faults import Fault, Status
 from debvote_tools.files import in_memory, uninterrupted
+from debvote_tools.pages import joined
 from debvote_tools.program import Answer, Finding, findings_in, replies_in, standing_in
 from debvote_tools.sheet import Sheet, sheet_in
 
@@ -28,6 +30,8 @@ class Ballot:
     # why debvote refuses the line as it stands in the file, and why the changed one; none where it is valid
     finding: Finding | None
     finding_of_changed: Finding | None
+    # names on the roll that fit as well as the one that debvote offers
+    others: list[str]
 
 
 @dataclasses.dataclass(frozen=True)
@@ -60,10 +64,24 @@ def judged(election: Election, files: Files, lines: list[Line]) -> Batch:
         replies = replies_in(asked_of(election, "steps", poll, new).text)
     first = len(replies) - len(lines)
     ballots = [
-        Ballot(line, texts[at], first + at + 1, replies[first + at], found.get(at), found_of_changed.get(at))
+        Ballot(line, texts[at], first + at + 1, replies[first + at], found.get(at), found_of_changed.get(at), [])
         for at, line in enumerate(lines)
     ]
+    ballots = with_others(files.poll, ballots)
     return Batch(ballots, new, ends_a_line, sheet, right_line(files.poll, len(sheet.names)))
+
+
+def with_others(poll: bytes, ballots: list[Ballot]) -> list[Ballot]:
+    """The ballots, those to which debvote offers a name with all others that fit."""
+    offered = [re.search(r"did you mean (\S+)\?\Z", ballot.finding.hint) if ballot.finding else None for ballot in ballots]
+    if not any(offered):
+        return ballots
+    by_name = others_by_name(poll_file.roll_of(poll))
+    return [
+        dataclasses.replace(ballot, others=[name for name in by_name.get(bare_name(found[1]), []) if name != found[1]])
+        if found else ballot
+        for ballot, found in zip(ballots, offered)
+    ]  # fmt: skip
 
 
 def sheet_of(election: Election, poll: str) -> Sheet:
@@ -138,10 +156,12 @@ def cast(
         batch = judged(election, files, lines)
     except Fault:
         with uninterrupted():
+            election.begin_journal()
             keep()
         raise
     look(batch)
     with uninterrupted():
+        election.begin_journal()
         keep()
     first, last = batch.ballots[0].envelope, batch.ballots[-1].envelope
     envelopes = str(first) if first == last else f"{first}-{last}"
@@ -198,9 +218,31 @@ def ballot_words(ballot: Ballot, names: list[str]) -> str:
     if ballot.finding is not None:
         word = "" if ballot.finding.word == ballot.reply else f"{ballot.finding.word}: "
         plain = "" if has_other_cause(ballot) else plainly(ballot.line.changed, ballot.finding)
-        return f"{shown(ballot.text)}: {word}{ballot.finding.hint}{plain}"
+        return f"{shown(ballot.text)}: {word}{ballot.finding.hint}{plain}{more_words(ballot)}"
     voter, ranks = ballot.text.decode("ascii").split(" ")
     return f"{voter}: {in_words(ranks, names)}"
+
+
+def more_words(ballot: Ballot) -> str:
+    """All other names that fit where debvote offers one, so that nobody takes one elector for another; and what a line has that
+    looks like a code or an alias.
+    """
+    others = f" (or {joined(ballot.others)})" if ballot.others else ""
+    if re.search(rb"(?<![0-9a-f])[0-9a-f]{32}(?![0-9a-f])", ballot.line.changed):
+        others += " (it has 32 digits, as codes and aliases have: a ballot has the elector's name alone, and a code is shown to nobody)"
+    return others
+
+
+def others_by_name(roll: list[str]) -> dict[str, list[str]]:
+    """The names of a roll by what stands before their number, as `anna-meier` for `anna-meier-2`."""
+    found: dict[str, list[str]] = {}
+    for name in roll:
+        found.setdefault(bare_name(name), []).append(name)
+    return found
+
+
+def bare_name(name: str) -> str:
+    return re.sub(r"-\d+\Z", "", name)
 
 
 def cause_words(ballot: Ballot) -> Iterator[str]:

@@ -6,8 +6,10 @@ import sys
 from debvote_tools.election import poll_file
 from debvote_tools.election.asking import NO_BALLOTS, command, explained, refused
 from debvote_tools.election.folder import Election, Files
+from debvote_tools.election.members import plain
 from debvote_tools.faults import Fault, Status
 from debvote_tools.sheet import Sheet, sheet_in
+from debvote_tools.signs import written
 
 # the lines of a poll, in the order in which a new one has them
 LINES = ("title", "options", "ratios", "default", "quorum", "roll", "last_envelope", "wording")
@@ -27,6 +29,7 @@ def checked(election: Election, files: Files) -> Sheet:
     answer = explained(election, files.poll)
     sys.stdout.write(answer.text)
     if answer.status == Status.BAD_POLL:
+        sys.stdout.write("".join(f"{line}\n" for line in plain_words(answer.text, files.poll)))
         raise Fault(f"{election.poll}: {what_to_do(election, files.poll, answer.text.splitlines())}", Status.BAD_POLL)
     if answer.status != Status.DECIDED:
         words = "a line of it is not read, which is mostly a slip; put it right, move it above every line that begins with [,"
@@ -36,6 +39,28 @@ def checked(election: Election, files: Files) -> Sheet:
     if not counted.text:
         raise refused(election, counted)
     return sheet_in(counted.text)
+
+
+def plain_words(said: str, poll: bytes) -> list[str]:
+    """What is written in place of each letter that is no plain character, where debvote refuses one."""
+    if " has the byte 0x" not in said:
+        return []
+    try:
+        found = poll_file.document(poll)
+    except Fault:
+        return []
+    listed = found.get("options")
+    texts = [found.get("title"), *(listed if isinstance(listed, list) else []), found.get("default")]
+    signs = dict.fromkeys(sign for text in texts if isinstance(text, str) for sign in text if not sign.isascii())
+    return [plain_word(sign) for sign in signs]
+
+
+def plain_word(sign: str) -> str:
+    """What is written in place of a letter that is no plain character."""
+    other = plain(sign.lower())
+    other = (other.upper() if len(other) == 1 else other.title()) if sign.isupper() else other
+    write = f"write {other}" if other.isascii() and other.isprintable() and other else "write it in another way"
+    return f"{written(sign)} is no plain character; {write}; the page can show {written(sign)} by a label"
 
 
 def what_to_do(election: Election, poll: bytes, findings: list[str]) -> str:

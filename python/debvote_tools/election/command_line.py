@@ -10,11 +10,16 @@ from collections.abc import Sequence
 
 from debvote_tools.election.folder import Election
 from debvote_tools.faults import Fault, Status
+from debvote_tools.signs import written
 
 PROGRAM = "debvote-election"
 
 # the modules of the commands, in the order in which an election needs them; each has `NAME`, `HELP`, `options` and `run`
 COMMANDS = ("new", "roll", "check", "codes", "call", "add", "desk", "status", "close", "count", "publish")
+
+
+# the commands that change nothing
+QUIET = ("check", "status", "count")
 
 
 def parser() -> argparse.ArgumentParser:
@@ -63,8 +68,12 @@ def main(beside: pathlib.Path, words: Sequence[str] | None = None) -> int:
     except OSError as error:
         # a file that can't be read or written is named; what has no name is the output
         if error.filename is None:
+            # whoever reads the first lines alone, as `head` does, has what was asked for
+            if isinstance(error, BrokenPipeError) and asked.command in QUIET:
+                return failed(None, 128 + signal.SIGPIPE)
             return failed("the output failed; what was told is done: ask debvote-election status", Status.BAD_OUTPUT)
-        words = f"{error.filename}: {error.strerror}; it is as it was; put this right, then run the command again"
+        state = "it is written, but perhaps not on the disk yet" if getattr(error, "is_written", False) else "it is as it was"
+        words = f"{error.filename}: {error.strerror}; {state}; put this right, then run the command again"
         return failed(words, Status.BAD_OUTPUT)
 
 
@@ -77,5 +86,5 @@ def failed(words: str | None, status: int) -> int:
     except OSError:
         os.dup2(os.open(os.devnull, os.O_WRONLY), sys.stdout.fileno())
     if words is not None:
-        print(f"{PROGRAM}: {words}", file=sys.stderr)
+        print(f"{PROGRAM}: {written(words)}", file=sys.stderr)
     return status

@@ -7,11 +7,21 @@ import re
 
 from debvote_tools.election.casting import Ballot
 from debvote_tools.election.folder import Election, Files
-from debvote_tools.election.lines import MARK, lines_in, shown
+from debvote_tools.election.lines import MARK, Line, lines_in, shown
 from debvote_tools.election.members import COLUMNS
 from debvote_tools.faults import Fault, Status
+from debvote_tools.files import BALLOTS_LIMIT
 
 EVEN_SO = "add it all the same with --even-so"
+
+# in bytes; no ballot has half as many, and nobody's letter has such lines of ballots
+LONGEST_LINE = 500
+
+# a ballot file has at most so many lines
+MOST_LINES = 100_000
+
+# the part of what is left that a file may take without a question
+SHARE = 10
 
 # what does not count where two files are compared at first sight
 UNSEEN = b" \t\r\n"
@@ -116,3 +126,34 @@ def envelopes_of(files: Files, part: Part) -> str:
     first = ballots.count(b"\n", 0, place) + 1
     last = first + len(part.ballots) - 1
     return f" (envelope {first})" if first == last else f" (envelopes {first}-{last})"
+
+
+# ---------------------------------------------------------------- what takes the room of others
+def is_too_long(line: Line) -> bool:
+    """Whether a line is much longer than any ballot."""
+    return len(line.came) > LONGEST_LINE
+
+
+def long_words(line: Line) -> str:
+    """What is said of a line that is much longer than any ballot."""
+    return f"the line has {len(line.came)} bytes, and a ballot has a few dozen"
+
+
+def stop_at_too_much(files: Files, parts: list[Part]) -> None:
+    """Stops at a line that is much longer than any ballot, and at a file that takes a great part of the room that is left: what
+    was added can't be taken out again.
+    """
+    ballots = files.ballots or b""
+    lines_left = MOST_LINES - ballots.count(b"\n")
+    bytes_left = BALLOTS_LIMIT - len(ballots)
+    left = f"{lines_left} lines and {bytes_left} bytes are left in all"
+    cure = f"look at it, and take out what is no ballot, or {EVEN_SO}"
+    for part in parts:
+        line = next((ballot.line for ballot in part.ballots if is_too_long(ballot.line)), None)
+        if line is not None:
+            words = f"{long_words(line)}; nothing was added, and what is added can't be taken out again; {left}"
+            raise Fault(f"{line.where}: {words}: {cure}", Status.DOUBT)
+        lines, size = len(part.ballots), sum(len(ballot.text) + 1 for ballot in part.ballots)
+        if lines * SHARE > lines_left or size * SHARE > bytes_left:
+            words = f"it takes {lines} lines and {size} bytes, more than a tenth of what is left; nothing was added; {left}"
+            raise Fault(f"{part.name}: {words}: {cure}", Status.DOUBT)

@@ -17,6 +17,11 @@ def changes_of(election: Election, files: Files) -> by_hand.Changes:
 
 def stop_at_changes(election: Election, files: Files, *, even_so: bool) -> None:
     """Tells what differs from what came, and stops there where something that came does not count as it came."""
+    lost = election.lost_journal(files)
+    if lost is not None and not even_so:
+        words = f"{lost}; the election is not closed"
+        cure = f"put the journal back, or, where you know what happened, close as it is: {command(election, 'close', '--even-so')}"
+        raise Fault(f"{election.journal}: {words}: {cure}", Status.DOUBT)
     changes = changes_of(election, files)
     for line in changes.lines():
         tell(f"Note: {line}.")

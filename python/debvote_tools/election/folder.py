@@ -5,11 +5,14 @@ import dataclasses
 import functools
 import pathlib
 import shlex
+import stat
+import sys
 from collections.abc import Iterator
 
-from debvote_tools import called, closed, journal, secret
+from debvote_tools import called, closed, journal, lost, secret
+from debvote_tools.election import poll_file
 from debvote_tools.faults import Fault, Status
-from debvote_tools.files import BALLOTS_LIMIT, POLL_LIMIT, locked, read_at_most, take_away_temporaries, write_new, write_whole
+from debvote_tools.files import BALLOTS_LIMIT, POLL_LIMIT, append_whole, locked, read_at_most, take_away_temporaries, write_new, write_whole
 from debvote_tools.journal import Entry, Sums
 from debvote_tools.program import Debvote
 from debvote_tools.sheet import Sheet
@@ -89,6 +92,9 @@ class Election:
         if not self.poll.exists() and not self.journal.exists():
             words = f"{self.poll}: there is no poll; go into the folder of the election, or name it with --folder"
             raise Fault(words, Status.BAD_WORDS)
+        demand_plain(self.poll, Status.BAD_POLL, may_be_link=True)
+        demand_plain(self.journal, Status.DOUBT)
+        demand_plain(self.ballots, Status.BAD_BALLOTS)
 
     def settle(self, files: Files) -> None:
         """Notes an act that was cut off, and takes away what a run that was killed has left half written."""
@@ -149,30 +155,69 @@ class Election:
         none of them the act is noted alone. Raises OSError, and then no file is changed.
         """
         after = Files(files.poll if poll is None else poll, files.ballots if ballots is None else ballots)
-        acts = self.last_acts()
-        if acts and acts[-1].sums != files.sums:
-            journal.note(self.journal, journal.FOUND, journal.NONE, files.sums)
+        self.note_found(files)
         journal.begin(self.journal, name, envelopes, after.sums)
         try:
             if poll is not None:
                 write_whole(self.poll, poll)
             if ballots is not None:
                 write_whole(self.ballots, ballots)
-            journal.end(self.journal)
-        except OSError:
-            # where there is no room for this note either, the next run makes it
-            with contextlib.suppress(OSError, Fault):
-                self.settle(self.files())
+        except OSError as error:
+            self.settle_failed(name, after, error)
             raise
+        self.note_end(name)
         return after
+
+    def begin_journal(self) -> None:
+        """Makes the journal before the first file that is kept beside it, so that one sees when it is lost, and notes this."""
+        if self.journal.exists():
+            return
+        if lost.trace_in(self.folder) is None:
+            append_whole(self.journal, b"")
+        else:
+            journal.note(self.journal, lost.ACT, journal.NONE, self.files().sums)
+
+    def note_found(self, files: Files) -> None:
+        """Notes before an act that somebody has edited the files."""
+        self.begin_journal()
+        acts = self.last_acts()
+        if acts and acts[-1].sums != files.sums:
+            journal.note(self.journal, journal.FOUND, journal.NONE, files.sums)
+
+    def settle_failed(self, name: str, after: Files, error: OSError) -> None:
+        """Settles an act that has failed. Where its file has taken its place all the same, the act is done, and this is said."""
+        # where there is no room for this note either, the next run makes it
+        now = None
+        with contextlib.suppress(OSError, Fault):
+            now = self.files()
+            self.settle(now)
+        if now is not None and now.sums == after.sums:
+            words = f"it is written, but perhaps not on the disk yet ({error.strerror}); this {name} is done"
+            raise Fault(f"{error.filename}: {words}: do not repeat it, but ask {self.command('status')}", Status.BAD_OUTPUT) from None
+
+    def note_end(self, name: str) -> None:
+        """Notes that an act is done. Where this fails the act is done all the same, and the next run notes it."""
+        try:
+            journal.end(self.journal)
+        except OSError as error:
+            words = f"{error.strerror}, as its last line was to be ended; this {name} is done all the same: do not repeat it"
+            print(f"debvote-election: {self.journal}: {words}", file=sys.stderr)
 
     def keep_copy(self, file: pathlib.Path) -> pathlib.Path:
         """Keeps a copy of a file that is about to be changed, in backup/, by number."""
+        self.begin_journal()
         return write_new(self.backup, file.name, file.read_bytes())
+
+    # ------------------------------------------------------------ the journal
+    def lost_journal(self, files: Files) -> str | None:
+        """What shows that the journal was lost; none where it was not."""
+        is_written = poll_file.has_last_envelope(files.poll)
+        return lost.lost_in(self.folder) or lost.lost_close_in(self.folder, self.entries(), is_last_written=is_written)
 
     # ------------------------------------------------------------ the close
     def keep_closed(self, ballots: bytes) -> None:
         """Keeps the ballots as they are closed. What a close that was not done has kept of others gets a number."""
+        self.begin_journal()
         if self.closed_ballots.exists():
             if self.closed_ballots.read_bytes() == ballots:
                 return
@@ -225,6 +270,20 @@ class Election:
         if number is None:
             return ""
         return f", and its line last_envelope = {number}, which the close wrote, belongs above every line that begins with ["
+
+
+def demand_plain(file: pathlib.Path, status: int, *, may_be_link: bool = False) -> None:
+    """Stops where something stands in the place of a file that would be replaced in silence, or would never end."""
+    try:
+        mode = (file.stat() if may_be_link else file.lstat()).st_mode
+    except OSError:
+        # what is not there, or can't be looked at, is told where it is read
+        return
+    if stat.S_ISLNK(mode):
+        words = "it is a symbolic link, and a new file would take its place; nothing was changed"
+        raise Fault(f"{file}: {words}: put the file itself there, in place of the link", status)
+    if not stat.S_ISREG(mode) and not stat.S_ISDIR(mode):
+        raise Fault(f"{file}: it is no file, but a pipe or a device; nothing was changed: put the file itself there", status)
 
 
 def bytes_of(file: pathlib.Path, limit: int, status: int, cure: str) -> bytes:

@@ -10,6 +10,7 @@ from collections.abc import Callable, Iterable
 
 from debvote_tools.faults import Fault, Status
 from debvote_tools.files import read_at_most
+from debvote_tools.signs import steering
 
 COLUMNS = ("name", "who", "mail")
 DELIMITERS = {",": "comma", ";": "semicolon", "\t": "tab"}
@@ -225,6 +226,11 @@ def member_of(file: pathlib.Path, row: Row, head: Row, places: dict[str, int]) -
     read = {column: values[place] if place < len(values) else "" for column, place in places.items()}
     if not any(read.values()):
         raise doubt(file, f"it has neither a name nor who nor mail; fill it in, or take the line out, {AGAIN}", row.line)
+    for text in read.values():
+        sign = steering(text)
+        if sign is not None:
+            words = f"`{shown(text)}` has the sign {sign}, which steers a terminal or turns the direction of a text"
+            raise doubt(file, f"{words}; take it out, {AGAIN}", row.line)
     return Member(row, **read)
 
 
@@ -245,21 +251,24 @@ def name_from(text: str) -> str:
 def proposals(members: list[Member]) -> dict[int, str]:
     """A name for each member who has none, by line; no two are equal, nor equal to one that is there.
 
-    Where neither who nor mail gives one, it is left out.
+    Where two would get the same, neither gets it bare: a ballot under the bare name could be that of either. Where neither who nor
+    mail gives one, it is left out.
     """
-    taken = {member.name for member in members}
-    numbers: dict[str, int] = collections.defaultdict(lambda: 1)
+    bare = {member.line: name_from(member.who) or name_from(member.mail.partition("@")[0]) for member in members if not member.name}
+    several = {name for name, count in collections.Counter(filter(None, bare.values())).items() if count > 1}
+    taken = {member.name for member in members} - {""} | several
+    numbers: dict[str, int] = collections.defaultdict(int)
+    # behind one who has the bare name already comes the second
+    numbers.update({member.name: 1 for member in members if member.name})
     found: dict[int, str] = {}
-    for member in members:
-        name = "" if member.name else name_from(member.who) or name_from(member.mail.partition("@")[0])
-        if not name:
-            continue
+    for line, name in bare.items():
         proposed = name
         while proposed in taken:
             numbers[name] += 1
             proposed = numbered(name, numbers[name])
-        found[member.line] = proposed
-        taken.add(proposed)
+        if name:
+            found[line] = proposed
+            taken.add(proposed)
     return found
 
 

@@ -159,3 +159,11 @@ def without_last_envelope(data: bytes) -> bytes:
     above = itertools.takewhile(lambda statement: statement.key is not None, statements(text))
     line = next((statement for statement in above if statement.key == LAST_ENVELOPE), None)
     return data if line is None else (text[: line.start] + text[line.end :]).encode()
+
+
+def has_last_envelope(data: bytes) -> bool:
+    """Whether a poll says which envelope is the last one; what can't be read as TOML says nothing."""
+    try:
+        return LAST_ENVELOPE in document(data)
+    except Fault:
+        return False

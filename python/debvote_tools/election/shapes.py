@@ -13,6 +13,12 @@ LONG_DASHES = ("\u2013", "\u2014", "\u2212")
 
 FIRST = ("first", "second", "third", "fourth", "fifth", "sixth", "seventh", "eighth", "ninth", "tenth")
 
+# what people put where a space or a comma belongs
+SIGNS = {
+    ":": "a colon", ".": "a point", "/": "a slash", "=": "an equals sign", "!": "an exclamation mark", "|": "a bar",
+    "_": "an underscore", "(": "a bracket", ")": "a bracket", "+": "a plus", "*": "an asterisk", "\t": "a tab", "<": "the sign <",
+}  # fmt: skip
+
 RANK = r"(?:-|[1-9][0-9]?)"
 
 # a name with letters, a space, and ranks
@@ -25,7 +31,7 @@ WHOLE = (
     (".*\u00a0.*", "it has a no-break space; a plain space belongs there"),
     (r".*;.*", "it has a semicolon; between the ranks stand commas"),
     (rf"{RANK}?(?:,{RANK}?)+", "the name is missing before the ranks"),
-    (rf"[^\W\d_][^\s,;]*(?:,{RANK}?)+", "a comma stands behind the name; a space belongs there"),
+    (rf"[^\W\d_][^\s,;:=/|]*(?:,{RANK}?)+", "a comma stands behind the name; a space belongs there"),
     (r"[^\s,;]*[^\W\d_][^\s,;]*", "it is one word; a ballot has a name, a space and the ranks"),
     (rf"[^\s,;]+(?: +{RANK}){{2,}}", "spaces stand between the ranks; commas belong there"),
     (rf"[^\W\d_][^\s,;]*(?: +[^\W\d_][^\s,;]*)+ +{RANK}?(?:,{RANK}?)*", "the name has a space; on the roll no name has one"),
@@ -43,9 +49,23 @@ def plain_words(line: bytes) -> str | None:
 
 
 def plainly(line: bytes, finding: Finding) -> str:
-    """The same, as it is said behind what debvote says of a line."""
-    words = plain_words(line) if finding.word == "bad shape" else None
+    """The same, as it is said behind what debvote says of a line; or the cause that stands at the column that it names."""
+    words = (plain_words(line) or at_column(line, finding)) if finding.word == "bad shape" else None
     return "" if words is None else f" ({words})"
+
+
+def at_column(line: bytes, finding: Finding) -> str | None:
+    """What stands at the column where a line leaves the shape of a ballot, and what is written in its place."""
+    found = re.match(r"column (\d+): ", finding.hint)
+    if found is None:
+        return None
+    place = int(found[1]) - 1
+    sign = line[place : place + 1].decode("latin-1")
+    if sign not in SIGNS:
+        return None
+    instead = "a space" if b" " not in line[: place + 2].strip(BLANKS) and sign not in "()" else "a comma"
+    write = f"write {instead}" if line[place + 1 :].strip(BLANKS) else "take it out"
+    return f"{SIGNS[sign]}; {write}"
 
 
 def words_of_ranks(cells: list[str]) -> str | None:

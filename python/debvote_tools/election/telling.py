@@ -5,12 +5,13 @@ from debvote_tools.election.folder import Election, Files
 from debvote_tools.faults import Fault, Status
 from debvote_tools.files import sum_of
 from debvote_tools.journal import Entry
+from debvote_tools.signs import written
 
 
 def tell(*lines: str, end: str = "\n") -> None:
     """Writes lines to standard output, at once. Where that fails, the fault says that what was told before is done."""
     try:
-        print(*lines, sep="\n", end=end, flush=True)
+        print(*map(written, lines), sep="\n", end=end, flush=True)
     except OSError:
         raise Fault("the output failed; what was told is done: ask debvote-election status", Status.BAD_OUTPUT) from None
 
@@ -47,6 +48,9 @@ def tell_edits(election: Election, files: Files) -> None:
 
     The caller holds the lock alone.
     """
+    lost = election.lost_journal(files)
+    if lost is not None:
+        tell(f"Note: {lost}. Find out who took it away; what comes late, and what is changed by hand, may go unseen.")
     undone = election.cut_off
     if undone is not None:
         many = "envelopes" if "-" in undone.envelopes else "envelope"

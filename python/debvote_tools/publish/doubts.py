@@ -10,9 +10,9 @@ import re
 import shlex
 import sys
 
-from debvote_tools import by_hand, called, journal
+from debvote_tools import by_hand, called, journal, lost
 from debvote_tools.closed import Counted, changed_since
-from debvote_tools.election.poll_file import as_announced
+from debvote_tools.election.poll_file import as_announced, has_last_envelope
 from debvote_tools.faults import Doubt, Fault, Status
 from debvote_tools.files import sum_of
 from debvote_tools.journal import Sums
@@ -20,6 +20,7 @@ from debvote_tools.program import Debvote, Findings, Totals, findings_in
 from debvote_tools.publish.called import announced_sum, folders_of
 from debvote_tools.publish.calls import BALLOTS, POLL, Calls
 from debvote_tools.sheet import Sheet
+from debvote_tools.signs import written
 
 EVEN_SO = "(or publish it as it is, with --even-so)"
 
@@ -45,7 +46,7 @@ REQUIRED_KEYS = 6
 def tell(lines: list[str]) -> None:
     """Tells each line on standard error."""
     for line in lines:
-        print(f"debvote-publish: {line}", file=sys.stderr)
+        print(f"debvote-publish: {written(line)}", file=sys.stderr)
 
 
 def stop(found: list[Doubt]) -> Fault:
@@ -192,10 +193,13 @@ def about_election(made: pathlib.Path, poll: str, ballots: str, sheet: Sheet) ->
     data, called_for = (made / BALLOTS).read_bytes(), (made / POLL).read_bytes()
     found = about_call(folder, poll, called_for)
     acts = journal.acts_done(folder / journal.NAME, Sums.of(called_for, data))
+    is_written = has_last_envelope(called_for)
+    why = lost.lost_in(folder) or lost.lost_close_in(folder, acts, is_last_written=is_written)
+    found += [] if why is None else [no_journal(folder, why)]
     found += by_hand.doubts_about(by_hand.changes_in(folder, acts, data), ballots)
     close = journal.last(acts, "close")
     if close is None:
-        return [*found, not_closed(folder)]
+        return [*found, *([] if why else [not_closed(folder)])]
     changes = changed_since(close, folder, Counted(poll, ballots, data, sheet))
     return [*found, *(dataclasses.replace(doubt, in_secret=NOT_AS_CLOSED) for doubt in changes)]
 
@@ -233,7 +237,15 @@ def no_folder(folder: pathlib.Path, call: called.Called) -> Doubt:
 
 def election_of(poll: str) -> pathlib.Path | None:
     """The folder of the election in which the poll lies, if there is one."""
-    return next((place for place in folders_of(poll) if (place / journal.NAME).is_file()), None)
+    places = folders_of(poll)
+    return next((place for place in places if (place / journal.NAME).is_file() or lost.trace_in(place) is not None), None)
+
+
+def no_journal(folder: pathlib.Path, why: str) -> Doubt:
+    """That the journal was lost."""
+    cure = "put it back; without it late lines and edits by hand may go unseen"
+    sentence = "The journal of this election was lost: whether lines came after the close, or were changed by hand, is not known."
+    return Doubt(str(folder / journal.NAME), why, cure, sentence, sentence)
 
 
 def not_closed(folder: pathlib.Path) -> Doubt:

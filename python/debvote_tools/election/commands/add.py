@@ -11,7 +11,7 @@ import sys
 from debvote_tools.by_hand import OF_TABLE
 from debvote_tools.election.asking import command
 from debvote_tools.election.casting import Batch, cast, sheet_of, summary
-from debvote_tools.election.doubts import Part, stop_at_added_before, stop_at_no_ballot
+from debvote_tools.election.doubts import Part, stop_at_added_before, stop_at_no_ballot, stop_at_too_much
 from debvote_tools.election.folder import Election, Files
 from debvote_tools.election.forms import columns_of, lines_of_form
 from debvote_tools.election.lines import Line, lines_in
@@ -73,6 +73,7 @@ def run(election: Election, asked: argparse.Namespace) -> int:
         def look(batch: Batch) -> None:
             parts.extend(parts_of(inputs, found, batch))
             if not asked.even_so:
+                stop_at_too_much(files, parts)
                 stop_at_no_ballot(parts, asked.csv)
                 stop_at_added_before(election, files, parts, asked.csv)
             tell_empty(found)

@@ -242,6 +242,7 @@ def note_undone(election: Election, files: Files, count: int) -> None:
 def keep_called(election: Election, files: Files) -> None:
     """Keeps the poll that is called; of one that was called before, and taken back, a copy."""
     kept = election.called_poll
+    election.begin_journal()
     if kept.exists():
         if poll_file.as_announced(kept.read_bytes()) == poll_file.as_announced(files.poll):
             return

@@ -17,13 +17,13 @@ SHOWN = 200
 
 
 def options(parser: argparse.ArgumentParser) -> None:
-    """It has none of its own."""
+    parser.add_argument("--all", action="store_true", help="Print all names of the roll, however many there are")
 
 
 def run(election: Election, asked: argparse.Namespace) -> int:
     with election.reading() as files:
         sheet = checked(election, files)
-    print_poll(sheet, poll_file.roll_of(files.poll))
+    print_poll(sheet, poll_file.roll_of(files.poll), has_all=asked.all)
     print(f"Next: {what_next(election, files)}")
     return Status.DECIDED
 
@@ -37,7 +37,7 @@ def what_next(election: Election, files: Files) -> str:
     return call_command(election)
 
 
-def print_poll(sheet: Sheet, roll: list[str]) -> None:
+def print_poll(sheet: Sheet, roll: list[str], *, has_all: bool) -> None:
     """Says what is voted on, by a sheet without ballots, and who votes."""
     print(f"Title: {sheet.facts['Poll']}")
     print("Options:")
@@ -47,5 +47,6 @@ def print_poll(sheet: Sheet, roll: list[str]) -> None:
     if "Majority" in sheet.facts:
         print("Majority: more than the ratio, where Debian has at least the ratio")
     print(quorum_words(sheet))
-    more = [f"and {len(roll) - SHOWN} more, in the poll"] if len(roll) > SHOWN else []
-    print(f"Electors: {sheet.facts['Electors']} ({', '.join([*roll[:SHOWN], *more])})")
+    most = len(roll) if has_all else SHOWN
+    more = [f"and {len(roll) - most} more, in the poll and with --all"] if len(roll) > most else []
+    print(f"Electors: {sheet.facts['Electors']} ({', '.join([*roll[:most], *more])})")

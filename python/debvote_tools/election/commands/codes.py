@@ -157,7 +157,8 @@ def demand_no_formula(election: Election, members: list[Member]) -> None:
     """Stops at a name or an address that a spreadsheet would carry out: electors give these, and the codes stand beside them."""
     for member in members:
         for said in (member.who, member.mail):
-            if FORMULA.match(said):
+            # a spreadsheet may part a cell at each of these
+            if any(FORMULA.match(part) for part in re.split("[,;\t|]", said)):
                 words = f"a spreadsheet would take `{shown(said.encode())}` for a formula, which can send codes away"
                 raise Fault(f"{election.members}:{member.line}: {words}; write it in another way", Status.DOUBT)
 

@@ -34,7 +34,8 @@ def run(election: Election, asked: argparse.Namespace) -> int:
         if not answer.text:
             raise refused(election, answer)
         sheet = sheet_in(answer.text)
-        changes = election.changed_since_close(files, sheet)
+        lost = election.lost_journal(files)
+        changes = [*([lost] if lost else []), *election.changed_since_close(files, sheet)]
     # the sheet alone, so that it can go into a file
     sys.stdout.write(answer.text)
     sys.stdout.flush()

@@ -1,14 +1,17 @@
 """`desk`: ballots entered by hand at a terminal, or line by line from a pipe; any number of desks at once."""
 
 import argparse
+import errno
 import os
 import pathlib
+import select
 import sys
 
 from debvote_tools.ballots import in_words
 from debvote_tools.election.asking import command
 from debvote_tools.election.casting import Ballot, Batch, ballot_words, cast, change_words, judged
 from debvote_tools.election.casting import right_line, right_words, sheet_of, standing_of, summary, would_words
+from debvote_tools.election.doubts import is_too_long, long_words
 from debvote_tools.election.folder import Election
 from debvote_tools.election.lines import Line, lines_in
 from debvote_tools.election.secrecy import demand_own_folder
@@ -31,6 +34,8 @@ class Desk:
         self.election = election
         self.batches: list[Batch] = []
         self.received: pathlib.Path | None = None
+        # the open file of a desk on a pipe
+        self.handle = -1
         # the number of the next line that comes
         self.next_line = 1
 
@@ -40,8 +45,8 @@ class Desk:
         self.next_line += len(lines)
         return lines
 
-    def cast(self, data: bytes, lines: list[Line]) -> None:
-        """Casts lines, and keeps what came before; empty lines are left out and told."""
+    def cast(self, lines: list[Line], data: bytes = b"") -> None:
+        """Casts lines, and keeps what came before, unless it is kept already; empty lines are left out and told."""
         with self.election.changing() as files:
             tell_edits(self.election, files)
             full = [line for line in lines if not line.is_empty]
@@ -57,10 +62,42 @@ class Desk:
 
     def keep(self, data: bytes) -> None:
         """Keeps what came, as it came."""
+        if not data:
+            return
         if self.received is None:
             self.received = write_new(self.election.received, "desk", data)
         else:
             append_whole(self.received, data)
+
+    def open_received(self) -> None:
+        """Makes the file for what comes, while nothing is read yet: so it waits for no other desk once something is."""
+        with self.election.changing() as files:
+            tell_edits(self.election, files)
+            self.election.begin_journal()
+            self.received = write_new(self.election.received, "desk", b"")
+        self.handle = os.open(self.received, os.O_RDWR | os.O_CLOEXEC)
+
+    def read_and_keep(self) -> bytes:
+        """What the next read of standard input brings, when it is kept; nothing at its end.
+
+        Of a pipe it can't be read twice, so the system moves it into the file: a kill leaves it in one of both.
+        """
+        source = sys.stdin.fileno()
+        select.select([source], [], [])
+        with uninterrupted():
+            place = os.fstat(self.handle).st_size
+            try:
+                size = moved(source, self.handle, place)
+                os.fsync(self.handle)
+            except OSError as error:
+                words = f"{error.strerror}; from line {self.next_line} on, nothing that came at this desk was cast"
+                raise Fault(f"{self.received}: {words}: make room, then send it again from that line on", Status.BAD_OUTPUT) from None
+            return os.pread(self.handle, size, place)
+
+    def close_received(self) -> None:
+        """Takes the file away where nothing came."""
+        if self.received is not None and not self.received.stat().st_size:
+            self.received.unlink()
 
 
 def options(parser: argparse.ArgumentParser) -> None:
@@ -88,24 +125,53 @@ def run(election: Election, asked: argparse.Namespace) -> int:
 
 # ---------------------------------------------------------------- from a pipe
 def from_pipe(desk: Desk) -> None:
-    """Casts what comes: the whole lines that each read has brought."""
+    """Casts what comes: the whole lines that each read has brought. What is read is kept first."""
     waiting: list[bytes] = []
     after_return = False
-    while data := os.read(sys.stdin.fileno(), READ):
-        end = max(data.rfind(b"\n"), data.rfind(b"\r")) + 1
-        if end == 0 and sum(map(len, waiting)) <= BALLOTS_LIMIT:
-            waiting.append(data)
-            continue
-        # a line that is too long for debvote is cast as it is, and refused
-        end = end or len(data)
-        came = b"".join([*waiting, data[:end]])
-        waiting = [data[end:]]
-        # a carriage return and a line feed are one end of a line, also where two reads part them
-        desk.cast(came, desk.lines_of(came.removeprefix(b"\n") if after_return else came))
-        after_return = came.endswith(b"\r")
-    rest = b"".join(waiting)
-    if rest:
-        desk.cast(rest, desk.lines_of(rest))
+    select.select([sys.stdin.fileno()], [], [])
+    desk.open_received()
+    try:
+        while data := desk.read_and_keep():
+            end = max(data.rfind(b"\n"), data.rfind(b"\r")) + 1
+            if end == 0 and sum(map(len, waiting)) <= BALLOTS_LIMIT:
+                waiting.append(data)
+                continue
+            # a line that is too long for debvote ends here
+            end = end or len(data)
+            came = b"".join([*waiting, data[:end]])
+            waiting = [data[end:]]
+            # a carriage return and a line feed are one end of a line, also where two reads part them
+            desk.cast(short_lines(desk, came.removeprefix(b"\n") if after_return else came))
+            after_return = came.endswith(b"\r")
+        rest = b"".join(waiting)
+        if rest:
+            desk.cast(short_lines(desk, rest))
+    finally:
+        desk.close_received()
+
+
+def moved(source: int, target: int, place: int) -> int:
+    """Moves what there is to read into a file, behind its end, and returns its size."""
+    try:
+        return os.splice(source, target, READ, offset_dst=place)
+    except OSError as error:
+        # neither is a pipe
+        if error.errno != errno.EINVAL:
+            raise
+    data = os.read(source, READ)
+    if os.pwrite(target, data, place) < len(data):
+        raise OSError(errno.ENOSPC, os.strerror(errno.ENOSPC))
+    return len(data)
+
+
+def short_lines(desk: Desk, came: bytes) -> list[Line]:
+    """The lines of what came, but for those that are much too long for a ballot: they are told, and stay where they are kept."""
+    lines = desk.lines_of(came)
+    for line in lines:
+        if is_too_long(line):
+            add = command(desk.election, "add", "--even-so", "FILE")
+            tell(f"{line.where}: {long_words(line)}; it was not cast, and is kept in {desk.received}.", f"  To add it: {add}")
+    return [line for line in lines if not is_too_long(line)]
 
 
 # ---------------------------------------------------------------- at a terminal
@@ -123,7 +189,7 @@ def at_terminal(desk: Desk) -> None:
             if answer is None:
                 return
             if answer:
-                desk.cast(came, [line])
+                desk.cast([line], came)
             else:
                 tell("It was not cast, and is forgotten.")
 

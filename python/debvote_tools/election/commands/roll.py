@@ -27,13 +27,14 @@ MOST_MEMBERS = 200
 
 def options(parser: argparse.ArgumentParser) -> None:
     parser.add_argument("file", metavar="FILE", nargs="?", help="The list of members, as CSV; members.csv if it is not given")
+    parser.add_argument("--all", action="store_true", help="Print all names, however many there are")
 
 
 def run(election: Election, asked: argparse.Namespace) -> int:
     with election.changing() as files:
         members = members_in(pathlib.Path(asked.file) if asked.file else election.members)
         if not all(member.name for member in members.members):
-            propose(election, members)
+            propose(election, members, has_all=asked.all)
         stop_at_doubles(members)
         poll = poll_file.with_key(files.poll, "roll", list_of([member.name for member in members.members]))
         demand_allowed(election, members, poll)
@@ -42,7 +43,7 @@ def run(election: Election, asked: argparse.Namespace) -> int:
         demand_same_call(election, files, poll, members)
         with uninterrupted():
             write(election, files, poll)
-            tell_roll(election, members)
+            tell_roll(election, members, has_all=asked.all)
         sheet = empty_sheet(election)
     tell_numbers(election, members)
     if sheet is not None:
@@ -53,7 +54,7 @@ def run(election: Election, asked: argparse.Namespace) -> int:
 
 
 # ---------------------------------------------------------------- names
-def propose(election: Election, members: Members) -> None:
+def propose(election: Election, members: Members, *, has_all: bool) -> None:
     """Writes a name for each member who has none into the file, and stops, so that somebody looks at them."""
     names = proposals(members.members)
     without = [member.line for member in members.members if not member.name and member.line not in names]
@@ -61,7 +62,7 @@ def propose(election: Election, members: Members) -> None:
         with uninterrupted():
             election.keep_copy(members.file)
             write_whole(members.file.resolve(), members.with_names(names))
-            tell_proposals(members, names)
+            tell_proposals(members, names, has_all=has_all)
     if without:
         who = f"{count_of(len(without), 'member')} ({lines_of(without)})"
         words = f"no name can be made for {who} from who or mail; write one into the column name"
@@ -70,14 +71,15 @@ def propose(election: Election, members: Members) -> None:
     raise doubt(members.file, f"{words}, {AGAIN}; the roll of the poll is as it was")
 
 
-def tell_proposals(members: Members, names: dict[int, str]) -> None:
+def tell_proposals(members: Members, names: dict[int, str], *, has_all: bool) -> None:
     """Says which names were written into the file; of many the first."""
     tell(f"Names that {members.file} has now:")
     told = [member for member in members.members if member.line in names]
-    for member in told[:MOST_MEMBERS]:
+    most = len(told) if has_all else MOST_MEMBERS
+    for member in told[:most]:
         tell(f"  {names[member.line]}: {shown(member.who or member.mail)} (line {member.line})")
-    if len(told) > MOST_MEMBERS:
-        tell(f"  and {len(told) - MOST_MEMBERS} more, in {members.file}")
+    if len(told) > most:
+        tell(f"  and {len(told) - most} more, in {members.file}")
 
 
 def stop_at_doubles(members: Members) -> None:
@@ -157,9 +159,9 @@ def list_of(names: list[str]) -> str:
 
 
 # ---------------------------------------------------------------- what is told
-def tell_roll(election: Election, members: Members) -> None:
+def tell_roll(election: Election, members: Members, *, has_all: bool) -> None:
     """Says how many electors the roll has, and who they are; of many the first."""
-    first = members.members[:MOST_MEMBERS]
+    first = members.members if has_all else members.members[:MOST_MEMBERS]
     told = [f"  {member.name}" + (f": {shown(member.who)}" if member.who else "") for member in first]
     rest = len(members.members) - len(first)
     more = [f"  and {rest} more, in {members.file}"] if rest else []

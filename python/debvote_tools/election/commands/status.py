@@ -4,6 +4,7 @@ import argparse
 import dataclasses
 import itertools
 import re
+import sys
 import textwrap
 
 from debvote_tools import called, journal
@@ -23,6 +24,9 @@ from debvote_tools.sheet import Sheet, sheet_in
 HELP = "Say how far the election is: lines, ballots, who has none yet, what was refused"
 
 WIDTH = 100
+
+# so many signs has the bar of those who have voted
+BAR = 50
 
 # the word with which a line begins, where it can be a name; a mark, spaces and quotation marks may stand before it
 FIRST_WORD = re.compile(rb"(?:\xef\xbb\xbf)?[\s\"']*([A-Za-z0-9.-]{1,32})(?=[\s\"',;:]|$)")
@@ -54,10 +58,13 @@ def run(election: Election, asked: argparse.Namespace) -> int:
         acts = acts_of(election, files)
         tell_edited(election, files, acts)
         state = state_of(election, files)
+        lost = election.lost_journal(files)
         changed = [*changes_of(election, files).lines(), *election.changed_since_close(files, state.sheet)]
     print(f"Title: {state.sheet.facts['Poll']}")
     tell_secrecy(election, files)
     tell_stage(election, acts, state.sheet)
+    if lost is not None:
+        print(f"Note: {lost}. Find out who took it away; what comes late, and what is changed by hand, may go unseen.")
     for line in changed:
         print(f"Note: {line}")
     print(quorum_words(state.sheet))
@@ -167,9 +174,17 @@ def tell_lines(state: State) -> None:
 def tell_electors(state: State) -> None:
     """Says who has no ballot yet."""
     print(f"Electors with a ballot that stands: {len(state.standing)} of {len(state.roll)}")
+    if sys.stdout.isatty():
+        print(f"  {bar_of(len(state.standing), len(state.roll))}")
     if state.without:
         print(f"Electors without one ({len(state.without)}):")
         print_wrapped(state.without)
+
+
+def bar_of(part: int, whole: int) -> str:
+    """How many of all have voted, to be looked at: it is full where all have, and empty where nobody has."""
+    full = part * BAR // whole if part in (0, whole) else min(max(part * BAR // whole, 1), BAR - 1)
+    return f"[{'#' * full}{'.' * (BAR - full)}] {part * 100 // whole} %"
 
 
 def print_wrapped(names: list[str]) -> None:

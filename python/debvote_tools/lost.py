@@ -1,0 +1,44 @@
+"""Whether the journal of an election was lost: files are there that no election has without the act that made them."""
+
+import pathlib
+import re
+
+from debvote_tools import journal
+from debvote_tools.called import FOLDER, KEPT as CALLED, LETTER
+from debvote_tools.closed import KEPT as CLOSED
+from debvote_tools.by_hand import RECEIVED
+
+# the act that is noted first in a journal which begins anew in the place of one that was lost
+ACT = "lost"
+
+BACKUP = "backup"
+
+KEPT_COPY = re.compile(r"\d{4,}-poll\.toml")
+
+
+def trace_in(folder: pathlib.Path) -> str | None:
+    """A file of a folder by which one sees that an election is held there, wherever its journal is."""
+    received, backup = folder / RECEIVED, folder / BACKUP
+    numbered = [file for file in received.iterdir() if re.match(r"\d{4,}-", file.name)] if received.is_dir() else []
+    copies = [file for file in backup.iterdir() if KEPT_COPY.fullmatch(file.name)] if backup.is_dir() else []
+    there = [folder / CLOSED, folder / CALLED, folder / FOLDER / LETTER, *sorted(numbered), *sorted(copies)]
+    return next((str(file.relative_to(folder)) for file in there if file.is_file()), None)
+
+
+def lost_in(folder: pathlib.Path) -> str | None:
+    """What shows that the journal of the election in this folder was lost; none where it was not."""
+    entries = journal.entries_in(folder / journal.NAME)
+    noted = next((entry for entry in entries if entry.act == ACT), None)
+    if noted is not None:
+        return f"the journal was lost before {journal.in_words(noted.time)}"
+    trace = None if (folder / journal.NAME).exists() else trace_in(folder)
+    return None if trace is None else f"the journal is lost: {trace} is there, and no journal"
+
+
+def lost_close_in(folder: pathlib.Path, entries: list[journal.Entry], *, is_last_written: bool) -> str | None:
+    """That the ballots were closed, as their copy shows, and the journal has no close. A close that was cut off has written no
+    last envelope into the poll.
+    """
+    if not is_last_written or not (folder / CLOSED).is_file() or journal.last(entries, "close") is not None:
+        return None
+    return f"{CLOSED} is there, and the journal has no close: it was lost, or changed by hand"
