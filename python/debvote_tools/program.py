@@ -7,7 +7,9 @@ import re
 import shutil
 import subprocess
 
+from debvote_tools import announced
 from debvote_tools.faults import Fault, Status
+
 
 @dataclasses.dataclass(frozen=True)
 class Answer:
@@ -66,11 +68,27 @@ class Debvote:
         how = {"stdin": subprocess.DEVNULL} if given is None else {"input": given}
         ended = subprocess.run([self.path, *map(os.fspath, words)], cwd=self.folder, capture_output=True, **how)
         status = ended.returncode if ended.returncode >= 0 else 128 - ended.returncode
-        return Answer(ended.stdout.decode("ascii", "replace"), ended.stderr.decode("utf-8", "replace"), status)
+        answer = Answer(ended.stdout.decode("ascii", "replace"), ended.stderr.decode("utf-8", "replace"), status)
+        return without_announced(answer) if words[:1] == ("explain",) else answer
 
     def version(self) -> str:
         """The line of `--version`, as `debvote 1.0.0`."""
         return self.ask("--version").text.strip()
+
+
+# what `explain` of a debvote says that does not know the keys by which a poll announces more than is counted
+UNREAD = re.compile(rf"poll: key (?:{'|'.join(announced.KEYS)}) is not read(?:; .*)?")
+
+
+def without_announced(answer: Answer) -> Answer:
+    """What `explain` says of all else than these keys."""
+    lines = answer.text.splitlines(keepends=True)
+    kept = [line for line in lines if not UNREAD.fullmatch(line.rstrip("\n"))]
+    if len(kept) == len(lines):
+        return answer
+    has_more = any(re.match("poll:|ballots:", line) for line in kept)
+    status = Status.DECIDED if answer.status == Status.DOUBT and not has_more else answer.status
+    return Answer("".join(kept), answer.faults, status)
 
 
 def casting_words(name: str | None) -> list[str]:

@@ -42,6 +42,7 @@ class Election:
         self.call = folder / "call"
         self.called_poll = self.backup / "poll.toml.called"
         self.closed_ballots = folder / closed.KEPT
+        self.closing_letter = folder / "closed.txt"
         self.result = folder / "result"
         self.private = folder / secret.PRIVATE
         self.codes = self.private / secret.CODES

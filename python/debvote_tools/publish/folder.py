@@ -18,8 +18,9 @@ from debvote_tools.publish.data import result_json, votes_csv
 from debvote_tools.publish.labels import labels_in, labels_of
 from debvote_tools.publish.page import page_of
 from debvote_tools.publish.picture import picture_of
-from debvote_tools.publish.published import File, Further, Published
+from debvote_tools.publish.published import File, Further, Published, Times
 from debvote_tools.publish.texts import text_in
+from debvote_tools.publish.times import times_of
 from debvote_tools.sheet import sheet_in
 
 PAGE, SUMS = "index.html", "SHA256SUMS"
@@ -95,7 +96,8 @@ def fill(folder: pathlib.Path, asked: argparse.Namespace, given: Given, beside: 
     found += about_call(asked.poll, called_of(poll, LAST in sheet_in(text).facts, given.announced))
     if found and not asked.even_so:
         raise doubts.stop(found)
-    return make(calls, text, given, found, Further()), status
+    times = times_of(doubts.election_of(asked.poll), poll, ballots, sheet_in(text).facts.get(LAST))
+    return make(calls, text, given, found, Further(), times), status
 
 
 def fill_secret(folder: pathlib.Path, asked: argparse.Namespace, given: Given, beside: pathlib.Path) -> tuple[str, int]:
@@ -118,12 +120,14 @@ def fill_secret(folder: pathlib.Path, asked: argparse.Namespace, given: Given, b
     published, status = calls.count()
     secret.demand_same(text, published)
     further = secret.further_of(hidden, totals, with_voters=asked.voters)
-    said = make(calls, published, given, secret.without_names(found), further)
+    # the sum of the lines in time is private
+    times = times_of(doubts.election_of(asked.poll), poll, ballots, None)
+    said = make(calls, published, given, secret.without_names(found), further, times)
     secret.demand_no_code(folder, codes)
     return said, status
 
 
-def make(calls: Calls, text: str, given: Given, found: list[Doubt], further: Further) -> str:
+def make(calls: Calls, text: str, given: Given, found: list[Doubt], further: Further, times: Times) -> str:
     """Writes the sheet and all that follows from it into the folder that has the published poll and ballots already.
 
     Returns the last line of the sheet with what `debvote verify` says.
@@ -137,7 +141,7 @@ def make(calls: Calls, text: str, given: Given, found: list[Doubt], further: Fur
     lines = lines_of((folder / BALLOTS).read_bytes())
     published = Published(
         sheet, standing, refused, lines, picture, calls.casting, verified.rstrip("\n"), version, found, called, labels,
-        given.about, further,
+        given.about, further, times,
     )  # fmt: skip
     write_files(folder, published)
     return f"{sheet.last_line}\n{verified}"

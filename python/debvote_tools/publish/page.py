@@ -7,7 +7,7 @@ from html import escape
 from debvote_tools import ballots, pages
 from debvote_tools.election.poll_file import COMPARE
 from debvote_tools.pages import command_block, joined, listed, paragraph, part
-from debvote_tools.publish import count, result
+from debvote_tools.publish import count, result, times
 from debvote_tools.publish.calls import BALLOTS, FILES, POLL, SHEET
 from debvote_tools.publish.picture import words_for_dot
 from debvote_tools.publish.published import File, Published
@@ -26,6 +26,7 @@ def page_of(found: Published, files: list[File]) -> str:
     """The page, whole. The files are those of the folder, in the order in which the page names them."""
     parts = [why(found), count.options(found), count.votes(found), count.defeats(found), count.rounds(found)]
     parts += [standing_ballots(found), refused(found), *found.further.parts, check(found, files)]
+    parts.insert(1, times.times(found))
     about = result.about(found)
     sections = result.result(found) + "".join(about) + contents(parts) + "".join(parts)
     style = pages.STYLE + count.style(found) + (result.DOUBTS_STYLE if found.doubts else "")
@@ -110,7 +111,7 @@ def whole_commands(found: Published) -> list[Command]:
     if found.called.has_last_envelope or found.called.announced is not None:
         words = CALLED if found.called.announced is None else ANNOUNCED
         commands.append((words, COMPARE, f"{found.called.poll_sum}  -"))
-    return commands
+    return commands + times.commands(found.times)
 
 
 def debvote_commands(found: Published) -> list[Command]:
