@@ -16,7 +16,9 @@ complete -c debvote-election -l folder -x -a "(__fish_complete_directories)" -d 
 complete -c debvote-election -s h -l help -d "Print help"
 complete -c debvote-election -n "__fish_seen_subcommand_from roll add" -F
 complete -c debvote-election -n "__fish_seen_subcommand_from new publish" -a "(__fish_complete_directories)"
-complete -c debvote-election -n "__fish_seen_subcommand_from call" -l until -x -d "Until when ballots are taken"
+complete -c debvote-election -n "__fish_seen_subcommand_from call" -l until -x -d "Until when one can vote, as 2026-12-04 18:00"
+complete -c debvote-election -n "__fish_seen_subcommand_from call" -l zone -x -d "The time zone of --until"
+complete -c debvote-election -n "__fish_seen_subcommand_from call" -l until-words -x -d "Until when one can vote, in your own words"
 complete -c debvote-election -n "__fish_seen_subcommand_from call" -l to -x -d "The address to which ballots are sent"
 complete -c debvote-election -n "__fish_seen_subcommand_from call" -l no-roll -d "Publish the sum of the poll alone"
 complete -c debvote-election -n "__fish_seen_subcommand_from roll check" -l all -d "Print all names"
@@ -25,6 +27,7 @@ complete -c debvote-election -n "__fish_seen_subcommand_from add" -l csv -d "The
 complete -c debvote-election -n "__fish_seen_subcommand_from add" -l name -x -d "The column with the name"
 complete -c debvote-election -n "__fish_seen_subcommand_from add" -l ranks -x -d "The columns with the ranks"
 complete -c debvote-election -n "__fish_seen_subcommand_from add" -l even-so -d "Add although no line is a ballot, or they came before"
+complete -c debvote-election -n "__fish_seen_subcommand_from close" -l early -d "Close before the time until which one can vote"
 complete -c debvote-election -n "__fish_seen_subcommand_from count publish" -l casting -x -d "The option of the casting vote"
 complete -c debvote-election -n "__fish_seen_subcommand_from close" -l even-so -d "Close although ballots were changed by hand"
 complete -c debvote-election -n "__fish_seen_subcommand_from publish" -l even-so -d "Publish although something looks wrong"

@@ -7,8 +7,10 @@ import re
 import shutil
 import subprocess
 
+from debvote_tools import announced
 from debvote_tools.faults import Fault, Status
 from debvote_tools.files import OWN_FILES
+
 
 @dataclasses.dataclass(frozen=True)
 class Answer:
@@ -74,11 +76,27 @@ class Debvote:
             words_of = f"it can't be started ({error.strerror}); nothing was counted, and no file was changed by it"
             raise Fault(f"{self.path}: {words_of}: run the command again", Status.BAD_OUTPUT) from None
         status = ended.returncode if ended.returncode >= 0 else 128 - ended.returncode
-        return Answer(ended.stdout.decode("ascii", "replace"), ended.stderr.decode("utf-8", "replace"), status)
+        answer = Answer(ended.stdout.decode("ascii", "replace"), ended.stderr.decode("utf-8", "replace"), status)
+        return without_announced(answer) if words[:1] == ("explain",) else answer
 
     def version(self) -> str:
         """The line of `--version`, as `debvote 1.0.0`."""
         return self.ask("--version").text.strip()
+
+
+# what `explain` of a debvote says that does not know the keys by which a poll announces more than is counted
+UNREAD = re.compile(rf"poll: key (?:{'|'.join(announced.KEYS)}) is not read(?:; .*)?")
+
+
+def without_announced(answer: Answer) -> Answer:
+    """What `explain` says of all else than these keys."""
+    lines = answer.text.splitlines(keepends=True)
+    kept = [line for line in lines if not UNREAD.fullmatch(line.rstrip("\n"))]
+    if len(kept) == len(lines):
+        return answer
+    has_more = any(re.match("poll:|ballots:", line) for line in kept)
+    status = Status.DECIDED if answer.status == Status.DOUBT and not has_more else answer.status
+    return Answer("".join(kept), answer.faults, status)
 
 
 def casting_words(name: str | None) -> list[str]:

@@ -3,7 +3,6 @@
 An alias is made of the name and the code of its elector, so that the elector finds it again, and nobody else does.
 """
 
-import codecs
 import contextlib
 import csv
 import dataclasses
@@ -44,12 +43,12 @@ NUMBER = re.compile(r"\d*e?\d*")
 # in bytes; ten thousand electors, each with a long address, are shorter
 LIMIT = 33_554_432
 
-# the keys of a poll that is published under aliases; its last envelope is left out, and so are comments
-KEYS = ("title", "options", "ratios", "default", "quorum", "roll", "wording")
+# the keys of a poll that is published under aliases; the lines that a poll gets after its call are left out, and so are comments
+KEYS = ("title", "options", "ratios", "default", "quorum", "roll", "wording", "deadline", "deadline_words", "address", "secret")
 
-# the line by which a poll is known to be that of a secret vote, wherever it lies; under aliases it is left out with all comments
-SAYS_SECRET = b"# The vote is secret: this poll, which has the names, is not published. (debvote-election codes)"
-# what of it tells, in whatever comments and lines somebody has put it
+# the line by which a poll is known to be that of a secret vote, wherever it lies; it is looked for in polls that can't be read, too
+SAYS_SECRET = re.compile(rb"(?m)^(?:\xef\xbb\xbf)?[ \t]*[\"']?secret[\"']?[ \t]*=[ \t]*true\b")
+# what tells it in a poll of version 1.0.0, in whatever comments and lines somebody has put it
 TELLS_SECRET = b"The vote is secret: this poll, which has the names, is not published."
 
 # so many names are told
@@ -98,16 +97,22 @@ def is_secret(folder: pathlib.Path) -> bool:
 
 
 def says_secret(poll: bytes) -> bool:
-    """Whether a poll has the line that `codes` writes into it, or what an editor has made of that."""
-    return TELLS_SECRET in b" ".join(re.split(rb"[\s#]+", poll))
+    """Whether a poll says that its vote is secret."""
+    return SAYS_SECRET.search(poll) is not None or TELLS_SECRET in b" ".join(re.split(rb"[\s#]+", poll))
 
 
 def saying_secret(poll: bytes) -> bytes:
-    """The poll with that line, which comes first; a byte-order mark stays before it."""
-    if says_secret(poll):
-        return poll
-    mark = codecs.BOM_UTF8 if poll.startswith(codecs.BOM_UTF8) else b""
-    return mark + SAYS_SECRET + b"\n" + poll.removeprefix(mark)
+    """The poll with the line `secret = true`, above all tables."""
+    return poll if poll_file.document(poll).get("secret") is True else poll_file.with_key(poll, "secret", "true")
+
+
+def has_aliases(poll: bytes) -> bool:
+    """Whether the roll of a poll has aliases alone, so that it tells no name."""
+    try:
+        roll = poll_file.document(poll).get("roll")
+    except Fault:
+        return False
+    return isinstance(roll, list) and all(isinstance(name, str) and DIGITS.fullmatch(name) for name in roll)
 
 
 # ---------------------------------------------------------------- the file of codes
@@ -142,6 +147,8 @@ def holder_of(file: pathlib.Path, number: int, row: list[str]) -> Holder:
     if len(row) != len(COLUMNS):
         raise damaged(file, f"row {number} has not the five cells {','.join(COLUMNS)}")
     found = Holder(*row)
+    # whoever writes it by a slip types the gaps that stand there
+    found = dataclasses.replace(found, code=found.code.replace(" ", ""))
     if not DIGITS.fullmatch(found.code):
         raise damaged(file, f"row {number}: the code of {found.name} is not 32 digits of 0-9 and a-f")
     if alias_of(found.name, found.code) != found.alias:
@@ -218,7 +225,7 @@ def poll_of(poll: bytes, aliases: dict[str, str]) -> bytes:
     It is written anew: what else stands in the poll, as a comment, might tell a name.
     """
     said = poll_file.document(poll) | {"roll": sorted(aliases.values())}
-    return "".join(f"{key} = {json.dumps(said[key])}\n" for key in KEYS if key in said).encode("ascii")
+    return "".join(f"{key} = {json.dumps(said[key], ensure_ascii=False)}\n" for key in KEYS if key in said).encode("utf-8")
 
 
 def ballots_of(standing: dict[str, str], aliases: dict[str, str]) -> bytes:

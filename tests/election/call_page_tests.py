@@ -37,12 +37,14 @@ const told = (node) => [...node.querySelectorAll("li")].map((item) => [...item.c
 const named = (node) => Object.fromEntries([...node.querySelectorAll("b")].map((part) => [part.dataset.option, part.textContent]));
 function choose(doc, choice) {
   const name = doc.getElementById("name");
+  const tell = (node) => choice.isFilled || node.dispatchEvent(new Event("input", { bubbles: true }));
   name.value = choice.name;
-  name.dispatchEvent(new Event("input", { bubbles: true }));
+  tell(name);
   [...doc.querySelectorAll("select")].forEach((select, place) => {
     select.value = choice.ranks[place];
-    select.dispatchEvent(new Event("input", { bubbles: true }));
+    tell(select);
   });
+  if (choice.isFilled) doc.defaultView.dispatchEvent(new Event("pageshow"));
   const letter = doc.getElementById("letter");
   const is = (id) => !doc.getElementById(id).hidden;
   return { line: doc.getElementById("line").textContent, words: told(doc.getElementById("words")), names: named(doc.getElementById("words")),
@@ -162,7 +164,7 @@ class CallPageTest(support.ElectionTest):
         jobs, polls = [], {}
         for size in SIZES:
             polls[size] = poll_of(names_of(size), HOSTILE_TITLE, CHOICES)
-            page = self.called(str(size), polls[size], "--to", ADDRESS, "--until", "<b>soon</b> & \u05d0")
+            page = self.called(str(size), polls[size], "--to", ADDRESS, "--until-words", "<b>soon</b> & \u05d0")
             jobs.append({"page": page.as_uri(), "width": 360, "choices": choices_of(size, chance)})
         found, console = browse(self.scratch, jobs)
         self.assertEqual(console, "")
@@ -215,19 +217,31 @@ class CallPageTest(support.ElectionTest):
     def test_no_line_before_name_and_rank(self) -> None:
         odd = {"a b": "a space", "\u00e9va": "“\u00e9”", "x_y": "“_”", "\u212aate": "“\u212a”", "a,b": "“,”", "x" * 33: "33 characters"}
         odd |= {"": "", "   ": "Type your name"}
-        choices = [{"name": name, "ranks": list("213-")} for name in odd] + [{"name": "ada", "ranks": list("----")}]
-        page = self.called("odd", support.POLL)
+        good = {"name": "ada", "ranks": list("1234")}
+        # each after a good line, so that nothing of it stays
+        choices = [job for name in odd for job in (good, {"name": name, "ranks": list("213-")})]
+        choices += [{"name": "ada", "ranks": list("----")}]
+        page = self.called("odd", support.POLL, "--to", ADDRESS)
         job = {"page": page.as_uri(), "width": 360, "choices": choices}
         found, console = browse(self.scratch, [job])
         results = found[0]["results"]
         self.assertEqual(console, "")
-        for (name, part), result in zip(odd.items(), results[:-1], strict=True):
+        for result in results[:-1:2]:
+            self.assertEqual((result["line"], result["ready"]), ("ada 1,2,3,4", True))
+            self.assertIn("ada%201%2C2%2C3%2C4", result["letter"])
+        for (name, part), result in zip(odd.items(), results[1:-1:2], strict=True):
             self.assertEqual((result["line"], result["ready"], result["letter"]), ("", False, None), name)
             self.assertIn(part, result["said"])
             self.assertTrue(result["missing"])
             self.assertEqual(result["invalid"], "true" if name else "false")
         self.assertEqual((results[-1]["line"], results[-1]["missing"]), ("", "Give at least one option a rank."))
         self.assertEqual(results[-1]["words"], [])
+
+    def test_what_a_browser_fills_in_again_is_read(self) -> None:
+        page = self.called("again", support.POLL)
+        choice = {"name": "ada", "ranks": list("1234"), "isFilled": True}
+        (found,), console = browse(self.scratch, [{"page": page.as_uri(), "width": 360, "choices": [choice]}])
+        self.assertEqual((console, found["results"][0]["line"]), ("", "ada 1,2,3,4"))
 
     def test_names_on_the_roll_are_offered_and_near_ones_asked_about(self) -> None:
         roll = ["zoe", "ada-angstrom", "ada.lovelace", "strasse", "oedipus", "-", "anna-1", "anna-2", "anna-3", "anna-4", "anna-5", "anna-6"]
@@ -271,14 +285,15 @@ class CallPageTest(support.ElectionTest):
         (folder / "poll.toml").write_text(support.POLL)
         self.assertEqual(self.election("--folder", folder, "codes").status, 0)
         page = self.called("secret", (folder / "poll.toml").read_text())
-        names = ["ada", "Ada ", "", "0123456789abcdef" * 2, "stranger"]
+        names = ["ada", "Ada ", "", "0123456789abcdef" * 2, "stranger", "0123 4567 89AB cdef " * 2]
         choices = [{"name": name, "ranks": list("1234")} for name in names]
         (found,), console = browse(self.scratch, [{"page": page.as_uri(), "width": 360, "choices": choices}])
         self.assertEqual((console, found["offered"], found["violations"], found["wide"]), ("", [], [], 360))
         lines = [result["line"] for result in found["results"]]
-        self.assertEqual(lines, ["ada 1,2,3,4", "ada 1,2,3,4", "", "", "stranger 1,2,3,4"])
+        self.assertEqual(lines, ["ada 1,2,3,4", "ada 1,2,3,4", "", "", "stranger 1,2,3,4", ""])
         self.assertIn("Type your name as it stands on the slip with your code.", found["results"][2]["missing"])
-        self.assertIn("This looks like a code.", found["results"][3]["said"])
+        for place in (3, 5):
+            self.assertIn("This looks like a code.", found["results"][place]["said"])
         # in an open vote such a name may stand on the roll
         page = self.called("open", support.POLL.replace('"ada"', json.dumps(names[3])))
         (found,), _ = browse(self.scratch, [{"page": page.as_uri(), "width": 360, "choices": choices[3:4]}])
@@ -348,7 +363,7 @@ class CallPageTextTest(support.ElectionTest):
     def test_tidy(self) -> None:
         polls = [support.POLL, *(poll_of(names_of(size), HOSTILE_TITLE, 9) for size in (2, 8, 32))]
         for poll in polls:
-            for words in ([], ["--to", ADDRESS, "--until", "<i>", "--no-roll"]):
+            for words in ([], ["--to", ADDRESS, "--until-words", "<i>", "--no-roll"]):
                 shutil.rmtree(self.folder / "call", ignore_errors=True)
                 self.write("poll.toml", poll)
                 self.page(*words)

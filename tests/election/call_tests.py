@@ -10,6 +10,7 @@ import resource
 import shutil
 import signal
 import sys
+import tomllib
 import unittest
 
 import support
@@ -21,7 +22,8 @@ from debvote_tools.election.folder import Election  # noqa: E402
 from debvote_tools.faults import Fault  # noqa: E402
 
 ALL = ["SHA256SUMS", "call.txt", "index.html", "poll.toml"]
-UNTIL = "Sunday, 6 December 2026, 20:00"
+UNTIL = "Sunday, 6 December 2099, 20:00 (UTC+01:00)"
+TIME = "2099-12-06 20:00 +01:00"
 ADDRESS = "secretary@example.org"
 COMPARE = "grep -vxE '(last_envelope = [0-9]+|extended_to = \"[0-9T:+ -]*\")\\s?' \\\n  poll.toml | sha256sum"
 
@@ -29,7 +31,7 @@ COMPARE = "grep -vxE '(last_envelope = [0-9]+|extended_to = \"[0-9T:+ -]*\")\\s?
 # the system that changes a file or a folder. Then it calls once more. It forks, since a start of Python is slow.
 STOPPED = """
 import os, pathlib, shutil, signal, sys
-root, how, template, out = sys.argv[1:]
+root, how, template, out, *words = sys.argv[1:]
 sys.path.insert(0, root + "/python")
 from debvote_tools.election.command_line import main
 NAMES = ("rename", "mkdir", "write", "unlink", "rmdir")
@@ -54,7 +56,7 @@ def run(folder, faults, at):
         os.dup2(os.open(faults, os.O_WRONLY | os.O_CREAT, 0o644), 2)
         if at:
             stop_at(at)
-        os._exit(main(pathlib.Path(root) / "election", ["call", "--until", "later"]))
+        os._exit(main(pathlib.Path(root) / "election", words))
     return os.waitstatus_to_exitcode(os.waitpid(child, 0)[1])
 for at in range(1, 200):
     here = pathlib.Path(out) / str(at)
@@ -114,17 +116,22 @@ class MadeTest(CallTest):
     """What is made."""
 
     def test_the_folder(self) -> None:
-        said = self.call("--until", UNTIL, "--to", ADDRESS)
+        said = self.call("--until", TIME, "--to", ADDRESS)
         self.assert_whole()
-        self.assertEqual(self.read("call/poll.toml"), POLL.encode())
-        self.assertEqual(self.read("poll.toml"), POLL.encode())
-        self.assertEqual(self.read("backup/poll.toml.called"), POLL.encode())
-        self.assertEqual(self.acts(), ["call"])
+        lines = ['deadline = "2099-12-06T20:00:00+01:00"', f'address = "{ADDRESS}"']
+        poll = "".join(f"{line}\n" for line in [POLL.rstrip("\n"), *lines]).encode()
+        for name in ("call/poll.toml", "poll.toml", "backup/poll.toml.called"):
+            self.assertEqual(self.read(name), poll)
+        self.assertEqual(self.read("backup/0001-poll.toml"), POLL.encode())
+        self.assertEqual(self.acts(), ["announce", "call"])
         self.assertEqual(
             said,
             "poll ok: 4 options, 9 electors\n"
+            f"poll.toml has got the line: {lines[0]}\n"
+            f"poll.toml has got the line: {lines[1]}\n"
             "Made the folder call with the page index.html and the letter call.txt.\n"
-            f"The sum of the poll: {sum_of(POLL.encode())}\n"
+            f"The sum of the poll: {sum_of(poll)}\n"
+            f"Until when: {UNTIL}\n"
             "poll.toml must not be changed any more.\n"
             "Next: put the folder call on the web site, or send call/call.txt to each elector; "
             "enter the ballots that come with: debvote-election add or debvote-election desk\n",
@@ -134,7 +141,7 @@ class MadeTest(CallTest):
         self.assertEqual(self.leftovers(), [])
 
     def test_what_both_texts_say(self) -> None:
-        self.call("--until", UNTIL, "--to", ADDRESS)
+        self.call("--until", TIME, "--to", ADDRESS)
         letter = " ".join(self.read("call/call.txt").decode().split())
         page = self.read("call/index.html").decode()
         parts = [
@@ -148,8 +155,9 @@ class MadeTest(CallTest):
             "In the town hall, then At the lake, then Further discussion; not ranked, and so behind all others: Sell the house",
             "of your ballots that are valid and in time the last one counts",
             "all ballots are published, each with the name of its elector",
+            "and who has not voted; your real name may stand beside the name on the roll",
             "Lines that were refused or came late are published too",
-            sum_of(POLL.encode()),
+            sum_of(self.read("poll.toml")),
         ]
         for part in parts:
             self.assertIn(part, letter)
@@ -174,8 +182,9 @@ class MadeTest(CallTest):
 
     def test_without_time_and_address(self) -> None:
         said = self.call()
-        self.assertIn("to say it, call again with --until TEXT", said)
-        self.assertIn("to say it, call again with --to ADDRESS", said)
+        missing = 'until when one can vote (--until "YYYY-MM-DD HH:MM"), nor where ballots are sent (--to ADDRESS)'
+        how = "to say it, remove the folder call before anybody has seen it, and call again"
+        self.assertIn(f"The call does not say {missing}; {how}.\n", said)
         page = self.read("call/index.html").decode()
         self.assertIn("until the time that the secretary announces", page)
         self.assertNotIn("mailto:", page)
@@ -232,7 +241,7 @@ class MadeTest(CallTest):
             keys |= {"quorum": 10, "roll": ["name"]}
             self.take_back()
             self.write("poll.toml", "".join(f"{key} = {json.dumps(value)}\n" for key, value in keys.items()))
-            self.call("--until", "some day, " * 30)
+            self.call("--until-words", "some day, " * 30)
             letter = self.read("call/call.txt").decode()
             self.assertLessEqual(max(map(len, letter.splitlines())), 72)
             example = next(line for line in letter.splitlines() if line.startswith("  name ")).strip()
@@ -254,7 +263,8 @@ class MadeTest(CallTest):
 
     def test_hostile_words(self) -> None:
         until = "<script>alert(1)</script> & \"soon\" 'then' {title} %s \u05d0\u05d1 \U0001f600"
-        self.call("--until", until)
+        self.call("--until-words", until)
+        self.assertEqual(tomllib.loads(self.read("poll.toml").decode())["deadline_words"], until)
         self.assertIn(until, " ".join(self.read("call/call.txt").decode().split()))
         page = self.read("call/index.html").decode()
         self.assertIn("&lt;script&gt;alert(1)&lt;/script&gt; &amp; &quot;soon&quot; &#x27;then&#x27; {title} %s \u05d0\u05d1 \U0001f600", page)
@@ -281,8 +291,8 @@ class RefusedTest(CallTest):
         self.assert_nothing(3, "poll.toml")
 
     def test_words(self) -> None:
-        for until in ("", "  ", "a\nb", "a\rb", "a\tb", "a\u2028b", "a\x1b[2J", os.fsdecode(b"\xff")):
-            self.assert_nothing(2, "--until: it has to be one line of text", words=(f"--until={until}",))
+        for until in ("", "  ", "a\nb", "a\rb", "a\tb", "a\u2028b", "a\x1b[2J", "a\u202eb", "\u2066a", os.fsdecode(b"\xff")):
+            self.assert_nothing(2, "--until-words: it has to be one line of text", words=(f"--until-words={until}",))
         for to in ("", "a", "a@", "@b", "a@b,c@d", "a@b c@d", "a@b\n", "a@b\r\nBcc: c@d", "<a@b>", "a@b?cc=c@d", '"a"@b', "\u00e9@b", "a@b..c"):
             self.assert_nothing(2, "--to: it has to be one mail address", words=(f"--to={to}",))
         self.assert_nothing(2, "--to: it has to be one", words=(f"--to={'a' * 250}@b.org",))
@@ -417,28 +427,33 @@ class ChangedTest(CallTest):
         self.assertEqual(self.read("backup/poll.toml.called"), changed)
 
     def test_called_again(self) -> None:
-        said = self.call("--until", "tomorrow")
+        said = self.call()
         self.assertIn("Made the folder call anew.", said)
         self.assert_whole()
-        self.assertIn("Until when: tomorrow", self.read("call/call.txt").decode())
         self.assertEqual(self.acts(), ["call", "call"])
         self.assertEqual((self.leftovers(), sorted(os.listdir(self.folder / "backup"))), ([], ["poll.toml.called"]))
 
     def test_called_again_it_keeps_time_and_address(self) -> None:
         until = "Friday & 'Saturday' <b>18:00</b> \u05d0 until when: now"
-        self.call("--until", until, "--to", ADDRESS)
-        before = {name: self.read(f"call/{name}") for name in ALL}
+        shutil.rmtree(self.folder / "call")
+        self.call("--until-words", until, "--to", ADDRESS)
+        before = self.contents()
         said = self.call()
-        self.assertIn(f"Until when is as in the earlier call: {until}\nThe address is as in the earlier call: {ADDRESS}\n", said)
-        self.assertIn("To call without what was kept, first remove the folder call.\n", said)
+        self.assertIn(f"\nUntil when: {until}\n", said)
         self.assertTrue(said.splitlines()[-1].startswith("Next: "))
-        self.assertEqual({name: self.read(f"call/{name}") for name in ALL}, before)
-        said = self.call("--to", "other@club.example")
-        self.assertIn(f"Until when is as in the earlier call: {until}\nTo call without", said)
-        self.assertIn("Send your ballot to: other@club.example", self.read("call/call.txt").decode())
-        said = self.call("--until", "tomorrow", "--to", ADDRESS)
-        self.assertNotIn("earlier", said)
-        self.assertIn("Until when: tomorrow", self.read("call/call.txt").decode())
+        self.call("--until-words", until, "--to", ADDRESS)
+        after = self.contents()
+        self.assertEqual([name for name in after if after[name] != before.get(name)], ["journal"])
+        for words, part in {
+            ("--to", "other@club.example"): f"--to: in the poll that was called ballots are sent to {ADDRESS}, and its sum covers",
+            ("--until-words", "tomorrow"): f"--until-words: in the poll that was called one can vote until {until}, and its sum",
+        }.items():
+            self.assert_fault(self.election("call", *words), 9, part, "nothing was changed", "remove the folder call and call again")
+        self.assertEqual(self.contents(), after)
+        # who has taken the call back says what they want
+        shutil.rmtree(self.folder / "call")
+        self.call("--until-words", "tomorrow", "--to", "other@club.example")
+        self.assertIn("Until when: tomorrow\nSend your ballot to: other@club.example\n", self.read("call/call.txt").decode())
 
     def test_two_calls_make_the_same_bytes(self) -> None:
         before = {name: self.read(f"call/{name}") for name in ALL}
@@ -451,12 +466,13 @@ class FailedTest(CallTest):
 
     def each_step(self, how: str, is_called: bool) -> list[tuple[int, str, pathlib.Path]]:
         """How each stopped call ended, what it told, and the folder as it left it; it is called once more after each."""
+        words = ["call", "--until-words", "later"]
         if is_called:
-            self.call()
+            self.call(*words[1:])
         else:
             self.write("poll.toml", POLL.rstrip("\n"))
         out = self.scratch / "steps"
-        ended = self.run_program(sys.executable, "-c", STOPPED, support.ROOT, how, self.folder, out)
+        ended = self.run_program(sys.executable, "-c", STOPPED, support.ROOT, how, self.folder, out, *words)
         rows = [tuple(map(int, line.split(" "))) for line in ended.output.splitlines()]
         self.assertGreater(len(rows), 8, ended)
         self.assertEqual((rows[-1][1], {row[2] for row in rows}), (0, {0}), ended)
@@ -467,10 +483,11 @@ class FailedTest(CallTest):
         self.assertNotIn("Traceback", faults)
         for name in ("stopped", "again"):
             self.folder = out / name
-            self.assertEqual(self.read("poll.toml").rstrip(b"\n"), POLL.encode().rstrip(b"\n"))
+            called = POLL.encode() + b'deadline_words = "later"\n'
+            self.assertIn(self.read("poll.toml").rstrip(b"\n"), (POLL.encode().rstrip(b"\n"), called.rstrip(b"\n")))
             if name == "again" or (self.folder / "call").exists():
                 self.assert_whole()
-                self.assertEqual(self.read("backup/poll.toml.called"), POLL.encode())
+                self.assertEqual((self.read("poll.toml"), self.read("backup/poll.toml.called")), (called, called))
         self.assertEqual((self.leftovers(), list(self.folder.glob(".poll*"))), ([], []))
         self.assertEqual((out / "more").read_text(), "")
 

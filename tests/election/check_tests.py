@@ -18,7 +18,7 @@ Options:
   4  Further discussion (the default option)
 Quorum: 2 votes (1Q): at least 2 electors must prefer an option to the default option
 Electors: 9 (ada, ben, cleo, dan, eve, fay, gus, hal, ida)
-Next: debvote-election call --until "TEXT" --to ADDRESS (until when one can vote, and where ballots are sent; both can be left out)
+Next: debvote-election call --until "YYYY-MM-DD HH:MM" --to ADDRESS (until when one can vote, and where ballots are sent; both can be left out)
 """
         self.assertEqual((ended.output, ended.faults, ended.status), (said, "", 0))
 

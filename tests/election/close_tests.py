@@ -44,6 +44,7 @@ class Good(CloseTest):
                 "poll.toml has got the line: last_envelope = 2",
                 f"Sum of poll.toml: {sum_of(poll)}",
                 f"Sum of ballots: {sum_of(self.read('ballots'))}",
+                "Send closed.txt, which has these sums, to all electors before you count anything.",
                 "Next: debvote-election count",
             ],
         )
@@ -112,7 +113,6 @@ class Good(CloseTest):
                 for file in self.folder.iterdir():
                     if file.is_file():
                         file.unlink()
-                poll = poll.replace('title = """\nlast"""', 'title = "last"')
                 self.write("poll.toml", poll)
                 self.add("ada 1,2,4,3\n")
                 before = self.as_announced()
@@ -164,10 +164,24 @@ class Stops(CloseTest):
             return lambda: resource.setrlimit(resource.RLIMIT_FSIZE, (size, size))
 
         # the poll with its new line is longer than the poll, and so has no room as a file in memory
-        self.election("close", preexec_fn=limit(len(support.POLL) + 5))
+        ended = self.election("close", preexec_fn=limit(len(support.POLL) + 5))
+        self.assertEqual((ended.status, "Closed" in ended.output, len(ended.faults.splitlines())), (7, False, 1), ended)
         self.assertEqual(self.read("poll.toml").decode(), support.POLL)
         self.assertEqual(self.contents(), before)
         self.assertEqual(self.election("close").status, 0)
+
+    def test_a_debvote_that_reads_another_number(self) -> None:
+        """The poll that would be written is read by debvote before it is; a stand-in reads a number that is not there."""
+        self.add("ada 1,2,4,3\n")
+        tools = self.scratch / "tools"
+        tools.mkdir()
+        (tools / "debvote").write_text(f"#!/bin/sh\n{support.PROGRAM} \"$@\" | sed 's/^Last envelope: 1$/Last envelope: 7/'\n")
+        (tools / "debvote").chmod(0o755)
+        before = self.contents()
+        how = {"env": support.environment() | {"PATH": f"{tools}:{support.environment()['PATH']}"}}
+        said = "poll.toml: debvote does not read `last_envelope = 1` where it would be written; nothing was changed"
+        self.assert_fault(self.election("close", **how), 3, said)
+        self.assertEqual(self.contents(), before)
 
     def test_ballots_that_are_gone(self) -> None:
         self.add("ada 1,2,4,3\n")
@@ -253,6 +267,7 @@ class SinceTheClose(CloseTest):
     def test_what_a_close_that_was_not_done_has_kept(self) -> None:
         """Its copy of fewer lines is no more that of the close; it stays by number."""
         (self.folder / "journal").unlink()
+        (self.folder / "closed.txt").unlink()
         self.write("poll.toml", self.read("backup/poll.toml.called"))
         self.assertEqual(self.election("close").status, 0)
         self.assertEqual(self.read("backup/ballots.closed"), self.read("ballots"))

@@ -11,6 +11,9 @@ from dataclasses import dataclass
 import support
 
 sys.path.insert(0, str(support.ROOT / "python"))
+sys.path.insert(0, str(support.ROOT / "tests" / "clock"))
+
+from clock import set_clock  # noqa: E402
 
 from debvote_tools.election import command_line  # noqa: E402
 
@@ -31,14 +34,20 @@ class Run:
     status: int | None
 
 
-def run(folder: pathlib.Path, words: list[str], given: bytes = b"", killed_at: int | None = None) -> Run:
-    """Runs a command in a folder. With a number the run is killed before so many steps, where it has as many."""
+def run(
+    folder: pathlib.Path, words: list[str], given: bytes = b"", killed_at: int | None = None, clock: dict[str, str] | None = None
+) -> Run:
+    """Runs a command in a folder. With a number the run is killed before so many steps, where it has as many; with a clock it
+    finds that time.
+    """
     outside = folder.parent
     (outside / "given").write_bytes(given)
     child = os.fork()
     if child == 0:
         status = 70
         try:
+            if clock:
+                set_clock(pathlib.Path(clock["DEBVOTE_CLOCK"]).read_text())
             status = in_child(folder, words, outside, killed_at)
         finally:
             os._exit(status)

@@ -58,10 +58,10 @@ class OpenPublication(SecretTest):
             ended = self.election("--folder", elsewhere, command, "--even-so" if command == "publish" else "--no-roll")
             self.assertEqual((ended.status, (elsewhere / "result").exists(), (elsewhere / "call").exists()), (9, False, False))
 
-    def test_the_line_of_the_poll_comes_once_and_is_not_published(self) -> None:
+    def test_the_line_of_the_poll_comes_once_and_is_published_with_the_aliases(self) -> None:
         self.done("codes")
-        line = b"# The vote is secret: "
-        self.assertTrue(self.read("poll.toml").startswith(line))
+        line = b"\nsecret = true\n"
+        self.assertTrue(self.read("poll.toml").endswith(line))
         self.done("codes")
         self.assertEqual(self.read("poll.toml").count(line), 1)
         self.done("roll")
@@ -70,7 +70,7 @@ class OpenPublication(SecretTest):
         before = self.read("poll.toml")
         self.done("codes")
         self.assertEqual(self.read("poll.toml"), before)
-        self.assertNotIn(line, self.read("call/poll.toml"))
+        self.assertTrue(self.read("call/poll.toml").endswith(line))
 
 
     def test_no_call_without_the_line(self) -> None:
@@ -197,6 +197,10 @@ class Codes(SecretTest):
         for said in [*functions, "+D3", "-D3", '"+""Ben ""&D2"', "\uff1dD3", "\u200b=D3"]:
             with self.subTest(said=said):
                 self.write("members.csv", MEMBERS.replace("Ben <É>", said))
+                self.assert_fault(self.election("codes"), 9, "members.csv:3: a spreadsheet would take `", "for a formula")
+                self.assertFalse((self.folder / "private").exists())
+            with self.subTest(mail=said):
+                self.write("members.csv", MEMBERS.replace("ben@club.example", said))
                 self.assert_fault(self.election("codes"), 9, "members.csv:3: a spreadsheet would take `", "for a formula")
                 self.assertFalse((self.folder / "private").exists())
         self.write("members.csv", MEMBERS.replace("ben@club.example", "+49 30 123456").replace("Eve <É>", "-"))

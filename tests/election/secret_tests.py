@@ -9,6 +9,7 @@ import pathlib
 import re
 import shutil
 import sys
+import unittest.mock
 
 import killing
 import support
@@ -123,10 +124,23 @@ class CodesTest(SecretTest):
         self.assertFalse((self.folder / "private").exists())
 
     def test_no_code_can_be_taken_for_a_number(self) -> None:
-        holders = [secret.new_holder("a", "", "") for _ in range(50)]
-        self.assertEqual([holder for holder in holders if not secret.NUMBER.fullmatch(holder.code) is None], [])
+        good = "a" * 32
+        for bad in ("1" * 32, "1234e567" + "0" * 24):
+            with unittest.mock.patch("secrets.token_hex", side_effect=[bad, good]):
+                self.assertEqual(secret.new_holder("a", "", "").code, good)
+        aliases = ["2" * 32, "12e" + "4" * 29, "b" * 32]
+        with unittest.mock.patch("debvote_tools.secret.alias_of", side_effect=aliases):
+            self.assertEqual(secret.new_holder("a", "", "").alias, aliases[2])
         self.assertTrue(secret.NUMBER.fullmatch("1234e567") and secret.NUMBER.fullmatch("0" * 32))
         self.assertFalse(secret.NUMBER.fullmatch("12a4"))
+
+    def test_codes_are_sixteen_bytes_of_the_generator_that_nobody_can_guess(self) -> None:
+        with unittest.mock.patch("secrets.token_hex", return_value="c" * 32) as drawn:
+            self.assertEqual(secret.new_holder("a", "", "").code, "c" * 32)
+        drawn.assert_called_once_with(16)
+        codes = [secret.new_holder("a", "", "").code for _ in range(50)]
+        quarters = [code[place : place + 8] for code in codes for place in range(0, 32, 8)]
+        self.assertEqual(len(set(quarters)), 200)
 
     def test_the_slips(self) -> None:
         self.write("members.csv", MEMBERS.replace("Ada <É>", "Åda <script>alert(1)</script>"))
@@ -244,7 +258,7 @@ class CallTest(SecretTest):
     def test_the_call_has_aliases_and_no_name(self) -> None:
         self.write("poll.toml", "# ada and ben asked for it\n" + support.POLL + "# ida is away\n")
         self.done("codes")
-        output = self.done("call", "--until", "Friday", "--to", "vote@club.example")
+        output = self.done("call", "--until-words", "Friday", "--to", "vote@club.example")
         aliases = sorted(row["alias"] for row in self.rows())
         wanted = support.POLL.partition("roll = ")[0] + f"roll = {json.dumps(aliases)}\n"
         self.assertEqual(self.read("call/poll.toml").decode(), wanted)
@@ -323,7 +337,7 @@ class CallTest(SecretTest):
         called = json.loads(self.read("call/poll.toml").decode().partition("roll = ")[2])
         self.assertEqual(called, sorted(row["alias"] for row in self.rows()))
         kept = [name for name in self.contents() if name.endswith("-poll.toml.called") and name.startswith("private/")]
-        self.assertEqual([self.read(name) for name in kept], [first])
+        self.assertEqual([(self.read(name), self.mode(name)) for name in kept], [(first, 0o600)])
 
     def test_the_close_names_the_sum_of_the_call(self) -> None:
         self.done("codes")

@@ -55,7 +55,7 @@ Lines: 0 (0 valid, 0 refused, 0 of them late)
 Electors with a ballot that stands: 0 of 9
 Electors without one (9):
   ada ben cleo dan eve fay gus hal ida
-Next: debvote-election call --until "TEXT" --to ADDRESS (until when one can vote, and where ballots are sent; both can be left out)"""
+Next: debvote-election call --until "YYYY-MM-DD HH:MM" --to ADDRESS (until when one can vote, and where ballots are sent; both can be left out)"""
         self.assertEqual(self.status(), said.splitlines())
 
     def test_ballots_as_they_come(self) -> None:
@@ -146,7 +146,7 @@ Next: """
 
     def test_from_another_folder(self) -> None:
         said = self.status("--folder", "election", cwd=self.scratch)[-1]
-        self.assertTrue(said.startswith('Next: debvote-election --folder election call --until "TEXT" --to ADDRESS ('), said)
+        self.assertTrue(said.startswith('Next: debvote-election --folder election call --until "YYYY-MM-DD HH:MM" --to ADDRESS ('), said)
 
 
 class Edited(StatusTest):

@@ -51,6 +51,11 @@ def environment() -> dict[str, str]:
     return {**os.environ, "PATH": path, "PYTHONDONTWRITEBYTECODE": "1"}
 
 
+def clock_of(file: pathlib.Path) -> dict[str, str]:
+    """The environment in which programs find the time of a file."""
+    return {"PYTHONPATH": str(ROOT / "tests" / "clock"), "DEBVOTE_CLOCK": str(file)}
+
+
 class ElectionTest(unittest.TestCase):
     """A test with a folder of its own, in which an election lies with the poll above and no ballots."""
 
@@ -60,6 +65,7 @@ class ElectionTest(unittest.TestCase):
     def setUp(self) -> None:
         self.scratch = pathlib.Path(tempfile.mkdtemp(prefix="debvote-election-"))
         self.addCleanup(shutil.rmtree, self.scratch, ignore_errors=True)
+        self.clock: dict[str, str] = {}
         self.folder = self.scratch / "election"
         self.folder.mkdir()
         (self.folder / "poll.toml").write_text(self.poll)
@@ -71,11 +77,17 @@ class ElectionTest(unittest.TestCase):
         """
         data = given.encode() if isinstance(given, str) else given
         where = {"stdin": subprocess.DEVNULL} if data is None else {"input": data}
-        settings = {"cwd": self.folder, "env": environment(), "timeout": SECONDS, **where, **how}
+        settings = {"cwd": self.folder, "env": environment() | self.clock, "timeout": SECONDS, **where, **how}
         ended = subprocess.run([str(word) for word in words], capture_output=True, **settings)
         faults = ended.stderr.decode("utf-8", "replace")
         faults = faults if HAS_PICTURES else faults.replace(NO_PICTURE, "")
         return Ended(ended.stdout.decode("utf-8", "replace"), faults, ended.returncode)
+
+    def set_clock(self, time: str) -> None:
+        """From now on the programs that are run find this time, which has its offset."""
+        file = self.scratch / "clock"
+        file.write_text(time)
+        self.clock = clock_of(file)
 
     def election(self, *words: object, **how: object) -> Ended:
         """Runs debvote-election in the folder of the election."""

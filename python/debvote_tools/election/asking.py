@@ -19,7 +19,7 @@ def command(election: Election, *words: str) -> str:
 def call_command(election: Election) -> str:
     """The call for votes as the user types it, with what most of them want to say in it."""
     both = "until when one can vote, and where ballots are sent; both can be left out"
-    return f'{command(election, "call")} --until "TEXT" --to ADDRESS ({both})'
+    return f'{command(election, "call")} --until "YYYY-MM-DD HH:MM" --to ADDRESS ({both})'
 
 
 def given_already(election: Election, files: Files, what: str = "this") -> str | None:

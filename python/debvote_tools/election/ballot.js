@@ -77,7 +77,7 @@
   // Why no elector can have this name, or nothing.
   function oddity(name) {
     if (name === "") return `Type your name as it stands ${form.dataset.place}.`;
-    if (isSecret && CODE.test(name)) return CODE_TYPED;
+    if (isSecret && CODE.test(name.replace(/[\s-]/g, ""))) return CODE_TYPED;
     const odd = [...name].find((character) => !/[a-z0-9.-]/.test(character));
     if (odd !== undefined) {
       const shown = /\s/.test(odd) ? "a space" : `“${odd}”`;

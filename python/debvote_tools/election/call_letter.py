@@ -19,7 +19,7 @@ def letter(call: Call) -> str:
     """The text of the letter. A line that somebody copies, as the example or the sum, is never wrapped."""
     parts = [
         wrapped(call.title),
-        wrapped(call.until_words()) + wrapped(call.to_words()),
+        wrapped(call.until_words()) + extended(call) + wrapped(call.to_words()),
         heading("What is voted on"),
         "".join(option_of(call, option) for option in call.sheet.names),
         "".join(map(wrapped, call.ratio_words())),
@@ -43,6 +43,12 @@ def letter(call: Call) -> str:
         wrapped(call.later_words()),
     ]
     return "\n".join(parts)
+
+
+def extended(call: Call) -> str:
+    """That there is more time than the call said at first."""
+    words = call.extended_words()
+    return "" if words is None else wrapped(words)
 
 
 def roll(call: Call) -> list[str]:

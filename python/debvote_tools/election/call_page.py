@@ -76,12 +76,19 @@ def html(call: Call) -> str:
 
 def head(call: Call) -> str:
     """Until when, and where to."""
-    return f'<div class="outcome">\n{paragraph(until(call))}\n{paragraph(to(call))}\n</div>\n'
+    extended = [] if call.extended_words() is None else [paragraph(extended_from(call))]
+    said = "\n".join([paragraph(until(call)), *extended, paragraph(to(call))])
+    return f'<div class="outcome">\n{said}\n</div>\n'
 
 
 def until(call: Call) -> str:
     # a text from right to left does not turn what stands around it
     return escape(call.until_words()) if call.until is None else f"Until when: <b><bdi>{escape(call.until)}</bdi></b>"
+
+
+def extended_from(call: Call) -> str:
+    """What the call said at first."""
+    return f"{call_words.FIRST}<bdi>{escape(call.first)}</bdi>" if call.first is not None else call.extended_words()
 
 
 def to(call: Call) -> str:
@@ -91,9 +98,14 @@ def to(call: Call) -> str:
 
 
 def said_in(page: str) -> tuple[str | None, str | None]:
-    """Until when one can vote and where ballots are sent, as a page of a call says it that was made here."""
+    """Until when one could vote at first, and where ballots are sent, as a page of a call says it that was made here.
+
+    It is for calls of version 1.0.0 alone, whose polls do not have it.
+    """
     head = page.partition("</section>")[0]
-    time = re.search(r"<p>Until when: <b><bdi>(.*?)</bdi></b></p>", head)
+    time = re.search(f"<p>{call_words.FIRST}<bdi>(.*?)</bdi></p>", head)
+    if time is None and paragraph(call_words.NOT_AT_FIRST) not in head:
+        time = re.search("<p>Until when: <b><bdi>(.*?)</bdi></b></p>", head)
     address = re.search(r'<p>Send your ballot to: <a href="[^"]*">(.*?)</a></p>', head)
     return (unescape(time[1]) if time else None, unescape(address[1]) if address else None)
 
@@ -158,4 +170,4 @@ def poll(call: Call) -> str:
     shown = f"<pre><code>{call.poll_sum}</code></pre>"
     compare = command_block(call.compare_words(), call.compare)
     said = paragraph(call.poll_words("lies beside this page"))
-    return part("The poll", said, shown, *beside, compare, paragraph(call.later_words()))
+    return part("The poll", said, shown, paragraph(call_words.YOURS), *beside, compare, paragraph(call.later_words()))

@@ -29,37 +29,55 @@ DEFAULT = (
 )
 PUBLIC = (
     "After the vote all ballots are published, each with the name of its elector, so that everybody can count again. So "
-    "everybody sees how you voted. Lines that were refused or came late are published too."
+    "everybody sees how you voted, and who has not voted; your real name may stand beside the name on the roll. Lines that were "
+    "refused or came late are published too, and so is when this call was made and when the vote was closed."
 )
 PUBLIC_OF_SECRET = (
     "The vote is secret. After it each ballot that counts is published under an alias, which is made of its elector's name and "
     "secret code. So everybody can count again, and nobody sees whose ballot it is; with your code you find your own. "
     "The secretary knows how each elector voted, whoever shows their code shows their vote, and with few voters the sum of the "
     "votes may tell. Of lines that were refused or came late their number alone is published. A list of the electors who have "
-    "voted, without their votes, may be published too."
+    "voted, without their votes, may be published too. When this call was made and when the vote was closed is published."
 )
 LATER = (
-    "The poll is not changed any more, but for one line that it may get when the vote closes, last_envelope: it says how many "
-    "ballots were in time. The sum and the command leave it out."
+    "The poll is not changed any more, but for two lines that it may get: extended_to, where the time is extended, and "
+    "last_envelope, which says how many lines were in time when the vote was closed. The sum and the command leave them out."
 )
-
+YOURS = (
+    "Whoever keeps the web site can show each reader another page: compare this sum with the one in <b>your</b> letter."
+)
 
 # in a secret vote the poll of the call never changes
 COMPARE_SECRET = "sha256sum poll.toml"
 LATER_SECRET = "The poll has aliases in place of the names, and the result has the same poll, byte for byte."
 
 
+# before what the call said at first, where the time was extended
+FIRST = "There is more time: the call said at first: "
+NOT_AT_FIRST = "The call did not say it at first."
+
+
+def example_ranks(count: int) -> str:
+    """Ranks of so many options that show the order, and with four options or more one that is not ranked."""
+    if count == 2:
+        return "1,2"
+    return ",".join(["2", "1", *[UNRANKED] * (count - 3), "3"])
+
+
 @dataclasses.dataclass(frozen=True)
 class Call:
     """What is called for: the sheet of the poll without ballots, and the sum of the poll without its last envelope.
 
-    `until` and `to` are none where the secretary announces them otherwise. `roll` has the names under which electors vote; it is
-    none where the call has no poll, and in a secret vote, in which the poll has a roll of aliases.
+    `until` and `to` are none where the secretary announces them otherwise. `first` is until when one could vote as the call said
+    it before it was extended. `roll` has the names under which electors vote; it is none where the call has no poll, and in a
+    secret vote, in which the poll has a roll of aliases.
     """
 
     sheet: Sheet
     poll_sum: str
     until: str | None
+    first: str | None
+    is_extended: bool
     to: str | None
     roll: list[str] | None
     has_poll: bool
@@ -94,6 +112,12 @@ class Call:
     def until_words(self) -> str:
         """Until when one can vote."""
         return "You can vote until the time that the secretary announces." if self.until is None else f"Until when: {self.until}"
+
+    def extended_words(self) -> str | None:
+        """That there is more time than the call said at first; none where there is not."""
+        if not self.is_extended:
+            return None
+        return f"{FIRST}{self.first}" if self.first is not None else NOT_AT_FIRST
 
     def to_words(self) -> str:
         """Where a ballot goes."""
@@ -135,11 +159,7 @@ class Call:
         return f"{EXAMPLE_NAME} {self.example_ranks()}"
 
     def example_ranks(self) -> str:
-        """Ranks that show the order, and in a poll of four options or more an option that is not ranked."""
-        count = len(self.sheet.names)
-        if count == 2:
-            return "1,2"
-        return ",".join(["2", "1", *[UNRANKED] * (count - 3), "3"])
+        return example_ranks(len(self.sheet.names))
 
     def example_words(self) -> str:
         """What the example says."""

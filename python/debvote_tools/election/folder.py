@@ -44,6 +44,7 @@ class Election:
         self.call = folder / called.FOLDER
         self.called_poll = folder / called.KEPT
         self.closed_ballots = folder / closed.KEPT
+        self.closing_letter = folder / "closed.txt"
         self.result = folder / "result"
         self.private = folder / secret.PRIVATE
         self.codes = self.private / secret.CODES

@@ -135,6 +135,14 @@ def with_line(text: str, key: str, value: str) -> str:
     return text[:place] + end + line + text[place:]
 
 
+def without_key(data: bytes, key: str) -> bytes:
+    """The poll without a key above all tables, and without what stands on its line."""
+    text = text_of(data)
+    above = itertools.takewhile(lambda statement: statement.key is not None, statements(text))
+    line = next((statement for statement in above if statement.key == key), None)
+    return data if line is None else (text[: line.start] + text[line.end :]).encode("utf-8")
+
+
 def says(data: bytes, wanted: dict[str, object]) -> bool:
     """Whether a poll can be read, and says this."""
     try:

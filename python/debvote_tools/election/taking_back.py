@@ -18,7 +18,7 @@ def options(parser: argparse.ArgumentParser) -> None:
 
 
 def run(election: Election, asked: argparse.Namespace) -> int:
-    if asked.until is not None or asked.to is not None or asked.no_roll:
+    if asked.no_roll or any(word is not None for word in (asked.until, asked.zone, asked.until_words, asked.to)):
         raise Fault("--take-back: it stands alone; first take the call back, then call anew", Status.BAD_WORDS)
     with election.changing(any_poll=True) as files:
         demand_call(election)

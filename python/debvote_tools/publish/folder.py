@@ -19,8 +19,9 @@ from debvote_tools.publish.data import result_json, votes_csv
 from debvote_tools.publish.labels import labels_in, labels_of, told
 from debvote_tools.publish.page import page_of
 from debvote_tools.publish.picture import picture_of
-from debvote_tools.publish.published import File, Further, Published
+from debvote_tools.publish.published import File, Further, Published, Times
 from debvote_tools.publish.texts import reason_in, text_in
+from debvote_tools.publish.times import times_of
 from debvote_tools.sheet import sheet_in
 
 PAGE, SUMS = "index.html", "SHA256SUMS"
@@ -108,7 +109,8 @@ def fill(folder: pathlib.Path, asked: argparse.Namespace, given: Given, beside: 
     found = doubts.found_in(calls, asked.poll, asked.ballots, sheet_in(text))
     found += about_call(asked.poll, called_of(poll, sheet_in(text).facts.get(LAST), given.announced))
     settle(found, asked)
-    return make(calls, text, given, found, Further()), status
+    times = times_of(doubts.election_of(asked.poll), poll, ballots, sheet_in(text).facts.get(LAST))
+    return make(calls, text, given, found, Further(), times), status
 
 
 def fill_secret(folder: pathlib.Path, asked: argparse.Namespace, given: Given, beside: pathlib.Path) -> tuple[str, int]:
@@ -131,7 +133,9 @@ def fill_secret(folder: pathlib.Path, asked: argparse.Namespace, given: Given, b
     secret.demand_same(text, published)
     secret.demand_all_count(published)
     further = secret.further_of(hidden, totals, with_voters=asked.voters)
-    said = make(calls, published, given, secret.without_names(found), further)
+    # the sum of the lines in time is private
+    times = times_of(doubts.election_of(asked.poll), poll, ballots, None)
+    said = make(calls, published, given, secret.without_names(found), further, times)
     secret.demand_no_code(folder, codes)
     return said, status
 
@@ -156,7 +160,7 @@ def voting_of(poll: bytes, standing: str, given: Given, further: Further) -> rol
     return found
 
 
-def make(calls: Calls, text: str, given: Given, found: list[Doubt], further: Further) -> str:
+def make(calls: Calls, text: str, given: Given, found: list[Doubt], further: Further, times: Times) -> str:
     """Writes the sheet and all that follows from it into the folder that has the published poll and ballots already.
 
     Returns the last line of the sheet with what `debvote verify` says.
@@ -172,7 +176,7 @@ def make(calls: Calls, text: str, given: Given, found: list[Doubt], further: Fur
     lines = lines_of(ballots)
     published = Published(
         sheet, standing, refused, lines, picture, calls.casting, verified.rstrip("\n"), version, found, called, labels,
-        given.about, further, voting_of((folder / POLL).read_bytes(), standing, given, further), given.because,
+        given.about, further, times, voting_of((folder / POLL).read_bytes(), standing, given, further), given.because,
     )  # fmt: skip
     write_files(folder, published, poll, ballots)
     second_count.demand_same(folder, calls.casting, text, standing)

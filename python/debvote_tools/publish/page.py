@@ -6,7 +6,7 @@ from html import escape
 
 from debvote_tools import ballots, pages
 from debvote_tools.pages import command_block, joined, listed, paragraph, part
-from debvote_tools.publish import bars, count, result, roll
+from debvote_tools.publish import bars, count, result, roll, times
 from debvote_tools.publish.called import WHOLE
 from debvote_tools.publish.calls import FILES, POLL, SHEET
 from debvote_tools.publish.picture import words_for_dot
@@ -51,6 +51,7 @@ def page_of(found: Published, files: list[File]) -> str:
     parts = [why(found), count.options(found), count.votes(found), count.defeats(found), count.rounds(found)]
     parts += [standing_ballots(found), *([] if found.voting is None else [roll.roll(found.voting)]), refused(found)]
     parts += [*found.further.parts, unseen(found), check(found, files)]
+    parts.insert(1, times.times(found))
     about = result.about(found)
     parts = [bars.bars(found), *about, *parts]
     sections = "".join(map(found.with_names, [result.result(found), contents(parts), *parts]))
@@ -155,7 +156,7 @@ def whole_commands(found: Published) -> list[Command]:
     if found.called.has_last_envelope or found.called.announced is not None:
         words = COMPARE_WHOLE_SUM if found.called.is_secret else COMPARE_SUM
         commands.append((words, found.called.command, found.called.answer))
-    return commands
+    return commands + times.commands(found.times)
 
 
 def later(found: Published) -> str:

@@ -5,7 +5,9 @@ import re
 from collections.abc import Mapping, Sequence
 from html import escape
 
+from debvote_tools.announced import Announced
 from debvote_tools.faults import Doubt
+from debvote_tools.journal import Entry
 from debvote_tools.program import Finding, Totals
 from debvote_tools.publish.called import Called
 from debvote_tools.publish.labels import Labels
@@ -47,6 +49,19 @@ class Further:
 
 
 @dataclasses.dataclass(frozen=True)
+class Times:
+    """What is known: what the poll says, the acts of the election, none of two files alone, and the sum of the lines in time."""
+
+    said: Announced
+    acts: list[Entry] | None
+    # in an open vote that has a last envelope: its number, and the sum of so many first lines
+    in_time: tuple[int, str] | None = None
+
+    def entries(self, act: str) -> list[Entry]:
+        return [entry for entry in self.acts or [] if entry.act == act]
+
+
+@dataclasses.dataclass(frozen=True)
 class Published:
     """What the page is made from: the texts of debvote, the picture, what there is to doubt, and what was given beside."""
 
@@ -66,6 +81,7 @@ class Published:
     labels: Labels
     about: str | None
     further: Further
+    times: Times
     # who voted and who did not, as far as that is told
     voting: Voting | None = None
     # why the doubts are none, in the words of those who publish

@@ -101,7 +101,7 @@ def demand_open(poll: str, ballots: str) -> None:
 
 def demand_unmarked(file: str, poll: bytes) -> None:
     """Stops where the poll says that the vote is secret. A copy of it lies elsewhere than its election."""
-    if secret.says_secret(poll):
+    if secret.says_secret(poll) and not secret.has_aliases(poll):
         words = "it says that the vote is secret, and this would publish each name with its vote"
         cure = "publish it with --secret CODES, by the file private/codes.csv of its election"
         raise Fault(f"{file}: {words}; {cure}", Status.DOUBT)

@@ -4,17 +4,16 @@ import argparse
 import contextlib
 import os
 import pathlib
-import re
 import shutil
 import stat
 import tempfile
-import unicodedata
 
 from debvote_tools import called, journal, secret
-from debvote_tools.election import call_letter, call_page, poll_file, taking_back
+from debvote_tools.election import announcing, call_letter, call_page, poll_file, taking_back
 from debvote_tools.election.asking import NO_BALLOTS, command, given_already
 from debvote_tools.election.call_words import Call
 from debvote_tools.election.checking import checked
+from debvote_tools.election.commands.codes import write_slips
 from debvote_tools.election.folder import Election, Files
 from debvote_tools.election.secrecy import aliases_now, demand_own_folder, told_apart
 from debvote_tools.faults import Fault, Status
@@ -29,63 +28,45 @@ NAMES = ("index.html", "call.txt", "poll.toml", SUMS)
 # how the name of a folder begins that is not in its place yet, or no more
 LEFTOVER = f"{TEMPORARY}call-"
 
-ADDRESS = re.compile(r"[A-Za-z0-9_][A-Za-z0-9._+=-]*@[A-Za-z0-9-]+(\.[A-Za-z0-9-]+)*")
-ADDRESS_LIMIT = 254
-
-# control characters, what ends a line, and bytes that are no text
-ODD = ("Cc", "Cs", "Zl", "Zp")
-
 
 def options(parser: argparse.ArgumentParser) -> None:
-    until = "Until when one can vote, in your own words; it is printed as you give it"
+    announcing.options(parser)
     no_roll = "Leave the poll, with its roll, out of the folder: its sum stands alone"
-    parser.add_argument("--until", metavar="TEXT", help=until)
-    parser.add_argument("--to", metavar="ADDRESS", help="The mail address that ballots are sent to")
     parser.add_argument("--no-roll", action="store_true", help=no_roll)
     taking_back.options(parser)
 
 
 def run(election: Election, asked: argparse.Namespace) -> int:
-    demand_until(asked.until)
-    demand_address(asked.to)
     if asked.take_back:
         return taking_back.run(election, asked)
+    wanted = announcing.wanted_of(asked)
     with election.changing() as files:
         sheet = checked(election, files)
         demand_unvoted(election, files)
         demand_covered(election, files.poll)
         demand_own(election)
-        kept = keep_earlier(election, asked)
-        files = ended(election, files)
-        poll = public_poll(election, files)
-        call = call_of(election, sheet, poll, asked)
+        kept = keep_out(election, asked)
+        changed = announcing.poll_saying(election, files, wanted)
+        poll = public_poll(election, files, changed)
+        said = announcing.said_of(election, changed)
+        files = announce(election, ended(election, files), changed)
+        call = call_of(election, sheet, poll, said, has_poll=not asked.no_roll)
         is_anew = election.call.exists()
         apart = told_apart(election, poll)
+        has_slips = election.is_secret() and not is_anew and write_slips(election, sheet, files.poll)
         take_away_leftovers(election)
         make(election, files, poll, texts_of(call, poll))
     print(*(f"{line}\n" for line in kept), sep="", end="")
     say(election, call, is_anew)
+    if has_slips:
+        print(f"The slips have got what the call says: print {election.slips}, cut them out, and give each elector their own.")
     if apart:
         tell_apart(apart)
     say_next(election)
     return Status.DECIDED
 
 
-# ---------------------------------------------------------------- what is asked
-def demand_until(text: str | None) -> None:
-    """Stops where the time is no line of text."""
-    if text is not None and (not text.strip() or any(unicodedata.category(character) in ODD for character in text)):
-        words = "it has to be one line of text, in UTF-8; nothing was changed: write it anew"
-        raise Fault(f"--until: {words}", Status.BAD_WORDS)
-
-
-def demand_address(text: str | None) -> None:
-    """Stops where this is not one plain mail address."""
-    if text is not None and (len(text) > ADDRESS_LIMIT or not ADDRESS.fullmatch(text)):
-        words = "it has to be one mail address, as secretary@example.org; nothing was changed: write it anew"
-        raise Fault(f"--to: {words}", Status.BAD_WORDS)
-
-
+# ---------------------------------------------------------------- the folder that is there
 def demand_own(election: Election) -> None:
     """Stops where the folder of the call has something that this command did not make, or that was changed since."""
     folder = election.call
@@ -113,26 +94,12 @@ def sums_in(file: pathlib.Path) -> dict[str, str]:
     return {row[1]: row[0] for row in rows if len(row) == 2}
 
 
-def keep_earlier(election: Election, asked: argparse.Namespace) -> list[str]:
-    """Takes from an earlier call what is not asked for now, so that a call anew loses nothing. Returns what is told of that.
-
-    The folder is as this command made it.
-    """
-    page = election.call / "index.html"
-    if not page.is_file():
+def keep_out(election: Election, asked: argparse.Namespace) -> list[str]:
+    """Leaves the poll out of the folder as in the earlier call, so that a call anew tells no roll unasked. Returns what is told."""
+    if asked.no_roll or not (election.call / "index.html").is_file() or (election.call / "poll.toml").exists():
         return []
-    until, to = call_page.said_in(page.read_text(encoding="utf-8"))
-    told = []
-    if asked.until is None and until is not None:
-        asked.until = until
-        told.append(f"Until when is as in the earlier call: {until}")
-    if asked.to is None and to is not None:
-        asked.to = to
-        told.append(f"The address is as in the earlier call: {to}")
-    if not asked.no_roll and not (election.call / "poll.toml").exists():
-        asked.no_roll = True
-        told.append("The poll stays out of the folder, as in the earlier call.")
-    return told and [*told, f"To call without what was kept, first remove the folder {election.call}."]
+    asked.no_roll = True
+    return ["The poll stays out of the folder, as in the earlier call.", f"To call with it, first run {command(election, 'call', '--take-back')}."]
 
 
 # ---------------------------------------------------------------- the poll
@@ -175,31 +142,45 @@ def ended(election: Election, files: Files) -> Files:
     return after
 
 
-def public_poll(election: Election, files: Files) -> bytes:
-    """The poll that is called: in a secret vote the one with the roll of aliases, and otherwise the poll itself."""
+def announce(election: Election, files: Files, poll: bytes) -> Files:
+    """Writes what the call says into the poll, so that its sum covers it; a later time is left out of that sum."""
+    if poll == files.poll:
+        return files
+    election.keep_copy(election.poll)
+    after = election.act("extend" if election.is_called() else "announce", files, poll=poll)
+    for line in announcing.lines_that_differ(files.poll, poll):
+        print(f"{election.poll} has got the line: {line}")
+    return after
+
+
+def public_poll(election: Election, files: Files, poll: bytes) -> bytes:
+    """The poll that is called: in a secret vote the one with the roll of aliases, and otherwise the poll itself.
+
+    It stops where the poll as it was does not say what the vote is.
+    """
     if not election.is_secret():
-        if secret.says_secret(files.poll):
-            words = f"it has the line `{secret.SAYS_SECRET.decode()}`, and no codes were made in this folder; nothing was changed"
+        if secret.says_secret(poll):
+            words = "it says that the vote is secret, and no codes were made in this folder; nothing was changed"
             cure = f"for a secret vote run {command(election, 'codes')}, for an open one take the line out; then call again"
             raise Fault(f"{election.poll}: {words}: {cure}", Status.DOUBT)
-        return files.poll
+        return poll
     demand_own_folder(election)
     if not secret.says_secret(files.poll):
         words = "the vote is secret, and the line is gone by which a copy of this poll is known to be so; nothing was changed"
         raise Fault(f"{election.poll}: {words}: run {command(election, 'codes')}, which writes it, then call again", Status.DOUBT)
-    poll = secret.poll_of(files.poll, aliases_now(election, files.poll))
-    if sheet_without_last(election, poll) != sheet_without_last(election, files.poll):
+    hidden = secret.poll_of(poll, aliases_now(election, poll))
+    if sheet_without_last(election, hidden) != sheet_without_last(election, poll):
         words = "debvote reads the poll under aliases otherwise than this one; write it in a simpler way, then call again"
         raise Fault(f"{election.poll}: {words}", Status.DOUBT)
-    return poll
+    return hidden
 
 
-def call_of(election: Election, sheet: Sheet, poll: bytes, asked: argparse.Namespace) -> Call:
+def call_of(election: Election, sheet: Sheet, poll: bytes, said: announcing.Said, *, has_poll: bool) -> Call:
     """What is called for, with the poll that is public."""
     is_secret = election.is_secret()
     poll_sum = sum_of(poll_file.as_announced(poll))
-    roll = None if asked.no_roll or is_secret else poll_file.roll_of(poll)
-    return Call(sheet, poll_sum, asked.until, asked.to, roll, has_poll=not asked.no_roll, is_secret=is_secret)
+    roll = poll_file.roll_of(poll) if has_poll and not is_secret else None
+    return Call(sheet, poll_sum, **vars(said), roll=roll, has_poll=has_poll, is_secret=is_secret)
 
 
 # ---------------------------------------------------------------- the folder
@@ -302,19 +283,29 @@ def say(election: Election, call: Call, is_anew: bool) -> None:
     if call.is_secret:
         print("The vote is secret: the poll of the call has aliases, and no name of an elector is in the folder.")
     print(f"The sum of the poll: {call.poll_sum}")
-    if call.until is None:
-        print("The call does not say until when one can vote; to say it, call again with --until TEXT.")
-    if call.to is None:
-        print("The call does not say where ballots are sent; to say it, call again with --to ADDRESS.")
+    print(*(f"{line}\n" for line in said_lines(election, call)), sep="", end="")
     if election.closed() is not None:
         print("The election is closed already: ballots that come now are late.")
     print(f"{election.poll} must not be changed any more.")
 
 
+def said_lines(election: Election, call: Call) -> list[str]:
+    """Until when and where to, or how the call gets to say it."""
+    lines = [call.until_words()] if call.until is not None else []
+    if call.is_extended:
+        lines.append(call.extended_words())
+    missing = ['until when one can vote (--until "YYYY-MM-DD HH:MM")'] if call.until is None else []
+    missing += ["where ballots are sent (--to ADDRESS)"] if call.to is None else []
+    if missing:
+        how = f"to say it, take the call back before anybody has seen it ({command(election, 'call', '--take-back')}), and call again"
+        lines.append(f"The call does not say {', nor '.join(missing)}; {how}.")
+    return lines
+
+
 def tell_apart(names: list[str]) -> None:
     """Says whose aliases an earlier call gives away."""
     print(f"Note: an earlier call had another roll, and whoever kept it sees that the new aliases are those of: {secret.some(names)}.")
-    print("  If it was published, remove the folder of the call, and hold the election in a new folder, with new codes for all.")
+    print("  If it was published, take the call back, and hold the election in a new folder, with new codes for all.")
 
 
 def say_next(election: Election) -> None:

@@ -3,8 +3,9 @@
 import argparse
 import re
 
-from debvote_tools import journal, secret
-from debvote_tools.election import poll_file
+from debvote_tools import announced, journal, secret
+from debvote_tools.announced import announced_in, in_words, minute_of
+from debvote_tools.election import closing_letter, poll_file
 from debvote_tools.election.asking import NO_BALLOTS, command, refused
 from debvote_tools.election.edited import EVEN_SO, stop_at_changes
 from debvote_tools.election.folder import Election, Files
@@ -21,6 +22,8 @@ LAST = "Last envelope"
 
 
 def options(parser: argparse.ArgumentParser) -> None:
+    early = "Close before the time until which one can vote; the page of the result tells it"
+    parser.add_argument("--early", action="store_true", help=early)
     parser.add_argument("--even-so", action="store_true", help=EVEN_SO)
 
 
@@ -32,9 +35,12 @@ def run(election: Election, asked: argparse.Namespace) -> int:
         sheet = sheet_of_all(election, files)
         before = election.closed()
         if before is not None:
-            return say_again(election, sheet, before)
+            return say_again(election, files, sheet, before)
         stop_at_a_last_envelope(election, files, sheet)
         stop_at_changes(election, files, even_so=asked.even_so)
+        demand_over(election, files, asked)
+        if not election.is_secret():
+            closing_letter.demand_free(election)
         files = end_last_line(election, files)
         number = int(sheet.facts["Lines"])
         poll = closed_poll(election, files, number)
@@ -42,6 +48,8 @@ def run(election: Election, asked: argparse.Namespace) -> int:
             election.keep_copy(election.poll)
             election.keep_closed(files.ballots or b"")
             after = election.act("close", files, f"1-{number}" if number else journal.NONE, poll=poll)
+            if not election.is_secret():
+                closing_letter.write(election, after, election.closed(), sheet.facts["Poll"])
             say(election, after, number)
     return Status.DECIDED
 
@@ -56,9 +64,26 @@ def sheet_of_all(election: Election, files: Files) -> Sheet:
     return sheet_in(answer.text)
 
 
+def demand_over(election: Election, files: Files, asked: argparse.Namespace) -> None:
+    """Stops where one can still vote, unless the vote is to be closed early."""
+    until, now = announced_in(files.poll).until, announced.now()
+    if until is None or now >= until:
+        return
+    there = minute_of(now, until)
+    if asked.early:
+        tell(f"Note: one can vote until {in_words(until)}, and it is {there}; the page of the result will tell it.")
+        return
+    words = f"one can vote until {in_words(until)}, and by the clock of this computer it is {there}; nothing was changed"
+    early = f"{command(election, 'close', '--early')}, which the page of the result tells"
+    raise Fault(f"{election.poll}: {words}: close when that time is over, or now with {early}", Status.DOUBT)
+
+
 # ---------------------------------------------------------------- where there is a last envelope already
-def say_again(election: Election, sheet: Sheet, before: Entry) -> int:
-    """Says when the close was; stops where the poll has another last envelope than this one gave it."""
+def say_again(election: Election, files: Files, sheet: Sheet, before: Entry) -> int:
+    """Says when the close was; stops where the poll has another last envelope than this one gave it.
+
+    Of a close that was killed it makes the letter.
+    """
     number = before.envelopes.rpartition("-")[2] or "0"
     if sheet.facts.get(LAST) != number:
         there = f"`last_envelope = {sheet.facts[LAST]}` stands there" if LAST in sheet.facts else "that line is gone"
@@ -66,6 +91,9 @@ def say_again(election: Election, sheet: Sheet, before: Entry) -> int:
         cure = "find out who changed it, and put the line of the close back, above every line that begins with ["
         raise Fault(f"{election.poll}: {words}; {cure}", Status.DOUBT)
     tell(f"The election was closed at {time_of(before)}; the last envelope in time is {number}. Nothing was changed.")
+    if not election.is_secret() and not election.closing_letter.exists() and files.sums.poll == before.sums.poll:
+        closing_letter.write(election, files, before, sheet.facts["Poll"])
+        tell(f"{election.closing_letter} was not there, and was made anew: send it to all electors before you count anything.")
     late = int(sheet.facts["Lines"]) - int(number)
     if late > 0:
         tell(f"{count_of(late, 'line')} came after it, and late ones count for nothing.")
@@ -120,7 +148,14 @@ def say(election: Election, after: Files, number: int) -> None:
         tell(f"Sum of {election.ballots}: {after.sums.ballots}")
     if election.is_secret():
         tell("The vote is secret: keep the sums of these two files to yourself; by them one can try guesses of who voted what.")
+    else:
+        tell(letter_words(election))
     tell(f"Next: {command(election, 'count')}")
+
+
+def letter_words(election: Election) -> str:
+    """What the letter of the close is for."""
+    return f"Send {election.closing_letter}, which has these sums, to all electors before you count anything."
 
 
 def called_sum(election: Election) -> list[str]:

@@ -7,7 +7,7 @@ import os
 import re
 
 from debvote_tools import journal, secret
-from debvote_tools.election import poll_file, slips
+from debvote_tools.election import announcing, poll_file, slips
 from debvote_tools.election.asking import call_command, command
 from debvote_tools.election.checking import checked
 from debvote_tools.election.folder import Election, Files
@@ -46,7 +46,7 @@ def run(election: Election, asked: argparse.Namespace) -> int:
         with uninterrupted():
             make_private(election)
             write(election, files, before, [*kept, *added])
-            has_slips = write_slips(election, sheet, roll, [*kept, *added])
+            has_slips = write_slips(election, sheet, election.poll.read_bytes())
             if is_strange:
                 tell(*of_another_vote(election))
             if others:
@@ -192,15 +192,16 @@ def write(election: Election, files: Files, before: list[Holder], holders: list[
         election.keep_copy(election.poll)
         election.act(secret.ACT, files, poll=poll)
         so_that = "so that no copy of it is published with its names"
-        tell(f"{election.poll} has got a line that says that the vote is secret, {so_that}.")
+        tell(f"{election.poll} has got the line `secret = true`, {so_that}.")
     elif holders != before or journal.last(election.entries(), secret.ACT) is None:
         election.act(secret.ACT, files)
 
 
-def write_slips(election: Election, sheet: Sheet, roll: list[str], holders: list[Holder]) -> bool:
+def write_slips(election: Election, sheet: Sheet, poll: bytes) -> bool:
     """Writes the slips of the electors on the roll, and says whether they are new. Of earlier ones it keeps a copy."""
-    by_name = {holder.name: holder for holder in holders}
-    data = slips.html(sheet.facts["Poll"], [by_name[name] for name in roll]).encode()
+    by_name = {holder.name: holder for holder in secret.holders_in(election.codes)}
+    said = announcing.said_of(election, poll)
+    data = slips.html(sheet, [by_name[name] for name in poll_file.roll_of(poll)], said.until, said.to).encode()
     if election.slips.exists() and secret.private_bytes(election.slips) == data:
         return False
     keep_copy(election, election.slips.name)
@@ -232,9 +233,9 @@ def say(
     if gone:
         have, count = ("has a code and is", "it counts") if len(gone) == 1 else ("have codes and are", "they count")
         tell(f"Note: {secret.some(gone)} {have} not on the roll; {count} for nothing.")
-    if has_slips:
-        tell(f"The slips, to print and cut out: {election.slips}")
     if election.is_called():
-        tell(f"Next: {command(election, 'status')}")
-    else:
-        tell(f"Next: give each elector their slip, so that nobody else sees it; then {call_command(election)}")
+        tell(*([f"The slips, to print and cut out: {election.slips}"] if has_slips else []), f"Next: {command(election, 'status')}")
+        return
+    if has_slips:
+        tell(f"The slips: {election.slips}; the call writes into them until when one can vote and where to, so print them after it.")
+    tell(f"Next: {call_command(election)}")

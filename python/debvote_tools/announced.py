@@ -1,0 +1,98 @@
+"""What a poll announces beside what is counted: until when one can vote, where ballots are sent, and whether the vote is secret.
+
+These are keys of the poll, so its announced sum covers them. The count does not read them. A later deadline is a line that the
+poll gets after the call, and that the sum leaves out.
+"""
+
+import dataclasses
+import datetime
+
+from debvote_tools.election import poll_file
+from debvote_tools.faults import Fault, Status
+
+DEADLINE, WORDS, ADDRESS, SECRET, EXTENDED = "deadline", "deadline_words", "address", "secret", "extended_to"
+KEYS = (DEADLINE, WORDS, ADDRESS, SECRET, EXTENDED)
+
+EXAMPLE = "2026-12-04T18:00:00+01:00"
+
+DAYS = ("Monday", "Tuesday", "Wednesday", "Thursday", "Friday", "Saturday", "Sunday")
+MONTHS = ("January", "February", "March", "April", "May", "June", "July", "August", "September", "October", "November", "December")
+
+
+@dataclasses.dataclass(frozen=True)
+class Announced:
+    """What a poll says. Each is none where it does not say it; `extended_to` is said after the call alone."""
+
+    deadline: datetime.datetime | None
+    words: str | None
+    address: str | None
+    is_secret: bool
+    extended_to: datetime.datetime | None
+
+    @property
+    def until(self) -> datetime.datetime | None:
+        """The time until which one can vote, where it is known as a time."""
+        return self.deadline if self.extended_to is None else self.extended_to
+
+    @property
+    def first_words(self) -> str | None:
+        """Until when one can vote, as it was announced first."""
+        return self.words if self.deadline is None else in_words(self.deadline)
+
+
+def announced_in(poll: bytes) -> Announced:
+    """What a poll says, which can be read as TOML. A value of another kind is a fault."""
+    said = poll_file.document(poll)
+    texts = {key: text_at(said, key) for key in (DEADLINE, WORDS, ADDRESS, EXTENDED)}
+    if said.get(SECRET, True) is not True:
+        raise wrong(SECRET, "it has to be `secret = true`, or not to be there")
+    times = {key: time_at(key, texts[key]) for key in (DEADLINE, EXTENDED)}
+    return Announced(times[DEADLINE], texts[WORDS], texts[ADDRESS], SECRET in said, times[EXTENDED])
+
+
+def text_at(said: dict[str, object], key: str) -> str | None:
+    """The text of a key."""
+    value = said.get(key)
+    if value is not None and not isinstance(value, str):
+        raise wrong(key, "it has to be a text between quotation marks")
+    return value
+
+
+def time_at(key: str, text: str | None) -> datetime.datetime | None:
+    """The time of a key."""
+    if text is None:
+        return None
+    try:
+        found = datetime.datetime.fromisoformat(text)
+    except ValueError:
+        found = None
+    if found is None or found.tzinfo is None:
+        raise wrong(key, f'it has to be a time with its offset, as {key} = "{EXAMPLE}"')
+    return found
+
+
+def wrong(key: str, why: str) -> Fault:
+    words = f"poll.toml: its line `{key}` can't be read: {why}; put it right with an editor, then run: {poll_file.CHECK}"
+    return Fault(words, Status.BAD_POLL)
+
+
+def now() -> datetime.datetime:
+    """The time by the clock of this computer."""
+    return datetime.datetime.now(datetime.UTC).replace(microsecond=0)
+
+
+def minute_of(time: datetime.datetime, other: datetime.datetime) -> str:
+    """A time in words, to the minute, with the offset of another time beside which it is told."""
+    return in_words(time.astimezone(other.tzinfo).replace(second=0))
+
+
+def in_words(time: datetime.datetime) -> str:
+    """A time in words, with its offset, as `Friday, 4 December 2026, 18:00 (UTC+01:00)`."""
+    clock = time.strftime("%H:%M:%S" if time.second else "%H:%M")
+    return f"{DAYS[time.weekday()]}, {time.day} {MONTHS[time.month - 1]} {time.year}, {clock} ({offset_in_words(time)})"
+
+
+def offset_in_words(time: datetime.datetime) -> str:
+    """The offset of a time, as `UTC+01:00`."""
+    offset = time.strftime("%z")
+    return "UTC" if not time.utcoffset() else f"UTC{offset[:3]}:{offset[3:5]}"

@@ -1,0 +1,175 @@
+"""What `call` is asked to announce, and the poll that announces it: before the call its keys, and after it a later time alone."""
+
+import argparse
+import dataclasses
+import datetime
+import json
+import re
+import unicodedata
+
+from debvote_tools import announced
+from debvote_tools.announced import ADDRESS, DEADLINE, EXTENDED, SECRET, WORDS, announced_in, in_words
+from debvote_tools.election import call_page, deadlines, poll_file
+from debvote_tools.election.asking import command
+from debvote_tools.election.folder import Election, Files
+from debvote_tools.election.telling import time_of
+from debvote_tools.faults import Fault, Status
+
+MAIL = re.compile(r"[A-Za-z0-9_][A-Za-z0-9._+=-]*@[A-Za-z0-9-]+(\.[A-Za-z0-9-]+)*")
+MAIL_LIMIT = 254
+
+# control signs, what ends a line, halves of signs, and what turns the text around it
+ODD = ("Cc", "Cs", "Co", "Zl", "Zp")
+TURNING = "\u202a\u202b\u202c\u202d\u202e\u2066\u2067\u2068\u2069"
+
+
+@dataclasses.dataclass(frozen=True)
+class Wanted:
+    """What the command line asks for; each is none where it does not."""
+
+    until: datetime.datetime | None
+    words: str | None
+    address: str | None
+
+
+@dataclasses.dataclass(frozen=True)
+class Said:
+    """What the call says: until when, what it said before it was extended, and where ballots are sent."""
+
+    until: str | None
+    first: str | None
+    is_extended: bool
+    to: str | None
+
+
+# ---------------------------------------------------------------- what is asked
+def options(parser: argparse.ArgumentParser) -> None:
+    until = 'Until when one can vote, as "2026-12-04 18:00"; after the call a later time extends the first'
+    zone = "The time zone of --until, as Europe/Berlin; that of this computer if it is not given"
+    words = "Until when one can vote, in your own words; then no command knows whether it is over"
+    parser.add_argument("--until", metavar="TIME", help=until)
+    parser.add_argument("--zone", metavar="ZONE", help=zone)
+    parser.add_argument("--until-words", metavar="TEXT", help=words)
+    parser.add_argument("--to", metavar="ADDRESS", help="The mail address that ballots are sent to")
+
+
+def wanted_of(asked: argparse.Namespace) -> Wanted:
+    """What is asked for. Stops where it can't be meant."""
+    if asked.zone is not None and asked.until is None:
+        raise Fault("--zone: it goes with --until; nothing was changed: write both, or none of them", Status.BAD_WORDS)
+    if asked.until is not None and asked.until_words is not None:
+        words = "it stands in place of --until; nothing was changed: leave one of both out"
+        raise Fault(f"--until-words: {words}", Status.BAD_WORDS)
+    demand_line(asked.until_words)
+    demand_address(asked.to)
+    until = None if asked.until is None else deadlines.time_of(asked.until, asked.zone)
+    return Wanted(until, asked.until_words, asked.to)
+
+
+def demand_line(text: str | None) -> None:
+    """Stops where the words are no line of text."""
+    if text is not None and (not text.strip() or any(unicodedata.category(sign) in ODD or sign in TURNING for sign in text)):
+        words = "it has to be one line of text, in UTF-8; nothing was changed: write it anew"
+        raise Fault(f"--until-words: {words}", Status.BAD_WORDS)
+
+
+def demand_address(text: str | None) -> None:
+    """Stops where this is not one plain mail address."""
+    if text is not None and (len(text) > MAIL_LIMIT or not MAIL.fullmatch(text)):
+        words = "it has to be one mail address, as secretary@example.org; nothing was changed: write it anew"
+        raise Fault(f"--to: {words}", Status.BAD_WORDS)
+
+
+# ---------------------------------------------------------------- the poll that says it
+def poll_saying(election: Election, files: Files, wanted: Wanted) -> bytes:
+    """The poll that says what is wanted. Stops where it can't be said any more, or would be over."""
+    poll = files.poll if files.poll.endswith(b"\n") else files.poll + b"\n"
+    if election.is_called():
+        return extended(election, poll, wanted)
+    before = announced_in(poll)
+    changed = with_wanted(poll, wanted)
+    if election.is_secret():
+        changed = poll_file.with_key(changed, SECRET, "true") if not before.is_secret else changed
+    if (until := announced_in(changed).until) is not None:
+        deadlines.demand_future(until, announced.now())
+    return changed
+
+
+def with_wanted(poll: bytes, wanted: Wanted) -> bytes:
+    """The poll with the keys that are wanted. A new time takes the place of what was said of the time before.
+
+    What it says already stays where it is, so that its sum stays.
+    """
+    said = announced_in(poll)
+    if (wanted.until, wanted.words) in ((said.until, None), (None, said.words)):
+        wanted = dataclasses.replace(wanted, until=None, words=None)
+    if wanted.until is not None or wanted.words is not None:
+        for key in (DEADLINE, WORDS, EXTENDED):
+            poll = poll_file.without_key(poll, key)
+    if wanted.until is not None:
+        poll = poll_file.with_key(poll, DEADLINE, quoted(wanted.until.isoformat()))
+    if wanted.words is not None:
+        poll = poll_file.with_key(poll, WORDS, quoted(wanted.words))
+    if wanted.address not in (None, said.address):
+        poll = poll_file.with_key(poll, ADDRESS, quoted(wanted.address))
+    return poll
+
+
+def quoted(text: str) -> str:
+    """A text as TOML has it."""
+    return json.dumps(text, ensure_ascii=False)
+
+
+def extended(election: Election, poll: bytes, wanted: Wanted) -> bytes:
+    """The poll of a call that was made already, with the later time that is wanted."""
+    said, before = announced_in(poll), said_of(election, poll)
+    if wanted.address not in (None, before.to):
+        raise said_already(election, "--to", f"ballots are sent to {before.to}" if before.to else "no address is said")
+    if wanted.words not in (None, before.until):
+        raise said_already(election, "--until-words", f"one can vote until {before.until}" if before.until else "no time is said")
+    if wanted.until is None or wanted.until == said.until:
+        return poll
+    close = election.closed()
+    if close is not None:
+        words = f"the vote was closed at {time_of(close)}, and nobody can vote any more; nothing was changed"
+        raise Fault(f"--until: {words}", Status.DOUBT)
+    if said.until is not None and wanted.until < said.until:
+        words = f"it is earlier than the time that was called, {in_words(said.until.astimezone(wanted.until.tzinfo))}"
+        raise Fault(f"--until: {words}, and electors rely on that; nothing was changed: write a later time", Status.DOUBT)
+    deadlines.demand_future(wanted.until, announced.now())
+    return poll_file.with_key(poll, EXTENDED, quoted(wanted.until.isoformat()))
+
+
+def said_already(election: Election, option: str, what: str) -> Fault:
+    """The fault of what can't be said any more, since the sum of the poll that was called covers it."""
+    words = f"in the poll that was called {what}, and its sum covers this; nothing was changed"
+    anew = f"where no ballot has come and nobody has seen the call, take it back: {command(election, 'call', '--take-back')}"
+    return Fault(f"{option}: {words}: tell the electors by letter, or, {anew}", Status.DOUBT)
+
+
+# ---------------------------------------------------------------- what the call says
+def said_of(election: Election, poll: bytes) -> Said:
+    """What a call with this poll says. Of a call of version 1.0.0 its page says what its poll does not."""
+    said = announced_in(poll)
+    is_extended = said.extended_to is not None
+    until, address = said.first_words, said.address
+    if until is None or address is None:
+        page_until, page_address = said_on_page(election)
+        until, address = until or page_until, address or page_address
+    if not is_extended:
+        return Said(until, None, False, address)
+    return Said(in_words(said.extended_to), until, True, address)
+
+
+def said_on_page(election: Election) -> tuple[str | None, str | None]:
+    """What the page of the call says, where it is there."""
+    page = election.call / "index.html"
+    if not page.is_file() or page.is_symlink():
+        return (None, None)
+    return call_page.said_in(page.read_text(encoding="utf-8", errors="replace"))
+
+
+def lines_that_differ(before: bytes, after: bytes) -> list[str]:
+    """The lines that the poll has got."""
+    old = set(before.decode("utf-8", "replace").splitlines())
+    return [line for line in after.decode("utf-8", "replace").splitlines() if line not in old]
