@@ -11,8 +11,8 @@ from debvote_tools.faults import Doubt, Fault, Status
 from debvote_tools.files import BALLOTS_LIMIT, POLL_LIMIT, read_at_most, sum_of, sync_folder, write_public
 from debvote_tools.closed import LAST, lines_of
 from debvote_tools.program import findings_in, standing_in
-from debvote_tools.publish import doubts, letter, recounting, second_count, secret
-from debvote_tools.publish.called import about_call, announced_sum, called_of
+from debvote_tools.publish import casting, doubts, letter, recounting, second_count, secret
+from debvote_tools.publish.called import about_call, announced_sum, called_of, folders_of
 from debvote_tools.publish.calls import BALLOTS, POLL, SHEET, Calls, calls_in
 from debvote_tools.publish.data import result_json, votes_csv
 from debvote_tools.publish.labels import labels_in, labels_of, told
@@ -20,7 +20,7 @@ from debvote_tools.publish.page import page_of
 from debvote_tools.publish.picture import picture_of
 from debvote_tools.publish.published import File, Further, Published
 from debvote_tools.publish.texts import text_in
-from debvote_tools.sheet import sheet_in
+from debvote_tools.sheet import Sheet, sheet_in
 
 PAGE, SUMS = "index.html", "SHA256SUMS"
 
@@ -35,6 +35,8 @@ class Given:
     about: str | None
     # the sum that the call for votes beside the poll announced
     announced: str | None
+    # whose the casting vote was
+    cast: casting.Cast = casting.Cast()
 
 
 def publish(asked: argparse.Namespace, beside: pathlib.Path) -> tuple[str, int]:
@@ -74,13 +76,14 @@ def given_in(asked: argparse.Namespace) -> Given:
     """Reads what is given beside poll and ballots. A fault of it is told before anything is counted."""
     labels = {} if asked.labels is None else labels_in(asked.labels)
     about = None if asked.about is None else text_in(asked.about, "about")
-    return Given(asked.labels, labels, about, announced_sum(asked.poll))
+    return Given(asked.labels, labels, about, announced_sum(asked.poll), casting.cast_in(asked.cast_by, asked.cast_on))
 
 
 def texts_of(asked: argparse.Namespace, given: Given) -> dict[str, str]:
     """The texts that are given for the page, by their files."""
     labels = "\n".join(text for _, text in given.labels.values())
-    return {file: text for file, text in ((asked.labels, labels), (asked.about, given.about)) if file is not None}
+    found = {file: text for file, text in ((asked.labels, labels), (asked.about, given.about)) if file is not None}
+    return found if given.cast.by is None else found | {"--cast-by": given.cast.by}
 
 
 def fill(folder: pathlib.Path, asked: argparse.Namespace, given: Given, beside: pathlib.Path) -> tuple[str, int]:
@@ -92,6 +95,7 @@ def fill(folder: pathlib.Path, asked: argparse.Namespace, given: Given, beside: 
     write_public(folder / BALLOTS, ballots)
     text, status = count(calls, asked)
     found = doubts.found_in(calls, asked.poll, asked.ballots, sheet_in(text))
+    found += about_casting(asked, given, sheet_in(text), poll)
     found += about_call(asked.poll, called_of(poll, sheet_in(text).facts.get(LAST), given.announced))
     if found and not asked.even_so:
         raise doubts.stop(found)
@@ -108,6 +112,7 @@ def fill_secret(folder: pathlib.Path, asked: argparse.Namespace, given: Given, b
         text = count(private, asked)[0]
         found = doubts.found_in(private, asked.poll, asked.ballots, sheet_in(text))
         hidden = secret.hidden_of(codes, poll, standing_in(private.standing()))
+        found += about_casting(asked, given, sheet_in(text), hidden.poll)
         found += about_call(asked.poll, called_of(hidden.poll, None, given.announced, is_secret=True))
         if found and not asked.even_so:
             raise doubts.stop(found)
@@ -122,6 +127,13 @@ def fill_secret(folder: pathlib.Path, asked: argparse.Namespace, given: Given, b
     said = make(calls, published, given, secret.without_names(found), further)
     secret.demand_no_code(folder, codes)
     return said, status
+
+
+def about_casting(asked: argparse.Namespace, given: Given, sheet: Sheet, poll: bytes) -> list[Doubt]:
+    """What there is to doubt about the casting vote; one that can't decide stops the run. The poll is the one to be published."""
+    casting.demand_left(sheet, asked.casting)
+    beside = pathlib.Path(os.path.realpath(asked.folder)).parent
+    return casting.doubts_of(sheet, given.cast, poll, dict.fromkeys([beside, *folders_of(asked.poll)]))
 
 
 def make(calls: Calls, text: str, given: Given, found: list[Doubt], further: Further) -> str:
@@ -140,7 +152,7 @@ def make(calls: Calls, text: str, given: Given, found: list[Doubt], further: Fur
     lines = lines_of(ballots)
     published = Published(
         sheet, standing, refused, lines, picture, calls.casting, verified.rstrip("\n"), version, found, called, labels,
-        given.about, further,
+        given.about, further, cast=given.cast,
     )  # fmt: skip
     write_files(folder, published, poll, ballots)
     second_count.demand_same(folder, calls.casting, text, standing)

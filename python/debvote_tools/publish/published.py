@@ -8,6 +8,7 @@ from html import escape
 from debvote_tools.faults import Doubt
 from debvote_tools.program import Finding, Totals
 from debvote_tools.publish.called import Called
+from debvote_tools.publish.casting import Cast
 from debvote_tools.publish.labels import Labels
 from debvote_tools.sheet import Sheet
 
@@ -63,6 +64,8 @@ class Published:
     labels: Labels
     about: str | None
     further: Further
+    # whose the casting vote was, in the words of those who publish
+    cast: Cast = Cast()
 
     def title(self) -> str:
         """What the election is called on the page, in HTML."""

@@ -26,7 +26,7 @@ SIXTY_FOUR = re.compile(r"(?<![0-9a-f])[0-9a-f]{64}(?![0-9a-f])")
 
 def demand_no_private_file(file: str, election: pathlib.Path | None) -> None:
     """Stops where the file that is given for the page is one of those of the election that are private, under any name."""
-    if election is None:
+    if election is None or not pathlib.Path(file).exists():
         return
     given = pathlib.Path(file).resolve()
     home = election.resolve()
