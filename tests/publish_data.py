@@ -448,7 +448,12 @@ def try_folder(room, seed, election, count, casting):
         # no Graphviz: pictures are tried elsewhere
         how = {"cwd": room, "env": {**os.environ, "PATH": str(PROGRAM.parent)}, "capture_output": True, "timeout": SECONDS}
         ended = subprocess.run([sys.executable, PUBLISH, *words, folder.name], **how)
-        wanted = 1 if count.winner is None and casting is None else 8 if count.winner is None else 0
+        if casting is not None and count.casting not in count.final:
+            demand((ended.returncode, folder.exists()) == (8, False), f"status {ended.returncode} in place of 8: {ended.stderr}")
+            left = " and ".join(f"{option} {count.poll.names[option]}" for option in count.final)
+            demand(f"which is not left; left {'are' if count.final[1:] else 'is'} {left};" in ended.stderr.decode(), ended.stderr)
+            return collections.Counter()
+        wanted = 1 if count.winner is None else 0
         demand(ended.returncode == wanted, f"status {ended.returncode} in place of {wanted}: {ended.stderr}")
     contents = [{file.name: file.read_bytes() for file in folder.iterdir()} for folder in folders]
     demand(all(content == contents[0] for content in contents), "two runs make the same bytes")

@@ -388,7 +388,7 @@ def try_commands(expect, scratch):
     ballots = (room / "ballots").read_text()
     (room / "poll.toml").write_text((room / "poll.toml").read_text() + "last_envelope = 7\n")
     (room / "ballots").write_text(ballots + "Ada 1,2,3,4\nada 1,2,3,4\nben 1\n")
-    expect("commands: its status", publish(room, *FILES, "--casting", "Bottle", "result")[1:], ("", 0))
+    expect("commands: its status", publish(room, *FILES, "--casting", "Bottle", "--cast-by", "Anna", "--cast-on", "2026-12-05", "result")[1:], ("", 0))
     folder = room / "result"
     before = {file.name: file.read_bytes() for file in folder.iterdir()}
     page = (folder / "index.html").read_text().partition('<h2 id="How-to-verify">')[2]

@@ -32,6 +32,8 @@ complete -c debvote-election -n "__fish_seen_subcommand_from count publish" -l c
 complete -c debvote-election -n "__fish_seen_subcommand_from close" -l even-so -d "Close although ballots were changed by hand"
 complete -c debvote-election -n "__fish_seen_subcommand_from publish" -l even-so -d "Publish although something looks wrong"
 complete -c debvote-election -n "__fish_seen_subcommand_from publish" -l secret -d "Publish a secret vote under aliases"
+complete -c debvote-election -n "__fish_seen_subcommand_from publish" -x -l cast-by -d "Whose the casting vote was"
+complete -c debvote-election -n "__fish_seen_subcommand_from publish" -x -l cast-on -d "When the casting vote was given"
 complete -c debvote-election -n "__fish_seen_subcommand_from publish" -l voters -d "List who voted, in a secret vote"
 complete -c debvote-election -n "__fish_seen_subcommand_from publish" -l labels -r -F -d "What title and options are called on the page"
 complete -c debvote-election -n "__fish_seen_subcommand_from publish" -l about -r -F -d "A text for the page"

@@ -6,6 +6,8 @@ complete -c debvote-publish -l casting -x -d "The option that the casting vote c
 complete -c debvote-publish -l desks -x -a "1 2 3 4 5 6 7 8" -d "How many desks enter the ballots"
 complete -c debvote-publish -l even-so -d "Publish where there are doubts too"
 complete -c debvote-publish -l secret -r -F -d "The codes of a secret vote"
+complete -c debvote-publish -x -l cast-by -d "Whose the casting vote was"
+complete -c debvote-publish -x -l cast-on -d "When the casting vote was given"
 complete -c debvote-publish -l voters -d "List who voted, in a secret vote"
 complete -c debvote-publish -l labels -r -F -d "What title and options are called on the page"
 complete -c debvote-publish -l about -r -F -d "A text for the page"

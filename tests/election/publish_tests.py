@@ -1,6 +1,7 @@
 """`publish`: debvote-publish on the files of the election."""
 
 import fcntl
+import html
 import os
 import pathlib
 import shlex
@@ -14,6 +15,7 @@ import tomllib
 import support
 
 WON = "ada 1,2,4,3\nben 2,1,4,3\ncleo 1,2,4,3\n"
+CAST = ["--cast-by=Zo\u00eb <b>", "--cast-on=2026-12-05"]
 TIE = "ada 1,2,4,3\nben 2,1,4,3\n"
 
 # stands for debvote-publish: notes its words, and does what it is told to by its environment
@@ -96,7 +98,7 @@ class Publish(PublishTest):
         ended = self.election(*words, cwd=self.scratch)
         self.assertEqual((ended.faults, ended.status), ("", 0))
         page = (self.folder / "result" / "index.html").read_text()
-        self.assertIn("<b>1 <bdi>Am See</bdi></b> has won.", page)
+        self.assertIn("<b>1 <bdi>Am See</bdi></b> (in the poll: At the lake) has won.", page)
         self.assertIn("Geprüft von Anna.", page)
         again = self.election(*words, cwd=self.scratch)
         self.assert_fault(again, 2, "publish --labels=labels --about=about election/result-2\n")
@@ -141,22 +143,75 @@ class Publish(PublishTest):
         self.assertIn(
             "Tie: 1 2\nverified\nNext: it is a tie: put the folder result on the web site, ask for the casting vote", ended.output
         )
-        self.assertTrue(ended.output.endswith(": debvote-election publish --casting=NAME result-2\n"))
+        self.assertTrue(ended.output.endswith(": debvote-election publish --casting=NAME --cast-by=WHO --cast-on=DATE result-2\n"))
         ended = self.election("publish", "tie")
-        self.assertTrue(ended.output.endswith(": debvote-election publish --casting=NAME result-2\n"))
+        self.assertTrue(ended.output.endswith(": debvote-election publish --casting=NAME --cast-by=WHO --cast-on=DATE result-2\n"))
         shutil.rmtree(self.folder / "result")
         ended = self.election("publish", "tie-2")
-        self.assertTrue(ended.output.endswith(": debvote-election publish --casting=NAME\n"))
-        ended = self.election("publish", "--casting", "In the town hall", "result-2")
+        self.assertTrue(ended.output.endswith(": debvote-election publish --casting=NAME --cast-by=WHO --cast-on=DATE\n"))
+        ended = self.election("publish", "--casting", "In the town hall", *CAST, "result-2")
         self.assertEqual((ended.output.splitlines()[0], ended.status), ("Winner: 2 In the town hall by casting vote", 0))
 
     def test_a_casting_vote_that_is_not_left(self) -> None:
         self.write("ballots", TIE)
         self.close()
         ended = self.election("publish", "--casting", "Further discussion")
-        self.assertEqual(ended.status, 8)
-        self.assert_published(self.folder / "result")
-        self.assertIn("Next: it is a tie: ", ended.output)
+        left = "no casting vote can choose Further discussion, which is not left; left are 1 At the lake and 2 In the town hall"
+        self.assert_fault(ended, 8, "--casting: ", left, "nothing was published")
+        self.assertFalse((self.folder / "result").exists())
+
+    def test_a_casting_vote_where_one_option_is_left(self) -> None:
+        self.write("ballots", WON)
+        self.close()
+        ended = self.election("publish", "--casting", "In the town hall")
+        self.assert_fault(ended, 8, "In the town hall, which is not left; left is 1 At the lake; nothing was published")
+        ended = self.election("publish", "--casting", "At the lake", *CAST)
+        self.assert_fault(ended, 2, "--cast-by and --cast-on: no casting vote decides here; leave them out")
+        self.assertFalse((self.folder / "result").exists())
+        self.assertEqual(self.election("publish", "--casting", "At the lake").status, 0)
+
+    def test_whose_casting_vote_it_was(self) -> None:
+        self.write("ballots", TIE)
+        self.close()
+        for words in ([], CAST[:1], CAST[1:]):
+            ended = self.election("publish", "--casting", "At the lake", *words)
+            self.assert_fault(ended, 9, "the casting vote decides, and it is not said whose it was, and when", "--cast-by \"NAME\" --cast-on 2026-12-05")
+            self.assertFalse((self.folder / "result").exists())
+        for words, told in [
+            (["--cast-by=", CAST[1]], "--cast-by: it has to be a name on one line, of at most 200 characters"),
+            (["--cast-by=a\nb", CAST[1]], "--cast-by: it has to be a name on one line"),
+            (["--cast-by=a\u202eb", CAST[1]], "--cast-by: it has to be a name on one line"),
+            ([CAST[0], "--cast-on=tomorrow"], "--cast-on: `tomorrow` is no day; write it as 2026-12-05"),
+            ([CAST[0], "--cast-on=2026-02-30"], "--cast-on: `2026-02-30` is no day"),
+        ]:
+            self.assert_fault(self.election("publish", "--casting", "At the lake", *words), 2, told)
+        self.assertEqual(self.election("publish", "--casting", "At the lake", *CAST).status, 0)
+        page = html.unescape(self.read("result/index.html").decode())
+        said = "The secretary says that the casting vote was the one of Zo\u00eb <b>, given on 5 December 2026. No count can show this."
+        self.assertIn(said, page.partition("</section>")[0])
+        self.assertIn(said, " ".join(self.read("result/letter.txt").decode().split()))
+        self.assertNotIn("Zo\u00eb <b>", self.read("result/index.html").decode())
+        ended = self.election("publish", "--casting", "At the lake", "--even-so", "not-said")
+        self.assertEqual(ended.status, 0)
+        page = self.read("not-said/index.html").decode()
+        self.assertIn("The casting vote decides, and those who publish do not say whose it was, and when it was given.", page)
+
+    def test_a_second_casting_vote(self) -> None:
+        self.write("ballots", TIE)
+        self.close()
+        self.assertEqual(self.election("publish", "--casting", "At the lake", *CAST).status, 0)
+        words = ["publish", "--casting", "In the town hall", *CAST]
+        (self.scratch / "web").mkdir()
+        for target in ("result-2", self.scratch / "web" / "spring"):
+            ended = self.election(*words, target)
+            self.assert_fault(ended, 9, "result: this folder was made with a casting vote for 1 At the lake; there is one casting vote")
+            self.assertFalse((self.folder / target).exists())
+        self.assertEqual(self.election(*words, "--even-so", "result-2").status, 0)
+        page = self.read("result-2/index.html").decode()
+        self.assertIn("An earlier folder of this vote, result, was made with another casting vote: for 1 At the lake.", page)
+        self.assertEqual(self.election("publish", "--casting", "At the lake", *CAST, "result-3").status, 9)
+        shutil.rmtree(self.folder / "result-2")
+        self.assertEqual(self.election("publish", "--casting", "At the lake", *CAST, "result-3").status, 0)
 
     def test_a_name_that_is_no_option(self) -> None:
         before = self.contents()
@@ -168,7 +223,7 @@ class Publish(PublishTest):
         self.write("poll.toml", support.POLL.replace("In the town hall", "--even-so"))
         self.write("ballots", TIE)
         self.close()
-        ended = self.election("publish", "--casting=--even-so")
+        ended = self.election("publish", "--casting=--even-so", *CAST)
         self.assertEqual((ended.output.splitlines()[0], ended.status), ("Winner: 2 --even-so by casting vote", 0))
 
     def test_lines_from_windows_have_a_cure_that_can_be_typed(self) -> None:

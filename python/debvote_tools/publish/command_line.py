@@ -29,6 +29,7 @@ def parser() -> argparse.ArgumentParser:
     codes = "The vote is secret: publish the ballots that stand under the aliases of this file, which debvote-election codes made"
     found.add_argument("--secret", metavar="CODES", help=codes)
     voters_option(found)
+    cast_options(found)
     page_options(found)
     found.add_argument("folder", metavar="FOLDER", help="The folder to make; one that is there must be empty")
     return found
@@ -37,6 +38,17 @@ def parser() -> argparse.ArgumentParser:
 def voters_option(parser: argparse.ArgumentParser) -> None:
     """The list of who voted, as debvote-election takes it too."""
     parser.add_argument("--voters", action="store_true", help="In a secret vote: list who voted, without their votes")
+
+
+def cast_options(parser: argparse.ArgumentParser) -> None:
+    """Whose the casting vote was, as debvote-election takes it too."""
+    parser.add_argument("--cast-by", metavar="NAME", help="Whose the casting vote was that decides; the page says it in your name")
+    parser.add_argument("--cast-on", metavar="DATE", help="When the casting vote was given, as 2026-12-05")
+
+
+def cast_words(asked: argparse.Namespace) -> list[str]:
+    """The words that pass these options on."""
+    return [f"{name}={said}" for name, said in (("--cast-by", asked.cast_by), ("--cast-on", asked.cast_on)) if said is not None]
 
 
 def page_options(parser: argparse.ArgumentParser) -> None:

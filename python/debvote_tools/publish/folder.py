@@ -12,8 +12,8 @@ from debvote_tools.files import BALLOTS_LIMIT, POLL_LIMIT, read_at_most, sum_of,
 from debvote_tools.closed import LAST, lines_of
 from debvote_tools.election.poll_file import roll_of
 from debvote_tools.program import findings_in, standing_in
-from debvote_tools.publish import doubts, letter, recounting, roll, second_count, secret
-from debvote_tools.publish.called import about_call, announced_sum, called_of
+from debvote_tools.publish import casting, doubts, letter, recounting, roll, second_count, secret
+from debvote_tools.publish.called import about_call, announced_sum, called_of, folders_of
 from debvote_tools.publish.calls import BALLOTS, POLL, SHEET, Calls, calls_in
 from debvote_tools.publish.data import result_json, votes_csv
 from debvote_tools.publish.labels import labels_in, labels_of, told
@@ -22,7 +22,7 @@ from debvote_tools.publish.picture import picture_of
 from debvote_tools.publish.published import File, Further, Published, Times
 from debvote_tools.publish.texts import reason_in, text_in
 from debvote_tools.publish.times import times_of
-from debvote_tools.sheet import sheet_in
+from debvote_tools.sheet import Sheet, sheet_in
 
 PAGE, SUMS = "index.html", "SHA256SUMS"
 
@@ -42,6 +42,8 @@ class Given:
     because: str | None
     # the sum that the call for votes beside the poll announced
     announced: str | None
+    # whose the casting vote was
+    cast: casting.Cast = casting.Cast()
 
 
 def publish(asked: argparse.Namespace, beside: pathlib.Path) -> tuple[str, int]:
@@ -88,14 +90,16 @@ def given_in(asked: argparse.Namespace) -> Given:
     about = None if asked.about is None else text_in(asked.about, "about")
     who = {} if asked.who is None else roll.who_in(asked.who)
     because = None if asked.because is None else reason_in(asked.because)
-    return Given(asked.labels, labels, about, asked.who, who, because, announced_sum(asked.poll))
+    cast = casting.cast_in(asked.cast_by, asked.cast_on)
+    return Given(asked.labels, labels, about, asked.who, who, because, announced_sum(asked.poll), cast)
 
 
 def texts_of(asked: argparse.Namespace, given: Given) -> dict[str, str]:
     """The texts that are given for the page, by their files."""
     labels = "\n".join(text for _, text in given.labels.values())
     found = {file: text for file, text in ((asked.labels, labels), (asked.about, given.about)) if file is not None}
-    return found if given.because is None else found | {"--because": given.because}
+    said = (("--because", given.because), ("--cast-by", given.cast.by))
+    return found | {option: text for option, text in said if text is not None}
 
 
 def fill(folder: pathlib.Path, asked: argparse.Namespace, given: Given, beside: pathlib.Path) -> tuple[str, int]:
@@ -107,6 +111,7 @@ def fill(folder: pathlib.Path, asked: argparse.Namespace, given: Given, beside: 
     write_public(folder / BALLOTS, ballots)
     text, status = count(calls, asked)
     found = doubts.found_in(calls, asked.poll, asked.ballots, sheet_in(text))
+    found += about_casting(asked, given, sheet_in(text), poll)
     found += about_call(asked.poll, called_of(poll, sheet_in(text).facts.get(LAST), given.announced))
     settle(found, asked)
     times = times_of(doubts.election_of(asked.poll), poll, ballots, sheet_in(text).facts.get(LAST))
@@ -123,6 +128,7 @@ def fill_secret(folder: pathlib.Path, asked: argparse.Namespace, given: Given, b
         text = count(private, asked)[0]
         found = doubts.found_in(private, asked.poll, asked.ballots, sheet_in(text))
         hidden = secret.hidden_of(codes, poll, standing_in(private.standing()))
+        found += about_casting(asked, given, sheet_in(text), hidden.poll)
         found += about_call(asked.poll, called_of(hidden.poll, None, given.announced, is_secret=True))
         settle(found, asked)
         totals = findings_in(private.explain()).totals
@@ -138,6 +144,13 @@ def fill_secret(folder: pathlib.Path, asked: argparse.Namespace, given: Given, b
     said = make(calls, published, given, secret.without_names(found), further, times)
     secret.demand_no_code(folder, codes)
     return said, status
+
+
+def about_casting(asked: argparse.Namespace, given: Given, sheet: Sheet, poll: bytes) -> list[Doubt]:
+    """What there is to doubt about the casting vote; one that can't decide stops the run. The poll is the one to be published."""
+    casting.demand_left(sheet, asked.casting)
+    beside = pathlib.Path(os.path.realpath(asked.folder)).parent
+    return casting.doubts_of(sheet, given.cast, poll, dict.fromkeys([beside, *folders_of(asked.poll)]))
 
 
 def settle(found: list[Doubt], asked: argparse.Namespace) -> None:
@@ -176,7 +189,7 @@ def make(calls: Calls, text: str, given: Given, found: list[Doubt], further: Fur
     lines = lines_of(ballots)
     published = Published(
         sheet, standing, refused, lines, picture, calls.casting, verified.rstrip("\n"), version, found, called, labels,
-        given.about, further, times, voting_of((folder / POLL).read_bytes(), standing, given, further), given.because,
+        given.about, further, times, voting_of((folder / POLL).read_bytes(), standing, given, further), given.because, given.cast,
     )  # fmt: skip
     write_files(folder, published, poll, ballots)
     second_count.demand_same(folder, calls.casting, text, standing)

@@ -2,6 +2,7 @@
 
 from debvote_tools.election.call_letter import copied, heading, wrapped
 from debvote_tools.files import sum_of
+from debvote_tools.publish import casting
 from debvote_tools.publish.published import Published
 
 NAME = "letter.txt"
@@ -27,6 +28,7 @@ def letter_of(found: Published, poll: bytes, ballots: bytes) -> bytes:
     parts = [
         wrapped(found.sheet.facts["Poll"]),
         wrapped(found.sheet.last_line),
+        *([] if casting.told(found.cast) is None else [wrapped(casting.told(found.cast))]),
         heading("The files of the result"),
         wrapped("The sum (SHA-256) of the file poll.toml:"),
         copied(sum_of(poll)),
@@ -37,4 +39,4 @@ def letter_of(found: Published, poll: bytes, ballots: bytes) -> bytes:
         copied("sha256sum poll.toml ballots.txt"),
         wrapped(THEN),
     ]
-    return "\n".join(parts).encode("ascii")
+    return "\n".join(parts).encode("utf-8")

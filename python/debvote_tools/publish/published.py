@@ -10,6 +10,7 @@ from debvote_tools.faults import Doubt
 from debvote_tools.journal import Entry
 from debvote_tools.program import Finding, Totals
 from debvote_tools.publish.called import Called
+from debvote_tools.publish.casting import Cast
 from debvote_tools.publish.labels import Labels
 from debvote_tools.publish.roll import Voting
 from debvote_tools.sheet import Sheet
@@ -86,6 +87,8 @@ class Published:
     voting: Voting | None = None
     # why the doubts are none, in the words of those who publish
     because: str | None = None
+    # whose the casting vote was, in the words of those who publish
+    cast: Cast = Cast()
 
     def title(self) -> str:
         """What the election is called on the page, in HTML."""

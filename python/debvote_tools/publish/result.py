@@ -3,6 +3,7 @@
 from html import escape
 
 from debvote_tools.pages import in_their_words, joined, listed, paragraph, part
+from debvote_tools.publish import casting
 from debvote_tools.publish.doubts import Doubt
 from debvote_tools.publish.published import Published
 from debvote_tools.publish.recounting import GUIDE
@@ -32,9 +33,9 @@ def outcome(found: Published) -> str:
     winner = sheet.winner()
     if winner is not None:
         option, is_by_casting = winner
-        casting = " Several options were left, and the casting vote chose this one." if is_by_casting else ""
+        by_casting = " Several options were left, and the casting vote chose this one." if is_by_casting else ""
         default = " It is the default option." if option == sheet.default else ""
-        return f"{found.option(option)} has won.{casting}{default}"
+        return f"{found.option(option)} has won.{by_casting}{default}"
     left = joined(map(found.option, sheet.final_set()))
     outside = sheet.casting_outside()
     if outside is None:
@@ -100,7 +101,8 @@ def result(found: Published) -> str:
     in_poll = []
     if found.labels.title is not None:
         in_poll = [paragraph(f"In the poll the title is: {escape(found.sheet.facts['Poll'])}")]
-    return part("Result", *in_poll, f'<p class="outcome">{outcome(found)}</p>', *marked, facts(found), paragraph(COUNTED))
+    said = [f'<p class="outcome">{outcome(found)}</p>', *casting.on_page(found.cast), *marked, facts(found), paragraph(COUNTED)]
+    return part("Result", *in_poll, *said)
 
 
 # ---------------------------------------------------------------- what the society says of it

@@ -16,7 +16,7 @@ from debvote_tools.election.secrecy import demand_own_folder
 from debvote_tools.faults import Fault, Status
 from debvote_tools.program import casting_words
 from debvote_tools.publish import letter
-from debvote_tools.publish.command_line import page_options, page_words, voters_option
+from debvote_tools.publish.command_line import cast_options, cast_words, page_options, page_words, voters_option
 
 HELP = "Make the folder of the result for a web site"
 
@@ -31,6 +31,7 @@ def options(parser: argparse.ArgumentParser) -> None:
     secret = "The vote is secret: publish the ballots that stand under their aliases, and nothing else of what came"
     parser.add_argument("--secret", action="store_true", help=secret)
     voters_option(parser)
+    cast_options(parser)
     page_options(parser)
     said = "The folder to make; the folder result of the election if it is not given"
     parser.add_argument("target", metavar="FOLDER", nargs="?", help=said)
@@ -72,7 +73,7 @@ def again(asked: argparse.Namespace, is_secret: bool) -> list[str]:
     """The words of this command, but for the folder that it makes."""
     given = [("--even-so", asked.even_so), ("--secret", is_secret), ("--voters", asked.voters)]
     flags = [name for name, is_given in given if is_given]
-    return ["publish", *casting_words(asked.casting), *flags, *page_words(asked)]
+    return ["publish", *casting_words(asked.casting), *cast_words(asked), *flags, *page_words(asked)]
 
 
 def words(election: Election, files: Files, asked: argparse.Namespace) -> list[str]:
@@ -80,7 +81,7 @@ def words(election: Election, files: Files, asked: argparse.Namespace) -> list[s
     ballots = NO_BALLOTS if files.ballots is None else str(election.ballots)
     even_so = ["--even-so"] if asked.even_so else []
     secret = ["--secret", str(election.codes), *(["--voters"] if asked.voters else [])] if asked.secret else []
-    more = [*casting_words(asked.casting), *even_so, *secret, *page_words(asked)]
+    more = [*casting_words(asked.casting), *cast_words(asked), *even_so, *secret, *page_words(asked)]
     return ["--poll", str(election.poll), "--ballots", ballots, *more]
 
 
@@ -141,6 +142,6 @@ def what_next(election: Election, asked: argparse.Namespace, target: pathlib.Pat
     more = [*(["--secret"] if asked.secret else []), *(["--voters"] if asked.voters else [])]
     # the ordinary folder is taken where it is free
     place = "" if not os.path.lexists(election.result) else f" {shlex.quote(str(free_name(election.result)))}"
-    chosen = f"{command(election, 'publish', *more)} --casting=NAME{place}"
-    ask = f"put the folder {target} on the web site, ask for the casting vote, and write its option in place of NAME"
+    chosen = f"{command(election, 'publish', *more)} --casting=NAME --cast-by=WHO --cast-on=DATE{place}"
+    ask = f"put the folder {target} on the web site, ask for the casting vote, and write its option, its voter and its day"
     return f"it is a tie: {ask}: {chosen}"
