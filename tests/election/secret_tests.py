@@ -9,6 +9,7 @@ import pathlib
 import re
 import shutil
 import sys
+import tomllib
 import unittest.mock
 
 import killing
@@ -261,6 +262,7 @@ class CallTest(SecretTest):
         output = self.done("call", "--until-words", "Friday", "--to", "vote@club.example")
         aliases = sorted(row["alias"] for row in self.rows())
         wanted = support.POLL.partition("roll = ")[0] + f"roll = {json.dumps(aliases)}\n"
+        wanted += 'deadline_words = "Friday"\naddress = "vote@club.example"\nsecret = true\n'
         self.assertEqual(self.read("call/poll.toml").decode(), wanted)
         poll_sum = hashlib.sha256(wanted.encode()).hexdigest()
         self.assertIn(f"The sum of the poll: {poll_sum}\n", output)
@@ -334,7 +336,7 @@ class CallTest(SecretTest):
         output = self.done("call")
         self.assertIn("Note: an earlier call had another roll, and whoever kept it sees that the new aliases are those of: jon.\n", output)
         self.assertNotIn("Note: ", self.done("call"))
-        called = json.loads(self.read("call/poll.toml").decode().partition("roll = ")[2])
+        called = tomllib.loads(self.read("call/poll.toml").decode())["roll"]
         self.assertEqual(called, sorted(row["alias"] for row in self.rows()))
         kept = [name for name in self.contents() if name.endswith("-poll.toml.called") and name.startswith("private/")]
         self.assertEqual([(self.read(name), self.mode(name)) for name in kept], [(first, 0o600)])

@@ -98,11 +98,13 @@ def poll_saying(election: Election, files: Files, wanted: Wanted) -> bytes:
 def with_wanted(poll: bytes, wanted: Wanted) -> bytes:
     """The poll with the keys that are wanted. A new time takes the place of what was said of the time before.
 
-    What it says already stays where it is, so that its sum stays.
+    What it says already stays where it is, so that its sum stays. A later time of a call that was taken back is the first one now.
     """
     said = announced_in(poll)
-    if (wanted.until, wanted.words) in ((said.until, None), (None, said.words)):
+    if said.extended_to is None and (wanted.until, wanted.words) in ((said.until, None), (None, said.words)):
         wanted = dataclasses.replace(wanted, until=None, words=None)
+    elif wanted.until is None and wanted.words is None:
+        wanted = dataclasses.replace(wanted, until=said.until)
     if wanted.until is not None or wanted.words is not None:
         for key in (DEADLINE, WORDS, EXTENDED):
             poll = poll_file.without_key(poll, key)
