@@ -2,6 +2,7 @@
 
 import re
 import resource
+import shutil
 import sys
 
 import support
@@ -106,9 +107,8 @@ class Good(CloseTest):
             'title = """\nlast"""\n' + base.split("\n", 1)[1],
         ):
             with self.subTest(poll=poll):
-                for file in self.folder.iterdir():
-                    if file.is_file():
-                        file.unlink()
+                shutil.rmtree(self.folder)
+                self.folder.mkdir()
                 poll = poll.replace('title = """\nlast"""', 'title = "last"')
                 self.write("poll.toml", poll)
                 self.add("ada 1,2,4,3\n")
@@ -251,6 +251,7 @@ class SinceTheClose(CloseTest):
         """Its copy of fewer lines is no more that of the close; it stays by number."""
         (self.folder / "journal").unlink()
         self.write("poll.toml", self.read("backup/poll.toml.called"))
-        self.assertEqual(self.election("close").status, 0)
+        self.assert_fault(self.election("close"), 9, "journal: the journal is lost: backup/ballots.closed is there")
+        self.assertEqual(self.election("close", "--even-so").status, 0)
         self.assertEqual(self.read("backup/ballots.closed"), self.read("ballots"))
         self.assertEqual(self.read("backup/0003-ballots.closed"), b"ada 1,2,4,3\nben 2,1,4,3\n")
