@@ -4,12 +4,16 @@ import pathlib
 import re
 
 from debvote_tools import journal
+from debvote_tools.by_hand import RECEIVED
 from debvote_tools.called import FOLDER, KEPT as CALLED, LETTER
 from debvote_tools.closed import KEPT as CLOSED
-from debvote_tools.by_hand import RECEIVED
+from debvote_tools.election import poll_file
 
 # the act that is noted first in a journal which begins anew in the place of one that was lost
 ACT = "lost"
+
+# the line of this act, with its time
+NOTED = re.compile(rb"(?m)^([^\t\n]{20})\t%b\t" % ACT.encode())
 
 BACKUP = "backup"
 
@@ -25,20 +29,20 @@ def trace_in(folder: pathlib.Path) -> str | None:
     return next((str(file.relative_to(folder)) for file in there if file.is_file()), None)
 
 
-def lost_in(folder: pathlib.Path) -> str | None:
-    """What shows that the journal of the election in this folder was lost; none where it was not."""
-    entries = journal.entries_in(folder / journal.NAME)
-    noted = next((entry for entry in entries if entry.act == ACT), None)
-    if noted is not None:
-        return f"the journal was lost before {journal.in_words(noted.time)}"
-    trace = None if (folder / journal.NAME).exists() else trace_in(folder)
-    return None if trace is None else f"the journal is lost: {trace} is there, and no journal"
-
-
-def lost_close_in(folder: pathlib.Path, entries: list[journal.Entry], *, is_last_written: bool) -> str | None:
-    """That the ballots were closed, as their copy shows, and the journal has no close. A close that was cut off has written no
-    last envelope into the poll.
+def lost_in(folder: pathlib.Path, poll: bytes) -> str | None:
+    """What shows that the journal of the election in this folder was lost, or its close; none where neither was. A close that was
+    cut off has written no last envelope into the poll.
     """
-    if not is_last_written or not (folder / CLOSED).is_file() or journal.last(entries, "close") is not None:
-        return None
-    return f"{CLOSED} is there, and the journal has no close: it was lost, or changed by hand"
+    file = folder / journal.NAME
+    if not file.exists():
+        trace = trace_in(folder)
+        return None if trace is None else f"the journal is lost: {trace} is there, and no journal"
+    noted = NOTED.search(file.read_bytes())
+    if noted is not None:
+        return f"the journal was lost before {journal.in_words(noted[1].decode('ascii', 'replace'))}"
+    is_kept = (folder / CLOSED).is_file()
+    if is_kept and poll_file.has_last_envelope(poll) and journal.last(journal.entries_in(file), "close") is None:
+        begun = journal.begun(file)
+        if begun is None or begun.act != "close":
+            return f"{CLOSED} is there, and the journal has no close: it was lost, or changed by hand"
+    return None

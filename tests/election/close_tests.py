@@ -2,6 +2,7 @@
 
 import re
 import resource
+import shutil
 import sys
 
 import support
@@ -110,9 +111,8 @@ class Good(CloseTest):
             'title = """\nlast"""\n' + base.split("\n", 1)[1],
         ):
             with self.subTest(poll=poll):
-                for file in self.folder.iterdir():
-                    if file.is_file():
-                        file.unlink()
+                shutil.rmtree(self.folder)
+                self.folder.mkdir()
                 self.write("poll.toml", poll)
                 self.add("ada 1,2,4,3\n")
                 before = self.as_announced()
@@ -269,6 +269,7 @@ class SinceTheClose(CloseTest):
         (self.folder / "journal").unlink()
         (self.folder / "closed.txt").unlink()
         self.write("poll.toml", self.read("backup/poll.toml.called"))
-        self.assertEqual(self.election("close").status, 0)
+        self.assert_fault(self.election("close"), 9, "journal: the journal is lost: backup/ballots.closed is there")
+        self.assertEqual(self.election("close", "--even-so").status, 0)
         self.assertEqual(self.read("backup/ballots.closed"), self.read("ballots"))
         self.assertEqual(self.read("backup/0003-ballots.closed"), b"ada 1,2,4,3\nben 2,1,4,3\n")

@@ -140,7 +140,7 @@ def long_words(line: Line) -> str:
 
 
 def stop_at_too_much(files: Files, parts: list[Part]) -> None:
-    """Stops at a line that is much longer than any ballot, and at a file that takes a great part of the room that is left: what
+    """Stops at a line that is much longer than any ballot, and at a file of several lines that takes a great part of the room: what
     was added can't be taken out again.
     """
     ballots = files.ballots or b""
@@ -154,6 +154,6 @@ def stop_at_too_much(files: Files, parts: list[Part]) -> None:
             words = f"{long_words(line)}; nothing was added, and what is added can't be taken out again; {left}"
             raise Fault(f"{line.where}: {words}: {cure}", Status.DOUBT)
         lines, size = len(part.ballots), sum(len(ballot.text) + 1 for ballot in part.ballots)
-        if lines * SHARE > lines_left or size * SHARE > bytes_left:
+        if lines > 1 and (lines * SHARE > lines_left or size * SHARE > bytes_left):
             words = f"it takes {lines} lines and {size} bytes, more than a tenth of what is left; nothing was added; {left}"
             raise Fault(f"{part.name}: {words}: {cure}", Status.DOUBT)

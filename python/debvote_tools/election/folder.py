@@ -10,7 +10,6 @@ import sys
 from collections.abc import Iterator
 
 from debvote_tools import called, closed, journal, lost, secret
-from debvote_tools.election import poll_file
 from debvote_tools.faults import Fault, Status
 from debvote_tools.files import BALLOTS_LIMIT, POLL_LIMIT, append_whole, locked, read_at_most, take_away_temporaries, write_new, write_whole
 from debvote_tools.journal import Entry, Sums
@@ -212,8 +211,7 @@ class Election:
     # ------------------------------------------------------------ the journal
     def lost_journal(self, files: Files) -> str | None:
         """What shows that the journal was lost; none where it was not."""
-        is_written = poll_file.has_last_envelope(files.poll)
-        return lost.lost_in(self.folder) or lost.lost_close_in(self.folder, self.entries(), is_last_written=is_written)
+        return lost.lost_in(self.folder, files.poll)
 
     # ------------------------------------------------------------ the close
     def keep_closed(self, ballots: bytes) -> None:
@@ -254,6 +252,12 @@ class Election:
             anew = f"where no ballot has come yet, take the call back: {self.command('call', '--take-back')}"
             change = f"it was changed after the call for votes: {call.change_in(files.poll)}"
             raise Fault(f"{self.poll}: {change}; {right}, or, {anew}", Status.DOUBT)
+
+    def what_is_gone(self, files: Files) -> list[str]:
+        """What was taken away of what the election has noted: its journal, and the folder of the call; a sentence each."""
+        lost_journal = self.lost_journal(files)
+        unseen = "find out who took it away; what comes late, and what is changed by hand, may go unseen"
+        return [*([f"{lost_journal}; {unseen}"] if lost_journal else []), *filter(None, [self.missing_call()])]
 
     def missing_call(self) -> str | None:
         """That the folder of the call is gone, and what to do; none where it is there, or where there was no call."""

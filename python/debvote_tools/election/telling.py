@@ -26,21 +26,20 @@ def time_of(entry: Entry) -> str:
     return journal.in_words(entry.time)
 
 
-def tell_time(election: Election, what: str) -> None:
+def tell_time(election: Election, files: Files, what: str) -> None:
     """Says where ballots come before the call for votes, or after the close; the words say what is done with them."""
     closed = election.closed()
     if closed is not None:
         tell(f"Note: the election was closed at {time_of(closed)}; {what} now is late.")
     elif not election.call.exists() and not election.is_called():
         tell("Note: the call for votes has not been made yet.")
-    tell_missing_call(election)
+    tell_what_is_gone(election, files)
 
 
-def tell_missing_call(election: Election) -> None:
-    """Says that the folder of the call is gone."""
-    missing = election.missing_call()
-    if missing is not None:
-        tell(f"Note: {missing}.")
+def tell_what_is_gone(election: Election, files: Files) -> None:
+    """Says that the journal is lost, or that the folder of the call is gone."""
+    for line in election.what_is_gone(files):
+        tell(f"Note: {line}.")
 
 
 def tell_edits(election: Election, files: Files) -> None:
@@ -48,9 +47,6 @@ def tell_edits(election: Election, files: Files) -> None:
 
     The caller holds the lock alone.
     """
-    lost = election.lost_journal(files)
-    if lost is not None:
-        tell(f"Note: {lost}. Find out who took it away; what comes late, and what is changed by hand, may go unseen.")
     undone = election.cut_off
     if undone is not None:
         many = "envelopes" if "-" in undone.envelopes else "envelope"

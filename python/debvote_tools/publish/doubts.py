@@ -12,7 +12,7 @@ import sys
 
 from debvote_tools import by_hand, called, journal, lost
 from debvote_tools.closed import Counted, changed_since
-from debvote_tools.election.poll_file import as_announced, has_last_envelope
+from debvote_tools.election.poll_file import as_announced
 from debvote_tools.faults import Doubt, Fault, Status
 from debvote_tools.files import sum_of
 from debvote_tools.journal import Sums
@@ -193,8 +193,7 @@ def about_election(made: pathlib.Path, poll: str, ballots: str, sheet: Sheet) ->
     data, called_for = (made / BALLOTS).read_bytes(), (made / POLL).read_bytes()
     found = about_call(folder, poll, called_for)
     acts = journal.acts_done(folder / journal.NAME, Sums.of(called_for, data))
-    is_written = has_last_envelope(called_for)
-    why = lost.lost_in(folder) or lost.lost_close_in(folder, acts, is_last_written=is_written)
+    why = lost.lost_in(folder, called_for)
     found += [] if why is None else [no_journal(folder, why)]
     found += by_hand.doubts_about(by_hand.changes_in(folder, acts, data), ballots)
     close = journal.last(acts, "close")

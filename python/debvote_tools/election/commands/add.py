@@ -66,7 +66,7 @@ def run(election: Election, asked: argparse.Namespace) -> int:
         for source in inputs:
             check_kind(election, source, asked.csv)
         found = lines_of(election, files, inputs, asked)
-        tell_time(election, "what is added")
+        tell_time(election, files, "what is added")
 
         parts: list[Part] = []
 

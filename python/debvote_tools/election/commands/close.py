@@ -10,7 +10,7 @@ from debvote_tools.election.asking import NO_BALLOTS, command, refused
 from debvote_tools.election.edited import EVEN_SO, stop_at_changes
 from debvote_tools.election.folder import Election, Files
 from debvote_tools.election.secrecy import demand_own_folder
-from debvote_tools.election.telling import count_of, tell, tell_edits, tell_missing_call, time_of
+from debvote_tools.election.telling import count_of, tell, tell_edits, tell_what_is_gone, time_of
 from debvote_tools.faults import Fault, Status
 from debvote_tools.files import in_memory, sum_of, uninterrupted
 from debvote_tools.journal import Entry
@@ -31,7 +31,7 @@ def run(election: Election, asked: argparse.Namespace) -> int:
     with election.changing() as files:
         demand_own_folder(election)
         tell_edits(election, files)
-        tell_missing_call(election)
+        tell_what_is_gone(election, files)
         sheet = sheet_of_all(election, files)
         before = election.closed()
         if before is not None:

@@ -34,15 +34,11 @@ def run(election: Election, asked: argparse.Namespace) -> int:
         if not answer.text:
             raise refused(election, answer)
         sheet = sheet_in(answer.text)
-        lost = election.lost_journal(files)
-        changes = [*([lost] if lost else []), *election.changed_since_close(files, sheet)]
+        changes = [*election.what_is_gone(files), *election.changed_since_close(files, sheet)]
     # the sheet alone, so that it can go into a file
     sys.stdout.write(answer.text)
     sys.stdout.flush()
     print(*(f"Note: {change}\n" for change in changes), sep="", end="", file=sys.stderr)
-    missing = election.missing_call()
-    if missing is not None:
-        print(f"Note: {missing}.", file=sys.stderr)
     print(f"Next: {what_next(election, sheet, asked.casting)}", file=sys.stderr)
     return answer.status
 

@@ -108,9 +108,9 @@ def run(election: Election, asked: argparse.Namespace) -> int:
     if sys.stdin is None:
         raise Fault("standard input: it is closed; nothing was cast: run it at a terminal", Status.BAD_BALLOTS)
     desk = Desk(election)
-    with election.reading():
+    with election.reading() as files:
         demand_own_folder(election)
-        tell_time(election, "what is cast")
+        tell_time(election, files, "what is cast")
     try:
         if sys.stdin.isatty():
             at_terminal(desk)

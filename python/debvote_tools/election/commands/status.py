@@ -58,14 +58,12 @@ def run(election: Election, asked: argparse.Namespace) -> int:
         acts = acts_of(election, files)
         tell_edited(election, files, acts)
         state = state_of(election, files)
-        lost = election.lost_journal(files)
+        gone = election.what_is_gone(files)
         changed = [*changes_of(election, files).lines(), *election.changed_since_close(files, state.sheet)]
     print(f"Title: {state.sheet.facts['Poll']}")
     tell_secrecy(election, files)
     tell_stage(election, acts, state.sheet)
-    if lost is not None:
-        print(f"Note: {lost}. Find out who took it away; what comes late, and what is changed by hand, may go unseen.")
-    for line in changed:
+    for line in [*gone, *changed]:
         print(f"Note: {line}")
     print(quorum_words(state.sheet))
     tell_lines(state)
@@ -137,9 +135,6 @@ def tell_stage(election: Election, acts: list[Entry], sheet: Sheet) -> None:
         print(f"Call for votes: made{f' at {time_of(call)}' if call else ''}")
     else:
         print("Call for votes: not made yet")
-    missing = election.missing_call()
-    if missing is not None:
-        print(f"Note: {missing}.")
     close = journal.last(acts, "close")
     last = sheet.facts.get("Last envelope")
     if close is not None:
