@@ -290,6 +290,11 @@ class Close(TimeTest):
         self.done("publish", "--casting", "At the lake")
         self.assertNotIn("before the time", self.time_on_page())
 
+    def test_status_says_the_time(self) -> None:
+        self.assertIn(f"\nUntil when: {FIRST_WORDS}\nCall for votes: made at 2026-11-26 10:00:", self.done("status"))
+        self.set_clock("2026-12-04T17:00:00+00:00")
+        self.assertIn(f"\nUntil when: {FIRST_WORDS}; that is over\n", self.done("status"))
+
     def test_a_time_that_was_extended_is_the_one_that_holds(self) -> None:
         self.done("call", "--until", LATER)
         self.set_clock("2026-12-05T12:00:00+00:00")

@@ -6,7 +6,8 @@ import itertools
 import re
 import textwrap
 
-from debvote_tools import journal
+from debvote_tools import announced, journal
+from debvote_tools.announced import announced_in, in_words
 from debvote_tools.election import poll_file
 from debvote_tools.election.asking import call_command, command, files_of, quorum_words, refused
 from debvote_tools.election.folder import Election, Files
@@ -56,6 +57,7 @@ def run(election: Election, asked: argparse.Namespace) -> int:
         changed = election.changed_since_close(files, state.sheet)
     print(f"Title: {state.sheet.facts['Poll']}")
     tell_secrecy(election, files)
+    tell_until(files.poll)
     tell_stage(election, acts, state.sheet)
     for line in changed:
         print(f"Note: {line}")
@@ -120,6 +122,15 @@ def tell_secrecy(election: Election, files: Files) -> None:
         aliases_now(election, files.poll)
     except Fault as fault:
         print(f"Note: {fault.words}")
+
+
+def tell_until(poll: bytes) -> None:
+    """Says until when one can vote, where the poll says it, and whether that is over."""
+    said = announced_in(poll)
+    if said.until is not None:
+        print(f"Until when: {in_words(said.until)}{'; that is over' if announced.now() >= said.until else ''}")
+    elif said.words is not None:
+        print(f"Until when: {said.words}")
 
 
 def tell_stage(election: Election, acts: list[Entry], sheet: Sheet) -> None:
