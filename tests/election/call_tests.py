@@ -435,7 +435,9 @@ class ChangedTest(CallTest):
 
     def test_called_again_it_keeps_time_and_address(self) -> None:
         until = "Friday & 'Saturday' <b>18:00</b> \u05d0 until when: now"
-        shutil.rmtree(self.folder / "call")
+        shutil.rmtree(self.folder)
+        self.folder.mkdir()
+        self.write("poll.toml", self.called)
         self.call("--until-words", until, "--to", ADDRESS)
         before = self.contents()
         said = self.call()
@@ -448,12 +450,8 @@ class ChangedTest(CallTest):
             ("--to", "other@club.example"): f"--to: in the poll that was called ballots are sent to {ADDRESS}, and its sum covers",
             ("--until-words", "tomorrow"): f"--until-words: in the poll that was called one can vote until {until}, and its sum",
         }.items():
-            self.assert_fault(self.election("call", *words), 9, part, "nothing was changed", "remove the folder call and call again")
+            self.assert_fault(self.election("call", *words), 9, part, "nothing was changed", "where no ballot has come")
         self.assertEqual(self.contents(), after)
-        # who has taken the call back says what they want
-        shutil.rmtree(self.folder / "call")
-        self.call("--until-words", "tomorrow", "--to", "other@club.example")
-        self.assertIn("Until when: tomorrow\nSend your ballot to: other@club.example\n", self.read("call/call.txt").decode())
 
     def test_two_calls_make_the_same_bytes(self) -> None:
         before = {name: self.read(f"call/{name}") for name in ALL}

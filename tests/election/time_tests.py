@@ -44,6 +44,12 @@ class TimeTest(support.ElectionTest):
         self.assertEqual((ended.status, ended.faults), (0, ""), words)
         return ended.output
 
+    def begin_anew(self) -> None:
+        """An election with the poll and nothing else."""
+        shutil.rmtree(self.folder)
+        self.folder.mkdir()
+        self.write("poll.toml", POLL)
+
     def assert_stops(self, words: list[str], status: int, *parts: str) -> None:
         """The command stops at a fault that has these parts, and changes nothing."""
         before = self.contents()
@@ -78,8 +84,7 @@ class Until(TimeTest):
             (["2027-07-04 18:00"], "Europe/Berlin", "2027-07-04T18:00:00+02:00", "Sunday, 4 July 2027, 18:00 (UTC+02:00)"),
         ]:
             with self.subTest(words=words, zone=zone):
-                shutil.rmtree(self.folder / "call", ignore_errors=True)
-                self.write("poll.toml", POLL)
+                self.begin_anew()
                 self.clock["TZ"] = zone
                 output = self.done("call", "--until", *words)
                 self.assertIn(f"\nUntil when: {said}\n", output)
@@ -116,6 +121,7 @@ class Until(TimeTest):
         self.write("poll.toml", POLL + 'deadline = "2026-11-25T18:00:00+01:00"\n')
         self.assert_stops(["call"], 2, "Wednesday, 25 November 2026, 18:00 (UTC+01:00) is over")
         # a call that was made is made anew at any time
+        self.begin_anew()
         self.done("call", "--until", FIRST)
         self.set_clock("2027-01-01T00:00:00+00:00")
         self.done("call")
@@ -238,8 +244,7 @@ class Extended(TimeTest):
         self.assert_stops(["call", "--until", LATER], 9, "--until: the vote was closed at 2026-12-05 00:00:", "nobody can vote any more")
 
     def test_a_call_without_a_time_gets_one(self) -> None:
-        shutil.rmtree(self.folder / "call")
-        self.write("poll.toml", POLL)
+        self.begin_anew()
         self.done("call")
         self.done("call", "--until", LATER)
         self.assertEqual(self.read("poll.toml").decode(), POLL + EXTENDED)
@@ -290,6 +295,11 @@ class Close(TimeTest):
         self.done("publish", "--casting", "At the lake")
         self.assertNotIn("before the time", self.time_on_page())
 
+    def test_status_says_the_time(self) -> None:
+        self.assertIn(f"\nUntil when: {FIRST_WORDS}\nCall for votes: made at 2026-11-26 10:00:", self.done("status"))
+        self.set_clock("2026-12-04T17:00:00+00:00")
+        self.assertIn(f"\nUntil when: {FIRST_WORDS}; that is over\n", self.done("status"))
+
     def test_a_time_that_was_extended_is_the_one_that_holds(self) -> None:
         self.done("call", "--until", LATER)
         self.set_clock("2026-12-05T12:00:00+00:00")
@@ -298,9 +308,7 @@ class Close(TimeTest):
         self.done("close")
 
     def test_without_a_time_it_closes_at_any_time(self) -> None:
-        shutil.rmtree(self.folder)
-        self.folder.mkdir()
-        self.write("poll.toml", POLL)
+        self.begin_anew()
         self.done("call", "--until-words", "as soon as we can")
         self.done("close")
 
@@ -328,9 +336,7 @@ class Page(TimeTest):
 
     def anew(self) -> str:
         """The part of a vote that was called twice, at two times."""
-        shutil.rmtree(self.folder)
-        self.folder.mkdir()
-        self.write("poll.toml", POLL)
+        self.begin_anew()
         for time in (NOW, "2026-11-28T10:00:00+00:00"):
             self.set_clock(time)
             self.done("call")
@@ -550,12 +556,13 @@ class EarlierVersion(TimeTest, SecretTest):
         self.done("codes")
         comment = b"# The vote is secret: this poll, which has the names, is not published. (debvote-election codes)\n"
         self.done("call")
-        new = sum_of(self.read("call/poll.toml"))
+        new, private = sum_of(self.read("call/poll.toml")), sum_of(self.read("poll.toml"))
         for name in ("poll.toml", "backup/poll.toml.called"):
             self.write(name, comment + self.read(name).replace(b"secret = true\n", b""))
         for name in ("call/poll.toml", "private/poll.toml.called"):
             self.write(name, self.read(name).replace(b"secret = true\n", b""))
         called = self.read("call/poll.toml")
+        self.write("journal", self.read("journal").replace(private.encode(), sum_of(self.read("poll.toml")).encode()))
         for name in ("call/index.html", "call/call.txt"):
             self.write(name, self.read(name).replace(new.encode(), sum_of(called).encode()))
         self.sums_anew()

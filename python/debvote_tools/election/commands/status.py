@@ -7,7 +7,8 @@ import re
 import sys
 import textwrap
 
-from debvote_tools import called, journal
+from debvote_tools import announced, called, journal
+from debvote_tools.announced import announced_in, in_words
 from debvote_tools.election import poll_file
 from debvote_tools.election.asking import call_command, command, files_of, quorum_words, refused
 from debvote_tools.election.edited import changes_of
@@ -62,6 +63,7 @@ def run(election: Election, asked: argparse.Namespace) -> int:
         changed = [*changes_of(election, files).lines(), *election.changed_since_close(files, state.sheet)]
     print(f"Title: {state.sheet.facts['Poll']}")
     tell_secrecy(election, files)
+    tell_until(files.poll)
     tell_stage(election, acts, state.sheet)
     for line in [*gone, *changed]:
         print(f"Note: {line}")
@@ -126,6 +128,15 @@ def tell_secrecy(election: Election, files: Files) -> None:
         aliases_now(election, files.poll)
     except Fault as fault:
         print(f"Note: {fault.words}")
+
+
+def tell_until(poll: bytes) -> None:
+    """Says until when one can vote, where the poll says it, and whether that is over."""
+    said = announced_in(poll)
+    if said.until is not None:
+        print(f"Until when: {in_words(said.until)}{'; that is over' if announced.now() >= said.until else ''}")
+    elif said.words is not None:
+        print(f"Until when: {said.words}")
 
 
 def tell_stage(election: Election, acts: list[Entry], sheet: Sheet) -> None:
