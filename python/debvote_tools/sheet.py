@@ -54,7 +54,8 @@ class Sheet:
 
     def casting_outside(self) -> int | None:
         """The option of a casting vote that is for none of the options that are left."""
-        found = re.search(r", casting option (\d+) is not among them$", self.last_line)
+        # the name of an option that wins may have these words
+        found = re.fullmatch(r"Tie: [\d ]+, casting option (\d+) is not among them", self.last_line)
         return int(found[1]) if found else None
 
     def final_set(self) -> list[int]:
