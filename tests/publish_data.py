@@ -183,7 +183,9 @@ def try_sentences(page, count, labels):
     entries = re.findall(r"<li>(.*)</li>", part)
     met = collections.Counter()
     demand(len(entries) == len(count.poll.names), "a sentence for each option")
+    told = set()
     for option, entry in enumerate(entries, start=1):
+        entry = without_names_in_poll(entry, count, labels, told)
         names = {int(number): html.unescape(re.sub("</?bdi>", "", name)) for number, name in re.findall(r"<b>(\d+) (.*?)</b>", entry)}
         demand(names == {number: labels.get(number, count.poll.names[number]) for number in names}, "its names")
         text = re.sub(r"<b>(\d+) .*?</b>", r"#\1", entry)
@@ -193,6 +195,19 @@ def try_sentences(page, count, labels):
         met.update(kinds)
         demand_whole(kinds, option, count)
     return met
+
+
+def without_names_in_poll(entry, count, labels, told):
+    """The sentence without the names of the poll, each of which stands beside the first label of its option in the section."""
+    parts, end = [], 0
+    for found in re.finditer(r"<b>(\d+) .*?</b>", entry):
+        number = int(found[1])
+        beside = f" (in the poll: {html.escape(count.poll.names[number])})" if number in labels and number not in told else ""
+        told.add(number)
+        demand(entry.startswith(beside, found.end()), f"the name of {number} in the poll, once")
+        parts.append(entry[end : found.end()])
+        end = found.end() + len(beside)
+    return "".join([*parts, entry[end:]])
 
 
 def demand_whole(kinds, option, count):

@@ -540,7 +540,7 @@ class PublishTest(SecretTest):
         self.assertFalse(has_word(page.encode(), "hal") or has_word(page.encode(), "gus"))
         said = "Note: result has other ballots, or none, of 2 electors.\n  Whoever sees both folders, and knows whose "
         self.assertIn(said, ended.output)
-        output = self.done("publish", "--secret", "--even-so", "--casting", "At the lake", "result-3")
+        output = self.done("publish", "--secret", "--even-so", "result-3")
         self.assertEqual(re.findall("Note: (.*) has other ballots", output), ["result"])
 
     def test_each_doubt_is_told_without_a_name(self) -> None:
