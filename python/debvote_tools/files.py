@@ -24,6 +24,10 @@ OWN_FILES = "/proc/self/fd"
 TEMPORARY = ".debvote-"
 
 
+class Written(OSError):
+    """A file is written, and its name may not be on the disk yet."""
+
+
 def sum_of(data: bytes) -> str:
     """The SHA-256 of some bytes, as `sha256sum` writes it."""
     return hashlib.sha256(data).hexdigest()
@@ -48,7 +52,7 @@ def write_whole(file: pathlib.Path, data: bytes, mode: int = 0o644) -> None:
     """Writes a file whole or not at all: a temporary beside it is brought to the disk, and takes its place.
 
     A file that was there keeps its mode; a new one gets this mode, less what the umask takes. Raises OSError, and then the file
-    is as it was, unless the error has `is_written`: then it is written, and its name may not be on the disk yet.
+    is as it was, unless the error is `Written`.
     """
     mode = file.stat().st_mode & 0o777 if file.exists() else mode & ~umask()
     handle, name = tempfile.mkstemp(prefix=TEMPORARY, dir=file.parent)
@@ -69,8 +73,7 @@ def write_whole(file: pathlib.Path, data: bytes, mode: int = 0o644) -> None:
         sync_folder(file.parent)
     except OSError as error:
         # the file is there, and may be gone after a power cut
-        error.filename, error.is_written = str(file), True
-        raise
+        raise Written(error.errno, error.strerror, str(file)) from None
 
 
 def take_away_temporaries(folder: pathlib.Path) -> None:

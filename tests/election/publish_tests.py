@@ -266,11 +266,10 @@ class Words(PublishTest):
         super().setUp()
         # a checkout: the program, its Python, and debvote-publish beside it
         self.checkout = self.scratch / "checkout"
-        (self.checkout / "election").mkdir(parents=True)
-        (self.checkout / "publish").mkdir()
-        shutil.copy(support.ELECTION, self.checkout / "election" / "debvote-election")
+        (self.checkout / "bin").mkdir(parents=True)
+        shutil.copy(support.ELECTION, self.checkout / "bin" / "debvote-election")
         (self.checkout / "python").symlink_to(support.ROOT / "python")
-        self.stub(self.checkout / "publish" / "debvote-publish")
+        self.stub(self.checkout / "bin" / "debvote-publish")
         self.noted = self.scratch / "noted"
 
     def stub(self, file: pathlib.Path) -> None:
@@ -281,7 +280,7 @@ class Words(PublishTest):
         """How the run ended, and the words that debvote-publish was given."""
         env = {**support.environment(), "NOTED": str(self.noted), "THEN": then}
         env["PATH"] = env["PATH"] if path is None else path
-        ended = self.run_program(sys.executable, self.checkout / "election" / "debvote-election", *words, env=env, **how)
+        ended = self.run_program(sys.executable, self.checkout / "bin" / "debvote-election", *words, env=env, **how)
         return ended, self.noted.read_text().splitlines() if self.noted.exists() else []
 
     def test_the_words(self) -> None:
@@ -321,13 +320,8 @@ class Words(PublishTest):
         self.assertEqual(ended.output, "-s\n")
 
     def test_where_it_is_found(self) -> None:
-        place = self.checkout / "publish" / "debvote-publish"
-        beside = self.checkout / "election" / "debvote-publish"
-        self.stub(beside)
-        place.write_text(STUB + "echo of the checkout\n")
+        beside = self.checkout / "bin" / "debvote-publish"
         beside.write_text(STUB + "echo beside\n")
-        self.assertEqual(self.asked("publish", then=":")[0].output, "of the checkout\n")
-        place.unlink()
         self.assertEqual(self.asked("publish", then=":")[0].output, "beside\n")
         beside.unlink()
         (self.scratch / "bin").mkdir()
@@ -341,7 +335,7 @@ class Words(PublishTest):
     def test_an_interrupt_ends_both(self) -> None:
         then = "trap 'sleep 0.5; echo taken away; exit 130' INT; touch began; while :; do sleep 0.05; done"
         env = {**support.environment(), "NOTED": str(self.noted), "THEN": then}
-        words = [sys.executable, self.checkout / "election" / "debvote-election", "publish"]
+        words = [sys.executable, self.checkout / "bin" / "debvote-election", "publish"]
         how = {"cwd": self.folder, "env": env, "stdout": subprocess.PIPE, "stderr": subprocess.PIPE, "text": True}
         running = subprocess.Popen(words, start_new_session=True, **how)
         until = time.monotonic() + 10

@@ -73,13 +73,12 @@ def empty_sheet(election: Election) -> Sheet | None:
 
 def quorum_words(sheet: Sheet) -> str:
     """What the quorum of a sheet wants."""
-    multiple, votes = sheet.facts["Quorum"].split(", ")
-    if multiple == "0Q":
+    multiple, least = f"{sheet.quorum_multiple}Q", sheet.quorum
+    if sheet.quorum_multiple == 0:
         return "Quorum: none"
-    least = votes.removesuffix(" votes")
-    if least == "1":
+    if least == 1:
         return f"Quorum: 1 vote ({multiple}): at least 1 elector must prefer an option to the default option"
-    return f"Quorum: {votes} ({multiple}): at least {least} electors must prefer an option to the default option"
+    return f"Quorum: {least} votes ({multiple}): at least {least} electors must prefer an option to the default option"
 
 
 def demand_option(election: Election, name: str) -> None:

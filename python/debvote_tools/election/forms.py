@@ -6,8 +6,8 @@ import dataclasses
 import io
 import re
 
-from debvote_tools.election.lines import BLANKS, Line
 from debvote_tools.faults import Fault, Status
+from debvote_tools.lines import BLANKS, Line
 
 DELIMITERS = {",": "comma", ";": "semicolon", "\t": "tab"}
 
@@ -46,7 +46,7 @@ def columns_of(name: str, ranks: str, options: list[str]) -> Columns:
 def lines_of_form(data: bytes, file: str, columns: Columns) -> list[Line]:
     """The lines that the rows of a form make. A cell that is empty stays so, and debvote refuses its line."""
     rows = rows_in(text_of(data, file), file, columns)
-    number, head = next(((number, row) for number, row in enumerate(rows, start=1) if any(row)), (0, []))
+    number, head = next(((number, row) for number, row in enumerate(rows, start=1) if any(row)), (0, list[str]()))
     places = places_of(head, file, columns)
     found = []
     for at, row in enumerate(rows[number:], start=number + 1):

@@ -1,6 +1,7 @@
 """The command line of debvote-publish."""
 
 import argparse
+import io
 import os
 import pathlib
 import signal
@@ -21,8 +22,8 @@ def parser() -> argparse.ArgumentParser:
     found.add_argument("--poll", metavar="FILE", required=True, help="The poll file, in TOML")
     found.add_argument("--ballots", metavar="FILE", required=True, help="The ballot file, one ballot a line: name 1,2,3")
     found.add_argument("--casting", metavar="NAME", help="The exact name of the option that the casting vote chooses in a tie")
-    desks = {"metavar": "K", "type": int, "choices": range(1, 9), "default": 1}
-    found.add_argument("--desks", **desks, help="How many desks enter the ballots, 1 to 8")
+    desks = "How many desks enter the ballots, 1 to 8"
+    found.add_argument("--desks", metavar="K", type=int, choices=range(1, 9), default=1, help=desks)
     found.add_argument(
         "--even-so", action="store_true", help="Publish where there are doubts about the files; the page then tells each of them"
     )
@@ -76,7 +77,7 @@ def main(beside: pathlib.Path, words: Sequence[str] | None = None) -> int:
         signal.signal(number, lambda number, _: sys.exit(128 + number))
     asked = parser().parse_args(words)
     # a label that the terminal can't show is no reason to stop
-    if sys.stdout is not None:
+    if isinstance(sys.stdout, io.TextIOWrapper):
         sys.stdout.reconfigure(errors="backslashreplace")
     try:
         said, status = publish(asked, beside)

@@ -7,10 +7,10 @@ import pathlib
 import shutil
 import tempfile
 
+from debvote_tools.closed import lines_of
 from debvote_tools.faults import Doubt, Fault, Status
 from debvote_tools.files import BALLOTS_LIMIT, POLL_LIMIT, read_at_most, sum_of, sync_folder, write_public
-from debvote_tools.closed import LAST, lines_of
-from debvote_tools.election.poll_file import roll_of
+from debvote_tools.poll_file import roll_of
 from debvote_tools.program import findings_in, standing_in
 from debvote_tools.publish import casting, doubts, letter, recounting, roll, second_count, secret
 from debvote_tools.publish.called import about_call, announced_sum, called_of, folders_of
@@ -97,9 +97,8 @@ def given_in(asked: argparse.Namespace) -> Given:
 def texts_of(asked: argparse.Namespace, given: Given) -> dict[str, str]:
     """The texts that are given for the page, by their files."""
     labels = "\n".join(text for _, text in given.labels.values())
-    found = {file: text for file, text in ((asked.labels, labels), (asked.about, given.about)) if file is not None}
-    said = (("--because", given.because), ("--cast-by", given.cast.by))
-    return found | {option: text for option, text in said if text is not None}
+    said = ((asked.labels, labels), (asked.about, given.about), ("--because", given.because), ("--cast-by", given.cast.by))
+    return {where: text for where, text in said if where is not None and text is not None}
 
 
 def fill(folder: pathlib.Path, asked: argparse.Namespace, given: Given, beside: pathlib.Path) -> tuple[str, int]:
@@ -112,9 +111,9 @@ def fill(folder: pathlib.Path, asked: argparse.Namespace, given: Given, beside: 
     text, status = count(calls, asked)
     found = doubts.found_in(calls, asked.poll, asked.ballots, sheet_in(text))
     found += about_casting(asked, given, sheet_in(text), poll)
-    found += about_call(asked.poll, called_of(poll, sheet_in(text).facts.get(LAST), given.announced))
+    found += about_call(asked.poll, called_of(poll, sheet_in(text).last_envelope, given.announced))
     settle(found, asked)
-    times = times_of(doubts.election_of(asked.poll), poll, ballots, sheet_in(text).facts.get(LAST))
+    times = times_of(doubts.election_of(asked.poll), poll, ballots, sheet_in(text).last_envelope)
     return make(calls, text, given, found, Further(), times), status
 
 
@@ -137,7 +136,7 @@ def fill_secret(folder: pathlib.Path, asked: argparse.Namespace, given: Given, b
     calls = calls_in(folder, beside, asked.casting, asked.desks)
     published, status = calls.count()
     secret.demand_same(text, published)
-    secret.demand_all_count(published)
+    secret.demand_all_count(sheet_in(published))
     further = secret.further_of(hidden, totals, with_voters=asked.voters)
     # the sum of the lines in time is private
     times = times_of(doubts.election_of(asked.poll), poll, ballots, None)
@@ -185,7 +184,7 @@ def make(calls: Calls, text: str, given: Given, found: list[Doubt], further: Fur
     write_public(folder / SHEET, text.encode())
     verified, picture = calls.verify(), picture_of(calls.picture(), len(sheet.names))
     poll, ballots = ((folder / name).read_bytes() for name in (POLL, BALLOTS))
-    called = called_of(poll, sheet.facts.get(LAST), given.announced, is_secret=further.unlisted is not None)
+    called = called_of(poll, sheet.last_envelope, given.announced, is_secret=further.unlisted is not None)
     lines = lines_of(ballots)
     published = Published(
         sheet, standing, refused, lines, picture, calls.casting, verified.rstrip("\n"), version, found, called, labels,

@@ -3,11 +3,11 @@
 import dataclasses
 from html import escape
 
-from debvote_tools.election.shapes import plainly
 from debvote_tools.pages import listed, paragraph, part
 from debvote_tools.program import Finding, Totals
 from debvote_tools.publish.calls import BALLOTS
 from debvote_tools.publish.published import Published
+from debvote_tools.shapes import plainly
 
 HEADING = "Refused lines"
 

@@ -14,11 +14,11 @@ from debvote_tools.election.casting import Batch, cast, sheet_of, summary
 from debvote_tools.election.doubts import Part, stop_at_added_before, stop_at_no_ballot, stop_at_too_much
 from debvote_tools.election.folder import Election, Files
 from debvote_tools.election.forms import columns_of, lines_of_form
-from debvote_tools.election.lines import Line, lines_in
 from debvote_tools.election.secrecy import demand_own_folder
 from debvote_tools.election.telling import tell, tell_edits, tell_time
 from debvote_tools.faults import Fault, Status
 from debvote_tools.files import BALLOTS_LIMIT, in_memory, read_at_most, write_new
+from debvote_tools.lines import Line, lines_in
 
 HELP = "Append ballots from files or standard input, and tell the reply to each"
 

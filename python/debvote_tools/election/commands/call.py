@@ -8,8 +8,8 @@ import shutil
 import stat
 import tempfile
 
-from debvote_tools import called, journal, secret
-from debvote_tools.election import announcing, call_letter, call_page, poll_file, taking_back
+from debvote_tools import called, journal, poll_file, secret
+from debvote_tools.election import announcing, call_letter, call_page, taking_back
 from debvote_tools.election.asking import NO_BALLOTS, command, given_already
 from debvote_tools.election.call_words import Call
 from debvote_tools.election.checking import checked
@@ -99,7 +99,10 @@ def keep_out(election: Election, asked: argparse.Namespace) -> list[str]:
     if asked.no_roll or not (election.call / "index.html").is_file() or (election.call / "poll.toml").exists():
         return []
     asked.no_roll = True
-    return ["The poll stays out of the folder, as in the earlier call.", f"To call with it, first run {command(election, 'call', '--take-back')}."]
+    return [
+        "The poll stays out of the folder, as in the earlier call.",
+        f"To call with it, first run {command(election, 'call', '--take-back')}.",
+    ]
 
 
 # ---------------------------------------------------------------- the poll
@@ -292,19 +295,22 @@ def say(election: Election, call: Call, is_anew: bool) -> None:
 def said_lines(election: Election, call: Call) -> list[str]:
     """Until when and where to, or how the call gets to say it."""
     lines = [call.until_words()] if call.until is not None else []
-    if call.is_extended:
-        lines.append(call.extended_words())
+    lines += filter(None, [call.extended_words()])
     missing = ['until when one can vote (--until "YYYY-MM-DD HH:MM")'] if call.until is None else []
     missing += ["where ballots are sent (--to ADDRESS)"] if call.to is None else []
     if missing:
-        how = f"to say it, take the call back before anybody has seen it ({command(election, 'call', '--take-back')}), and call again"
+        how = (
+            f"to say it, take the call back before anybody has seen it ({command(election, 'call', '--take-back')}), and call again"
+        )
         lines.append(f"The call does not say {', nor '.join(missing)}; {how}.")
     return lines
 
 
 def tell_apart(names: list[str]) -> None:
     """Says whose aliases an earlier call gives away."""
-    print(f"Note: an earlier call had another roll, and whoever kept it sees that the new aliases are those of: {secret.some(names)}.")
+    print(
+        f"Note: an earlier call had another roll, and whoever kept it sees that the new aliases are those of: {secret.some(names)}."
+    )
     print("  If it was published, take the call back, and hold the election in a new folder, with new codes for all.")
 
 

@@ -2,7 +2,7 @@
 
 import argparse
 
-from debvote_tools.election import poll_file
+from debvote_tools import poll_file
 from debvote_tools.election.asking import call_command, command, quorum_words
 from debvote_tools.election.checking import checked
 from debvote_tools.election.folder import Election, Files
@@ -39,14 +39,14 @@ def what_next(election: Election, files: Files) -> str:
 
 def print_poll(sheet: Sheet, roll: list[str], *, has_all: bool) -> None:
     """Says what is voted on, by a sheet without ballots, and who votes."""
-    print(f"Title: {sheet.facts['Poll']}")
+    print(f"Title: {sheet.title}")
     print("Options:")
     for option, name in sheet.names.items():
         kind = f"majority ratio {sheet.ratios[option]}" if option in sheet.ratios else "the default option"
         print(f"{option:3}  {name} ({kind})")
-    if "Majority" in sheet.facts:
+    if sheet.is_more_than:
         print("Majority: more than the ratio, where Debian has at least the ratio")
     print(quorum_words(sheet))
     most = len(roll) if has_all else SHOWN
     more = [f"and {len(roll) - most} more, in the poll and with --all"] if len(roll) > most else []
-    print(f"Electors: {sheet.facts['Electors']} ({', '.join([*roll[:most], *more])})")
+    print(f"Electors: {sheet.electors} ({', '.join([*roll[:most], *more])})")

@@ -47,8 +47,9 @@ def what_next(election: Election, sheet: Sheet, casting: str | None) -> str:
     """What the secretary does with this sheet. Before the close it is no result yet."""
     over = "" if election.closed() else f"this is no result yet: when the vote is over {command(election, 'close')}, then "
     publish = publish_words(election)
-    if sheet.winner() is not None:
-        return over + command(election, *publish, *(casting_words(casting) if sheet.winner()[1] else []))
+    winner = sheet.winner()
+    if winner is not None:
+        return over + command(election, *publish, *(casting_words(casting) if winner[1] else []))
     names = [sheet.names[option] for option in sheet.final_set()]
     outside = sheet.casting_outside()
     why = f"; {listed([sheet.names[outside]])} is not among them" if outside is not None else ""

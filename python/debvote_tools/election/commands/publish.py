@@ -86,9 +86,8 @@ def words(election: Election, files: Files, asked: argparse.Namespace) -> list[s
 
 
 def program(election: Election) -> str:
-    """Where debvote-publish is: in a checkout, beside this program, or in the PATH."""
-    beside = [] if election.beside is None else [election.beside.parent / "publish", election.beside]
-    found = next(filter(None, (shutil.which(PROGRAM, path=str(folder)) for folder in beside)), None) or shutil.which(PROGRAM)
+    """Where debvote-publish is: beside this program, or in the PATH."""
+    found = (shutil.which(PROGRAM, path=str(election.beside)) if election.beside else None) or shutil.which(PROGRAM)
     if found is None:
         words = "the program is neither beside this one nor in the PATH; install the package debvote"
         raise Fault(f"{PROGRAM}: {words}", Status.NOT_FOUND)

@@ -32,9 +32,7 @@ class Statement:
 
 
 # what a value is made of, as far as its end has to be found: texts and comments, which may have brackets in them, and brackets
-PART = re.compile(
-    r'"""(?:[^\\]|\\.)*?"""+|\'\'\'.*?\'\'\'+|"(?:[^"\\\n]|\\.)*"|\'[^\'\n]*\'|#[^\n]*|[\[\]{}]|\n', re.DOTALL
-)
+PART = re.compile(r'"""(?:[^\\]|\\.)*?"""+|\'\'\'.*?\'\'\'+|"(?:[^"\\\n]|\\.)*"|\'[^\'\n]*\'|#[^\n]*|[\[\]{}]|\n', re.DOTALL)
 KEY = re.compile(r"""[ \t]*(?:"((?:[^"\\\n]|\\.)*)"|'([^'\n]*)'|([A-Za-z0-9_-]+))[ \t]*[.=]""")
 
 
@@ -76,13 +74,21 @@ def document(data: bytes) -> dict[str, object]:
 
 def roll_of(data: bytes) -> list[str]:
     """The names on the roll of a poll that debvote takes, in their order."""
-    return [str(name) for name in document(data)["roll"]]
+    return texts_at(document(data), "roll")
 
 
 def options_of(data: bytes) -> list[str]:
     """The names of the options of a poll that debvote takes, in their order, the default option last."""
     said = document(data)
-    return [str(name) for name in (*said["options"], said["default"])]
+    return [*texts_at(said, "options"), str(said["default"])]
+
+
+def texts_at(said: dict[str, object], key: str) -> list[str]:
+    """The texts of a list. Raises KeyError where there is none, and TypeError where it is no list."""
+    found = said[key]
+    if not isinstance(found, list):
+        raise TypeError(key)
+    return [str(text) for text in found]
 
 
 def unread(why: str) -> Fault:

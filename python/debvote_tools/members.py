@@ -40,9 +40,7 @@ KINDS = {
 MARKS = {codecs.BOM_UTF8: "utf-8", codecs.BOM_UTF16_LE: "utf-16-le", codecs.BOM_UTF16_BE: "utf-16-be"}
 
 # letters that Unicode does not take apart into a letter and its accent
-LETTERS = str.maketrans(
-    {"ø": "o", "ł": "l", "đ": "d", "ð": "d", "þ": "th", "æ": "ae", "œ": "oe", "ı": "i", "ħ": "h", "ŧ": "t"}
-)
+LETTERS = str.maketrans({"ø": "o", "ł": "l", "đ": "d", "ð": "d", "þ": "th", "æ": "ae", "œ": "oe", "ı": "i", "ħ": "h", "ŧ": "t"})
 
 
 @dataclasses.dataclass(frozen=True)
@@ -182,6 +180,8 @@ def rows_in(file: pathlib.Path, text: str, delimiter: str) -> Iterable[Row]:
         start, cells = place, []
         while True:
             found = cell.match(text, place)
+            # the second kind of a cell may be empty, so each place begins one
+            assert found is not None
             if found[1] is None and found[2].lstrip(" ").startswith('"'):
                 at = line + line_feeds(text[start:place])
                 words = f"the quotation mark before {shown(found[2].strip()[1:])} has none that ends the cell"
