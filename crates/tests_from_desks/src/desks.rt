@@ -241,7 +241,7 @@ const ANNS: Option<[u8; 3]> = Some([1, 2, 3]);
 
 const BOBS: Option<[u8; 3]> = Some([2, 1, 3]);
 
-const CLOSED: [Deed; 8] = [
+const CLOSED: [Deed; 9] = [
     Deed::Standing(2, Err(NoVoter)),
     Deed::Standing(0, Ok(None)),
     Deed::Cast(0, 1, ANN, Ok(Reply::Counted)),
@@ -249,6 +249,7 @@ const CLOSED: [Deed; 8] = [
     Deed::Close(Ok(())),
     Deed::Close(Err(AlreadyClosed)),
     Deed::Cast(0, 2, BOB, Ok(Reply::BoxClosed)),
+    Deed::Standing(0, Ok(ANNS)),
     Deed::Standing(1, Ok(None)),
 ];
 
@@ -266,6 +267,20 @@ fn a_closed_box_refuses(rt: HostRuntime) -> Result<(), Fail> {
     assert_closed(&rt, rt.alloc(), 1)?;
     assert_closed(&rt, rt.alloc(), 2)?;
     assert_closed(&rt, rt.alloc(), MAX_DESKS)?;
+    Ok(())
+}
+
+const CLOSED_EMPTY: [Deed; 4] = [
+    Deed::Close(Ok(())),
+    Deed::Close(Err(AlreadyClosed)),
+    Deed::Cast(0, 1, ANN, Ok(Reply::BoxClosed)),
+    Deed::Standing(0, Ok(None)),
+];
+
+#[test]
+fn an_empty_box_is_closed(rt: HostRuntime) -> Result<(), Fail> {
+    let counts = counts_after(&rt, rt.alloc(), 1, &CLOSED_EMPTY)?;
+    assert_same(&rt, counts, (2, 0, 1, 1));
     Ok(())
 }
 

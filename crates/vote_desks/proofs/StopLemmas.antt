@@ -1,5 +1,5 @@
 -- The least desk that stopped early, and what an audit may find.
-use Rattle.std.proofs.Common.{◌≡◌, ℕ, ◌+◌, ◌<◌, ◌≤◌, List, Option, Some, None, length, get_or, map, refl, sym, ap, ◌∙◌, ⊎_elim, arith}
+use Rattle.std.proofs.Common.{◌≡◌, ℕ, Bool, false, IsTrue, ◌+◌, ◌<◌, ◌≤◌, List, Option, Some, None, length, get_or, map, refl, sym, ap, ◌∙◌, ⊎_elim, arith}
 use Rattle.std.specs.List.{range_with_len, count_by}
 use Rattle.std.proofs.lemmas.Bool.{cases_lt}
 use Rattle.std.proofs.lemmas.List.{get_or-map, length-map}
@@ -46,9 +46,19 @@ least_stop {W} desk stopped all k w stop fault numbers inside here stops is befo
     }
 
 -- a desk stopped by the gate, or by a cast of a stamp that was used
-pub can_stop : (desk : ℕ) (stop : Stop) → ((fault : EnterFault) → stop ≡ Refused fault → fault ≡ StampUsed) → CanStopVotes (stop_fault desk stop)
-can_stop desk Barred h = tt
-can_stop desk (Refused fault) h = h fault refl
+pub can_stop : (bars : ℕ → Bool) (desk : ℕ) (stop : Stop) → (stop ≡ Barred → IsTrue (bars desk)) → ((fault : EnterFault) → stop ≡ Refused fault → fault ≡ StampUsed)
+    → CanStopVotes bars (stop_fault desk stop)
+can_stop bars desk Barred barred used = barred refl
+can_stop bars desk (Refused fault) barred used = used fault refl
+
+-- what stops votes without a gate stops them with any
+pub without_gate : (bars : ℕ → Bool) (fault : VoteFault) → CanStopVotes (λ _. false) fault → CanStopVotes bars fault
+without_gate bars Memory can = tt
+without_gate bars Thread can = tt
+without_gate bars (Gate desk) can = cc
+without_gate bars (Enter desk fault) can = can
+without_gate bars (Desk fault) can = can
+without_gate bars (Audit fault) can = can
 
 pub of_desk : (desks desk : ℕ) (stop : Stop) → 1 ≤ desk → desk ≤ desks → IsOfDesk desks (stop_fault desk stop)
 of_desk desks desk Barred low high = (low, high)
@@ -56,10 +66,10 @@ of_desk desks desk (Refused fault) low high = (low, high)
 
 -- an audit finds neither of these two in a box with the sizes of the poll and a cast for each line
 pub can_stop_audit : (poll : PollContent) (lines : List (List ℕ)) (s : SealedState) (fault : VoteFault)
-    → HasSizes poll lines s.ballot_box → count_by is_cast s.ballot_box.steps ≡ length lines → IsAuditFaultOf poll lines s fault → CanStopVotes fault
+    → HasSizes poll lines s.ballot_box → count_by is_cast s.ballot_box.steps ≡ length lines → IsAuditFaultOf poll lines s fault → CanStopVotes (λ _. false) fault
 can_stop_audit poll lines s Memory sizes casts found = tt
 can_stop_audit poll lines s Thread sizes casts found = tt
-can_stop_audit poll lines s (Gate desk) sizes casts found = tt
+can_stop_audit poll lines s (Gate desk) sizes casts found = absurd found
 can_stop_audit poll lines s (Enter desk fault) sizes casts found = absurd found
 can_stop_audit poll lines s (Desk fault) sizes casts found = found
 can_stop_audit poll lines s (Audit SizeDiffers) sizes casts found = absurd (found sizes)

@@ -1,5 +1,5 @@
 -- Which faults can come where.
-use Rattle.std.specs.Prelude.{◌≡◌, ◌≢◌, ◌≤◌, ◌⊎◌, ℕ, List}
+use Rattle.std.specs.Prelude.{◌≡◌, ◌≢◌, ◌≤◌, ◌⊎◌, ℕ, Bool, List, IsTrue}
 use Rattle.vote_poll.specs.PollContent.{PollContent}
 use Rattle.vote_desks_box.specs.Desks.{SealedState}
 use Rattle.vote_desks_box.specs.declared.EnterFault.TheVariants.{StampUsed}
@@ -8,15 +8,15 @@ use Rattle.vote_desks.specs.declared.fault.VoteFault.{VoteFault}
 use Rattle.vote_desks.specs.declared.fault.VoteFault.TheVariants.{Memory, Thread, Gate, Enter, Desk, Audit}
 use Rattle.vote_desks.specs.Audit.{IsFaultOf}
 
--- box and sheets have room for each line, so a cast can be refused for a used stamp alone; no desk is missing; and the box has the
--- sizes of the poll and as many casts as lines
-abbrev pub CanStopVotes : VoteFault → Type 0
-CanStopVotes Memory = Unit {0}
-CanStopVotes Thread = Unit {0}
-CanStopVotes (Gate desk) = Unit {0}
-CanStopVotes (Enter desk fault) = fault ≡ StampUsed
-CanStopVotes (Desk fault) = ⊥
-CanStopVotes (Audit fault) = (fault ≢ SizeDiffers) × (fault ≢ CountDiffers)
+-- a gate stops only those desks that it bars; box and sheets have room for each line, so a cast can be refused for a used stamp alone;
+-- no desk is missing; and the box has the sizes of the poll and as many casts as lines
+abbrev pub CanStopVotes : (ℕ → Bool) → VoteFault → Type 0
+CanStopVotes bars Memory = Unit {0}
+CanStopVotes bars Thread = Unit {0}
+CanStopVotes bars (Gate desk) = IsTrue (bars desk)
+CanStopVotes bars (Enter desk fault) = fault ≡ StampUsed
+CanStopVotes bars (Desk fault) = ⊥
+CanStopVotes bars (Audit fault) = (fault ≢ SizeDiffers) × (fault ≢ CountDiffers)
 
 -- a fault of one desk is of one of so many, which are numbered from 1
 abbrev pub IsOfDesk : ℕ → VoteFault → Type 0

@@ -1,5 +1,5 @@
 -- Why desks stop early, and which stop is told.
-use Rattle.std.specs.Prelude.{◌≡◌, ℕ, ◌≤◌, ◌⊎◌, List, Option, Some, None, All, Contains}
+use Rattle.std.specs.Prelude.{◌≡◌, ℕ, Bool, ◌≤◌, ◌⊎◌, List, Option, Some, None, All, Contains, IsTrue}
 use Rattle.vote_desks_box.specs.declared.EnterFault.{EnterFault}
 use Rattle.vote_desks_box.specs.declared.EnterFault.TheVariants.{StampUsed}
 use Rattle.vote_desks.specs.declared.worked.Stop.{Stop}
@@ -10,6 +10,10 @@ use Rattle.vote_desks.specs.declared.fault.VoteFault.TheVariants.{Memory, Gate, 
 -- a cast was refused only because its stamp was used
 abbrev pub IsRefusedAsUsed : Option Stop → Type 0
 IsRefusedAsUsed stopped = (fault : EnterFault) → stopped ≡ Some (Refused fault) → fault ≡ StampUsed
+
+-- a gate that may stop these desks stopped none but them: the desk with this number only if it may stop it
+abbrev pub IsBarredBy : (ℕ → Bool) → ℕ → Option Stop → Type 0
+IsBarredBy bars desk stopped = stopped ≡ Some Barred → IsTrue (bars desk)
 
 -- the fault that tells a desk's early stop
 abbrev pub stop_fault : ℕ → Stop → VoteFault

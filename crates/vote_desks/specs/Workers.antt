@@ -1,5 +1,5 @@
 -- What workers promised when they were started, and what they gave back, one after the other.
-use Rattle.std.specs.Prelude.{ℕ, List, Option, map}
+use Rattle.std.specs.Prelude.{ℕ, Bool, List, Option, All, map}
 use Rattle.std.specs.declared.thread.PromisedHandle.{PromisedHandle}
 use Rattle.vote_tray.specs.Passes.{TrayId, PassState}
 use Rattle.vote_desks_box.specs.declared.desk.Tally as Tally
@@ -7,23 +7,24 @@ use Rattle.vote_desks_box.specs.Desks.{DeskState}
 use Rattle.vote_desks.specs.declared.work.WorkerPromise.{WorkerPromise}
 use Rattle.vote_desks.specs.declared.worked.Stop.{Stop}
 use Rattle.vote_desks.specs.declared.worked.WorkerResult.{WorkerResult}
+use Rattle.vote_desks.specs.Stops.{IsBarredBy}
 use Rattle.vote_desks.specs.Work.{tray_and_parts}
 
 -- the numbers of these desks
 abbrev pub numbers_of : List DeskState → List ℕ
 numbers_of desks = map (λ desk. desk.number) desks
 
-module _ {T : Type 0} where
+module _ {T G : Type 0} where
   -- the numbers of the desks that were promised
-  abbrev pub desks_promised : List (PromisedHandle T WorkerPromise) → List ℕ
+  abbrev pub desks_promised : List (PromisedHandle T (WorkerPromise G)) → List ℕ
   desks_promised handles = map (λ handle. handle.promise.number) handles
 
   -- the passes as they were when the workers were started
-  abbrev pub passes_promised : List (PromisedHandle T WorkerPromise) → List PassState
+  abbrev pub passes_promised : List (PromisedHandle T (WorkerPromise G)) → List PassState
   passes_promised handles = map (λ handle. handle.promise.pass.value) handles
 
   -- the trays and the parts of the passes that were promised
-  abbrev pub parts_promised : List (PromisedHandle T WorkerPromise) → List (TrayId × List ℕ)
+  abbrev pub parts_promised : List (PromisedHandle T (WorkerPromise G)) → List (TrayId × List ℕ)
   parts_promised handles = map (λ handle. tray_and_parts handle.promise.pass.value) handles
 
 module _ {X Y : Type 0} {g : Tally.Ghosts X} {h : Tally.Ghosts Y} where
@@ -42,3 +43,7 @@ module _ {X Y : Type 0} {g : Tally.Ghosts X} {h : Tally.Ghosts Y} where
   -- the numbers of the desks that are back, each with why it stopped early, if it did
   abbrev pub stops_back : List (WorkerResult X Y g h) → List (ℕ × Option Stop)
   stops_back all = map (λ worked. (worked.desk.number, worked.stopped)) all
+
+  -- a gate that may stop these desks stopped none of the others that are back
+  abbrev pub AreBarredBy : (ℕ → Bool) → List (WorkerResult X Y g h) → Type 0
+  AreBarredBy bars all = All (λ worked. IsBarredBy bars worked.desk.number worked.stopped) all

@@ -12,6 +12,7 @@ ghost use Rattle.vote_desks.specs.Audit.{FindsFault, FindsReading, IsAudited};
 use crate::fault::AuditFault;
 use crate::sheets::first_other_sheet;
 use std::marker::Model;
+use std::snapshot::Snapshot;
 use std::thread;
 use std::thread::Threads;
 use vote_desks_box::{Sealed, Slip};
@@ -195,6 +196,30 @@ impl Audited {
     {
         self.sealed.sheet_of(desk)
     }
+
+    /// What shows, once the box is gone, which one was audited.
+    pub fn witness(&self) -> AuditWitness
+        ensures { result ≡ self.now }
+    {
+        AuditWitness {
+            seen: Snapshot::of(self),
+        }
+    }
+}
+
+/// The witness of an audit. Contracts see the box and the sheets that were audited. It has no
+/// bytes, and only `Audited::witness` makes one: who returns a witness had an audit made.
+#[derive(Drop)]
+pub struct AuditWitness {
+    seen: Snapshot<Audited>,
+}
+
+impl Model for AuditWitness {
+    ghost use Rattle.vote_desks_box.specs.Desks.{SealedState};
+
+    ghost Value = { SealedState };
+
+    ghost view = { λ w. w.seen.value };
 }
 
 /// Compares a sealed box and its sheets with the lines, as `compare` does. On a fault the sealed

@@ -1,7 +1,8 @@
 //! Batches of envelopes, which a worker takes at once.
-ghost use Rattle.std.specs.Prelude.{◌≡◌, ◌+◌, ◌<◌, ◌≤◌, ◌^◌, ◌++◌, All, IsTrue, length, take};
+ghost use Rattle.std.specs.Prelude.{◌≡◌, ◌+◌, ◌-◌, ◌*◌, ◌<◌, ◌≤◌, ◌^◌, ◌++◌, All, IsTrue, length, take};
 ghost use Rattle.vote_poll.specs.PollContent.{elector_count, option_count};
 ghost use Rattle.vote_poll.specs.Readings.{ReadingFits};
+ghost use Rattle.vote_steps.specs.declared.TheConstants.{MAX_DESKS};
 ghost use Rattle.vote_desks.specs.Work.{IsRising, IsStampOf, stamps_taken};
 
 use vote_poll::{Lines, Poll, Reading, read_line};
@@ -21,6 +22,7 @@ const LEFT_FOR_EACH: usize = 16;
 pub(crate) fn batch_length(may_wait: bool, left: usize) -> usize
     ensures range { (1 ≤ result) × (result ≤ BATCH) }
     ensures one { IsTrue may_wait → result ≡ 1 }
+    ensures share { 2 * (MAX_DESKS * (result - 1)) ≤ left }
 {
     if may_wait {
         1

@@ -32,7 +32,7 @@ mod votes;
 mod work;
 mod worked;
 
-pub use auditing::{Audited, audit, compare};
+pub use auditing::{AuditWitness, Audited, audit, compare};
 pub use fault::{AuditFault, VoteFault};
 pub use no_gate::NoGate;
 pub use vote_desks_box::{

@@ -1,5 +1,5 @@
 //! The gate that bars nothing.
-ghost use Rattle.std.specs.Prelude.{IsTrue};
+ghost use Rattle.std.specs.Prelude.{IsTrue, false};
 
 use crate::work::Gate;
 use vote_desks_box::Slip;
@@ -8,6 +8,10 @@ use vote_desks_box::Slip;
 pub struct NoGate;
 
 impl Gate for NoGate {
+    ghost bars = { λ _. false };
+
+    ghost waits = { false };
+
     fn before(&self, _desk: u8, _stamp: u32) -> bool
         ensures { IsTrue result }
     {
@@ -16,7 +20,9 @@ impl Gate for NoGate {
 
     fn after(&self, _desk: u8, _slip: &Slip) {}
 
-    fn may_wait(&self) -> bool {
+    fn may_wait(&self) -> bool
+        ensures { ¬ IsTrue result }
+    {
         false
     }
 }

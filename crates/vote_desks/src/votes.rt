@@ -1,5 +1,5 @@
 //! Taking the votes of all lines.
-ghost use Rattle.std.specs.Prelude.{◌≡◌, ◌<◌, [], IfOk, IfErr, IfSome, IsNone, All, None, length, map, vec_len};
+ghost use Rattle.std.specs.Prelude.{◌≡◌, ◌<◌, [], false, IfOk, IfErr, IfSome, IsNone, All, None, length, map, vec_len};
 ghost use Rattle.std.specs.List.{range_with_len};
 ghost use Rattle.vote_steps.specs.Boxes.{box_of};
 ghost use Rattle.vote_steps.specs.Desks.{AreDesks};
@@ -10,7 +10,7 @@ ghost use Rattle.vote_desks.specs.Back.{AreAllHandedIn, AreBackFrom, casts_at};
 ghost use Rattle.vote_desks.specs.Stops.{stop_fault, IsLeastStop, StopsWorkers};
 ghost use Rattle.vote_desks.specs.Faults.{CanStopVotes, IsOfDesk, IsAuditFaultOf};
 ghost use Rattle.vote_desks.specs.Work.{new_passes, tray_and_parts};
-ghost use Rattle.vote_desks.specs.Workers.{numbers_back, numbers_of, pairs_back, parts_back, stops_back};
+ghost use Rattle.vote_desks.specs.Workers.{AreBarredBy, numbers_back, numbers_of, pairs_back, parts_back, stops_back};
 
 use crate::auditing::{Audited, audit};
 use crate::fault::VoteFault;
@@ -37,10 +37,11 @@ fn stop_fault(desk: u8, stop: Stop) -> VoteFault
 }
 
 /// The fault of the least desk that stopped early.
-fn first_stop<VL: Tally, RL: Tally>(all: &[WorkerResult<VL, RL>]) -> Option<VoteFault>
-    requires { numbers_back all.now ≡ range_with_len 1 (length all.now) }
+fn first_stop<VL: Tally, RL: Tally, G: Gate>(all: &[WorkerResult<VL, RL>]) -> Option<VoteFault>
+    requires numbers { numbers_back all.now ≡ range_with_len 1 (length all.now) }
+    requires barred { AreBarredBy G.bars all.now }
     ensures some { IfSome result (IsLeastStop (stops_back all.now)) }
-    ensures can { IfSome result CanStopVotes }
+    ensures can { IfSome result (CanStopVotes G.bars) }
     ensures desk { IfSome result (IsOfDesk (length all.now)) }
     ensures none { IsNone result → All (λ worked. worked.stopped ≡ None) all.now }
 {
@@ -79,7 +80,7 @@ fn hand_in<VL: Tally, RL: Tally>(
 
 /// Takes the desks back from their workers, with one pass that all passes were joined into, unless
 /// a desk stopped early.
-fn take_back<VL: Tally, RL: Tally>(
+fn take_back<VL: Tally, RL: Tally, G: Gate>(
     alloc: Global,
     tray: &Tray,
     all: Vec<WorkerResult<VL, RL>>,
@@ -87,12 +88,13 @@ fn take_back<VL: Tally, RL: Tally>(
     requires some { 0 < tray.now.passes }
     requires numbers { numbers_back all.items ≡ range_with_len 1 tray.now.passes }
     requires passes { parts_back all.items ≡ map tray_and_parts (new_passes tray.now) }
+    requires barred { AreBarredBy G.bars all.items }
     ensures handed { IfOk result (λ handed. AreAllHandedIn tray.now handed.0.items handed.1) }
     ensures stops { IfErr result (StopsWorkers (stops_back all.items)) }
-    ensures fault { IfErr result CanStopVotes }
+    ensures fault { IfErr result (CanStopVotes G.bars) }
     ensures desk { IfErr result (IsOfDesk tray.now.passes) }
 {
-    if let Some(fault) = first_stop(&all) {
+    if let Some(fault) = first_stop::<VL, RL, G>(&all) {
         return Err(fault);
     }
     hand_in(alloc, tray, all)
@@ -118,11 +120,11 @@ fn cast_all<
     requires desks { desks.items ≡ fresh_desks (length workplace.now.lines.now) (vec_len desks) }
     requires passes { passes.items ≡ new_passes workplace.now.tray.now }
     ensures handed { IfOk result (λ all. AreAllHandedIn workplace.now.tray.now all.0.items all.1) }
-    ensures fault { IfErr result CanStopVotes }
+    ensures fault { IfErr result (CanStopVotes G.bars) }
     ensures desk { IfErr result (IsOfDesk workplace.now.tray.now.passes) }
 {
     let all = work_all(rt, alloc, workplace, desks, passes)?;
-    take_back(alloc, workplace.tray, all)
+    take_back::<VL, RL, G>(alloc, workplace.tray, all)
 }
 
 /// Has desks that have cast nothing cast all lines, and takes them back.
@@ -146,7 +148,7 @@ fn cast_lines<
     ensures numbers { IfOk result (λ back. numbers_of back.items ≡ range_with_len 1 (vec_len opened)) }
     ensures rising { IfOk result (λ back. All (λ desk. Rises desk.slips) back.items) }
     ensures cast { IfOk result (λ back. casts_at back.items ≡ length lines.now) }
-    ensures fault { IfErr result CanStopVotes }
+    ensures fault { IfErr result (CanStopVotes G.bars) }
     ensures desk { IfErr result (IsOfDesk (vec_len opened)) }
 {
     let desks = opened.len() as u8;
@@ -207,7 +209,7 @@ fn gather_and_audit<VL: Tally, RL: Tally, R: Threads + Sync>(
     ensures audited { IfOk result (IsAuditedFor poll.now lines.now) }
     ensures desks { IfOk result (λ audited. length audited.sheets ≡ shared.desks) }
     ensures rising { IfOk result (λ audited. All Rises audited.sheets) }
-    ensures fault { IfErr result CanStopVotes }
+    ensures fault { IfErr result (CanStopVotes (λ _. false)) }
     ensures desk { IfErr result (IsOfDesk shared.desks) }
 {
     let sealed = match gather(alloc, shared, desks) {
@@ -248,7 +250,7 @@ fn serve<
     ensures audited { IfOk result (IsAuditedFor poll.now lines.now) }
     ensures desks { IfOk result (λ audited. length audited.sheets ≡ desks) }
     ensures rising { IfOk result (λ audited. All Rises audited.sheets) }
-    ensures fault { IfErr result CanStopVotes }
+    ensures fault { IfErr result (CanStopVotes G.bars) }
     ensures desk { IfErr result (IsOfDesk desks) }
 {
     let limit = lines.len() as u32;
@@ -279,7 +281,7 @@ pub fn take_votes<G: Gate + Sync, R: Threads + Wait + Sync>(
     ensures audited { IfOk result (IsAuditedFor poll.now lines.now) }
     ensures desks { IfOk result (λ audited. length audited.sheets ≡ desks) }
     ensures rising { IfOk result (λ audited. All Rises audited.sheets) }
-    ensures fault { IfErr result CanStopVotes }
+    ensures fault { IfErr result (CanStopVotes G.bars) }
     ensures desk { IfErr result (IsOfDesk desks) }
 {
     serve::<Brand, Brand, G, R>(

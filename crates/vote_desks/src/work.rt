@@ -1,17 +1,18 @@
 //! Workers, each of which serves a desk in a thread of its own.
-ghost use Rattle.std.specs.Prelude.{◌≡◌, ◌+◌, ◌<◌, ◌≤◌, ◌^◌, [], None, Ok, Some, All, IsNone, IsTrue, IfOk, IfErr, map, length, vec_len};
+ghost use Rattle.std.specs.Prelude.{◌≡◌, ℕ, Bool, true, false, ◌+◌, ◌<◌, ◌≤◌, ◌^◌, [], None, Ok, Some, All, IsNone, IsTrue, IfOk, IfErr, map, length, vec_len};
 ghost use Rattle.std.specs.List.{AllByRecursion};
 ghost use Rattle.vote_steps.specs.Boxes.{box_of};
 ghost use Rattle.vote_desks_box.specs.Desks.{FitsBox};
 ghost use Rattle.vote_desks.specs.Work.{HasCast, HasCastAll, IsFresh, IsStampOf, IsUnused, tray_and_parts};
-ghost use Rattle.vote_desks.specs.Workers.{desks_promised, numbers_back, numbers_of, parts_back, parts_promised, passes_promised};
-ghost use Rattle.vote_desks.specs.Stops.{IsRefusedAsUsed};
+ghost use Rattle.vote_desks.specs.Workers.{AreBarredBy, desks_promised, numbers_back, numbers_of, parts_back, parts_promised, passes_promised};
+ghost use Rattle.vote_desks.specs.Stops.{IsBarredBy, IsRefusedAsUsed};
 ghost use Rattle.vote_desks.specs.Faults.{IsStartFault};
 
 use crate::batch::{BATCH, batch_length, read_batch, take_batch};
 use crate::fault::VoteFault;
 use crate::worked::{Stop, WorkerResult};
 use std::alloc::Global;
+use std::marker::PhantomData;
 use std::snapshot::Snapshot;
 use std::sync::{Mutex, Wait};
 use std::thread;
@@ -23,9 +24,16 @@ use vote_tray::{Pass, Tray};
 /// Lets envelopes pass to the box, or stops their desks. All workers share it, and the box is not
 /// locked while it is asked.
 pub trait Gate {
+    /// Whether it may stop the desk with this number.
+    ghost bars: { ℕ → Bool } = { λ _. true };
+
+    /// Whether a call may wait for what another desk does.
+    ghost waits: { Bool } = { false };
+
     /// Whether this desk may cast the envelope with this stamp. If not, its worker stops, and the
     /// others go on.
-    fn before(&self, desk: u8, stamp: u32) -> bool;
+    fn before(&self, desk: u8, stamp: u32) -> bool
+        ensures { ¬ IsTrue result → IsTrue (bars desk) };
 
     /// Takes note that this desk has cast an envelope, with the slip that the cast gave.
     fn after(&self, desk: u8, slip: &Slip);
@@ -33,7 +41,9 @@ pub trait Gate {
     /// Whether a call may wait for what another desk does; it is asked once, before the workers
     /// start. If so, a worker takes an envelope from the tray only when it has cast the one before.
     /// If not, it may take a batch at once, and asks for each envelope right before its cast.
-    fn may_wait(&self) -> bool {
+    fn may_wait(&self) -> bool
+        ensures { IsTrue waits → IsTrue result }
+    {
         true
     }
 }
@@ -55,17 +65,20 @@ pub(crate) struct Workplace<'h, 't, VL: Tally, RL: Tally, G> {
     ghost places: { tray.now.size ≡ length lines.now },
 }
 
-/// What a worker promises: to give back this desk, and a pass of the same tray with the same parts.
+/// What a worker promises: to give back this desk, and a pass of the same tray with the same parts,
+/// and that a gate of type `G` stopped the desk only if it bars it.
 #[derive(Drop)]
-pub(crate) struct WorkerPromise {
+pub(crate) struct WorkerPromise<G> {
     number: u8,
     pass: Snapshot<Pass>,
+    gate: PhantomData<G>,
 }
 
-impl<VL: Tally, RL: Tally> Promise<WorkerResult<VL, RL>> for WorkerPromise {
+impl<VL: Tally, RL: Tally, G: Gate> Promise<WorkerResult<VL, RL>> for WorkerPromise<G> {
     ghost kept_by = { λ promise worked. (worked.desk.number ≡ promise.number)
         × (worked.pass.tray ≡ promise.pass.value.tray)
-        × (worked.pass.parts ≡ promise.pass.value.parts) };
+        × (worked.pass.parts ≡ promise.pass.value.parts)
+        × IsBarredBy G.bars worked.desk.number worked.stopped };
 }
 
 /// Casts the envelopes with these stamps, each as one step, until the gate or the box stops the
@@ -83,6 +96,7 @@ fn cast_each<VL: Tally, RL: Tally, G: Gate, R: Wait>(
     requires room { length desk.old.slips + length stamps.now ≤ desk.old.limit }
     ensures same { (desk.new.number ≡ desk.old.number) × (desk.new.limit ≡ desk.old.limit) }
     ensures cast { IsNone result → HasCast desk.old stamps.now desk.new }
+    ensures barred { IsBarredBy G.bars desk.old.number result }
     ensures refused { IsRefusedAsUsed result }
 {
     for place in 0..stamps.len() {
@@ -119,6 +133,7 @@ fn cast_batch<VL: Tally, RL: Tally, G: Gate, R: Wait>(
     requires room { length desk.old.slips + length stamps.now ≤ desk.old.limit }
     ensures same { (desk.new.number ≡ desk.old.number) × (desk.new.limit ≡ desk.old.limit) }
     ensures cast { IsNone result → HasCast desk.old stamps.now desk.new }
+    ensures barred { IsBarredBy G.bars desk.old.number result }
     ensures refused { IsRefusedAsUsed result }
 {
     let _turn = if stamps.len() > 1 {
@@ -145,6 +160,7 @@ fn cast_batches<VL: Tally, RL: Tally, G: Gate, R: Wait>(
     ensures desk { desk.new.number ≡ desk.old.number }
     ensures pass { (pass.new.tray ≡ pass.old.tray) × (pass.new.parts ≡ pass.old.parts) }
     ensures emptied { result ≡ None → HasCastAll desk.new pass.new }
+    ensures barred { IsBarredBy G.bars desk.old.number result }
     ensures refused { IsRefusedAsUsed result }
 {
     let lines = workplace.lines.len();
@@ -180,6 +196,7 @@ fn work<VL: Tally, RL: Tally, G: Gate, R: Wait>(
     requires pass { IsUnused workplace.now.tray.now pass }
     ensures desk { result.desk.number ≡ desk.number }
     ensures pass { (result.pass.tray ≡ pass.tray) × (result.pass.parts ≡ pass.parts) }
+    ensures barred { IsBarredBy G.bars desk.number result.stopped }
 {
     let stopped = cast_batches(rt, workplace, &mut desk, &mut pass);
     WorkerResult {
@@ -209,7 +226,7 @@ fn start<'s, E, VL: Tally + Send + Sync, RL: Tally + Send + Sync, G: Gate + Sync
     workplace: &'s Workplace<'_, '_, VL, RL, G>,
     desk: Desk<VL, RL>,
     pass: Pass,
-) -> Result<PromisedHandle<WorkerResult<VL, RL>, WorkerPromise>, VoteFault>
+) -> Result<PromisedHandle<WorkerResult<VL, RL>, WorkerPromise<G>>, VoteFault>
     requires desk { IsFresh (length workplace.now.lines.now) desk }
     requires pass { IsUnused workplace.now.tray.now pass }
     ensures desk { IfOk result (λ handle. handle.promise.number ≡ desk.number) }
@@ -219,12 +236,14 @@ fn start<'s, E, VL: Tally + Send + Sync, RL: Tally + Send + Sync, G: Gate + Sync
     let promise = WorkerPromise {
         number: desk.number(),
         pass: Snapshot::of(&pass),
+        gate: PhantomData,
     };
     let job = move || -> WorkerResult<VL, RL>
         requires desk { IsFresh (length workplace.now.lines.now) desk }
         requires pass { IsUnused workplace.now.tray.now pass }
         ensures desk { result.desk.number ≡ desk.number }
         ensures pass { (result.pass.tray ≡ pass.tray) × (result.pass.parts ≡ pass.parts) }
+        ensures barred { IsBarredBy G.bars desk.number result.stopped }
     { work(rt, workplace, desk, pass) };
     handle_of(scope.spawn_with(promise, job))
 }
@@ -244,7 +263,7 @@ fn start_all<
     workplace: &'s Workplace<'_, '_, VL, RL, G>,
     mut desks: Vec<Desk<VL, RL>>,
     mut passes: Vec<Pass>,
-) -> Result<Vec<PromisedHandle<WorkerResult<VL, RL>, WorkerPromise>>, VoteFault>
+) -> Result<Vec<PromisedHandle<WorkerResult<VL, RL>, WorkerPromise<G>>>, VoteFault>
     requires desks { AllByRecursion (IsFresh (length workplace.now.lines.now)) desks.items }
     requires passes { AllByRecursion (IsUnused workplace.now.tray.now) passes.items }
     requires same { vec_len passes ≡ vec_len desks }
@@ -279,12 +298,13 @@ pub(crate) fn work_all<
     requires same { vec_len passes ≡ vec_len desks }
     ensures desks { IfOk result (λ all. numbers_back all.items ≡ numbers_of desks.items) }
     ensures passes { IfOk result (λ all. parts_back all.items ≡ map tray_and_parts passes.items) }
+    ensures barred { IfOk result (λ all. AreBarredBy G.bars all.items) }
     ensures err { IfErr result IsStartFault }
 {
     let handles = thread::scope(
         thread::scope_env(),
         rt,
-        |scope| -> Result<Vec<PromisedHandle<WorkerResult<VL, RL>, WorkerPromise>>, VoteFault>
+        |scope| -> Result<Vec<PromisedHandle<WorkerResult<VL, RL>, WorkerPromise<G>>>, VoteFault>
             requires desks { AllByRecursion (IsFresh (length workplace.now.lines.now)) desks.items }
             requires passes { AllByRecursion (IsUnused workplace.now.tray.now) passes.items }
             requires same { vec_len passes ≡ vec_len desks }
@@ -297,12 +317,13 @@ pub(crate) fn work_all<
 }
 
 /// Joins all workers.
-fn join_all<VL: Tally, RL: Tally, R: Threads>(
+fn join_all<VL: Tally, RL: Tally, G: Gate, R: Threads>(
     rt: &R,
-    handles: Vec<PromisedHandle<WorkerResult<VL, RL>, WorkerPromise>>,
+    handles: Vec<PromisedHandle<WorkerResult<VL, RL>, WorkerPromise<G>>>,
 ) -> Result<Vec<WorkerResult<VL, RL>>, VoteFault>
     ensures desks { IfOk result (λ all. numbers_back all.items ≡ desks_promised handles.items) }
     ensures passes { IfOk result (λ all. parts_back all.items ≡ parts_promised handles.items) }
+    ensures barred { IfOk result (λ all. AreBarredBy G.bars all.items) }
     ensures err { IfErr result (λ fault. fault ≡ VoteFault.Memory) }
 {
     match thread::join_promised(rt, handles) {

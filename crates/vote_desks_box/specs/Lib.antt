@@ -2,4 +2,5 @@
 pub mod Slips
 pub mod Desks
 pub mod Entering
+pub mod Answering
 pub mod Books

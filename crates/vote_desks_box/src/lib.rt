@@ -18,7 +18,8 @@
 //! to it. A caller that only shares the box knows less, since another desk may cast between its
 //! calls. It knows when its ballot does not fit the box, its desk has no room or its stamp is out
 //! of range, and that only an envelope above the last one is late. It does not know which stamps
-//! were used, which ballots stand, or whether the box is open. So the shares stand for what the
+//! were used, which ballots stand, or whether the box is open: the answers of `standing` and `close`
+//! are those of some legal history of the box. So the shares stand for what the
 //! desks did, and `gather` shows that all shares together are the books.
 //!
 //! **What is not promised.** That a waiting call gets on, any fairness among desks, or any order of

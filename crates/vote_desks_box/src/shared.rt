@@ -5,6 +5,7 @@ ghost use Rattle.vote_steps.specs.Boxes.{IsLegal, box_of};
 ghost use Rattle.vote_steps.specs.Desks.{AreDesks};
 ghost use Rattle.vote_desks_box.specs.declared.fault.EnterFault.TheVariants.{Sizes, SheetFull, StampRange};
 ghost use Rattle.vote_desks_box.specs.Slips.{CanReply};
+ghost use Rattle.vote_desks_box.specs.Answering.{CanClose, CanStand};
 ghost use Rattle.vote_desks_box.specs.Desks.{FitsBox, IsLater, fresh_desk, fresh_desks, shared_for, standing_in, with_close, with_slip};
 ghost use Rattle.vote_desks_box.specs.Entering.{LacksRoom, NoStamp};
 
@@ -156,7 +157,9 @@ impl<VL: Tally, RL: Tally> SharedBox<VL, RL> {
     /// Closes the box. Later casts get the reply `BoxClosed`.
     ///
     /// For callers of the library; the program does not call it.
-    pub fn close(&self, rt: &impl Wait) -> Result<(), AlreadyClosed> {
+    pub fn close(&self, rt: &impl Wait) -> Result<(), AlreadyClosed>
+        ensures { CanClose self.now.opened result }
+    {
         close(&mut *self.held.lock(rt))
     }
 
@@ -164,6 +167,7 @@ impl<VL: Tally, RL: Tally> SharedBox<VL, RL> {
     ///
     /// For callers of the library; the program does not call it.
     pub fn standing(&self, rt: &impl Wait, voter: usize) -> Result<Option<Ranks>, NoVoter>
+        ensures stands { IfOk result (λ ranks. CanStand self.now.opened voter ranks) }
         ensures none { (result ≡ Err record {}) ↔ (self.now.opened.electors ≤ voter) }
     {
         standing(&*self.held.lock(rt), voter)
@@ -173,6 +177,7 @@ impl<VL: Tally, RL: Tally> SharedBox<VL, RL> {
 /// Closes a box.
 #[tactic(auto, using(crate::proofs::ClosingLemmas::valid_kept, crate::proofs::ClosingLemmas::refused_kept))]
 pub(crate) fn close<VL: Tally, RL: Tally>(held: &mut Held<VL, RL>) -> Result<(), AlreadyClosed>
+    ensures before { IsLater VL.opened held.old.ballot_box × IsLegal held.old.ballot_box }
     ensures opened { IsLater VL.opened held.new.ballot_box }
     ensures closed { IsTrue (is_closed held.new.ballot_box.steps) }
     ensures legal { IsLegal held.new.ballot_box }
@@ -180,6 +185,8 @@ pub(crate) fn close<VL: Tally, RL: Tally>(held: &mut Held<VL, RL>) -> Result<(),
     ensures already { (result ≡ Err record {}) ↔ IsTrue (is_closed held.old.ballot_box.steps) }
     ensures err { OnErr result (held.new ≡ held.old) }
 {
+    // Only a call tells that the steps are legal.
+    let _ = held.ballot_box.steps();
     held.ballot_box.close()
 }
 
@@ -189,9 +196,12 @@ fn standing<VL: Tally, RL: Tally>(
     voter: usize,
 ) -> Result<Option<Ranks>, NoVoter>
     ensures opened { IsLater VL.opened held.now.ballot_box }
+    ensures legal { IsLegal held.now.ballot_box }
     ensures ok { IfOk result (λ ranks. ranks ≡ standing_in held.now.ballot_box voter) }
     ensures none { (result ≡ Err record {}) ↔ (held.now.ballot_box.electors ≤ voter) }
 {
+    // Only a call tells that the steps are legal.
+    let _ = held.ballot_box.steps();
     if voter >= held.ballot_box.electors() {
         return Err(NoVoter);
     }

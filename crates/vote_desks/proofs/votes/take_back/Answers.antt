@@ -4,15 +4,20 @@ use Rattle.std.proofs.lemmas.List.Elements.{All-map, recursion_from_All}
 use Rattle.std.proofs.lemmas.Result.{IfErr-weaker}
 use Rattle.vote_desks.specs.declared.worked.Stop.{Stop}
 use Rattle.vote_desks.specs.Faults.{IsOfDesk}
+use Rattle.vote_desks.specs.Stops.{IsBarredBy}
 use Rattle.vote_desks.specs.Work.{HasCastAll}
 use Rattle.vote_desks_box.proofs.Ranges.{length_range}
 use Rattle.vote_desks.proofs.BackLemmas.{back_from}
 use Rattle.vote_desks.proofs.votes.take_back.Goals as goal
 
-pub first_stop-requires : goal.first_stop-requires
-first_stop-requires g c =
+pub first_stop-requires-clause-numbers : goal.first_stop-requires-clause-numbers
+first_stop-requires-clause-numbers g c =
     let len = length_range (λ w. w.desk.number) 1 c.args.tray.now.passes c.args.all.items c.requires.numbers in
     subst (λ xs. map (λ w. w.desk.number) xs ≡ range_with_len 1 (length xs)) (sym c.deref.ensures.value) (c.requires.numbers ∙ ap (range_with_len 1) (sym len))
+
+pub first_stop-requires-clause-barred : goal.first_stop-requires-clause-barred
+first_stop-requires-clause-barred g c =
+    subst (λ xs. All (λ w. IsBarredBy g.G.Gate.bars w.desk.number w.stopped) xs) (sym c.deref.ensures.value) c.requires.barred
 
 pub hand_in-requires-clause-all : goal.hand_in-requires-clause-all
 hand_in-requires-clause-all g c =
