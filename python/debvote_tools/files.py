@@ -17,6 +17,9 @@ from debvote_tools.faults import Fault, Status
 # in bytes; one more is read of a longer file, so that debvote says that it is too long
 POLL_LIMIT, BALLOTS_LIMIT = 1_048_576, 33_554_432
 
+# in lines
+LINES_LIMIT = 100_000
+
 # where a process has its open files by their numbers
 OWN_FILES = "/proc/self/fd"
 

@@ -142,7 +142,7 @@ def with_line(text: str, key: str, value: str) -> str:
 
 
 def without_key(data: bytes, key: str) -> bytes:
-    """The poll without a key above all tables, and without what stands on its line."""
+    """The poll without a key above all tables, however its line is written, and without what else stands on it."""
     text = text_of(data)
     above = itertools.takewhile(lambda statement: statement.key is not None, statements(text))
     line = next((statement for statement in above if statement.key == key), None)
@@ -165,14 +165,6 @@ def as_announced(data: bytes) -> bytes:
     ended = data if data.endswith(b"\n") or not data else data + b"\n"
     is_later = re.compile(LATER.encode()).fullmatch
     return b"".join(line + b"\n" for line in ended.split(b"\n")[:-1] if not is_later(line))
-
-
-def without_last_envelope(data: bytes) -> bytes:
-    """The poll in which no envelope is late, however its line is written. It is to be asked about, and never to be compared."""
-    text = text_of(data)
-    above = itertools.takewhile(lambda statement: statement.key is not None, statements(text))
-    line = next((statement for statement in above if statement.key == LAST_ENVELOPE), None)
-    return data if line is None else (text[: line.start] + text[line.end :]).encode()
 
 
 def has_last_envelope(data: bytes) -> bool:

@@ -115,7 +115,7 @@ def has_aliases(poll: bytes) -> bool:
 
 
 # ---------------------------------------------------------------- the file of codes
-def text_of(holders: list[Holder]) -> bytes:
+def table_of(holders: list[Holder]) -> bytes:
     """The file of codes."""
     text = io.StringIO()
     table = csv.writer(text, lineterminator="\n")

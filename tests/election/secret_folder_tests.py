@@ -88,7 +88,7 @@ class RandomTest(SecretTest):
         (room / "ballots").write_text(found.ballots)
         codes = room / "private" / "codes.csv"
         codes.touch(0o600)
-        codes.write_bytes(secret.text_of(found.codes))
+        codes.write_bytes(secret.table_of(found.codes))
         words = ["--poll", "poll.toml", "--ballots", "ballots", "--secret", "private/codes.csv", "--even-so", "result"]
         return room, found, self.run_program(sys.executable, support.PUBLISH, *words, cwd=room)
 

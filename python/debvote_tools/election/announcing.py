@@ -24,8 +24,18 @@ TURNING = "\u202a\u202b\u202c\u202d\u202e\u2066\u2067\u2068\u2069"
 
 
 @dataclasses.dataclass(frozen=True)
+class Asked:
+    """The words about time and address; each is none where it was not given."""
+
+    until: str | None
+    zone: str | None
+    until_words: str | None
+    to: str | None
+
+
+@dataclasses.dataclass(frozen=True)
 class Wanted:
-    """What the command line asks for; each is none where it does not."""
+    """What is to be announced; each is none where it is not."""
 
     until: datetime.datetime | None
     words: str | None
@@ -53,7 +63,7 @@ def options(parser: argparse.ArgumentParser) -> None:
     parser.add_argument("--to", metavar="ADDRESS", help="The mail address that ballots are sent to")
 
 
-def wanted_of(asked: argparse.Namespace) -> Wanted:
+def wanted_of(asked: Asked) -> Wanted:
     """What is asked for. Stops where it can't be meant."""
     if asked.zone is not None and asked.until is None:
         raise Fault("--zone: it goes with --until; nothing was changed: write both, or none of them", Status.BAD_WORDS)

@@ -1,10 +1,12 @@
 """What the commands ask debvote, and what they say where it refuses."""
 
+import pathlib
 import shlex
 from collections.abc import Iterable
 
 from debvote_tools.election.folder import Election, Files
 from debvote_tools.faults import Fault, Status
+from debvote_tools.files import BALLOTS_LIMIT, LINES_LIMIT, POLL_LIMIT
 from debvote_tools.program import Answer
 from debvote_tools.sheet import Sheet, sheet_in
 
@@ -46,11 +48,11 @@ def files_of(election: Election, files: Files) -> list[str]:
 def refused(election: Election, answer: Answer) -> Fault:
     """The fault of an answer without a text: what debvote said, with the file that it is about, and its status."""
     said = answer.faults.strip().removeprefix("debvote: ") or f"it ended with status {answer.status}"
-    cures = {
+    cures: dict[int, tuple[pathlib.Path, str]] = {
         Status.BAD_POLL: (election.poll, f"what is wrong with it says: {command(election, 'check')}"),
-        Status.BAD_BALLOTS: (election.ballots, "it has at most 100000 lines and 33554432 bytes"),
+        Status.BAD_BALLOTS: (election.ballots, f"it has at most {LINES_LIMIT} lines and {BALLOTS_LIMIT} bytes"),
     }
-    file, cure = cures.get(answer.status, ("debvote", "nothing was counted: run the command again"))
+    file, cure = cures.get(answer.status, (pathlib.Path("debvote"), "nothing was counted: run the command again"))
     return Fault(f"{file}: {said}; {cure}", answer.status)
 
 
@@ -60,7 +62,7 @@ def explained(election: Election, poll: bytes) -> Answer:
     if answer.text:
         return answer
     if answer.status == Status.BAD_POLL:
-        words = f"{election.poll}: {answer.faults.strip().removeprefix('debvote: ')}; a poll has at most 1048576 bytes"
+        words = f"{election.poll}: {answer.faults.strip().removeprefix('debvote: ')}; a poll has at most {POLL_LIMIT} bytes"
         raise Fault(words, answer.status)
     raise refused(election, answer)
 

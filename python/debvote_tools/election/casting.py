@@ -11,7 +11,7 @@ from debvote_tools.election.asking import NO_BALLOTS, refused
 from debvote_tools.election.folder import Election, Files
 from debvote_tools.election.telling import count_of, tell
 from debvote_tools.faults import Fault, Status
-from debvote_tools.files import in_memory, uninterrupted
+from debvote_tools.files import BALLOTS_LIMIT, LINES_LIMIT, in_memory, uninterrupted
 from debvote_tools.lines import Line, differences, shown
 from debvote_tools.pages import joined
 from debvote_tools.program import Answer, Finding, findings_in, replies_in, standing_in
@@ -98,7 +98,7 @@ def findings_of(election: Election, poll: bytes, lines: list[Line]) -> tuple[dic
     The lines are asked about alone, and without the last envelope: so what is late does not hide what is wrong, and names that
     are near to an earlier line's do not use up the hints.
     """
-    with in_memory(poll_file.without_last_envelope(poll)) as path:
+    with in_memory(poll_file.without_key(poll, poll_file.LAST_ENVELOPE)) as path:
         of_changed = found_in(election, path, [line.changed for line in lines])
         others = [at for at in of_changed if lines[at].kept != lines[at].changed]
         of_kept = found_in(election, path, [lines[at].kept for at in others]) if others else {}
@@ -116,7 +116,7 @@ def asked_of(election: Election, task: str, poll: str, ballots: bytes) -> Answer
     answer = election.debvote.ask(task, "--poll", poll, "--ballots", "/dev/stdin", given=ballots)
     if answer.status == Status.BAD_BALLOTS:
         said = answer.faults.strip().removeprefix("debvote: ")
-        cure = f"it takes 100000 lines and 33554432 bytes at most; what came is kept in {election.received}: add less of it"
+        cure = f"it takes {LINES_LIMIT} lines and {BALLOTS_LIMIT} bytes at most; what came is kept in {election.received}: add less of it"
         raise Fault(f"{election.ballots}: nothing was added, for with it debvote says `{said}`; {cure}", Status.BAD_BALLOTS)
     if answer.faults:
         raise refused(election, answer)

@@ -8,7 +8,7 @@ import re
 from debvote_tools.election.casting import Ballot
 from debvote_tools.election.folder import Election, Files
 from debvote_tools.faults import Fault, Status
-from debvote_tools.files import BALLOTS_LIMIT
+from debvote_tools.files import BALLOTS_LIMIT, LINES_LIMIT
 from debvote_tools.lines import MARK, Line, lines_in, shown
 from debvote_tools.members import COLUMNS
 
@@ -16,9 +16,6 @@ EVEN_SO = "add it all the same with --even-so"
 
 # in bytes; no ballot has half as many, and nobody's letter has such lines of ballots
 LONGEST_LINE = 500
-
-# a ballot file has at most so many lines
-MOST_LINES = 100_000
 
 # the part of what is left that a file may take without a question
 SHARE = 10
@@ -145,7 +142,7 @@ def stop_at_too_much(files: Files, parts: list[Part]) -> None:
     was added can't be taken out again.
     """
     ballots = files.ballots or b""
-    lines_left = MOST_LINES - ballots.count(b"\n")
+    lines_left = LINES_LIMIT - ballots.count(b"\n")
     bytes_left = BALLOTS_LIMIT - len(ballots)
     left = f"{lines_left} lines and {bytes_left} bytes are left in all"
     cure = f"look at it, and take out what is no ballot, or {EVEN_SO}"

@@ -29,7 +29,7 @@ def demand_same(folder: pathlib.Path, casting: list[str], sheet: str, standing: 
             said = f"it says `{faults.strip()}`" if faults else difference(found, wanted)
             words = f"{NAME}, the second count, does not find the same as debvote with its `{task}`: {said}; nothing was published"
             raise Fault(
-                f"{words}: write the poll as TOML 1.0, or, if it is so, keep all files and tell the maintainers", Status.DIFFERS
+                f"{words}: write the poll as TOML 1.0, or, if it is so, keep all files and tell the maintainers", Status.DOUBT
             )
 
 

@@ -145,7 +145,7 @@ def hidden_of(codes: pathlib.Path, poll: bytes, standing: dict[str, str]) -> Hid
 def demand_same(private: str, published: str) -> None:
     """Stops where the sheet under aliases is not the one of the private files: from the line `Voters:` on, and in its head."""
     if from_voters(private) != from_voters(published) or head_of(private) != head_of(published):
-        raise Fault("the sheet under aliases is not that of the votes as they came; nothing was published", Status.DIFFERS)
+        raise Fault("the sheet under aliases is not that of the votes as they came; nothing was published", Status.DOUBT)
 
 
 def from_voters(sheet: str) -> str:
@@ -162,7 +162,7 @@ def head_of(sheet: str) -> list[str]:
 def demand_all_count(published: Sheet) -> None:
     """Stops where a line of the published ballots would not count, or counts no more."""
     if published.last_envelope is not None or not published.lines == published.valid == published.voters:
-        raise Fault("not each of the ballots under aliases would count, once; nothing was published", Status.DIFFERS)
+        raise Fault("not each of the ballots under aliases would count, once; nothing was published", Status.DOUBT)
 
 
 def demand_no_code(folder: pathlib.Path, codes: pathlib.Path) -> None:

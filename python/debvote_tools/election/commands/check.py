@@ -1,6 +1,7 @@
 """`check`: what debvote says of the poll, and what the electors will vote on."""
 
 import argparse
+import dataclasses
 
 from debvote_tools import poll_file
 from debvote_tools.election.asking import call_command, command, quorum_words
@@ -9,6 +10,7 @@ from debvote_tools.election.folder import Election, Files
 from debvote_tools.election.secrecy import without_code
 from debvote_tools.faults import Status
 from debvote_tools.sheet import Sheet
+from debvote_tools.words import taken
 
 HELP = "Say all that is wrong with the poll, or what is voted on"
 
@@ -16,11 +18,19 @@ HELP = "Say all that is wrong with the poll, or what is voted on"
 SHOWN = 200
 
 
+@dataclasses.dataclass(frozen=True)
+class Asked:
+    """The words of this command."""
+
+    all: bool
+
+
 def options(parser: argparse.ArgumentParser) -> None:
     parser.add_argument("--all", action="store_true", help="Print all names of the roll, however many there are")
 
 
-def run(election: Election, asked: argparse.Namespace) -> int:
+def run(election: Election, words: argparse.Namespace) -> int:
+    asked = taken(Asked, words)
     with election.reading() as files:
         sheet = checked(election, files)
     print_poll(sheet, poll_file.roll_of(files.poll), has_all=asked.all)

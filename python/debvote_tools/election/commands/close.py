@@ -1,6 +1,7 @@
 """`close`: the end of the vote. The poll gets the number of the last envelope, so that later lines are late."""
 
 import argparse
+import dataclasses
 import re
 
 from debvote_tools import announced, closed, journal, poll_file, secret
@@ -15,8 +16,17 @@ from debvote_tools.faults import Fault, Status
 from debvote_tools.files import in_memory, sum_of, uninterrupted
 from debvote_tools.journal import Entry
 from debvote_tools.sheet import Sheet, sheet_in
+from debvote_tools.words import taken
 
 HELP = "End the vote: lines that are added later are late"
+
+
+@dataclasses.dataclass(frozen=True)
+class Asked:
+    """The words of this command."""
+
+    early: bool
+    even_so: bool
 
 
 def options(parser: argparse.ArgumentParser) -> None:
@@ -25,7 +35,8 @@ def options(parser: argparse.ArgumentParser) -> None:
     parser.add_argument("--even-so", action="store_true", help=EVEN_SO)
 
 
-def run(election: Election, asked: argparse.Namespace) -> int:
+def run(election: Election, words: argparse.Namespace) -> int:
+    asked = taken(Asked, words)
     with election.changing() as files:
         demand_own_folder(election)
         tell_edits(election, files)
@@ -36,7 +47,7 @@ def run(election: Election, asked: argparse.Namespace) -> int:
             return say_again(election, files, sheet, before)
         stop_at_a_last_envelope(election, files, sheet)
         stop_at_changes(election, files, even_so=asked.even_so)
-        demand_over(election, files, asked)
+        demand_over(election, files, early=asked.early)
         if not election.is_secret():
             closing_letter.demand_free(election)
         files = end_last_line(election, files)
@@ -63,18 +74,18 @@ def sheet_of_all(election: Election, files: Files) -> Sheet:
     return sheet_in(answer.text)
 
 
-def demand_over(election: Election, files: Files, asked: argparse.Namespace) -> None:
+def demand_over(election: Election, files: Files, *, early: bool) -> None:
     """Stops where one can still vote, unless the vote is to be closed early."""
     until, now = announced_in(files.poll).until, announced.now()
     if until is None or now >= until:
         return
     there = minute_of(now, until)
-    if asked.early:
+    if early:
         tell(f"Note: one can vote until {in_words(until)}, and it is {there}; the page of the result will tell it.")
         return
     words = f"one can vote until {in_words(until)}, and by the clock of this computer it is {there}; nothing was changed"
-    early = f"{command(election, 'close', '--early')}, which the page of the result tells"
-    raise Fault(f"{election.poll}: {words}: close when that time is over, or now with {early}", Status.DOUBT)
+    how = f"{command(election, 'close', '--early')}, which the page of the result tells"
+    raise Fault(f"{election.poll}: {words}: close when that time is over, or now with {how}", Status.DOUBT)
 
 
 # ---------------------------------------------------------------- where there is a last envelope already

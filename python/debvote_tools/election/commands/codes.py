@@ -189,7 +189,7 @@ def write(election: Election, files: Files, before: list[Holder], holders: list[
     poll = files.poll if election.is_called() else secret.saying_secret(files.poll)
     if holders != before:
         keep_copy(election, election.codes.name)
-        write_whole(election.codes, secret.text_of(holders), FILE_MODE)
+        write_whole(election.codes, secret.table_of(holders), FILE_MODE)
     if poll != files.poll:
         election.keep_copy(election.poll)
         election.act(secret.ACT, files, poll=poll)
