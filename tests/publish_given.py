@@ -337,6 +337,14 @@ def try_a_name_with_words_of_the_sheet(expect, scratch):
 
 
 # ---------------------------------------------------------------- the call
+def note_call(room, called, has_close):
+    """Writes the journal of an election that was called with the poll of this sum, and is closed with the files as they are."""
+    now = [hashlib.sha256((room / name).read_bytes()).hexdigest() for name in ("poll.toml", "ballots")]
+    rows = [["2026-11-25T18:00:00Z", "call", "-", called, "-"]]
+    rows += [["2026-11-25T19:00:00Z", "close", "1-9", *now]] if has_close else []
+    (room / "journal").write_text("".join("\t".join(row) + "\n" for row in rows))
+
+
 def try_call(expect, scratch):
     """The sum of the call is taken from the letter beside the poll; where the poll has another one the run stops."""
     room = scratch / "call"
@@ -345,17 +353,22 @@ def try_call(expect, scratch):
     called = hashlib.sha256(poll).hexdigest()
     (room / "call").mkdir()
     (room / "call" / "call.txt").write_text(f"THE POLL\n\n  {called}\n\n  command\n")
+    expect("a call without a journal", publish(room, *FILES, "result")[2], 9)
     (room / "poll.toml").write_bytes(poll + b"last_envelope = 9\n")
+    note_call(room, called, has_close=True)
     expect("a call: its status", publish(room, *FILES, "result")[1:], ("", 0))
     page = (room / "result" / "index.html").read_text()
     said = f"The secretary's copy of the call has this sum (SHA-256) of the poll: <code>{called}</code>. The poll below has it, but for its"
     expect("a call: what the page says", (said in page, f"<pre><code>{called}  -</code></pre>" in page), (True, True))
     (room / "poll.toml").write_bytes(poll)
-    expect("a call without a close: its status", publish(room, *FILES, "open")[1:], ("", 0))
+    note_call(room, called, has_close=False)
+    expect("a call without a close: its status", publish(room, *FILES, "--even-so", "open")[1:], ("", 0))
     page = (room / "open" / "index.html").read_text()
     expect("a call without a close: what the page says", (f"{called}</code>. The poll below has it." in page), True)
-    (room / "poll.toml").write_bytes(poll.replace(b"quorum = 1", b"quorum = 0"))
-    other = hashlib.sha256((room / "poll.toml").read_bytes()).hexdigest()
+    changed = poll.replace(b"quorum = 1", b"quorum = 0")
+    (room / "poll.toml").write_bytes(changed + b"last_envelope = 9\n")
+    note_call(room, called, has_close=True)
+    other = hashlib.sha256(changed).hexdigest()
     output, faults, status = publish(room, *FILES, "other")
     wanted = (
         f"debvote-publish: poll.toml: it is not the poll that was called: the call announced the sum {called}, and this one has the "

@@ -302,7 +302,7 @@ class Fails(RollTest):
         before = self.contents()
         self.assert_fault(self.run_program(*nobody), 2, "members.csv: Permission denied; ")
         (self.folder / "members.csv").chmod(0o644)
-        self.assert_fault(self.run_program(*nobody), 7, "backup: Permission denied; ")
+        self.assert_fault(self.run_program(*nobody), 7, "journal: Permission denied; ")
         self.assert_unchanged(before)
 
     def test_a_disk_that_is_full(self) -> None:

@@ -114,7 +114,7 @@ class TwoPublications(SecretTest):
         self.assertNotIn("voters.txt", output)
 
     def test_a_call_that_was_moved_to_the_web_site(self) -> None:
-        """Without the folder of the call an elector can be added, and is told from the others: nothing is published then."""
+        """An elector can be added when the call is taken back, and is told from the others: nothing is published then."""
         members = MEMBERS.replace("ida,Ida <É>,ida@club.example\n", "")
         self.write("members.csv", members)
         self.done("roll")
@@ -122,6 +122,8 @@ class TwoPublications(SecretTest):
         self.done("call")
         shutil.move(self.folder / "call", self.scratch / "web")
         self.write("members.csv", MEMBERS)
+        self.assert_fault(self.election("roll"), 9, "the call for votes was made with another roll than this list has: new are ida")
+        self.done("call", "--take-back")
         self.done("roll")
         self.assertIn("Note: the folder call is gone. If anybody has seen that call", self.done("codes"))
         self.assertEqual(self.election("add", "--even-so", given=BALLOTS).status, 0)
@@ -138,6 +140,8 @@ class TwoPublications(SecretTest):
         self.write("members.csv", MEMBERS.replace("Ben <É>", "Benjamin"))
         self.assertIn("; the code stays, for the call has its alias.", self.done("codes"))
         self.assertEqual(self.read("private/codes.csv"), before)
+        self.assert_fault(self.election("publish", "--secret"), 9, "call: the call for votes was made at ", "its folder is gone")
+        shutil.move(self.scratch / "web", self.folder / "call")
         self.done("publish", "--secret")
 
     def test_what_lies_beside_a_publication(self) -> None:

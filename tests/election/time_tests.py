@@ -24,7 +24,7 @@ LATER, LATER_WORDS = "2026-12-06 18:00 +01:00", "Sunday, 6 December 2026, 18:00 
 DEADLINE = 'deadline = "2026-12-04T18:00:00+01:00"\n'
 EXTENDED = 'extended_to = "2026-12-06T18:00:00+01:00"\n'
 CLOCK = "by the clock of the secretary's computer"
-BALLOTS = "ada 1,2,4,3\nben 2,1,4,3\n"
+BALLOTS = "ada 1,2,4,3\nben 1,2,4,3\n"
 
 
 def sum_of(data: bytes) -> str:
@@ -132,7 +132,7 @@ class Until(TimeTest):
         self.assertEqual(tomllib.loads(self.read("poll.toml").decode())["deadline_words"], text)
         self.done("add", given=BALLOTS)
         self.done("close")
-        self.done("publish", "--casting", "At the lake")
+        self.done("publish")
         self.assertIn(f"One could vote until {text}", self.time_on_page())
 
 
@@ -227,7 +227,7 @@ class Extended(TimeTest):
         self.assertEqual(self.read("poll.toml").count(b"extended_to"), 1)
         self.set_clock("2026-12-08T17:00:00+00:00")
         self.done("close")
-        self.done("publish", "--casting", "At the lake")
+        self.done("publish")
         said = f"One could vote until Tuesday, 8 December 2026, 18:00 (UTC+01:00). This was extended at 2026-12-03 09:00:00 UTC, {CLOCK}"
         self.assertRegex(self.time_on_page(), re.escape(said).replace("09:00:00", r"09:00:\d\d") + "; at first the call said: " + re.escape(FIRST_WORDS))
         self.assertEqual(self.compared("result"), sum_of(self.called))
@@ -285,14 +285,14 @@ class Close(TimeTest):
         self.assert_stops(["close"], 9, said, "or now with debvote-election close --early, which the page of the result tells")
         output = self.done("close", "--early")
         self.assertIn(f"Note: one can vote until {FIRST_WORDS}, and it is Friday, 4 December 2026, 17:50", output)
-        self.done("publish", "--casting", "At the lake")
+        self.done("publish")
         said = rf"The vote was closed 2026-12-04 16:50:\d\d UTC, {CLOCK}\. That is before the time until which one could vote\."
         self.assertRegex(self.time_on_page(), said)
 
     def test_after_the_time_it_closes(self) -> None:
         self.set_clock("2026-12-04T17:00:00+00:00")
         self.assertNotIn("Note", self.done("close"))
-        self.done("publish", "--casting", "At the lake")
+        self.done("publish")
         self.assertNotIn("before the time", self.time_on_page())
 
     def test_status_says_the_time(self) -> None:
@@ -377,7 +377,7 @@ class Letter(TimeTest):
         self.assertEqual(sums, [sum_of(self.read("poll.toml")), sum_of(self.read("call/poll.toml")), sum_of(self.read("ballots"))])
         self.assertRegex(self.text("closed.txt"), rf"The vote was closed at 2026-12-04 17:00:\d\d UTC, {CLOCK}\. 2 lines came in time\.")
         self.done("add", given="cleo 1,2,4,3\ndan 1,2,4,3\n")
-        self.done("publish", "--casting", "At the lake")
+        self.done("publish")
         commands = re.findall("^  (sha256sum .*|head .*)$", letter, re.MULTILINE)
         answers = [self.run_program("sh", "-c", f"cd result && {command}").output.split()[0] for command in commands]
         self.assertEqual(answers, [sums[0], sums[2]])
@@ -455,7 +455,7 @@ class Secret(TimeTest, SecretTest):
         self.set_clock("2026-12-06T17:00:00+00:00")
         self.done("close")
         self.assertFalse((self.folder / "closed.txt").exists())
-        self.done("publish", "--secret", "--casting", "At the lake")
+        self.done("publish", "--secret")
         self.assertEqual(self.read("result/poll.toml"), called)
         self.assertIn(f"One could vote until {LATER_WORDS}", self.time_on_page())
         self.assertIn(f"Lines that came late 0, {CLOCK}", self.time_on_page())
@@ -465,7 +465,7 @@ class Secret(TimeTest, SecretTest):
         (self.scratch / "elsewhere").mkdir()
         for name in ("poll.toml", "ballots.txt"):
             shutil.copy(self.folder / "result" / name, self.scratch / "elsewhere")
-        files = ["--poll", "poll.toml", "--ballots", "ballots.txt", "--casting", "At the lake"]
+        files = ["--poll", "poll.toml", "--ballots", "ballots.txt"]
         ended = self.run_program(sys.executable, support.PUBLISH, *files, "result", cwd=self.scratch / "elsewhere")
         self.assertEqual(ended.status, 0, ended)
 

@@ -14,7 +14,11 @@ class SignsTest(support.ElectionTest):
 
     def test_members(self) -> None:
         for sign, number in (("\x1b[2J", "U+001B"), ("\u202e", "U+202E"), ("\u2066", "U+2066"), ("a\tb", "U+0009"), ("\x9b", "U+009B")):
-            for row in (f"ada,A{sign}a,ada@b.example", f"ada,Ada,ada{sign}x@b.example", f"ad{sign}a,Ada,ada@b.example"):
+            self.write("members.csv", f"name,who,mail\nben,Ben,\nad{sign}a,Ada,ada@b.example\n")
+            ended = self.election("roll")
+            self.assert_fault(ended, 9, "a roll does not allow these names")
+            self.assertNotIn(sign, ended.output + ended.faults)
+            for row in (f"ada,A{sign}a,ada@b.example", f"ada,Ada,ada{sign}x@b.example"):
                 self.write("members.csv", f"name,who,mail\nben,Ben,\n{row}\n")
                 ended = self.election("roll")
                 self.assert_fault(ended, 9, "members.csv:3: ", f"has the sign {number}, which steers a terminal")

@@ -411,18 +411,24 @@ fn task_of<'a>(matches: &ArgMatches<'a>) -> Option<Task<'a>>
     }
 }
 
-/// What an error of `clap` is to the caller: help that was asked for, or a refusal, with `clap`'s text. Memory ran out where
-/// it can't hold that text.
-fn order_fault_of(alloc: Global, error: &Error) -> OrderFault
-    ensures { result ≢ Memory → IsFaultOfKind (kind_of error.now) result }
+/// What an error of this kind is to the caller: help that was asked for, or a refusal, with `clap`'s text.
+fn fault_of_kind(kind: ErrorKind, text: String) -> OrderFault
+    ensures { IsFaultOfKind kind result }
 {
-    let Ok(text) = error.to_string(alloc) else {
-        return OrderFault::Memory;
-    };
-    match error.kind() {
+    match kind {
         ErrorKind::DisplayHelp | ErrorKind::DisplayVersion => OrderFault::Help(text),
         ErrorKind::OutOfMemory => OrderFault::Memory,
         _ => OrderFault::Refused(text),
+    }
+}
+
+/// What an error of `clap` is to the caller. Memory ran out where it can't hold `clap`'s text.
+fn order_fault_of(alloc: Global, error: &Error) -> OrderFault
+    ensures { result ≢ Memory → IsFaultOfKind (kind_of error.now) result }
+{
+    match error.to_string(alloc) {
+        Ok(text) => fault_of_kind(error.kind(), text),
+        Err(fault) => OrderFault::from(fault),
     }
 }
 

@@ -1,5 +1,5 @@
 -- The first of all faults is the one that is told.
-use Rattle.std.proofs.Common.{◌≡◌, ◌<◌, ◌≤◌, ◌+◌, ◌∷◌, ◌++◌, [], zero, suc, ℕ, ℤ, List, Bool, true, false, filter, map, length, Option, Some, None, Ok, Err, Result, refl, ap, sym, ◌∙◌, arith, length-append, slice_get, append_assoc, inl, inr, ◌⊎◌}
+use Rattle.std.proofs.Common.{◌≡◌, ◌<◌, ◌≤◌, ◌+◌, ◌∷◌, ◌++◌, [], zero, suc, ℕ, ℤ, List, Bool, true, false, filter, map, length, Option, Some, None, Ok, Err, Result, refl, ap, sym, ◌∙◌, arith, length-append, slice_get, append_assoc, append-nil, inl, inr, ◌⊎◌}
 use Rattle.std.specs.Prelude.{is_some, is_none, ◌||◌, if◌then◌else◌}
 use Rattle.std.specs.Option.{option_map, option_and_then, ok_or}
 use Rattle.std.specs.List.{range_with_len}
@@ -10,7 +10,7 @@ use Rattle.vote_poll_text.specs.Names.{is_option_name, is_voter_name, is_within}
 use Rattle.vote_poll.specs.PollContent.{PollContent}
 use Rattle.vote_poll_keys.specs.Keys.{◌>>=◌, Fields, document, fields_of, found, list_of, of_kind_or_none}
 use Rattle.vote_poll.specs.PollFile.{err_or, last_envelope_in, poll_in, poll_in_table, poll_of, quorum_in, ratios_in, title_in, wording_in}
-use Rattle.vote_poll_keys.specs.KeyFaults.{FoundKeys, fault_unless, found_in, of_key, of_keys}
+use Rattle.vote_poll_keys.specs.KeyFaults.{FoundKeys, fault_unless, found_in, of_keys}
 use Rattle.vote_poll_keys.specs.Keys.{Fails}
 use Rattle.vote_poll.specs.PollFaults.{IsJudged, bad_places, fault_of, fault_told, faults_in, of_contents, of_last_envelope, of_option_count, of_option_names, of_quorum, of_ratios, of_roll_size, of_title, of_voter_names, of_wording, where_found, FirstIsTold}
 use Rattle.vote_poll.proofs.FirstBad.{first_bad-some, first_bad-none}
@@ -61,6 +61,10 @@ first_bad_place has_shape names = elim (first_of_range (is_bad_at has_shape name
 ]
 
 -- ---- one part after another: the first of its faults is told, or what is told of the rest
+-- a key that has to be there is missing or of the wrong kind
+abbrev of_key : {X : Type 0} → PollKey → Option X → List PollFault
+of_key name value = fault_unless (is_some value) (fault.Key name)
+
 told_key : {X : Type 0} (name : PollKey) (value : Option X) (rest : List PollFault) (next : X → Result Fields PollFault) (last : Fields → Result PollContent PollFault)
     → ((x : X) → value ≡ Some x → slice_get rest 0 ≡ fault_told (next x >>= last)) → slice_get (of_key name value ++ rest) 0 ≡ fault_told ((ok_or value (fault.Key name) >>= next) >>= last)
 told_key name None rest next last h = refl
@@ -131,7 +135,7 @@ told_contents f g title options ratios default_option quorum roll last wording =
 
 told_all : (table : Members) → slice_get (of_keys table (found_in table) ++ of_contents (found_in table)) 0 ≡ fault_told (fields_of table >>= poll_of)
 unfolding of_keys fields_of
-told_all table = simp append_assoc
+told_all table = simp (append_assoc, append-nil)
     (told_key key.Title (found key.Title as_str table) _ _ poll_of (λ a title.
     told_key key.Options (found key.Options (list_of as_str) table) _ _ poll_of (λ b options.
     told_key key.Ratios (found key.Ratios (list_of as_integer) table) _ _ poll_of (λ c ratios.

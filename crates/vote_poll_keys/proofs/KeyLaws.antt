@@ -1,5 +1,5 @@
 -- The faults of keys, one key after another.
-use Rattle.std.proofs.Common.{◌≡◌, ◌<◌, ◌≤◌, ◌+◌, ◌∷◌, ◌++◌, [], ℕ, List, Bool, false, take, drop, length, get_or, refl, ap, ◌∙◌, append_assoc, append-nil}
+use Rattle.std.proofs.Common.{◌≡◌, ◌<◌, ◌≤◌, ◌+◌, ◌∷◌, ◌++◌, [], ℕ, List, Bool, false, take, drop, length, get_or, refl, ap, ◌∙◌, append-nil}
 use Rattle.std.specs.List.{find, flat_map}
 use Rattle.std.proofs.lemmas.List.{drop_more, take_all, take_more}
 use Rattle.std.proofs.lemmas.List.Concat.{flat_map-append}
@@ -23,13 +23,10 @@ keys_more table f n before after within first more =
     ∙ ap (λ t. of_first table f all_keys n ++ t) (append-nil here) in
     rw (longer, more, first) refl
 
-key_by_key : (faults : PollKey → List PollFault) → flat_map faults all_keys ≡ faults key.Title ++ faults key.Options ++ faults key.Ratios ++ faults key.DefaultOption ++ faults key.Quorum ++ faults key.Roll ++ faults key.LastEnvelope ++ faults key.Wording
-key_by_key faults = simp (append_assoc, append-nil) refl
-
 pub keys_all : (table : Members) (f : FoundKeys) (n : ℕ) (faults : List PollFault) → 8 ≤ n → faults ≡ of_first table f all_keys n → faults ≡ of_keys table f
 unfolding of_keys
 keys_all table f n faults all are =
-    are ∙ ap (flat_map (fault_of_key table f)) (take_all n all_keys all) ∙ key_by_key (fault_of_key table f)
+    are ∙ ap (flat_map (fault_of_key table f)) (take_all n all_keys all)
 
 -- ---- the key of a name
 pub found_later : {X : Type 0} (p : X → Bool) (xs : List X) (i : ℕ) (d : X) → i < length xs → p (get_or xs i d) ≡ false → find p (drop (i + 1) xs) ≡ find p (drop i xs)

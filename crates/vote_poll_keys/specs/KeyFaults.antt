@@ -1,7 +1,8 @@
 -- The keys of a poll file, each judged by itself: those that are there and of their kind, and the faults of the others.
 use Rattle.std.specs.Prelude.{ℕ, ℤ, List, [], ◌∷◌, ◌++◌, Bool, true, false, ◌&&◌, ◌||◌, if◌then◌else◌, Option, is_some, is_none, option_map, option_to_list}
+use Rattle.std.specs.List.{flat_map}
 use Rattle.toml.specs.Data.{Members, as_str, as_integer}
-use Rattle.vote_poll_keys.specs.Keys.{found, list_of, value_at}
+use Rattle.vote_poll_keys.specs.Keys.{all_keys, found, list_of, value_at}
 use Rattle.vote_poll_keys.specs.declared.fault.PollKey.{PollKey}
 use Rattle.vote_poll_keys.specs.declared.fault.PollKey.TheVariants as key
 use Rattle.vote_poll_keys.specs.declared.fault.PollFault.{PollFault}
@@ -39,27 +40,6 @@ names_of_options f = option_map (λ options. options ++ option_to_list f.default
 abbrev pub fault_unless : Bool → PollFault → List PollFault
 fault_unless right e = if right then [] else e ∷ []
 
--- a key that has to be there is missing or of the wrong kind
-abbrev pub of_key : {X : Type 0} → PollKey → Option X → List PollFault
-of_key name value = fault_unless (is_some value) (fault.Key name)
-
--- a key that may be missing is of the wrong kind
-abbrev pub of_optional_key : {X : Type 0} → PollKey → Members → Option X → List PollFault
-of_optional_key name table value = fault_unless (is_none (value_at name table) || is_some value) (fault.Key name)
-
--- ---- all keys
-unfoldable pub of_keys : Members → FoundKeys → List PollFault
-of_keys table f =
-    of_key key.Title f.title
-    ++ of_key key.Options f.options
-    ++ of_key key.Ratios f.ratios
-    ++ of_key key.DefaultOption f.default_option
-    ++ of_key key.Quorum f.quorum
-    ++ of_key key.Roll f.roll
-    ++ of_optional_key key.LastEnvelope table f.last_envelope
-    ++ of_optional_key key.Wording table f.wording
-
--- ---- one key after another
 -- the key is there and of its kind
 abbrev pub has : FoundKeys → PollKey → Bool
 has f key.Title = is_some f.title
@@ -80,6 +60,10 @@ may_be_missing other = false
 abbrev pub is_right : Members → FoundKeys → PollKey → Bool
 is_right table f name = (may_be_missing name && is_none (value_at name table)) || has f name
 
--- the fault of a key, which stands at its place in `of_keys`
+-- the fault of a key that is missing where it has to be there, or of the wrong kind
 abbrev pub fault_of_key : Members → FoundKeys → PollKey → List PollFault
 fault_of_key table f name = fault_unless (is_right table f name) (fault.Key name)
+
+-- ---- all keys, in their order
+unfoldable pub of_keys : Members → FoundKeys → List PollFault
+of_keys table f = flat_map (fault_of_key table f) all_keys

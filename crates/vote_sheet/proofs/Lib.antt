@@ -17,5 +17,6 @@ pub mod ElectorLaws
 pub mod Renaming
 pub mod LastBallotsDecide
 pub mod NormalRanks
+pub mod NormalRanksAreOne
 pub mod Publishing
 pub mod VerifiedOnce

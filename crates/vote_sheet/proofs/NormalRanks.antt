@@ -16,10 +16,10 @@ use Rattle.vote_sheet.specs.Publishing.{KeepsTheOrder, gives_rank, is_number, no
 use Rattle.vote_sheet.proofs.StandingLemmas.{count-cons, one}
 
 -- ---- how many numbers of a stretch a ballot gives
-abbrev given : List (Option ℕ) → ℕ → ℕ → ℕ
+abbrev pub given : List (Option ℕ) → ℕ → ℕ → ℕ
 given ranks a n = count_by (gives_rank ranks) (range_with_len a n)
 
-given-and : (ranks : List (Option ℕ)) (a n k : ℕ) → given ranks a (n + k) ≡ given ranks a n + given ranks (a + n) k
+pub given-and : (ranks : List (Option ℕ)) (a n k : ℕ) → given ranks a (n + k) ≡ given ranks a n + given ranks (a + n) k
 given-and ranks a zero k =
     let whole : zero + k ≡ k = omega arith in
     let here : a + zero ≡ a = omega arith in
@@ -39,7 +39,7 @@ given-and ranks a (suc n) k =
 
 -- ---- the place of a rank
 -- a rank of the ballot comes before each greater one
-place-less : (ranks : List (Option ℕ)) (n m : ℕ) → gives_rank ranks n ≡ true → 1 ≤ n → n < m → place_of ranks n < place_of ranks m
+pub place-less : (ranks : List (Option ℕ)) (n m : ℕ) → gives_rank ranks n ≡ true → 1 ≤ n → n < m → place_of ranks n < place_of ranks m
 place-less ranks n m gives least less =
     let rest = m - n - 1 in
     let parts : m - 1 ≡ n - 1 + suc rest = omega (arith, least, less) in
@@ -74,11 +74,11 @@ place-alike ranks n m gives_n least_n gives_m least_m =
 
 -- ---- the ranks of a ballot
 -- none, or one that the ballot gives
-abbrev IsOf : List (Option ℕ) → Option ℕ → Type 0
+abbrev pub IsOf : List (Option ℕ) → Option ℕ → Type 0
 IsOf ranks None = Unit {0}
 IsOf ranks (Some n) = (gives_rank ranks n ≡ true) × (1 ≤ n)
 
-is_of : (ranks : List (Option ℕ)) (k : ℕ) → All IsRank ranks → (rank : Option ℕ) → get_or ranks k None ≡ rank → IsOf ranks rank
+pub is_of : (ranks : List (Option ℕ)) (k : ℕ) → All IsRank ranks → (rank : Option ℕ) → get_or ranks k None ≡ rank → IsOf ranks rank
 is_of ranks k are None is = tt
 is_of ranks k are (Some n) is =
     elim (cases_lt k (length ranks)) [
@@ -102,7 +102,7 @@ rank_there ranks o least =
     let some : ltb 0 o ≡ true = lt-ltb 0 o (omega (arith, least)) in
     rw some (get_or-map (option_map (place_of ranks)) ranks (o - 1) None)
 
-rank_at : (ranks : List (Option ℕ)) (o : ℕ) → 1 ≤ o → rank_of ranks o ≡ get_or ranks (o - 1) None
+pub rank_at : (ranks : List (Option ℕ)) (o : ℕ) → 1 ≤ o → rank_of ranks o ≡ get_or ranks (o - 1) None
 unfolding at_option
 rank_at ranks o least =
     let some : ltb 0 o ≡ true = lt-ltb 0 o (omega (arith, least)) in

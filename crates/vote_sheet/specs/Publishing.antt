@@ -1,7 +1,9 @@
 -- What is published of a secret vote: the poll with other names on its roll and without its last envelope, and the ballots that stand under these names, with their ranks in a form that keeps the order of the options. It says the same of the electors, and from the line `Voters:` on it has the same sheet.
-use Rattle.std.specs.Prelude.{◌≡◌, ℕ, ◌+◌, ◌-◌, ◌<◌, ◌==◌, Bool, false, List, All, length, map, count_by, slice_get, Option, None, Some, option_map, IsPermutation}
+use Rattle.std.specs.Prelude.{is_some, ◌≡◌, ℕ, ◌+◌, ◌-◌, ◌<◌, ◌==◌, Bool, false, List, All, length, map, count_by, slice_get, Option, None, Some, option_map, IsPermutation}
 use Rattle.std.specs.List.{list_any, range_with_len}
 use Rattle.vote_poll.specs.BallotLine.{IsRank}
+use Rattle.vote_poll.specs.Options.{IsOption}
+use Rattle.vote_poll.specs.Ranks.{rank_of}
 use Rattle.vote_poll.specs.PollContent.{IsPoll, PollContent, elector_count}
 use Rattle.vote_sheet.specs.ElectorLaws.{DifferInNamesAndLastEnvelope, IsOneToOne, OrderAlike}
 use Rattle.vote_sheet.specs.LastBallots.{last_valid_ballots, refused_count, valid_count, voter_count}
@@ -33,6 +35,16 @@ place_of ranks number = 1 + count_by (gives_rank ranks) (range_with_len 1 (numbe
 -- The ranks in normal form: 1, 2 and so on, in the same order, equal ones equal, and none where there is none.
 abbrev pub normal_ranks : List (Option ℕ) → List (Option ℕ)
 normal_ranks ranks = map (option_map (place_of ranks)) ranks
+
+-- Two lists of ranks say the same: the same options have a rank, and of each two options the one prefers the first to the second exactly when the other does.
+pub record SayTheSameOrder (ranks other : List (Option ℕ)) : Type 0 where
+  pub as_many : length other ≡ length ranks
+  pub ranked : (o : ℕ) → IsOption (length ranks) o → is_some (rank_of other o) ≡ is_some (rank_of ranks o)
+  pub alike : OrderAlike (length ranks) (Some ranks) (Some other)
+
+-- a law: normal form tells which options have a rank, and their order, and nothing else: where these are the same, it is the same
+abbrev pub NormalRanksTellTheOrderAlone : Type 0
+NormalRanksTellTheOrderAlone = (ranks other : List (Option ℕ)) → All IsRank ranks → All IsRank other → SayTheSameOrder ranks other → normal_ranks other ≡ normal_ranks ranks
 
 -- ---- what is published
 

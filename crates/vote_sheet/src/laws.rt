@@ -2,7 +2,7 @@
 //! of the count that it stands on: its contract is the law, and that is proved.
 ghost use Rattle.vote_sheet.specs.ElectorLaws.{BallotsThatOrderAlikeCountAlike, NamesDoNotMatter, NobodyCountsTwice, OneBallotMovesEachCountByOne, OnlyLastBallotsDecide, OnlyTheLastBallotCounts, RefusedLinesAreOnlyCounted, RefusedLinesHaveNoInfluence};
 ghost use Rattle.vote_sheet.specs.Limits.{LimitsAreAsWritten};
-ghost use Rattle.vote_sheet.specs.Publishing.{KeepsTheOrder, PublishedFilesHaveTheSameSheet, PublishedFilesSayTheSame, normal_ranks};
+ghost use Rattle.vote_sheet.specs.Publishing.{KeepsTheOrder, NormalRanksTellTheOrderAlone, PublishedFilesHaveTheSameSheet, PublishedFilesSayTheSame, normal_ranks};
 ghost use Rattle.vote_sheet.specs.SheetLaws.{CondorcetWinnersAreNamed, LikedOptionsStay, LikedWinnersStay, UnanimityRules};
 ghost use Rattle.vote_sheet.specs.Standing.{StandingHasTheSameSheet, StandingSaysTheSame};
 ghost use Rattle.vote_sheet.specs.Verify.{NamesTheFirstLine, VerificationsAreDetermined};
@@ -69,6 +69,12 @@ pub fn standing_has_the_same_sheet()
 pub fn normal_ranks_keep_the_order()
     ensures normal { KeepsTheOrder normal_ranks }
     ensures as_they_are { KeepsTheOrder (λ ranks. ranks) }
+{}
+
+/// Ranks in normal form tell which options have a rank, and their order, and nothing else of the numbers that an elector chose.
+#[tactic(auto, using(crate::proofs::NormalRanksAreOne::tell_the_order_alone))]
+pub fn normal_ranks_tell_the_order_alone()
+    ensures { NormalRanksTellTheOrderAlone }
 {}
 
 /// What is published of a secret vote is the poll with other names on its roll and without a last envelope, and the lines of

@@ -226,7 +226,8 @@ def member_of(file: pathlib.Path, row: Row, head: Row, places: dict[str, int]) -
     read = {column: values[place] if place < len(values) else "" for column, place in places.items()}
     if not any(read.values()):
         raise doubt(file, f"it has neither a name nor who nor mail; fill it in, or take the line out, {AGAIN}", row.line)
-    for text in read.values():
+    # what a name may have debvote says
+    for text in (read["who"], read["mail"]):
         sign = steering(text)
         if sign is not None:
             words = f"`{shown(text)}` has the sign {sign}, which steers a terminal or turns the direction of a text"

@@ -180,7 +180,8 @@ def make(calls: Calls, text: str, given: Given, found: list[Doubt], further: Fur
     """
     folder, sheet = calls.debvote.folder, sheet_in(text)
     labels = labels_of(given.labels_file, given.labels, sheet)
-    print(told(labels, sheet), end="", flush=True)
+    if not labels.is_empty:
+        print(told(labels, sheet), end="", flush=True)
     version, standing, refused = calls.version(), calls.standing(), findings_in(calls.explain()).refused
     write_public(folder / SHEET, text.encode())
     verified, picture = calls.verify(), picture_of(calls.picture(), len(sheet.names))

@@ -106,9 +106,7 @@ def alike(text: str) -> str:
 
 
 def told(labels: Labels, sheet: Sheet) -> str:
-    """The number of each option with its name in the poll and its label, for who publishes; nothing where there are none."""
-    if labels.is_empty:
-        return ""
+    """The number of each option with its name in the poll and its label, for who publishes."""
     title = [] if labels.title is None else [f"  the title {sheet.facts['Poll']}: {labels.title}"]
     options = [f"  {number} {name}: {labels.options.get(number, '(no label)')}" for number, name in sheet.names.items()]
     return "\n".join(["The page calls them so, each behind its name in the poll:", *title, *options, ""])
