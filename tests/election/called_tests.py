@@ -76,8 +76,9 @@ class Changed(CalledTest):
     def test_a_call_by_version_1_0_0_of_which_the_folder_is_gone(self) -> None:
         """It has the act in the journal and the copy, as now."""
         self.take_folder_away()
-        journal = self.read("journal").decode()
-        self.assertRegex(journal, r"^[^\t]+\tcall\t-\t[0-9a-f]{64}\t-\n$")
+        lines = self.read("journal").decode().splitlines(keepends=True)
+        self.assertRegex(lines[-1], r"^[^\t]+\tcall\t-\t[0-9a-f]{64}\t-\n$")
+        self.write("journal", lines[-1])
         self.change_poll()
         self.assert_stops("it was changed after the call")
 

@@ -346,11 +346,11 @@ class Fails(RollTest):
         with open(self.folder / ".lock", "w") as lock:
             fcntl.flock(lock, fcntl.LOCK_EX)
             waiting = self.begun()
-            until = time.monotonic() + 10
+            until = time.monotonic() + support.SECONDS
             while f"{waiting.pid}" not in pathlib.Path("/proc/locks").read_text().split() and time.monotonic() < until:
                 time.sleep(0.01)
             waiting.send_signal(signal.SIGINT)
-            output, faults = waiting.communicate(timeout=30)
+            output, faults = waiting.communicate(timeout=support.SECONDS)
         self.assertEqual((output, waiting.returncode), ("", 130))
         self.assertEqual(faults, "debvote-election: interrupted; what was told is done, and nothing else\n")
         self.assert_unchanged(before)
@@ -360,13 +360,13 @@ class Fails(RollTest):
         for step in range(10):
             (self.folder / ".lock").unlink(missing_ok=True)
             running = self.begun()
-            until = time.monotonic() + 10
+            until = time.monotonic() + support.SECONDS
             while not (self.folder / ".lock").exists() and time.monotonic() < until:
                 time.sleep(0.002)
             time.sleep(step * 0.01)
             running.send_signal(signal.SIGINT)
             before = len(self.roll_of())
-            output, faults = running.communicate(timeout=30)
+            output, faults = running.communicate(timeout=support.SECONDS)
             if before < len(self.roll_of()):
                 self.assertIn("The roll of poll.toml has 3000 electors:\n", output)
             if running.returncode == 0:

@@ -14,7 +14,8 @@ PROGRAM = pathlib.Path(os.environ.get("DEBVOTE", ROOT / "crates" / "debvote" / "
 ELECTION = ROOT / "election" / "debvote-election"
 PUBLISH = ROOT / "publish" / "debvote-publish"
 
-SECONDS = 120
+# a run that has not ended by then hangs: far more than any takes beside other work
+SECONDS = 600
 
 # what a run says where Graphviz is not installed
 HAS_PICTURES = shutil.which("dot") is not None
