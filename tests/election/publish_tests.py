@@ -344,11 +344,11 @@ class Words(PublishTest):
         words = [sys.executable, self.checkout / "election" / "debvote-election", "publish"]
         how = {"cwd": self.folder, "env": env, "stdout": subprocess.PIPE, "stderr": subprocess.PIPE, "text": True}
         running = subprocess.Popen(words, start_new_session=True, **how)
-        until = time.monotonic() + 10
+        until = time.monotonic() + support.SECONDS
         while not (self.folder / "began").exists() and time.monotonic() < until:
             time.sleep(0.01)
         os.killpg(running.pid, signal.SIGINT)
-        output, faults = running.communicate(timeout=30)
+        output, faults = running.communicate(timeout=support.SECONDS)
         self.assertEqual((output, running.returncode), ("taken away\n", 130))
         self.assertEqual(faults, "debvote-election: interrupted; what was told is done, and nothing else\n")
         with open(self.folder / ".lock") as lock:
