@@ -1,4 +1,7 @@
-"""Parts of the tests: each is a program whose last line is 'N passed, M failed'. They run side by side, and their sum is told."""
+"""Parts of the tests: each is a program whose last line is 'N passed, M failed'. They run side by side, and their sum is told.
+
+A line of a part that begins with 'skipped: ' says what it has left out, and why.
+"""
 
 import dataclasses
 import pathlib
@@ -9,6 +12,7 @@ from collections.abc import Iterable
 ROOT = pathlib.Path(__file__).resolve().parent.parent
 
 COUNT = re.compile(r"(\d+) passed, (\d+) failed")
+SKIPPED = re.compile(r"skipped: (.*)")
 # what `rt try --test` says
 COUNT_OF_TRY = re.compile(r"test result: \w+\. (\d+) passed; (\d+) failed;.*")
 
@@ -44,7 +48,11 @@ class Part:
 
     def text(self) -> str:
         """What it said."""
-        return self.told.read_text(errors="replace")
+        return self.told.read_text(encoding="utf-8", errors="replace")
+
+    def skipped(self) -> list[str]:
+        """What it has left out, and why."""
+        return [found[1] for line in self.text().splitlines() if (found := SKIPPED.fullmatch(line))]
 
     def count(self) -> Count:
         """What it counted, once it has ended. One that ended without a count of its failures has failed too."""
@@ -61,13 +69,15 @@ def with_status(counts: list[Count], status: int) -> Count:
 
 
 def tell(parts: Iterable[Part]) -> Count:
-    """Waits for the parts, tells what each said and how long it took, and returns their sum."""
+    """Waits for the parts, tells what each said, how long it took and what was skipped, and returns their sum."""
     parts = list(parts)
     counts = []
     for part in parts:
         counts.append(part.count())
         print(f"== {part.name}", part.text().rstrip("\n"), sep="\n", flush=True)
-    print("== seconds")
+    print("== seconds, and those of processor")
     for part in parts:
         print(part.seconds.read_text().rstrip("\n") if part.seconds.exists() else f"{part.name}: it was killed", flush=True)
+    skipped = [line for part in parts for line in part.skipped()]
+    print(f"{len(skipped)} skipped{':' if skipped else ''}", *skipped, sep="\n  ", flush=True)
     return Count(sum(count.passed for count in counts), sum(count.failed for count in counts))

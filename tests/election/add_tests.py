@@ -348,19 +348,16 @@ class RefusedWhole(AddTest):
         self.assert_refused_whole(self.election("add", given=""), before, 9, "standard input: it is empty; ")
 
     def test_without_permission(self) -> None:
-        other = ["setpriv", "--reuid", "65534", "--regid", "65534", "--clear-groups"]
-        nobody = [*other, sys.executable, support.ELECTION, "add", "secret"]
-        self.scratch.chmod(0o755)
-        self.write("secret", "ada 1,2,4,3\n").chmod(0o600)
         before = self.contents()
-        if os.geteuid() != 0 or self.run_program("setpriv", "--version").status != 0:
-            self.skipTest("only root can run it as another user")
+        secret = self.scratch / "secret"
+        secret.write_text("ada 1,2,4,3\n")
+        secret.chmod(0)
         self.folder.chmod(0o777)
-        self.assert_refused_whole(self.run_program(*nobody), before, 4, "secret: Permission denied; nothing was added: ")
-        (self.folder / "secret").chmod(0o644)
-        self.folder.chmod(0o755)
+        self.assert_refused_whole(self.without_rights("add", secret), before, 4, "secret: Permission denied; nothing was added: ")
+        secret.chmod(0o644)
         (self.folder / ".lock").unlink(missing_ok=True)
-        self.assert_refused_whole(self.run_program(*nobody), before, 7, ".lock: Permission denied; ")
+        self.close_folder()
+        self.assert_refused_whole(self.without_rights("add", secret), before, 7, ".lock: Permission denied; ")
 
     def test_the_ballots_themselves(self) -> None:
         self.election("add", given="ada 1,2,4,3\n")

@@ -244,6 +244,7 @@ class OpenFolder(Binding):
         """The package has the second count beside the modules: there another one is laid."""
         for name in ("python", "bin"):
             shutil.copytree(support.ROOT / name, self.scratch / name, ignore=shutil.ignore_patterns("__pycache__"))
+        shutil.copy(support.ROOT / "docs" / "READING-A-SHEET.md", self.scratch / "python")
         program = (support.ROOT / "tests" / "reference.py").read_text(encoding="utf-8")
         path = self.scratch / "bin" / "debvote-publish"
         for before, after, told in [
@@ -258,10 +259,10 @@ class OpenFolder(Binding):
             self.assertFalse((self.folder / "result").exists())
             self.assertEqual([file.name for file in self.folder.iterdir() if "result" in file.name], [])
 
-    def test_a_poll_that_the_second_count_does_not_read(self) -> None:
+    def test_a_poll_that_the_second_count_cannot_read(self) -> None:
         """TOML 1.1 lets a line end in an inline table, and Python reads TOML 1.0."""
         ended = self.publish(OPEN_POLL + "more = {\n a = 1 }\n", OPEN_BALLOTS, "--even-so")
-        self.assert_fault(ended, 9, "it says `debvote: poll refused: syntax`", "write the poll as TOML 1.0")
+        self.assert_fault(ended, 3, "poll.toml: it can't be read as TOML 1.0", "put this right with an editor")
         self.assertFalse((self.folder / "result").exists())
 
     def test_the_second_count_runs_alone(self) -> None:

@@ -11,7 +11,6 @@ import shutil
 import signal
 import sys
 import tomllib
-import unittest
 
 import support
 from support import POLL
@@ -183,7 +182,7 @@ class MadeTest(CallTest):
     def test_without_time_and_address(self) -> None:
         said = self.call()
         missing = 'until when one can vote (--until "YYYY-MM-DD HH:MM"), nor where ballots are sent (--to ADDRESS)'
-        how = "to say it, remove the folder call before anybody has seen it, and call again"
+        how = "to say it, take the call back before anybody has seen it (debvote-election call --take-back), and call again"
         self.assertIn(f"The call does not say {missing}; {how}.\n", said)
         page = self.read("call/index.html").decode()
         self.assertIn("until the time that the secretary announces", page)
@@ -322,10 +321,9 @@ class RefusedTest(CallTest):
         self.assertFalse((self.folder / "call").exists())
         self.assertEqual(self.leftovers(), [])
 
-    @unittest.skipIf(os.geteuid() == 0, "root may write everywhere")
     def test_a_folder_that_may_not_be_written(self) -> None:
-        self.folder.chmod(0o500)
-        self.assert_fault(self.election("call"), 7, ".lock")
+        self.close_folder()
+        self.assert_fault(self.without_rights("call"), 7, ".lock")
         self.assertEqual(list(self.contents()), ["poll.toml"])
 
 
@@ -378,8 +376,8 @@ class ChangedTest(CallTest):
             self.assertNotEqual(self.compared(), self.compared("call"))
 
     def test_a_line_of_a_longer_text_is_covered_by_the_sum(self) -> None:
+        self.assertEqual(self.election("call", "--take-back").status, 0)
         self.write("poll.toml", POLL.replace('"At the lake"', '"""\\\nlast_envelope of the lake"""'))
-        shutil.rmtree(self.folder / "call")
         self.assertEqual(self.election("call").status, 0)
         self.write("poll.toml", POLL.replace('"At the lake"', '"""\\\nlast_envelope of the sea"""'))
         self.assert_fault(self.election("close"), 9, "was `last_envelope of the lake", "is `last_envelope of the sea")

@@ -37,7 +37,7 @@ Next: debvote-election call --until "YYYY-MM-DD HH:MM" --to ADDRESS (until when 
 
     def test_of_many_electors_the_first_are_shown(self) -> None:
         shown = ", ".join(f"n{i}" for i in range(200))
-        for count, end in {200: ")", 201: ", and 1 more, in the poll)", 225: ", and 25 more, in the poll)"}.items():
+        for count, end in {200: ")", 201: ", and 1 more, in the poll and with --all)", 225: ", and 25 more, in the poll and with --all)"}.items():
             names = ", ".join(f'"n{i}"' for i in range(count))
             self.write("poll.toml", support.POLL.split("roll = ")[0] + f"roll = [{names}]\n")
             self.assertIn(f"\nElectors: {count} ({shown}{end}\nNext: ", self.election("check").output)

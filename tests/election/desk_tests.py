@@ -28,7 +28,7 @@ class Terminal:
 
     def until(self, words: str) -> str:
         """What the terminal shows up to these words, from where the last call ended."""
-        end = time.monotonic() + 30
+        end = time.monotonic() + support.SECONDS
         while words not in self.text:
             ready, _, _ = select.select([self.keys], [], [], max(0, end - time.monotonic()))
             self.test.assertTrue(ready, f"waits for {words!r}, has {self.text!r}")

@@ -1,4 +1,4 @@
-"""A run of debvote-election in a child of its own, which kills itself before its n-th step that changes something."""
+"""A run of debvote-election, or of another program, in a child that kills itself before its n-th step that changes something."""
 
 import builtins
 import os
@@ -34,8 +34,18 @@ class Run:
     status: int | None
 
 
+def hold(words: list[str]) -> int:
+    """What debvote-election does."""
+    return command_line.main(support.ELECTION.parent, words)
+
+
 def run(
-    folder: pathlib.Path, words: list[str], given: bytes = b"", killed_at: int | None = None, clock: dict[str, str] | None = None
+    folder: pathlib.Path,
+    words: list[str],
+    given: bytes = b"",
+    killed_at: int | None = None,
+    clock: dict[str, str] | None = None,
+    program: Callable[[list[str]], int] = hold,
 ) -> Run:
     """Runs a command in a folder. With a number the run is killed before so many steps, where it has as many; with a clock it
     finds that time.
@@ -48,7 +58,7 @@ def run(
         try:
             if clock:
                 set_clock(pathlib.Path(clock["DEBVOTE_CLOCK"]).read_text())
-            status = in_child(folder, words, outside, killed_at)
+            status = in_child(folder, words, outside, killed_at, program)
         finally:
             os._exit(status)
     _, ended = os.waitpid(child, 0)
@@ -57,7 +67,9 @@ def run(
     return Run(*texts, None if killed else os.waitstatus_to_exitcode(ended))
 
 
-def in_child(folder: pathlib.Path, words: list[str], outside: pathlib.Path, killed_at: int | None) -> int:
+def in_child(
+    folder: pathlib.Path, words: list[str], outside: pathlib.Path, killed_at: int | None, program: Callable[[list[str]], int]
+) -> int:
     """What the child does."""
     ways = [("given", os.O_RDONLY), ("told", os.O_WRONLY), ("faults", os.O_WRONLY)]
     for number, (name, way) in enumerate(ways):
@@ -68,7 +80,7 @@ def in_child(folder: pathlib.Path, words: list[str], outside: pathlib.Path, kill
     if killed_at is not None:
         kill_at(killed_at)
     try:
-        return command_line.main(support.ELECTION.parent, words)
+        return program(words)
     finally:
         sys.stdout.flush()
         sys.stderr.flush()

@@ -97,11 +97,8 @@ class New(support.ElectionTest):
         self.assertEqual(self.contents(), self.before)
 
     def test_no_permission(self) -> None:
-        if os.geteuid() != 0:
-            self.skipTest("it is for root, who becomes nobody")
-        self.scratch.chmod(0o755)
-        nobody = ["setpriv", "--reuid=65534", "--regid=65534", "--clear-groups"]
-        ended = self.run_program(*nobody, sys.executable, support.ELECTION, "new", "spring")
+        self.close_folder()
+        ended = self.without_rights("new", "spring")
         self.assert_fault(ended, 2, "spring: Permission denied; choose a place")
         self.assertEqual(self.contents(), self.before)
 

@@ -344,11 +344,11 @@ class Words(PublishTest):
         how = {"cwd": self.folder, "env": env, "stdout": subprocess.PIPE, "stderr": subprocess.PIPE, "text": True}
         running = subprocess.Popen([sys.executable, support.ELECTION, "publish"], start_new_session=True, **how)
         before = {file for file in self.contents() if not file.startswith(".result")}
-        until = time.monotonic() + 60
+        until = time.monotonic() + support.SECONDS
         while not (self.folder / "began").exists() and time.monotonic() < until:
             time.sleep(0.01)
         os.killpg(running.pid, signal.SIGINT)
-        output, faults = running.communicate(timeout=30)
+        output, faults = running.communicate(timeout=support.SECONDS)
         self.assertEqual((output, running.returncode), ("", 130))
         self.assertEqual(faults, "debvote-election: interrupted; what was told is done, and nothing else\n")
         self.assertEqual(set(self.contents()), before | {"began"})

@@ -171,7 +171,7 @@ class PlaceTest(support.ElectionTest):
             file.unlink(missing_ok=True)
             os.mkfifo(file)
             for words in (["add"], ["desk"], ["status"], ["close"], ["count"], ["publish"]):
-                ended = self.election(*words, given="ben 1,2,3,4\n", timeout=60)
+                ended = self.election(*words, given="ben 1,2,3,4\n")
                 self.assert_fault(ended, status, f"{name}: it is no file, but a pipe or a device; nothing was changed")
             file.unlink()
             if before is not None:

@@ -16,9 +16,10 @@ import re
 import shutil
 import subprocess
 import sys
-import time
+import tempfile
 import unittest
 
+import killing
 import support
 from secret_votes import NAMES, SecretTest, has_word
 
@@ -26,11 +27,14 @@ sys.path.insert(0, str(support.ROOT / "python"))
 
 from debvote_tools import secret  # noqa: E402
 from debvote_tools.faults import Fault  # noqa: E402
-from debvote_tools.publish import secret as published  # noqa: E402
+from debvote_tools.publish import command_line, secret as published  # noqa: E402
 
 BROWSER = shutil.which("chromium") or shutil.which("chromium-browser")
 FLAGS = ["--headless", "--no-sandbox", "--disable-gpu", "--hide-scrollbars", "--allow-file-access-from-files", "--dump-dom"]
 FLAGS += ["--enable-logging=stderr", "--virtual-time-budget=60000"]
+
+# the steps of a publication before which it is killed, until it has none left
+STEPS = [*range(1, 10), *(round(10 * 1.3**number) for number in range(30))]
 
 ELECTIONS = int(os.environ.get("DEBVOTE_SECRET_ELECTIONS", "200"))
 
@@ -190,29 +194,33 @@ class RanksTest(SecretTest):
 class KilledTest(SecretTest):
     """A publication that is killed leaves nothing of what came, neither beside its place nor where temporary files are."""
 
-    def test_killed_at_some_moments(self) -> None:
+    def test_killed_between_steps(self) -> None:
         self.closed()
         scratch = self.scratch / "temporary"
         scratch.mkdir()
         before = set(self.contents())
+
+        def publish(words: list[str]) -> int:
+            tempfile.tempdir = str(scratch)
+            return command_line.main(support.PUBLISH.parent, words)
+
         words = ["--poll", "poll.toml", "--ballots", "ballots", "--secret", "private/codes.csv", "result"]
-        environment = support.environment() | {"TMPDIR": str(scratch)}
         killed = 0
-        for moment in range(1, 16):
-            run = subprocess.Popen(
-                [sys.executable, support.PUBLISH, *words], cwd=self.folder, env=environment, stdout=subprocess.PIPE
-            )  # fmt: skip
-            time.sleep(moment * 0.05)
-            run.kill()
-            run.communicate()
-            killed += run.returncode < 0
+        for step in STEPS:
+            run = killing.run(self.folder, words, killed_at=step, program=publish)
+            killed += run.status is None
             left = [file for file in self.folder.rglob("*") if file.is_file() and str(file.relative_to(self.folder)) not in before]
             left += [file for file in scratch.rglob("*") if file.is_file()]
             for file in left:
                 if file.name not in (".lock", "recount.py", "READING-A-SHEET.md"):
                     self.assertEqual([name for name in NAMES if has_word(file.read_bytes(), name)], [], file)
-            shutil.rmtree(self.folder / "result", ignore_errors=True)
-        self.assertGreater(killed, 3)
+            for leavings in [*self.folder.glob(".result*"), *self.folder.glob("result*"), *scratch.iterdir()]:
+                shutil.rmtree(leavings, ignore_errors=True)
+            if run.status is not None:
+                self.assertEqual(run.status, 0, run)
+                break
+        self.assertGreater(killed, 8)
+        self.assertIsNotNone(run.status)
 
 
 # ---------------------------------------------------------------- the browser

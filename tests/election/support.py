@@ -14,7 +14,8 @@ PROGRAM = pathlib.Path(os.environ.get("DEBVOTE", ROOT / "crates" / "debvote" / "
 ELECTION = ROOT / "bin" / "debvote-election"
 PUBLISH = ROOT / "bin" / "debvote-publish"
 
-SECONDS = 120
+# a run that has not ended by then hangs: far more than any takes beside other work
+SECONDS = 600
 
 # what a run says where Graphviz is not installed
 HAS_PICTURES = shutil.which("dot") is not None
@@ -92,6 +93,23 @@ class ElectionTest(unittest.TestCase):
     def election(self, *words: object, **how: object) -> Ended:
         """Runs debvote-election in the folder of the election."""
         return self.run_program(sys.executable, ELECTION, *words, **how)
+
+    def without_rights(self, *words: object, **how: object) -> Ended:
+        """Runs debvote-election as a user to whom a mode is no advice: root becomes nobody."""
+        nobody = ["setpriv", "--reuid=65534", "--regid=65534", "--clear-groups"] if os.geteuid() == 0 else []
+        if nobody and shutil.which("setpriv") is None:
+            self.skipTest("setpriv is not installed, and root may read and write everywhere")
+        self.scratch.chmod(0o755)
+        for command in ([PROGRAM, "--version"], [sys.executable, ELECTION, "--help"]):
+            tried = self.run_program(*nobody, *command)
+            said = f"{command[0]} can't be run by everybody, and this test runs it as nobody: chmod o+rX what leads there"
+            self.assertEqual(tried.status, 0, f"{said}; {tried.faults}")
+        return self.run_program(*nobody, sys.executable, ELECTION, *words, **how)
+
+    def close_folder(self) -> None:
+        """From now on nobody may write into the folder of the election, as long as the test runs."""
+        self.addCleanup(self.folder.chmod, 0o755)
+        self.folder.chmod(0o555)
 
     def debvote(self, *words: object, **how: object) -> Ended:
         """Runs debvote in the folder of the election."""
