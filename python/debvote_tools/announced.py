@@ -72,8 +72,12 @@ def time_at(key: str, text: str | None) -> datetime.datetime | None:
 
 
 def wrong(key: str, why: str) -> Fault:
-    words = f"poll.toml: its line `{key}` can't be read: {why}; put it right with an editor, then run: {poll_file.CHECK}"
-    return Fault(words, Status.BAD_POLL)
+    return Fault(
+        "poll.toml",
+        f"its line `{key}` can't be read: {why}",
+        f"put it right with an editor, then run: {poll_file.CHECK}",
+        Status.BAD_POLL,
+    )
 
 
 def now() -> datetime.datetime:

@@ -21,12 +21,33 @@ class Status(enum.IntEnum):
 
 
 class Fault(Exception):
-    """What ends the run: the words of its line, or None where they are told already, and the exit status."""
+    """What ends the run: the file that it is about, the reason, the cure, and the exit status.
 
-    def __init__(self, words: str | None, status: int) -> None:
+    What is about no file, as an output that failed, names none. `done` says what was done all the same, or what was not; where
+    it is empty, the reason says it.
+    """
+
+    def __init__(self, file: object, reason: object, cure: str, status: int, done: str | None = None) -> None:
+        behind = "; " if done is None else f"; {done}: " if done else ": "
+        words = f"{reason}{behind}{cure}" if file is None else f"{file}: {reason}{behind}{cure}"
         super().__init__(words, status)
+        self.words: str | None = words
+        self.status = status
+
+
+class Told(Fault):
+    """What ends the run where the lines are told already, by debvote or as doubts, or where debvote says them itself."""
+
+    def __init__(self, status: int, words: str | None = None) -> None:
+        Exception.__init__(self, words, status)
         self.words = words
         self.status = status
+
+
+def other_format(what: str) -> Fault:
+    """The fault of what debvote writes, where it can't be read by its format."""
+    cure = "install debvote and these programs from one package"
+    return Fault(None, f"{what} has another format", cure, Status.BAD_SHEET)
 
 
 # what the page of a secret vote says of a doubt that would tell a name, a line or a number of a line

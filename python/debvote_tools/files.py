@@ -161,13 +161,23 @@ def locked(file: pathlib.Path, is_shared: bool = False) -> Iterator[None]:
 def in_memory(data: bytes) -> Iterator[str]:
     """A file in memory, which other programs can read by this path as long as it lasts, and of which a kill leaves nothing."""
     if not os.path.isdir(OWN_FILES):
-        words = f"{OWN_FILES}: it is not there, and programs are given their input by it; nothing was changed"
-        raise Fault(f"{words}: have /proc mounted, then run the command again", Status.BAD_OUTPUT)
+        raise Fault(
+            OWN_FILES,
+            "it is not there, and programs are given their input by it",
+            "have /proc mounted, then run the command again",
+            Status.BAD_OUTPUT,
+            "nothing was changed",
+        )
     try:
         handle = os.memfd_create("debvote")
     except OSError as error:
-        words = f"memory: there is none for a copy of the input ({error.strerror}); nothing was changed"
-        raise Fault(f"{words}: run the command again", Status.BAD_OUTPUT) from None
+        raise Fault(
+            "memory",
+            f"there is none for a copy of the input ({error.strerror})",
+            "run the command again",
+            Status.BAD_OUTPUT,
+            "nothing was changed",
+        ) from None
     try:
         with open(handle, "wb", closefd=False) as target:
             target.write(data)

@@ -114,13 +114,13 @@ def members_in(file: pathlib.Path, *, may_be_empty: bool = False) -> Members:
     places = places_of(file, rows[0], delimiter)
     members = [member_of(file, row, rows[0], places) for row in rows[1:]]
     if not members and not may_be_empty:
-        raise doubt(file, f"there is nobody on it; write a line for each member below the head line, {AGAIN}")
+        raise doubt(file, "there is nobody on it", f"write a line for each member below the head line, {AGAIN}")
     return Members(file, mark, encoding, text, delimiter, places, members)
 
 
-def doubt(file: pathlib.Path, words: str, line: int | None = None) -> Fault:
+def doubt(file: pathlib.Path, reason: str, cure: str, line: int | None = None) -> Fault:
     """A fault of the file, or of a line of it."""
-    return Fault(f"{file}: {words}" if line is None else f"{file}:{line}: {words}", Status.DOUBT)
+    return Fault(file if line is None else f"{file}:{line}", reason, cure, Status.DOUBT)
 
 
 def bytes_of(file: pathlib.Path) -> bytes:
@@ -129,32 +129,32 @@ def bytes_of(file: pathlib.Path) -> bytes:
     try:
         # a pipe can't be written again
         if file.exists() and not file.is_file():
-            raise Fault(f"{file}: it is {'a folder' if file.is_dir() else 'no file'}; {cure}", Status.BAD_WORDS)
+            raise Fault(file, f"it is {'a folder' if file.is_dir() else 'no file'}", cure, Status.BAD_WORDS)
         data = read_at_most(file, LIMIT)
     except OSError as error:
-        raise Fault(f"{file}: {error.strerror}; {cure}", Status.BAD_WORDS) from None
+        raise Fault(file, error.strerror, cure, Status.BAD_WORDS) from None
     if len(data) > LIMIT:
-        raise doubt(file, f"it is too long for a list of members; {cure}")
+        raise doubt(file, "it is too long for a list of members", cure)
     if not data:
-        raise doubt(file, f"it is empty; write the head line name,who,mail and a line for each member, {AGAIN}")
+        raise doubt(file, "it is empty", f"write the head line name,who,mail and a line for each member, {AGAIN}")
     kind = kind_of(data)
     if kind is not None:
-        raise doubt(file, f"{NO_CSV[kind]}; open it in the spreadsheet and {SAVE_AS}")
+        raise doubt(file, NO_CSV[kind], f"open it in the spreadsheet and {SAVE_AS}")
     return data
 
 
 def text_in(file: pathlib.Path, data: bytes, encoding: str) -> str:
     """The text of a file without its mark."""
     if encoding == "utf-8" and b"\0" in data:
-        raise doubt(file, f"it is no text in UTF-8, and for one in UTF-16 its mark is missing; {SAVE_AS}")
+        raise doubt(file, "it is no text in UTF-8, and for one in UTF-16 its mark is missing", SAVE_AS)
     try:
         return data.decode(encoding)
     except UnicodeDecodeError as error:
         if encoding != "utf-8":
-            raise doubt(file, f"it begins as a text in UTF-16 and is none to its end; {SAVE_AS}") from None
+            raise doubt(file, "it begins as a text in UTF-16 and is none to its end", SAVE_AS) from None
         lines = data[: error.start].count(b"\n")
         seen = shown(data.split(b"\n")[lines].decode("cp1252", "replace"))
-        raise doubt(file, f"it is not in UTF-8, but perhaps in Latin-1: {seen}; {SAVE_AS}", lines + 1) from None
+        raise doubt(file, f"it is not in UTF-8, but perhaps in Latin-1: {seen}", SAVE_AS, lines + 1) from None
 
 
 # ---------------------------------------------------------------- the table
@@ -162,7 +162,7 @@ def table_of(file: pathlib.Path, text: str) -> tuple[str, list[Row]]:
     """The delimiter of a table, and its rows but for the blank ones: it is the one by which the head line has most columns."""
     first = re.search(r'[^\r\n,;\t "][^\r\n]*', text)
     if first is None:
-        raise doubt(file, f"it is empty; write the head line name,who,mail and a line for each member, {AGAIN}")
+        raise doubt(file, "it is empty", f"write the head line name,who,mail and a line for each member, {AGAIN}")
     head = first[0].casefold()
     found = {mark: len(set(COLUMNS) & {title.strip(' "') for title in head.split(mark)}) for mark in DELIMITERS}
     delimiter = max(DELIMITERS, key=lambda mark: (found[mark], head.count(mark)))
@@ -181,8 +181,12 @@ def rows_in(file: pathlib.Path, text: str, delimiter: str) -> Iterable[Row]:
             assert found is not None
             if found[1] is None and found[2].lstrip(" ").startswith('"'):
                 at = line + line_feeds(text[start:place])
-                words = f"the quotation mark before {shown(found[2].strip()[1:])} has none that ends the cell"
-                raise doubt(file, f"{words}; put it right, {AGAIN}", at)
+                raise doubt(
+                    file,
+                    f"the quotation mark before {shown(found[2].strip()[1:])} has none that ends the cell",
+                    f"put it right, {AGAIN}",
+                    at,
+                )
             value = found[2] if found[1] is None else found[1].replace('""', '"')
             cells.append(Cell(found.start(), found.end(), value.strip()))
             place = found.end() + 1
@@ -205,10 +209,14 @@ def places_of(file: pathlib.Path, head: Row, delimiter: str) -> dict[str, int]:
     for column in COLUMNS:
         if column not in titles:
             said = ", ".join(shown(cell.value) for cell in head.cells if cell.value)
-            words = f"the head line has no column `{column}`, it has: {said} (read with the {DELIMITERS[delimiter]} between)"
-            raise doubt(file, f"{words}; {BELONGS}; name the columns so, {AGAIN}", head.line)
+            raise doubt(
+                file,
+                f"the head line has no column `{column}`, it has: {said} (read with the {DELIMITERS[delimiter]} between); {BELONGS}",
+                f"name the columns so, {AGAIN}",
+                head.line,
+            )
         if titles.count(column) > 1:
-            raise doubt(file, f"the head line has the column `{column}` twice; name one of them otherwise, {AGAIN}", head.line)
+            raise doubt(file, f"the head line has the column `{column}` twice", f"name one of them otherwise, {AGAIN}", head.line)
     return {column: titles.index(column) for column in COLUMNS}
 
 
@@ -218,17 +226,25 @@ def member_of(file: pathlib.Path, row: Row, head: Row, places: dict[str, int]) -
     last = max(place for place, cell in enumerate(head.cells) if cell.value)
     beyond = next(filter(None, values[last + 1 :]), None)
     if beyond is not None:
-        words = f"`{shown(beyond)}` stands behind the last column of the head line"
-        raise doubt(file, f"{words}; put a cell that has the delimiter in it into quotation marks, {AGAIN}", row.line)
+        raise doubt(
+            file,
+            f"`{shown(beyond)}` stands behind the last column of the head line",
+            f"put a cell that has the delimiter in it into quotation marks, {AGAIN}",
+            row.line,
+        )
     read = {column: values[place] if place < len(values) else "" for column, place in places.items()}
     if not any(read.values()):
-        raise doubt(file, f"it has neither a name nor who nor mail; fill it in, or take the line out, {AGAIN}", row.line)
+        raise doubt(file, "it has neither a name nor who nor mail", f"fill it in, or take the line out, {AGAIN}", row.line)
     # what a name may have debvote says
     for text in (read["who"], read["mail"]):
         sign = steering(text)
         if sign is not None:
-            words = f"`{shown(text)}` has the sign {sign}, which steers a terminal or turns the direction of a text"
-            raise doubt(file, f"{words}; take it out, {AGAIN}", row.line)
+            raise doubt(
+                file,
+                f"`{shown(text)}` has the sign {sign}, which steers a terminal or turns the direction of a text",
+                f"take it out, {AGAIN}",
+                row.line,
+            )
     return Member(row, **read)
 
 

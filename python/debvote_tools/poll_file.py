@@ -93,8 +93,9 @@ def texts_at(said: dict[str, object], key: str) -> list[str]:
 
 def unread(why: str) -> Fault:
     """The fault of a poll that can't be read."""
-    words = f"poll.toml: it can't be read as TOML 1.0: {why}; put this right with an editor, then run: {CHECK}"
-    return Fault(words, Status.BAD_POLL)
+    return Fault(
+        "poll.toml", f"it can't be read as TOML 1.0: {why}", f"put this right with an editor, then run: {CHECK}", Status.BAD_POLL
+    )
 
 
 def text_of(data: bytes) -> str:
@@ -103,8 +104,9 @@ def text_of(data: bytes) -> str:
         return data.decode("utf-8")
     except UnicodeDecodeError as error:
         line = data.count(b"\n", 0, error.start) + 1
-        words = f"poll.toml: line {line} is not in UTF-8; save the file as plain text in UTF-8, then run: {CHECK}"
-        raise Fault(words, Status.BAD_POLL) from None
+        raise Fault(
+            "poll.toml", f"line {line} is not in UTF-8", f"save the file as plain text in UTF-8, then run: {CHECK}", Status.BAD_POLL
+        ) from None
 
 
 def with_key(data: bytes, key: str, value: str) -> bytes:
@@ -118,8 +120,12 @@ def with_key(data: bytes, key: str, value: str) -> bytes:
     changed = (mark + with_line(text.removeprefix(mark), key, value)).encode("utf-8")
     wanted = document(data) | tomllib.loads(f"{key} = {value}")
     if not says(changed, wanted):
-        words = f"poll.toml: its line `{key}` can't be found; write it yourself above every line that begins with [: {key} = .."
-        raise Fault(words, Status.BAD_POLL)
+        raise Fault(
+            "poll.toml",
+            f"its line `{key}` can't be found",
+            f"write it yourself above every line that begins with [: {key} = ..",
+            Status.BAD_POLL,
+        )
     return changed
 
 

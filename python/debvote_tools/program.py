@@ -8,7 +8,7 @@ import shutil
 import subprocess
 
 from debvote_tools import announced
-from debvote_tools.faults import Fault, Status
+from debvote_tools.faults import Fault, Status, other_format
 from debvote_tools.files import OWN_FILES
 
 
@@ -60,20 +60,31 @@ class Debvote:
         """`beside` is the folder of the program that asks: debvote may lie beside it."""
         found = (shutil.which("debvote", path=str(beside)) if beside else None) or shutil.which("debvote")
         if found is None:
-            raise Fault("the program debvote is neither beside this one nor in the PATH", Status.NOT_FOUND)
+            words = "the program is neither beside this one nor in the PATH"
+            raise Fault("debvote", words, "install the package debvote", Status.NOT_FOUND)
         self.path = os.path.abspath(found)
         self.folder = folder
 
     def ask(self, *words: str | os.PathLike[str], given: bytes | None = None) -> Answer:
         """Runs debvote with these words, and with these bytes as its standard input."""
         if given is not None and not os.path.isdir(OWN_FILES):
-            words_of = f"{OWN_FILES}: it is not there, and debvote is given its input by it; nothing was counted"
-            raise Fault(f"{words_of}: have /proc mounted, then run the command again", Status.BAD_OUTPUT)
+            raise Fault(
+                OWN_FILES,
+                "it is not there, and debvote is given its input by it",
+                "have /proc mounted, then run the command again",
+                Status.BAD_OUTPUT,
+                "nothing was counted",
+            )
         try:
             ended = self.run([self.path, *(os.fspath(word) for word in words)], given)
         except OSError as error:
-            words_of = f"it can't be started ({error.strerror}); nothing was counted, and no file was changed by it"
-            raise Fault(f"{self.path}: {words_of}: run the command again", Status.BAD_OUTPUT) from None
+            raise Fault(
+                self.path,
+                f"it can't be started ({error.strerror})",
+                "run the command again",
+                Status.BAD_OUTPUT,
+                "nothing was counted, and no file was changed by it",
+            ) from None
         status = ended.returncode if ended.returncode >= 0 else 128 - ended.returncode
         answer = Answer(ended.stdout.decode("ascii", "replace"), ended.stderr.decode("utf-8", "replace"), status)
         return without_announced(answer) if words[:1] == ("explain",) else answer
@@ -122,7 +133,7 @@ def findings_in(text: str) -> Findings:
     lines = text.splitlines()
     totals = TOTALS.fullmatch(lines[-1]) if lines else None
     if totals is None:
-        raise Fault("what this debvote explains has another format", Status.BAD_SHEET)
+        raise other_format("what this debvote explains")
     refused = [Finding(int(found[1]), found[2], found[3]) for found in map(FINDING.fullmatch, lines) if found]
     unread = [line.removeprefix("poll: ") for line in lines if line.startswith("poll: ")]
     is_windows = any(line.startswith(WINDOWS) for line in lines)

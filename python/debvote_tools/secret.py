@@ -169,7 +169,7 @@ def demand_different(file: pathlib.Path, holders: list[Holder], column: str) -> 
 def damaged(file: pathlib.Path, words: str) -> Fault:
     """The fault of a file that is not as `codes` has left it."""
     cure = f"put it right by the slip of the elector, or by a copy of the file (`codes` keeps earlier ones in {file.parent})"
-    return Fault(f"{file}: {words}; {cure}", Status.DOUBT)
+    return Fault(file, words, cure, Status.DOUBT)
 
 
 def private_bytes(file: pathlib.Path) -> bytes:
@@ -178,7 +178,7 @@ def private_bytes(file: pathlib.Path) -> bytes:
     try:
         handle = os.open(file, os.O_RDONLY | os.O_NOFOLLOW | os.O_CLOEXEC | os.O_NONBLOCK)
     except OSError as error:
-        raise Fault(f"{file}: {error.strerror}; put the file of codes that was made for this vote there", Status.DOUBT) from None
+        raise Fault(file, error.strerror, "put the file of codes that was made for this vote there", Status.DOUBT) from None
     with open(handle, "rb") as source:
         demand_private(file, FILE_MODE, os.fstat(handle))
         data = source.read(LIMIT + 1)
@@ -192,14 +192,18 @@ def demand_private(file: pathlib.Path, mode: int, found: os.stat_result | None =
     try:
         found = file.stat() if found is None else found
     except OSError as error:
-        raise Fault(f"{file}: {error.strerror}; put the file of codes that was made for this vote there", Status.DOUBT) from None
+        raise Fault(file, error.strerror, "put the file of codes that was made for this vote there", Status.DOUBT) from None
     if stat.S_ISDIR(found.st_mode) != (mode == FOLDER_MODE) or not (stat.S_ISDIR(found.st_mode) or stat.S_ISREG(found.st_mode)):
-        raise Fault(f"{file}: it is no {'folder' if mode == FOLDER_MODE else 'file'}; move it away", Status.DOUBT)
+        raise Fault(file, f"it is no {'folder' if mode == FOLDER_MODE else 'file'}", "move it away", Status.DOUBT)
     if found.st_uid != os.geteuid() and os.geteuid() != 0:
-        raise Fault(f"{file}: it belongs to somebody else; what is secret has to be yours alone", Status.DOUBT)
+        raise Fault(file, "it belongs to somebody else", "what is secret has to be yours alone", Status.DOUBT)
     if found.st_mode & 0o077:
-        words = f"others than you may use it (mode {found.st_mode & 0o777:o}), and who sees what is in it knows who voted what"
-        raise Fault(f"{file}: {words}; make it yours alone: chmod {mode:o} {file}", Status.DOUBT)
+        raise Fault(
+            file,
+            f"others than you may use it (mode {found.st_mode & 511:o}), and who sees what is in it knows who voted what",
+            f"make it yours alone: chmod {mode:o} {file}",
+            Status.DOUBT,
+        )
 
 
 # ---------------------------------------------------------------- what is published
@@ -209,7 +213,7 @@ def aliases_of(file: pathlib.Path, roll: Iterable[str], cure: str) -> dict[str, 
     missing = [name for name in roll if name not in known]
     if missing:
         have = "has" if len(missing) == 1 else "have"
-        raise Fault(f"{file}: {some(missing)} {have} no code there; {cure}", Status.DOUBT)
+        raise Fault(file, f"{some(missing)} {have} no code there", cure, Status.DOUBT)
     return {name: known[name] for name in roll}
 
 
@@ -253,8 +257,8 @@ def demand_called(codes: pathlib.Path, poll: bytes, *, is_published: bool = Fals
         return
     then, now = (set(poll_file.roll_of(data)) for data in (before, poll))
     if then == now:
-        raise Fault(f"{kept}: it is not the poll of this vote under aliases; find out who changed it", Status.DOUBT)
+        raise Fault(kept, "it is not the poll of this vote under aliases", "find out who changed it", Status.DOUBT)
     who = [holder.name for holder in holders_in(codes) if holder.alias in now - then]
     words = f"the alias of {some(who)} is not on the roll that was called" if who else "an alias that was called is missing"
     cure = "call again, if nobody has seen the earlier call; whoever compares two calls sees whose alias is new"
-    raise Fault(f"{codes}: {words}; {cure if is_taken_back(codes) else LOST}", Status.DOUBT)
+    raise Fault(codes, words, cure if is_taken_back(codes) else LOST, Status.DOUBT)

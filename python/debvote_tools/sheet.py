@@ -3,7 +3,7 @@
 import dataclasses
 import re
 
-from debvote_tools.faults import Fault, Status
+from debvote_tools.faults import other_format
 
 Pair = tuple[int, int]
 
@@ -74,7 +74,7 @@ def sheet_in(text: str) -> Sheet:
     try:
         return sheet_of(text.removesuffix("\n").split("\n"))
     except (ValueError, LookupError):
-        raise Fault("the sheet of this debvote has another format", Status.BAD_SHEET) from None
+        raise other_format("the sheet of this debvote") from None
 
 
 def sheet_of(lines: list[str]) -> Sheet:

@@ -66,10 +66,11 @@ def options(parser: argparse.ArgumentParser) -> None:
 def wanted_of(asked: Asked) -> Wanted:
     """What is asked for. Stops where it can't be meant."""
     if asked.zone is not None and asked.until is None:
-        raise Fault("--zone: it goes with --until; nothing was changed: write both, or none of them", Status.BAD_WORDS)
+        raise Fault("--zone", "it goes with --until", "write both, or none of them", Status.BAD_WORDS, "nothing was changed")
     if asked.until is not None and asked.until_words is not None:
-        words = "it stands in place of --until; nothing was changed: leave one of both out"
-        raise Fault(f"--until-words: {words}", Status.BAD_WORDS)
+        raise Fault(
+            "--until-words", "it stands in place of --until", "leave one of both out", Status.BAD_WORDS, "nothing was changed"
+        )
     demand_line(asked.until_words)
     demand_address(asked.to)
     until = None if asked.until is None else deadlines.time_of(asked.until, asked.zone)
@@ -79,15 +80,21 @@ def wanted_of(asked: Asked) -> Wanted:
 def demand_line(text: str | None) -> None:
     """Stops where the words are no line of text."""
     if text is not None and (not text.strip() or any(unicodedata.category(sign) in ODD or sign in TURNING for sign in text)):
-        words = "it has to be one line of text, in UTF-8; nothing was changed: write it anew"
-        raise Fault(f"--until-words: {words}", Status.BAD_WORDS)
+        raise Fault(
+            "--until-words", "it has to be one line of text, in UTF-8", "write it anew", Status.BAD_WORDS, "nothing was changed"
+        )
 
 
 def demand_address(text: str | None) -> None:
     """Stops where this is not one plain mail address."""
     if text is not None and (len(text) > MAIL_LIMIT or not MAIL.fullmatch(text)):
-        words = "it has to be one mail address, as secretary@example.org; nothing was changed: write it anew"
-        raise Fault(f"--to: {words}", Status.BAD_WORDS)
+        raise Fault(
+            "--to",
+            "it has to be one mail address, as secretary@example.org",
+            "write it anew",
+            Status.BAD_WORDS,
+            "nothing was changed",
+        )
 
 
 # ---------------------------------------------------------------- the poll that says it
@@ -143,20 +150,35 @@ def extended(election: Election, poll: bytes, wanted: Wanted) -> bytes:
         return poll
     close = election.closed()
     if close is not None:
-        words = f"the vote was closed at {time_of(close)}, and nobody can vote any more; nothing was changed"
-        raise Fault(f"--until: {words}", Status.DOUBT)
+        raise Fault(
+            "--until",
+            f"the vote was closed at {time_of(close)}, and nobody can vote any more",
+            "leave --until out",
+            Status.DOUBT,
+            "nothing was changed",
+        )
     if said.until is not None and wanted.until < said.until:
-        words = f"it is earlier than the time that was called, {in_words(said.until.astimezone(wanted.until.tzinfo))}"
-        raise Fault(f"--until: {words}, and electors rely on that; nothing was changed: write a later time", Status.DOUBT)
+        raise Fault(
+            "--until",
+            f"it is earlier than the time that was called, {in_words(said.until.astimezone(wanted.until.tzinfo))}, and electors rely on that",
+            "write a later time",
+            Status.DOUBT,
+            "nothing was changed",
+        )
     deadlines.demand_future(wanted.until, announced.now())
     return poll_file.with_key(poll, EXTENDED, quoted(wanted.until.isoformat()))
 
 
 def said_already(election: Election, option: str, what: str) -> Fault:
     """The fault of what can't be said any more, since the sum of the poll that was called covers it."""
-    words = f"in the poll that was called {what}, and its sum covers this; nothing was changed"
     anew = f"where no ballot has come and nobody has seen the call, take it back: {command(election, 'call', '--take-back')}"
-    return Fault(f"{option}: {words}: tell the electors by letter, or, {anew}", Status.DOUBT)
+    return Fault(
+        option,
+        f"in the poll that was called {what}, and its sum covers this",
+        f"tell the electors by letter, or, {anew}",
+        Status.DOUBT,
+        "nothing was changed",
+    )
 
 
 # ---------------------------------------------------------------- what the call says

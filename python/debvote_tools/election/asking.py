@@ -53,7 +53,7 @@ def refused(election: Election, answer: Answer) -> Fault:
         Status.BAD_BALLOTS: (election.ballots, f"it has at most {LINES_LIMIT} lines and {BALLOTS_LIMIT} bytes"),
     }
     file, cure = cures.get(answer.status, (pathlib.Path("debvote"), "nothing was counted: run the command again"))
-    return Fault(f"{file}: {said}; {cure}", answer.status)
+    return Fault(file, said, cure, answer.status)
 
 
 def explained(election: Election, poll: bytes) -> Answer:
@@ -62,8 +62,9 @@ def explained(election: Election, poll: bytes) -> Answer:
     if answer.text:
         return answer
     if answer.status == Status.BAD_POLL:
-        words = f"{election.poll}: {answer.faults.strip().removeprefix('debvote: ')}; a poll has at most {POLL_LIMIT} bytes"
-        raise Fault(words, answer.status)
+        raise Fault(
+            election.poll, answer.faults.strip().removeprefix("debvote: "), f"a poll has at most {POLL_LIMIT} bytes", answer.status
+        )
     raise refused(election, answer)
 
 
@@ -87,8 +88,12 @@ def demand_option(election: Election, name: str) -> None:
     """Stops where no option of the poll has this name, and says which names there are."""
     sheet = empty_sheet(election)
     if sheet is not None and name not in sheet.names.values():
-        words = f"no option has this name; give one of these, exactly as it stands here: {listed(sheet.names.values())}"
-        raise Fault(f"--casting={shlex.quote(name)}: {words}", Status.CASTING_OUTSIDE)
+        raise Fault(
+            f"--casting={shlex.quote(name)}",
+            "no option has this name",
+            f"give one of these, exactly as it stands here: {listed(sheet.names.values())}",
+            Status.CASTING_OUTSIDE,
+        )
 
 
 def listed(names: Iterable[str]) -> str:

@@ -117,7 +117,7 @@ def asked_of(election: Election, task: str, poll: str, ballots: bytes) -> Answer
     if answer.status == Status.BAD_BALLOTS:
         said = answer.faults.strip().removeprefix("debvote: ")
         cure = f"it takes {LINES_LIMIT} lines and {BALLOTS_LIMIT} bytes at most; what came is kept in {election.received}: add less of it"
-        raise Fault(f"{election.ballots}: nothing was added, for with it debvote says `{said}`; {cure}", Status.BAD_BALLOTS)
+        raise Fault(election.ballots, f"nothing was added, for with it debvote says `{said}`", cure, Status.BAD_BALLOTS)
     if answer.faults:
         raise refused(election, answer)
     return answer
@@ -170,8 +170,8 @@ def cast(
         try:
             tell(*report(election, batch))
         except Fault as fault:
-            words = f"the output failed; {election.ballots} has what was to be told ({envelopes}) all the same"
-            raise Fault(f"{words}: ask debvote-election status", fault.status) from None
+            done = f"{election.ballots} has what was to be told ({envelopes}) all the same"
+            raise Fault(None, "the output failed", "ask debvote-election status", fault.status, done) from None
     return batch
 
 

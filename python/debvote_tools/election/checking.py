@@ -30,11 +30,16 @@ def checked(election: Election, files: Files) -> Sheet:
     sys.stdout.write(answer.text)
     if answer.status == Status.BAD_POLL:
         sys.stdout.write("".join(f"{line}\n" for line in plain_words(answer.text, files.poll)))
-        raise Fault(f"{election.poll}: {what_to_do(election, files.poll, answer.text.splitlines())}", Status.BAD_POLL)
+        reason, cure = what_to_do(election, files.poll, answer.text.splitlines())
+        raise Fault(election.poll, reason, cure, Status.BAD_POLL)
     if answer.status != Status.DECIDED:
-        words = "a line of it is not read, which is mostly a slip; put it right, move it above every line that begins with [,"
         again = f"or put a # before it, then run: {command(election, 'check')}"
-        raise Fault(f"{election.poll}: {words} {again}", answer.status)
+        raise Fault(
+            election.poll,
+            "a line of it is not read, which is mostly a slip",
+            f"put it right, move it above every line that begins with [, {again}",
+            answer.status,
+        )
     counted = election.debvote.ask("count", "--poll", "/dev/stdin", "--ballots", NO_BALLOTS, given=files.poll)
     if not counted.text:
         raise refused(election, counted)
@@ -63,12 +68,12 @@ def plain_word(sign: str) -> str:
     return f"{written(sign)} is no plain character; {write}; the page can show {written(sign)} by a label"
 
 
-def what_to_do(election: Election, poll: bytes, findings: list[str]) -> str:
-    """What the secretary does where debvote refuses the poll."""
+def what_to_do(election: Election, poll: bytes, findings: list[str]) -> tuple[str, str]:
+    """Why debvote refuses the poll, and what the secretary does."""
     again = f"then run: {command(election, 'check')}"
     syntax = re.match(r"poll:(\d+):", findings[0])
     if syntax is not None:
-        return f"line {syntax[1]} can't be read; put it right with an editor, {again}"
+        return f"line {syntax[1]} can't be read", f"put it right with an editor, {again}"
     lines = lines_about(poll, findings)
     by_hand = [line for line in lines if line != "roll"]
     steps = []
@@ -76,7 +81,7 @@ def what_to_do(election: Election, poll: bytes, findings: list[str]) -> str:
         steps.append(f"fill in or put right with an editor: {', '.join(by_hand)}")
     if "roll" in lines:
         steps.append(f"write the members into {election.members.name} and run: {command(election, 'roll')}")
-    return f"it is not in order yet; {'; '.join(steps)}; {again}"
+    return "it is not in order yet", "; ".join([*steps, again])
 
 
 def lines_about(poll: bytes, findings: list[str]) -> list[str]:

@@ -58,8 +58,13 @@ class Letter:
 def demand_free(election: Election) -> None:
     """Stops where a file lies in the place of the letter that no close has made."""
     if election.closing_letter.exists() or election.closing_letter.is_symlink():
-        words = "it is there already, and no close has made it; nothing was changed: move it away, and close again"
-        raise Fault(f"{election.closing_letter}: {words}", Status.DOUBT)
+        raise Fault(
+            election.closing_letter,
+            "it is there already, and no close has made it",
+            "move it away, and close again",
+            Status.DOUBT,
+            "nothing was changed",
+        )
 
 
 def write(election: Election, files: Files, close: Entry, title: str) -> None:

@@ -17,7 +17,7 @@ def time_of(text: str, zone: str | None) -> datetime.datetime:
     """The time of a text, with its offset: the one that it names, or that of the zone, or that of this computer."""
     found = TIME.fullmatch(text.strip())
     if found is None:
-        raise refused(f"it has to be a time; {HOW}; {AS_WORDS}")
+        raise refused("it has to be a time", f"{HOW}; {AS_WORDS}")
     date, clock, offset = found.groups()
     try:
         plain = datetime.datetime.fromisoformat(f"{date} {clock}")
@@ -25,13 +25,13 @@ def time_of(text: str, zone: str | None) -> datetime.datetime:
             return with_offset(plain, offset, zone)
         return in_zone(plain, zone)
     except (ValueError, OverflowError):
-        raise refused(f"there is no such day or time of day (a day goes from 00:00 to 23:59); {HOW}") from None
+        raise refused("there is no such day or time of day (a day goes from 00:00 to 23:59)", HOW) from None
 
 
 def with_offset(plain: datetime.datetime, offset: str, zone: str | None) -> datetime.datetime:
     """The time with the offset that stands behind it."""
     if zone is not None:
-        raise Fault("--zone: the time has an offset already; nothing was changed: leave one of both out", Status.BAD_WORDS)
+        raise Fault("--zone", "the time has an offset already", "leave one of both out", Status.BAD_WORDS, "nothing was changed")
     return plain.replace(tzinfo=datetime.UTC if offset in ("Z", "UTC") else datetime.datetime.strptime(offset, "%z").tzinfo)
 
 
@@ -42,12 +42,12 @@ def in_zone(plain: datetime.datetime, name: str | None) -> datetime.datetime:
     comes = [time for time in (first, second) if time.astimezone(datetime.UTC).astimezone(zone).replace(tzinfo=None) == plain]
     where = "where this computer is" if name is None else f"in {name}"
     if not comes:
-        raise refused(f"{where} there is no such time: on that day clocks are put forward over it; write another time")
+        raise refused(f"{where} there is no such time: on that day clocks are put forward over it", "write another time")
     if first.utcoffset() != second.utcoffset():
         both = " or ".join(
             f'"{plain:%Y-%m-%d %H:%M} {offset_in_words(time).removeprefix("UTC") or "UTC"}"' for time in (first, second)
         )
-        raise refused(f"{where} this time comes twice, since on that day clocks are put back; write {both}")
+        raise refused(f"{where} this time comes twice, since on that day clocks are put back", f"write {both}")
     return datetime.datetime.fromisoformat(first.isoformat(timespec="seconds"))
 
 
@@ -61,16 +61,21 @@ def zone_of(name: str) -> zoneinfo.ZoneInfo:
     try:
         return zoneinfo.ZoneInfo(name)
     except (zoneinfo.ZoneInfoNotFoundError, ValueError, OSError):
-        words = "this computer knows no time zone of this name; nothing was changed: write one as Europe/Berlin"
-        raise Fault(f"--zone: {words}, or give the offset in the time, as +01:00", Status.BAD_WORDS) from None
+        raise Fault(
+            "--zone",
+            "this computer knows no time zone of this name",
+            "write one as Europe/Berlin, or give the offset in the time, as +01:00",
+            Status.BAD_WORDS,
+            "nothing was changed",
+        ) from None
 
 
 def demand_future(time: datetime.datetime, now: datetime.datetime) -> None:
     """Stops where the time is over."""
     if time <= now:
         there = minute_of(now, time)
-        raise refused(f"{in_words(time)} is over: by the clock of this computer it is {there}; write a time that is to come")
+        raise refused(f"{in_words(time)} is over: by the clock of this computer it is {there}", "write a time that is to come")
 
 
-def refused(words: str) -> Fault:
-    return Fault(f"--until: {words}; nothing was changed", Status.BAD_WORDS)
+def refused(reason: str, cure: str) -> Fault:
+    return Fault("--until", reason, f"{cure}; nothing was changed", Status.BAD_WORDS)

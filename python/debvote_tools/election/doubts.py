@@ -39,8 +39,13 @@ def stop_at_no_ballot(parts: list[Part], is_form: bool) -> None:
     whole = [ballot for part in parts for ballot in part.ballots]
     for part in [*parts, dataclasses.replace(parts[0], ballots=whole)]:
         if len(part.ballots) > 1 and all(ballot.finding for ballot in part.ballots):
-            words = f"debvote takes none of the {len(part.ballots)} lines as a ballot; nothing was added"
-            raise Fault(f"{part.name}: {words}: {cure_of(part, is_form)}, or {EVEN_SO}", Status.DOUBT)
+            raise Fault(
+                part.name,
+                f"debvote takes none of the {len(part.ballots)} lines as a ballot",
+                f"{cure_of(part, is_form)}, or {EVEN_SO}",
+                Status.DOUBT,
+                "nothing was added",
+            )
 
 
 def cure_of(part: Part, is_form: bool) -> str:
@@ -89,8 +94,8 @@ def stop_at_added_before(election: Election, files: Files, parts: list[Part], is
         earlier = earlier_file(election.received, part, is_form) if is_there else None
         if earlier is not None:
             words = f"it was added before, with {earlier}{envelopes_of(files, part)}"
-            why = "and now its lines would put back what these electors have sent since; nothing was added"
-            raise Fault(f"{part.name}: {words}, {why}: leave it, or {EVEN_SO}", Status.DOUBT)
+            why = "and now its lines would put back what these electors have sent since"
+            raise Fault(part.name, f"{words}, {why}", f"leave it, or {EVEN_SO}", Status.DOUBT, "nothing was added")
 
 
 def earlier_file(folder: pathlib.Path, part: Part, is_form: bool) -> pathlib.Path | None:
@@ -149,9 +154,9 @@ def stop_at_too_much(files: Files, parts: list[Part]) -> None:
     for part in parts:
         line = next((ballot.line for ballot in part.ballots if is_too_long(ballot.line)), None)
         if line is not None:
-            words = f"{long_words(line)}; nothing was added, and what is added can't be taken out again; {left}"
-            raise Fault(f"{line.where}: {words}: {cure}", Status.DOUBT)
+            done = f"nothing was added, and what is added can't be taken out again; {left}"
+            raise Fault(line.where, long_words(line), cure, Status.DOUBT, done)
         lines, size = len(part.ballots), sum(len(ballot.text) + 1 for ballot in part.ballots)
         if lines > 1 and (lines * SHARE > lines_left or size * SHARE > bytes_left):
-            words = f"it takes {lines} lines and {size} bytes, more than a tenth of what is left; nothing was added; {left}"
-            raise Fault(f"{part.name}: {words}: {cure}", Status.DOUBT)
+            words = f"it takes {lines} lines and {size} bytes, more than a tenth of what is left"
+            raise Fault(part.name, words, cure, Status.DOUBT, f"nothing was added; {left}")

@@ -19,15 +19,17 @@ def stop_at_changes(election: Election, files: Files, *, even_so: bool) -> None:
     """Tells what differs from what came, and stops there where something that came does not count as it came."""
     lost = election.lost_journal(files)
     if lost is not None and not even_so:
-        words = f"{lost}; the election is not closed"
         cure = f"put the journal back, or, where you know what happened, close as it is: {command(election, 'close', '--even-so')}"
-        raise Fault(f"{election.journal}: {words}: {cure}", Status.DOUBT)
+        raise Fault(election.journal, lost, cure, Status.DOUBT, "the election is not closed")
     changes = changes_of(election, files)
     for line in changes.lines():
         tell(f"Note: {line}.")
     if changes.is_loss and not even_so:
-        words = "lines that came were taken out, changed or put in another order by hand; the election is not closed"
         right = f"put them back with an editor (what came is kept in {election.received})"
         raise Fault(
-            f"{election.ballots}: {words}: {right}, or close as it is: {command(election, 'close', '--even-so')}", Status.DOUBT
+            election.ballots,
+            "lines that came were taken out, changed or put in another order by hand",
+            f"{right}, or close as it is: {command(election, 'close', '--even-so')}",
+            Status.DOUBT,
+            "the election is not closed",
         )

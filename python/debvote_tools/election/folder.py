@@ -96,11 +96,13 @@ class Election:
     def check_folder(self) -> None:
         """Stops where this is no folder of an election."""
         if not self.folder.is_dir():
-            words = f"{self.folder}: there is no such folder; make one with: debvote-election new {self.folder}"
-            raise Fault(words, Status.BAD_WORDS)
+            raise Fault(
+                self.folder, "there is no such folder", f"make one with: debvote-election new {self.folder}", Status.BAD_WORDS
+            )
         if not self.poll.exists() and not self.journal.exists():
-            words = f"{self.poll}: there is no poll; go into the folder of the election, or name it with --folder"
-            raise Fault(words, Status.BAD_WORDS)
+            raise Fault(
+                self.poll, "there is no poll", "go into the folder of the election, or name it with --folder", Status.BAD_WORDS
+            )
         demand_plain(self.poll, Status.BAD_POLL, may_be_link=True)
         demand_plain(self.journal, Status.DOUBT)
         demand_plain(self.ballots, Status.BAD_BALLOTS)
@@ -201,9 +203,12 @@ class Election:
             now = self.files()
             self.settle(now)
         if now is not None and now.sums == after.sums:
-            words = f"it is written, but perhaps not on the disk yet ({error.strerror}); this {name} is done"
             raise Fault(
-                f"{error.filename}: {words}: do not repeat it, but ask {self.command('status')}", Status.BAD_OUTPUT
+                error.filename,
+                f"it is written, but perhaps not on the disk yet ({error.strerror})",
+                f"do not repeat it, but ask {self.command('status')}",
+                Status.BAD_OUTPUT,
+                f"this {name} is done",
             ) from None
 
     def note_end(self, name: str) -> None:
@@ -262,7 +267,7 @@ class Election:
             right = f"put this right (the poll that was called is {self.called_poll}{self.and_its_last_envelope()})"
             anew = f"where no ballot has come yet, take the call back: {self.command('call', '--take-back')}"
             change = f"it was changed after the call for votes: {call.change_in(files.poll)}"
-            raise Fault(f"{self.poll}: {change}; {right}, or, {anew}", Status.DOUBT)
+            raise Fault(self.poll, change, f"{right}, or, {anew}", Status.DOUBT)
 
     def what_is_gone(self, files: Files) -> list[str]:
         """What was taken away of what the election has noted: its journal, and the folder of the call; a sentence each."""
@@ -296,10 +301,15 @@ def demand_plain(file: pathlib.Path, status: int, *, may_be_link: bool = False) 
         # what is not there, or can't be looked at, is told where it is read
         return
     if stat.S_ISLNK(mode):
-        words = "it is a symbolic link, and a new file would take its place; nothing was changed"
-        raise Fault(f"{file}: {words}: put the file itself there, in place of the link", status)
+        raise Fault(
+            file,
+            "it is a symbolic link, and a new file would take its place",
+            "put the file itself there, in place of the link",
+            status,
+            "nothing was changed",
+        )
     if not stat.S_ISREG(mode) and not stat.S_ISDIR(mode):
-        raise Fault(f"{file}: it is no file, but a pipe or a device; nothing was changed: put the file itself there", status)
+        raise Fault(file, "it is no file, but a pipe or a device", "put the file itself there", status, "nothing was changed")
 
 
 def bytes_of(file: pathlib.Path, limit: int, status: int, cure: str) -> bytes:
@@ -307,4 +317,4 @@ def bytes_of(file: pathlib.Path, limit: int, status: int, cure: str) -> bytes:
     try:
         return read_at_most(file, limit)
     except OSError as error:
-        raise Fault(f"{file}: {error.strerror}; {cure}", status) from None
+        raise Fault(file, error.strerror, cure, status) from None

@@ -26,15 +26,19 @@ def columns_of(name: str, ranks: str, options: list[str]) -> Columns:
     try:
         heads = [head.strip() for head in next(csv.reader([ranks], strict=True, skipinitialspace=True), [])]
     except csv.Error as error:
-        raise Fault(f"--ranks: {error}; put a head that has a comma into quotation marks", Status.BAD_WORDS) from None
+        raise Fault("--ranks", error, "put a head that has a comma into quotation marks", Status.BAD_WORDS) from None
     if len(heads) != len(options):
         listed = ", ".join(f"{number} {option}" for number, option in enumerate(options, start=1))
-        words = f"--ranks: it names {len(heads)} columns, and the poll has {len(options)} options, the default among them"
-        raise Fault(f"{words}: {listed}; name a column for each, in this order", Status.BAD_WORDS)
+        raise Fault(
+            "--ranks",
+            f"it names {len(heads)} columns, and the poll has {len(options)} options, the default among them: {listed}",
+            "name a column for each, in this order",
+            Status.BAD_WORDS,
+        )
     keys = [key_of(head) for head in [name, *heads]]
     double = next((head for head, key in zip([name, *heads], keys) if keys.count(key) > 1), None)
     if double is not None:
-        raise Fault(f"--name, --ranks: the column `{double}` is named twice; name each once", Status.BAD_WORDS)
+        raise Fault("--name, --ranks", f"the column `{double}` is named twice", "name each once", Status.BAD_WORDS)
     return Columns(name.strip(), heads)
 
 
@@ -58,8 +62,9 @@ def text_in(data: bytes, file: str) -> str:
         return data.removeprefix(mark).decode(MARKS.get(mark, "utf-8"))
     except UnicodeDecodeError as error:
         line = data.count(b"\n", 0, error.start) + 1
-        words = f"line {line} is not in UTF-8; nothing was added: save it anew as CSV in UTF-8"
-        raise Fault(f"{file}: {words}", Status.BAD_BALLOTS) from None
+        raise Fault(
+            file, f"line {line} is not in UTF-8", "save it anew as CSV in UTF-8", Status.BAD_BALLOTS, "nothing was added"
+        ) from None
 
 
 def rows_in(text: str, file: str, columns: Columns) -> list[list[str]]:
@@ -71,8 +76,13 @@ def rows_in(text: str, file: str, columns: Columns) -> list[list[str]]:
     try:
         return list(reader)
     except csv.Error as error:
-        words = f"it is no table with a {DELIMITERS[delimiter]} between its cells ({error})"
-        raise Fault(f"{file}:{reader.line_num}: {words}; nothing was added: save it anew as CSV", Status.BAD_BALLOTS) from None
+        raise Fault(
+            f"{file}:{reader.line_num}",
+            f"it is no table with a {DELIMITERS[delimiter]} between its cells ({error})",
+            "save it anew as CSV",
+            Status.BAD_BALLOTS,
+            "nothing was added",
+        ) from None
 
 
 def heads_found(line: str, delimiter: str, columns: Columns) -> int:
@@ -93,16 +103,18 @@ def places_of(head: list[str], file: str, columns: Columns) -> list[int]:
     for column in [columns.name, *columns.ranks]:
         if keys.count(key_of(column)) != 1:
             what = "there is no column" if key_of(column) not in keys else "there is more than one column"
-            raise Fault(f"{file}: {what} `{column}`; its heads are {there}; nothing was added", Status.BAD_WORDS)
+            words = f"{what} `{column}`; its heads are {there}"
+            raise Fault(file, words, "name each by its head", Status.BAD_WORDS, "nothing was added")
     return [keys.index(key_of(column)) for column in [columns.name, *columns.ranks]]
 
 
 def check_width(row: list[str], head: list[str], where: str) -> None:
     """Stops at a row that is longer than the head line: its cells do not stand below their heads."""
     if any(cell.strip() for cell in row[len(head) :]):
-        words = f"it has {len(row)} cells, and the head line has {len(head)}"
         cure = "put a cell that has the delimiter in it into quotation marks, and add the file again"
-        raise Fault(f"{where}: {words}; nothing was added: {cure}", Status.BAD_BALLOTS)
+        raise Fault(
+            where, f"it has {len(row)} cells, and the head line has {len(head)}", cure, Status.BAD_BALLOTS, "nothing was added"
+        )
 
 
 def line_of(row: list[str], places: list[int], where: str) -> Line:

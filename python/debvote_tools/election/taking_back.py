@@ -32,19 +32,29 @@ def take_back(election: Election) -> int:
 def demand_call(election: Election) -> None:
     """Stops where there is no call."""
     if not election.is_called():
-        words = "there is no call that could be taken back; nothing was changed"
-        raise Fault(f"{election.call}: {words}: to make one, run {command(election, 'call')}", Status.DOUBT)
+        raise Fault(
+            election.call,
+            "there is no call that could be taken back",
+            f"to make one, run {command(election, 'call')}",
+            Status.DOUBT,
+            "nothing was changed",
+        )
 
 
 def demand_unvoted(election: Election, files: Files) -> None:
     """Stops where ballots were given for the poll of the call, or the vote is over."""
     given = given_already(election, files)
     if given is not None:
-        raise Fault(f"{election.call}: the call can't be taken back any more: {given}", Status.DOUBT)
+        raise Fault(election.call, "the call can't be taken back any more", given, Status.DOUBT, "")
     closed = election.closed()
     if closed is not None:
-        words = f"the election was closed at {time_of(closed)}, and its call can't be taken back any more; nothing was changed"
-        raise Fault(f"{election.call}: {words}: hold a new election in a new folder: debvote-election new FOLDER", Status.DOUBT)
+        raise Fault(
+            election.call,
+            f"the election was closed at {time_of(closed)}, and its call can't be taken back any more",
+            "hold a new election in a new folder: debvote-election new FOLDER",
+            Status.DOUBT,
+            "nothing was changed",
+        )
 
 
 def move_folder(election: Election) -> str | None:

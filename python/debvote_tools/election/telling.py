@@ -16,7 +16,7 @@ def tell(*lines: str, end: str = "\n") -> None:
     try:
         print(*map(written, lines), sep="\n", end=end, flush=True)
     except OSError:
-        raise Fault("the output failed; what was told is done: ask debvote-election status", Status.BAD_OUTPUT) from None
+        raise Fault(None, "the output failed", "ask debvote-election status", Status.BAD_OUTPUT, "what was told is done") from None
 
 
 def count_of(number: int, what: str) -> str:

@@ -4,7 +4,7 @@ import dataclasses
 import pathlib
 import sys
 
-from debvote_tools.faults import Fault, Status
+from debvote_tools.faults import Status, Told
 from debvote_tools.program import Debvote, casting_words
 
 # the names of what is published; a plain web server shows a text that ends so
@@ -29,7 +29,7 @@ class Calls:
         answer = self.debvote.ask(*words)
         print(answer.faults, end="", file=sys.stderr, flush=True)
         if answer.status != Status.DECIDED and not (answer.text and answer.status in also):
-            raise Fault(None, answer.status)
+            raise Told(answer.status)
         return answer.text, answer.status
 
     def version(self) -> str:
@@ -52,7 +52,7 @@ class Calls:
         """What `verify` says of the sheet in the folder; a sheet that differs is a fault."""
         text, status = self.write("verify", *FILES, "--sheet", SHEET, *self.desks, also=(Status.DOUBT,))
         if status == Status.DOUBT:
-            raise Fault(text.rstrip("\n"), status)
+            raise Told(status, text.rstrip("\n"))
         return text
 
     def explain(self) -> str:

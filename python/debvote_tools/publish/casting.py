@@ -40,11 +40,12 @@ def cast_in(by: str | None, on: str | None) -> Cast:
     if by is not None:
         is_odd = any(unicodedata.category(sign) in ODD or sign in TURNING for sign in by)
         if not by.strip() or is_odd or len(by) > LONGEST:
-            raise Fault(f"--cast-by: it has to be a name on one line, of at most {LONGEST} characters", Status.BAD_WORDS)
+            words = f"it has to be a name on one line, of at most {LONGEST} characters"
+            raise Fault("--cast-by", words, "write it anew", Status.BAD_WORDS)
     try:
         day = None if on is None else datetime.date.fromisoformat(on)
     except ValueError:
-        raise Fault(f"--cast-on: `{on}` is no day; write it as 2026-12-05", Status.BAD_WORDS) from None
+        raise Fault("--cast-on", f"`{on}` is no day", "write it as 2026-12-05", Status.BAD_WORDS) from None
     return Cast(by, day)
 
 
@@ -54,8 +55,8 @@ def demand_left(sheet: Sheet, name: str | None) -> None:
     if name is not None and name not in left:
         shown = " and ".join(f"{option} {name}" for name, option in left.items())
         are = "is" if len(left) == 1 else "are"
-        words = f"no casting vote can choose {name}, which is not left; left {are} {shown}; nothing was published"
-        raise Fault(f"--casting: {words}", Status.CASTING_OUTSIDE)
+        words = f"no casting vote can choose {name}, which is not left; left {are} {shown}"
+        raise Fault("--casting", words, "name one that is left", Status.CASTING_OUTSIDE, "nothing was published")
 
 
 def doubts_of(sheet: Sheet, cast: Cast, poll: bytes, places: Iterable[pathlib.Path]) -> list[Doubt]:
@@ -63,7 +64,7 @@ def doubts_of(sheet: Sheet, cast: Cast, poll: bytes, places: Iterable[pathlib.Pa
     winner = sheet.winner()
     if winner is None or not winner[1]:
         if cast != Cast():
-            raise Fault(f"{' and '.join(OPTIONS)}: no casting vote decides here; leave them out", Status.BAD_WORDS)
+            raise Fault(" and ".join(OPTIONS), "no casting vote decides here", "leave them out", Status.BAD_WORDS)
         return []
     found = []
     if cast.by is None or cast.on is None:

@@ -12,7 +12,7 @@ import sys
 
 from debvote_tools import by_hand, called, journal, lost
 from debvote_tools.closed import Counted, changed_since
-from debvote_tools.faults import Doubt, Fault, Status
+from debvote_tools.faults import Doubt, Fault, Status, Told, other_format
 from debvote_tools.files import sum_of
 from debvote_tools.journal import Sums
 from debvote_tools.poll_file import as_announced
@@ -52,7 +52,7 @@ def tell(lines: list[str]) -> None:
 def stop(found: list[Doubt]) -> Fault:
     """The fault that ends the run at these doubts, which are told."""
     tell([f"{doubt.line()} {EVEN_SO}" for doubt in found])
-    return Fault(None, Status.DOUBT)
+    return Told(Status.DOUBT)
 
 
 def found_in(calls: Calls, poll: str, ballots: str, sheet: Sheet) -> list[Doubt]:
@@ -166,7 +166,7 @@ def unread_keys(findings: Findings, poll: str) -> list[Doubt]:
     for words in findings.unread:
         parts = re.fullmatch(r"(key .*) is not read(?:; (.*))?", words)
         if parts is None:
-            raise Fault("what this debvote explains has another format", Status.BAD_SHEET)
+            raise other_format("what this debvote explains")
         reason, remark = parts.groups("")
         advice = "put it right or take it out"
         if remark.endswith("?"):

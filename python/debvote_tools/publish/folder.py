@@ -54,7 +54,7 @@ def publish(asked: Asked, beside: pathlib.Path | None) -> tuple[str, int]:
     """
     target = pathlib.Path(os.path.realpath(asked.folder))
     if os.path.lexists(target) and not (target.is_dir() and not any(target.iterdir())):
-        raise Fault(f"{asked.folder} is there already, and is no empty folder", Status.BAD_WORDS)
+        raise Fault(None, f"{asked.folder} is there already, and is no empty folder", "name another one", Status.BAD_WORDS)
     demand_words(asked)
     given = given_in(asked)
     folder = pathlib.Path(tempfile.mkdtemp(prefix=f".{target.name}.", dir=target.parent))
@@ -78,12 +78,17 @@ def demand_words(asked: Asked) -> None:
     if asked.secret is None:
         secret.demand_open(asked.poll, asked.ballots)
         if asked.voters:
-            raise Fault("--voters: it goes with --secret; in an open vote the page has who voted what", Status.BAD_WORDS)
+            words = "it goes with --secret; in an open vote the page has who voted what"
+            raise Fault("--voters", words, "leave it out", Status.BAD_WORDS)
     elif asked.who is not None and not asked.voters:
-        words = "in a secret vote it goes with --voters, since it tells who voted; leave --who out, or give --voters too"
-        raise Fault(f"--who: {words}", Status.BAD_WORDS)
+        raise Fault(
+            "--who",
+            "in a secret vote it goes with --voters, since it tells who voted",
+            "leave --who out, or give --voters too",
+            Status.BAD_WORDS,
+        )
     if asked.because is not None and not asked.even_so:
-        raise Fault("--because: it goes with --even-so: it says why a doubt is none; leave it out", Status.BAD_WORDS)
+        raise Fault("--because", "it goes with --even-so: it says why a doubt is none", "leave it out", Status.BAD_WORDS)
 
 
 def given_in(asked: Asked) -> Given:
@@ -160,7 +165,9 @@ def settle(found: list[Doubt], asked: Asked) -> None:
     if found and not asked.even_so:
         raise doubts.stop(found)
     if asked.because is not None and not found:
-        raise Fault("--because: there is no doubt that it could speak of; nothing was published: leave it out", Status.BAD_WORDS)
+        raise Fault(
+            "--because", "there is no doubt that it could speak of", "leave it out", Status.BAD_WORDS, "nothing was published"
+        )
 
 
 def voting_of(poll: bytes, standing: str, given: Given, further: Further) -> roll.Voting | None:
@@ -250,7 +257,7 @@ def input_in(file: str, limit: int, kind: str, status: int) -> bytes:
     try:
         return read_at_most(file, limit)
     except OSError:
-        raise Fault(f"{kind} unreadable", status) from None
+        raise Fault(None, f"{kind} unreadable", f"give a file with --{kind} that you may read", status) from None
 
 
 def sums_of(folder: pathlib.Path) -> str:

@@ -48,8 +48,9 @@ def labels_in(file: str) -> dict[int, tuple[int, str]]:
             continue
         number, text = label_in(line, f"{file}:{place}")
         if number in found:
-            words = f"number {number} has a label already, on line {found[number][0]}; take one of the two out"
-            raise bad_label(f"{file}:{place}", words)
+            raise bad_label(
+                f"{file}:{place}", f"number {number} has a label already, on line {found[number][0]}", "take one of the two out"
+            )
         found[number] = (place, text)
     return found
 
@@ -59,14 +60,14 @@ def label_in(line: str, where: str) -> tuple[int, str]:
     number, tab, text = line.partition("\t")
     text = text.strip()
     if not tab:
-        raise bad_label(where, f"it has no tab; {HOW}")
+        raise bad_label(where, "it has no tab", HOW)
     if re.fullmatch(r"0|[1-9][0-9]?", number.strip(), re.ASCII) is None:
-        raise bad_label(where, f"before the tab stands no number of an option; {HOW}, with 0 for the title")
+        raise bad_label(where, "before the tab stands no number of an option", f"{HOW}, with 0 for the title")
     if not text:
-        raise bad_label(where, "behind the tab stands nothing; write the text, or take the line out")
+        raise bad_label(where, "behind the tab stands nothing", "write the text, or take the line out")
     if "\t" in text or len(text) > LONGEST:
         what = "the text has a tab in it" if "\t" in text else f"the text has {len(text)} characters, {LONGEST} are the most"
-        raise bad_label(where, f"{what}; write it anew")
+        raise bad_label(where, what, "write it anew")
     return int(number), text
 
 
@@ -75,7 +76,7 @@ def labels_of(file: str | None, found: dict[int, tuple[int, str]], sheet: Sheet)
     for number, (place, _) in found.items():
         if number != TITLE and number not in sheet.names:
             words = f"the poll has no option {number}: its options are 1 to {sheet.default}, and 0 stands for the title"
-            raise bad_label(f"{file}:{place}", words)
+            raise bad_label(f"{file}:{place}", words, "put the number right")
     demand_unlike(file, found, sheet)
     texts = {number: text for number, (_, text) in found.items()}
     return Labels(texts.pop(TITLE, None), texts)
@@ -90,13 +91,20 @@ def demand_unlike(file: str | None, found: dict[int, tuple[int, str]], sheet: Sh
             continue
         form = alike(text)
         if IN_POLL in form:
-            raise bad_label(f"{file}:{place}", "it says what an option is called in the poll, and the page says that itself")
+            raise bad_label(
+                f"{file}:{place}",
+                "it says what an option is called in the poll, and the page says that itself",
+                "write another text",
+            )
         cure = "call each option by a text of its own"
         if form in names and form != alike(sheet.names[number]):
-            words = f"option {number} would be called as option {names[form]}, {sheet.names[names[form]]}, is in the poll"
-            raise bad_label(f"{file}:{place}", f"{words}; {cure}")
+            raise bad_label(
+                f"{file}:{place}",
+                f"option {number} would be called as option {names[form]}, {sheet.names[names[form]]}, is in the poll",
+                cure,
+            )
         if labelled.setdefault(form, number) != number:
-            raise bad_label(f"{file}:{place}", f"option {number} would be called as option {labelled[form]} is; {cure}")
+            raise bad_label(f"{file}:{place}", f"option {number} would be called as option {labelled[form]} is", cure)
 
 
 def alike(text: str) -> str:
@@ -112,5 +120,5 @@ def told(labels: Labels, sheet: Sheet) -> str:
     return "\n".join(["The page calls them so, each behind its name in the poll:", *title, *options, ""])
 
 
-def bad_label(where: str, words: str) -> Fault:
-    return Fault(f"{where}: {words}", Status.BAD_WORDS)
+def bad_label(where: str, reason: str, cure: str) -> Fault:
+    return Fault(where, reason, cure, Status.BAD_WORDS)

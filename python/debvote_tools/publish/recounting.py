@@ -26,5 +26,5 @@ def bytes_of(what: str, *places: pathlib.Path) -> bytes:
     """The bytes of the first of these files that is there."""
     file = next((place for place in places if place.is_file()), None)
     if file is None:
-        raise Fault(f"{places[0]}: {what} is not there; install the package debvote again", Status.NOT_FOUND)
+        raise Fault(places[0], f"{what} is not there", "install the package debvote again", Status.NOT_FOUND)
     return file.read_bytes()

@@ -57,8 +57,12 @@ def who_in(file: str) -> dict[str, str]:
     for member in members_in(pathlib.Path(file)).members:
         sign = odd_sign(member.who)
         if sign is not None:
-            words = f"the real name of {member.name or 'a member'} has the sign U+{ord(sign):04X}, which no name has; take it out"
-            raise Fault(f"{file}:{member.line}: {words}", Status.BAD_WORDS)
+            raise Fault(
+                f"{file}:{member.line}",
+                f"the real name of {member.name or 'a member'} has the sign U+{ord(sign):04X}, which no name has",
+                "take it out",
+                Status.BAD_WORDS,
+            )
         found[member.name] = member.who
     return found
 
@@ -70,7 +74,7 @@ def demand_all(file: str | None, who: Mapping[str, str], names: Sequence[str]) -
         more = f" and {len(missing) - SHOWN} more" if len(missing) > SHOWN else ""
         told = f"{', '.join(missing[:SHOWN])}{more} of the roll {'has' if len(missing) == 1 else 'have'} no row there"
         cure = "give the list of members of this vote with --who, or leave --who out"
-        raise Fault(f"{file}: {told}; nothing was published: {cure}", Status.DOUBT)
+        raise Fault(file, told, cure, Status.DOUBT, "nothing was published")
 
 
 # ---------------------------------------------------------------- the part

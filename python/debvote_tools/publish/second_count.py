@@ -27,9 +27,12 @@ def demand_same(folder: pathlib.Path, casting: list[str], sheet: str, standing: 
         found, faults = (data.decode("utf-8", "replace") for data in answers[task])
         if found != wanted:
             said = f"it says `{faults.strip()}`" if faults else difference(found, wanted)
-            words = f"{NAME}, the second count, does not find the same as debvote with its `{task}`: {said}; nothing was published"
             raise Fault(
-                f"{words}: write the poll as TOML 1.0, or, if it is so, keep all files and tell the maintainers", Status.DOUBT
+                f"{NAME}, the second count, does not find the same as debvote with its `{task}`",
+                said,
+                "write the poll as TOML 1.0, or, if it is so, keep all files and tell the maintainers",
+                Status.DOUBT,
+                "nothing was published",
             )
 
 

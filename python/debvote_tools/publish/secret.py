@@ -22,6 +22,9 @@ from debvote_tools.publish.roll import VOTERS
 from debvote_tools.secret_words import ALIAS, BY_OPENSSL, BY_PYTHON, FIND, REMAINS
 from debvote_tools.sheet import Sheet
 
+# the cure where two counts of the same votes differ
+KEEP_FILES = "keep all files, and tell the maintainers"
+
 SCRIPT = pathlib.Path(__file__).with_name("find.js")
 
 STYLE = """
@@ -95,16 +98,19 @@ def demand_open(poll: str, ballots: str) -> None:
         folder = secret_folder_of(place)
         if folder is not None:
             codes = folder / secret.PRIVATE / secret.CODES
-            words = "the vote in this folder is secret, and this would publish each name with its vote"
-            raise Fault(f"{poll}: {words}; publish it with --secret {codes}", Status.DOUBT)
+            raise Fault(
+                poll,
+                "the vote in this folder is secret, and this would publish each name with its vote",
+                f"publish it with --secret {codes}",
+                Status.DOUBT,
+            )
 
 
 def demand_unmarked(file: str, poll: bytes) -> None:
     """Stops where the poll says that the vote is secret. A copy of it lies elsewhere than its election."""
     if secret.says_secret(poll) and not secret.has_aliases(poll):
-        words = "it says that the vote is secret, and this would publish each name with its vote"
         cure = "publish it with --secret CODES, by the file private/codes.csv of its election"
-        raise Fault(f"{file}: {words}; {cure}", Status.DOUBT)
+        raise Fault(file, "it says that the vote is secret, and this would publish each name with its vote", cure, Status.DOUBT)
 
 
 def secret_folder_of(place: pathlib.Path) -> pathlib.Path | None:
@@ -145,7 +151,8 @@ def hidden_of(codes: pathlib.Path, poll: bytes, standing: dict[str, str]) -> Hid
 def demand_same(private: str, published: str) -> None:
     """Stops where the sheet under aliases is not the one of the private files: from the line `Voters:` on, and in its head."""
     if from_voters(private) != from_voters(published) or head_of(private) != head_of(published):
-        raise Fault("the sheet under aliases is not that of the votes as they came; nothing was published", Status.DOUBT)
+        words = "the sheet under aliases is not that of the votes as they came"
+        raise Fault(None, words, KEEP_FILES, Status.DOUBT, "nothing was published")
 
 
 def from_voters(sheet: str) -> str:
@@ -162,7 +169,8 @@ def head_of(sheet: str) -> list[str]:
 def demand_all_count(published: Sheet) -> None:
     """Stops where a line of the published ballots would not count, or counts no more."""
     if published.last_envelope is not None or not published.lines == published.valid == published.voters:
-        raise Fault("not each of the ballots under aliases would count, once; nothing was published", Status.DOUBT)
+        words = "not each of the ballots under aliases would count, once"
+        raise Fault(None, words, KEEP_FILES, Status.DOUBT, "nothing was published")
 
 
 def demand_no_code(folder: pathlib.Path, codes: pathlib.Path) -> None:
@@ -170,8 +178,8 @@ def demand_no_code(folder: pathlib.Path, codes: pathlib.Path) -> None:
     known = {holder.code.encode() for holder in secret.holders_in(codes)}
     for file in sorted(folder.iterdir()):
         if known & set(re.findall(rb"(?<![0-9a-f])[0-9a-f]{32}(?![0-9a-f])", file.read_bytes())):
-            words = f"{file.name} would have the code of an elector in it; nothing was published"
-            raise Fault(f"{words}: look at what you gave with --about and --labels", Status.DOUBT)
+            words = f"{file.name} would have the code of an elector in it"
+            raise Fault(None, words, "look at what you gave with --about and --labels", Status.DOUBT, "nothing was published")
 
 
 # ---------------------------------------------------------------- what the page says

@@ -24,21 +24,24 @@ def text_in(file: str, what: str) -> str:
     try:
         data = read_at_most(file, LIMIT)
     except OSError as error:
-        raise bad_text(file, f"{error.strerror}; give a file that you may read with --{what}") from None
+        raise bad_text(file, error.strerror, f"give a file that you may read with --{what}") from None
     if len(data) > LIMIT:
-        raise bad_text(file, f"it is longer than {LIMIT} bytes; shorten it")
+        raise bad_text(file, f"it is longer than {LIMIT} bytes", "shorten it")
     try:
         text = data.decode("utf-8").removeprefix("\ufeff")
     except UnicodeDecodeError as error:
         line = data.count(b"\n", 0, error.start) + 1
-        raise bad_text(f"{file}:{line}", "it is not in UTF-8; save it as plain text in UTF-8") from None
+        raise bad_text(f"{file}:{line}", "it is not in UTF-8", "save it as plain text in UTF-8") from None
     text = text.replace("\r\n", "\n")
     sign = odd_sign(text)
     if sign is not None:
-        words = f"it has the sign U+{ord(sign):04X}, which no plain text has; take it out"
-        raise bad_text(f"{file}:{line_at(text, text.index(sign))}", words)
+        raise bad_text(
+            f"{file}:{line_at(text, text.index(sign))}",
+            f"it has the sign U+{ord(sign):04X}, which no plain text has",
+            "take it out",
+        )
     if not text.strip():
-        raise bad_text(file, f"it is empty; write it, or leave --{what} out")
+        raise bad_text(file, "it is empty", f"write it, or leave --{what} out")
     return text
 
 
@@ -46,11 +49,11 @@ def reason_in(text: str) -> str:
     """The reason that is given with --because, on the command line."""
     sign = odd_sign(text)
     if sign is not None:
-        raise bad_text("--because", f"the text has the sign U+{ord(sign):04X}, which no plain text has; take it out")
+        raise bad_text("--because", f"the text has the sign U+{ord(sign):04X}, which no plain text has", "take it out")
     if not text.strip():
-        raise bad_text("--because", "the text is empty; write it, or leave --because out")
+        raise bad_text("--because", "the text is empty", "write it, or leave --because out")
     if len(text) > LONGEST_REASON:
-        raise bad_text("--because", f"the text has {len(text)} characters, {LONGEST_REASON} are the most; shorten it")
+        raise bad_text("--because", f"the text has {len(text)} characters, {LONGEST_REASON} are the most", "shorten it")
     return text
 
 
@@ -69,5 +72,5 @@ def line_at(text: str, place: int) -> int:
     return text.count("\n", 0, place) + 1
 
 
-def bad_text(where: str, words: str) -> Fault:
-    return Fault(f"{where}: {words}", Status.BAD_WORDS)
+def bad_text(where: str, reason: str, cure: str) -> Fault:
+    return Fault(where, reason, cure, Status.BAD_WORDS)

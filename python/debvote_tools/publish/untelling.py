@@ -32,8 +32,13 @@ def demand_no_private_file(file: str, election: pathlib.Path | None) -> None:
     home = election.resolve()
     is_private = any((home / name).exists() and given.samefile(home / name) for name in FILES)
     if is_private or any(home / name in given.parents for name in FOLDERS):
-        words = "it is a file of the election that nobody else may see; nothing was published"
-        raise Fault(f"{file}: {words}: give the text that you wrote for the page", Status.DOUBT)
+        raise Fault(
+            file,
+            "it is a file of the election that nobody else may see",
+            "give the text that you wrote for the page",
+            Status.DOUBT,
+            "nothing was published",
+        )
 
 
 def demand_untelling(file: str, text: str, holders: list[Holder], options: list[str], sums: set[str]) -> None:
@@ -50,7 +55,7 @@ def demand_untelling(file: str, text: str, holders: list[Holder], options: list[
     elif sums.intersection(SIXTY_FOUR.findall(lower)):
         found = "the sum of a private file, by which one can try guesses of who voted what"
     if found is not None:
-        raise Fault(f"{file}: it has {found}; nothing was published: take it out", Status.DOUBT)
+        raise Fault(file, f"it has {found}", "take it out", Status.DOUBT, "nothing was published")
 
 
 def ballot_with_name(holders: list[Holder], options: list[str]) -> re.Pattern[str]:

@@ -103,11 +103,11 @@ def table_of(asked: Asked) -> Table | None:
     """The heads of the columns, where the files are tables. Stops where the words do not go together."""
     if not asked.csv:
         if asked.name is not None or asked.ranks is not None:
-            raise Fault("--name, --ranks: they name columns of a table; write --csv with them", Status.BAD_WORDS)
+            raise Fault("--name, --ranks", "they name columns of a table", "write --csv with them", Status.BAD_WORDS)
         return None
     if asked.name is None or asked.ranks is None:
-        words = "--csv: it takes --name COLUMN and --ranks COLUMN,COLUMN,.. with it, one column a rank"
-        raise Fault(words, Status.BAD_WORDS)
+        words = "it takes --name COLUMN and --ranks COLUMN,COLUMN,.. with it, one column a rank"
+        raise Fault("--csv", words, "write both", Status.BAD_WORDS)
     check_quotes(asked.files, asked.ranks)
     return Table(asked.name, asked.ranks)
 
@@ -118,7 +118,7 @@ def check_quotes(files: list[str], ranks: str) -> None:
     if ranks.rstrip().endswith(",") or gone:
         found = f"there is no file {gone[0]}" if gone else f"the list ends with a comma: {ranks}"
         cure = "type the name of the file, and the heads between single quotes where a space is in them, as --ranks 'First, Second'"
-        raise Fault(f"--csv: {found}; nothing was added: {cure}", Status.BAD_WORDS)
+        raise Fault("--csv", found, cure, Status.BAD_WORDS, "nothing was added")
 
 
 # ---------------------------------------------------------------- what came
@@ -126,15 +126,16 @@ def read(name: str) -> Input:
     """Reads a file whole."""
     if name == STANDARD_INPUT:
         if sys.stdin is None:
-            raise Fault("standard input: it is closed; nothing was added: name a file", Status.BAD_BALLOTS)
+            raise Fault("standard input", "it is closed", "name a file", Status.BAD_BALLOTS, "nothing was added")
         if sys.stdin.isatty():
             tell("Type the ballots, a line each; Ctrl-D on an empty line ends them.")
         return Input("standard input", "standard-input", sys.stdin.buffer.read(BALLOTS_LIMIT + 1))
     try:
         data = read_at_most(name, BALLOTS_LIMIT)
     except OSError as error:
-        words = f"{error.strerror}; nothing was added: name a file of ballots that you may read"
-        raise Fault(f"{name}: {words}", Status.BAD_BALLOTS) from None
+        raise Fault(
+            name, error.strerror, "name a file of ballots that you may read", Status.BAD_BALLOTS, "nothing was added"
+        ) from None
     # a number comes before it, and a name of a file has 255 bytes at most
     kept_as = os.fsencode(pathlib.Path(name).name)[:150].decode("utf-8", "ignore") or "file"
     return Input(name, kept_as, data)
@@ -143,23 +144,34 @@ def read(name: str) -> Input:
 def check_kind(election: Election, source: Input, *, is_form: bool) -> None:
     """Stops at what is no file of ballots."""
     if not source.data:
-        raise Fault(f"{source.name}: it is empty; nothing was added: write a ballot a line into it", Status.DOUBT)
+        raise Fault(source.name, "it is empty", "write a ballot a line into it", Status.DOUBT, "nothing was added")
     if len(source.data) > BALLOTS_LIMIT:
-        words = f"it is longer than {BALLOTS_LIMIT} bytes, which debvote takes at most; nothing was added: add it in parts"
-        raise Fault(f"{source.name}: {words}", Status.BAD_BALLOTS)
+        raise Fault(
+            source.name,
+            f"it is longer than {BALLOTS_LIMIT} bytes, which debvote takes at most",
+            "add it in parts",
+            Status.BAD_BALLOTS,
+            "nothing was added",
+        )
     if source.name != "standard input" and election.ballots.exists() and os.path.samefile(source.name, election.ballots):
-        words = "these are the ballots of this election, which are there already; nothing was added"
-        raise Fault(f"{source.name}: {words}: name a file that has come", Status.DOUBT)
+        raise Fault(
+            source.name,
+            "these are the ballots of this election, which are there already",
+            "name a file that has come",
+            Status.DOUBT,
+            "nothing was added",
+        )
     found = kind_of(source.data)
     kind = None if found is None else found.value
     if not is_form and source.data.startswith(UTF_16):
         kind = "a text in UTF-16"
     if kind is not None:
         cure = "save it as CSV" if is_form else "save it as plain text in UTF-8"
-        raise Fault(f"{source.name}: it is {kind}; nothing was added: {cure}", Status.BAD_BALLOTS)
+        raise Fault(source.name, f"it is {kind}", cure, Status.BAD_BALLOTS, "nothing was added")
     if is_poll(election, source.data):
-        words = "it reads as a poll, and not as ballots; nothing was added: name the file of the ballots"
-        raise Fault(f"{source.name}: {words}", Status.DOUBT)
+        raise Fault(
+            source.name, "it reads as a poll, and not as ballots", "name the file of the ballots", Status.DOUBT, "nothing was added"
+        )
 
 
 def is_poll(election: Election, data: bytes) -> bool:
@@ -190,7 +202,7 @@ def lines_of(election: Election, files: Files, inputs: list[Input], table: Table
     for source, lines in zip(inputs, found):
         if all(line.is_empty for line in lines):
             what = "it has no row of a ballot" if table is not None else "it has empty lines alone"
-            raise Fault(f"{source.name}: {what}; nothing was added: write a ballot a line into it", Status.DOUBT)
+            raise Fault(source.name, what, "write a ballot a line into it", Status.DOUBT, "nothing was added")
     return found
 
 

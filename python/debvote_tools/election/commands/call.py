@@ -50,7 +50,7 @@ def run(election: Election, words: argparse.Namespace) -> int:
     asked, said = taken(Asked, words), taken(announcing.Asked, words)
     if asked.take_back:
         if asked.no_roll or any(word is not None for word in dataclasses.astuple(said)):
-            raise Fault("--take-back: it stands alone; first take the call back, then call anew", Status.BAD_WORDS)
+            raise Fault("--take-back", "it stands alone", "first take the call back, then call anew", Status.BAD_WORDS)
         return taking_back.take_back(election)
     return call(election, announcing.wanted_of(said), no_roll=asked.no_roll)
 
@@ -92,17 +92,17 @@ def demand_own(election: Election) -> None:
     if not os.path.lexists(folder):
         return
     if folder.is_symlink() or not folder.is_dir():
-        raise foreign(f"{folder}: it is no folder", "move it away")
+        raise foreign(folder, "it is no folder", "move it away")
     sums = sums_in(folder / SUMS)
     for file in sorted(folder.iterdir()):
         if file.name not in NAMES or not stat.S_ISREG(file.lstat().st_mode):
-            raise foreign(f"{file}: this command did not make it", f"move it out of {folder}")
+            raise foreign(file, "this command did not make it", f"move it out of {folder}")
         if file.name != SUMS and sums.get(file.name) != sum_of(file.read_bytes()):
-            raise foreign(f"{file}: it is not as this command made it", f"move the folder {folder} away if you want to keep it")
+            raise foreign(file, "it is not as this command made it", f"move the folder {folder} away if you want to keep it")
 
 
-def foreign(what: str, cure: str) -> Fault:
-    return Fault(f"{what}; nothing was changed: {cure}, then call again", Status.DOUBT)
+def foreign(file: pathlib.Path, what: str, cure: str) -> Fault:
+    return Fault(file, what, f"{cure}, then call again", Status.DOUBT, "nothing was changed")
 
 
 def sums_in(file: pathlib.Path) -> dict[str, str]:
@@ -128,7 +128,7 @@ def demand_covered(election: Election, poll: bytes) -> None:
     has_line = len(bare) < len(poll)
     if has_line and sheet_without_last(election, poll) != sheet_without_last(election, bare):
         words = "a line begins with last_envelope and is more than that; the sum of the call would leave it out"
-        raise Fault(f"{election.poll}: {words}; write it in another way, then call again", Status.DOUBT)
+        raise Fault(election.poll, words, "write it in another way, then call again", Status.DOUBT)
 
 
 def demand_unvoted(election: Election, files: Files) -> None:
@@ -138,8 +138,9 @@ def demand_unvoted(election: Election, files: Files) -> None:
         return
     before, now = map(poll_file.as_announced, (election.called_poll.read_bytes(), files.poll))
     if before != now:
-        words = f"it is another poll than the one that was called: {called.difference(before, now)}; {given}"
-        raise Fault(f"{election.poll}: {words}", Status.DOUBT)
+        raise Fault(
+            election.poll, f"it is another poll than the one that was called: {called.difference(before, now)}", given, Status.DOUBT
+        )
 
 
 def sheet_without_last(election: Election, poll: bytes) -> list[str]:
@@ -176,18 +177,32 @@ def public_poll(election: Election, files: Files, poll: bytes) -> bytes:
     """
     if not election.is_secret():
         if secret.says_secret(poll):
-            words = "it says that the vote is secret, and no codes were made in this folder; nothing was changed"
             cure = f"for a secret vote run {command(election, 'codes')}, for an open one take the line out; then call again"
-            raise Fault(f"{election.poll}: {words}: {cure}", Status.DOUBT)
+            raise Fault(
+                election.poll,
+                "it says that the vote is secret, and no codes were made in this folder",
+                cure,
+                Status.DOUBT,
+                "nothing was changed",
+            )
         return poll
     demand_own_folder(election)
     if not secret.says_secret(files.poll):
-        words = "the vote is secret, and the line is gone by which a copy of this poll is known to be so; nothing was changed"
-        raise Fault(f"{election.poll}: {words}: run {command(election, 'codes')}, which writes it, then call again", Status.DOUBT)
+        raise Fault(
+            election.poll,
+            "the vote is secret, and the line is gone by which a copy of this poll is known to be so",
+            f"run {command(election, 'codes')}, which writes it, then call again",
+            Status.DOUBT,
+            "nothing was changed",
+        )
     hidden = secret.poll_of(poll, aliases_now(election, poll))
     if sheet_without_last(election, hidden) != sheet_without_last(election, poll):
-        words = "debvote reads the poll under aliases otherwise than this one; write it in a simpler way, then call again"
-        raise Fault(f"{election.poll}: {words}", Status.DOUBT)
+        raise Fault(
+            election.poll,
+            "debvote reads the poll under aliases otherwise than this one",
+            "write it in a simpler way, then call again",
+            Status.DOUBT,
+        )
     return hidden
 
 

@@ -83,9 +83,14 @@ def demand_over(election: Election, files: Files, *, early: bool) -> None:
     if early:
         tell(f"Note: one can vote until {in_words(until)}, and it is {there}; the page of the result will tell it.")
         return
-    words = f"one can vote until {in_words(until)}, and by the clock of this computer it is {there}; nothing was changed"
     how = f"{command(election, 'close', '--early')}, which the page of the result tells"
-    raise Fault(f"{election.poll}: {words}: close when that time is over, or now with {how}", Status.DOUBT)
+    raise Fault(
+        election.poll,
+        f"one can vote until {in_words(until)}, and by the clock of this computer it is {there}",
+        f"close when that time is over, or now with {how}",
+        Status.DOUBT,
+        "nothing was changed",
+    )
 
 
 # ---------------------------------------------------------------- where there is a last envelope already
@@ -97,9 +102,13 @@ def say_again(election: Election, files: Files, sheet: Sheet, before: Entry) -> 
     number, now = closed.number_of(before) or 0, sheet.last_envelope
     if now != number:
         there = "that line is gone" if now is None else f"`last_envelope = {now}` stands there"
-        words = f"the close at {time_of(before)} wrote `last_envelope = {number}` into it, and now {there}"
         cure = "find out who changed it, and put the line of the close back, above every line that begins with ["
-        raise Fault(f"{election.poll}: {words}; {cure}", Status.DOUBT)
+        raise Fault(
+            election.poll,
+            f"the close at {time_of(before)} wrote `last_envelope = {number}` into it, and now {there}",
+            cure,
+            Status.DOUBT,
+        )
     tell(f"The election was closed at {time_of(before)}; the last envelope in time is {number}. Nothing was changed.")
     if not election.is_secret() and not election.closing_letter.exists() and files.sums.poll == before.sums.poll:
         closing_letter.write(election, files, before, sheet.title)
@@ -116,9 +125,8 @@ def stop_at_a_last_envelope(election: Election, files: Files, sheet: Sheet) -> N
     if sheet.last_envelope is not None:
         found = re.search(rb"(?m)^[^#\n]*last_envelope[^\n]*", files.poll)
         line = found[0].decode("utf-8", "backslashreplace").strip() if found else f"last_envelope = {sheet.last_envelope}"
-        words = f"`{line}` stands there, and no close has written it; nothing was changed"
         cure = f"take the line out with an editor and run again: {command(election, 'close')}"
-        raise Fault(f"{election.poll}: {words}: {cure}", Status.DOUBT)
+        raise Fault(election.poll, f"`{line}` stands there, and no close has written it", cure, Status.DOUBT, "nothing was changed")
 
 
 # ---------------------------------------------------------------- the close
@@ -141,8 +149,13 @@ def closed_poll(election: Election, files: Files, number: int) -> bytes:
     sheet = None if is_refused else sheet_of_all(election, Files(poll, files.ballots))
     is_same = poll_file.as_announced(poll) == poll_file.as_announced(files.poll)
     if sheet is None or sheet.last_envelope != number or sheet.lines != number or not is_same:
-        words = f"debvote does not read `last_envelope = {number}` where it would be written; nothing was changed"
-        raise Fault(f"{election.poll}: {words}: ask {command(election, 'check')}", Status.BAD_POLL)
+        raise Fault(
+            election.poll,
+            f"debvote does not read `last_envelope = {number}` where it would be written",
+            f"ask {command(election, 'check')}",
+            Status.BAD_POLL,
+            "nothing was changed",
+        )
     return poll
 
 

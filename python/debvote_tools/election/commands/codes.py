@@ -62,9 +62,13 @@ def demand_uncalled(election: Election) -> None:
     """Stops where the call for votes was made without codes: it says that all see who voted what."""
     if not election.is_called() or election.called_aliases.exists():
         return
-    words = "it was made for an open vote, and says that ballots are published with names; codes come before the call"
     anew = f"where no ballot has come yet, run {command(election, 'call', '--take-back')} and {command(election, 'codes')}, and call again"
-    raise Fault(f"{election.call}: {words}: {anew}", Status.DOUBT)
+    raise Fault(
+        election.call,
+        "it was made for an open vote, and says that ballots are published with names",
+        f"codes come before the call: {anew}",
+        Status.DOUBT,
+    )
 
 
 def holders_before(election: Election) -> list[Holder]:
@@ -73,9 +77,9 @@ def holders_before(election: Election) -> list[Holder]:
         return secret.holders_in(election.codes)
     before = journal.last(election.entries(), secret.ACT)
     if before is not None:
-        words = f"codes were made at {time_of(before)}, and the file is not there; put it back"
+        words = f"codes were made at {time_of(before)}, and the file is not there"
         lost = "where it is lost, and no ballot has come yet, hold the election in a new folder, and give each elector a new slip"
-        raise Fault(f"{election.codes}: {words}; {lost}", Status.DOUBT)
+        raise Fault(election.codes, words, f"put it back; {lost}", Status.DOUBT)
     return []
 
 
@@ -152,7 +156,7 @@ def people_of(election: Election, roll: list[str]) -> dict[str, Member]:
         words = f"{astray or 'somebody without a name'} is on this list, and not on the roll of the poll"
     if astray is None:
         return people
-    raise Fault(f"{election.members}: {words}; run {command(election, 'roll')} first", Status.DOUBT)
+    raise Fault(election.members, words, f"run {command(election, 'roll')} first", Status.DOUBT)
 
 
 def demand_no_formula(election: Election, members: list[Member]) -> None:
@@ -161,8 +165,12 @@ def demand_no_formula(election: Election, members: list[Member]) -> None:
         for said in (member.who, member.mail):
             # a spreadsheet may part a cell at each of these
             if any(FORMULA.match(part) for part in re.split("[,;\t|]", said)):
-                words = f"a spreadsheet would take `{shown(said.encode())}` for a formula, which can send codes away"
-                raise Fault(f"{election.members}:{member.line}: {words}; write it in another way", Status.DOUBT)
+                raise Fault(
+                    f"{election.members}:{member.line}",
+                    f"a spreadsheet would take `{shown(said.encode())}` for a formula, which can send codes away",
+                    "write it in another way",
+                    Status.DOUBT,
+                )
 
 
 # ---------------------------------------------------------------- what is written

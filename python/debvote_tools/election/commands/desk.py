@@ -102,9 +102,12 @@ class Desk:
                 size = moved(source, self.handle, place)
                 os.fsync(self.handle)
             except OSError as error:
-                words = f"{error.strerror}; from line {self.next_line} on, nothing that came at this desk was cast"
                 raise Fault(
-                    f"{self.received}: {words}: make room, then send it again from that line on", Status.BAD_OUTPUT
+                    self.received,
+                    error.strerror,
+                    "make room, then send it again from that line on",
+                    Status.BAD_OUTPUT,
+                    f"from line {self.next_line} on, nothing that came at this desk was cast",
                 ) from None
             return os.pread(self.handle, size, place)
 
@@ -120,7 +123,7 @@ def options(parser: argparse.ArgumentParser) -> None:
 
 def run(election: Election, asked: argparse.Namespace) -> int:
     if sys.stdin is None:
-        raise Fault("standard input: it is closed; nothing was cast: run it at a terminal", Status.BAD_BALLOTS)
+        raise Fault("standard input", "it is closed", "run it at a terminal", Status.BAD_BALLOTS, "nothing was cast")
     desk = Desk(election)
     with election.reading() as files:
         demand_own_folder(election)

@@ -72,7 +72,7 @@ def options(parser: argparse.ArgumentParser) -> None:
 def run(election: Election, words: argparse.Namespace) -> int:
     asked = taken(Asked, words)
     if hasattr(words, "folder"):
-        raise Fault("--folder: new makes the folder that stands behind it; leave --folder out", Status.BAD_WORDS)
+        raise Fault("--folder", "new makes the folder that stands behind it", "leave --folder out", Status.BAD_WORDS)
     with uninterrupted():
         say(made_in(pathlib.Path(asked.target), election.beside))
     return Status.DECIDED
@@ -107,11 +107,11 @@ def make(folder: pathlib.Path) -> bool:
             return False
         is_election = (folder / "poll.toml").exists()
         what = "an election already" if is_election else "not empty" if folder.is_dir() else "no folder"
-        words = f"it is there, and it is {what}; nothing was changed: choose another name"
-        raise Fault(f"{folder}: {words}", Status.BAD_WORDS) from None
+        raise Fault(
+            folder, f"it is there, and it is {what}", "choose another name", Status.BAD_WORDS, "nothing was changed"
+        ) from None
     except OSError as error:
-        words = f"{error.strerror}; choose a place that is there and where you may write"
-        raise Fault(f"{folder}: {words}", Status.BAD_WORDS) from None
+        raise Fault(folder, error.strerror, "choose a place that is there and where you may write", Status.BAD_WORDS) from None
 
 
 def fill(made: Election) -> None:

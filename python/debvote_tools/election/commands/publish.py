@@ -84,16 +84,18 @@ def demand_secrecy(election: Election, asked: Asked) -> None:
     """Stops where a secret vote would be published openly, or where an open one has no codes."""
     is_secret = election.is_secret()
     if is_secret and not asked.secret:
-        words = "the vote is secret, and this would publish each name with its vote; publish it under aliases"
+        words = "the vote is secret, and this would publish each name with its vote"
         named = [asked.target] if asked.target else []
-        raise Fault(f"{election.codes}: {words}: {command(election, *asked.again(is_secret=is_secret), *named)}", Status.DOUBT)
+        cure = f"publish it under aliases: {command(election, *asked.again(is_secret=is_secret), *named)}"
+        raise Fault(election.codes, words, cure, Status.DOUBT)
     if asked.secret and not is_secret:
         words = "no codes were made for this vote, and they come before the call"
-        raise Fault(f"{election.codes}: {words}: {command(election, 'codes')}", Status.DOUBT)
+        raise Fault(election.codes, words, command(election, "codes"), Status.DOUBT, "")
     if asked.secret:
         demand_own_folder(election)
     if asked.voters and not asked.secret:
-        raise Fault("--voters: it goes with --secret; in an open vote the page has who voted what", Status.BAD_WORDS)
+        words = "it goes with --secret; in an open vote the page has who voted what"
+        raise Fault("--voters", words, "leave it out", Status.BAD_WORDS)
 
 
 def publication(election: Election, files: Files, asked: Asked, target: pathlib.Path) -> publish.Asked:
@@ -120,16 +122,15 @@ def demand_free(election: Election, asked: Asked, target: pathlib.Path) -> None:
     if not os.path.lexists(target) or (target.is_dir() and not any(target.iterdir())):
         return
     free = free_name(target)
-    words = "it is there already, and stays as it is; publish into another folder: "
-    words += command(election, *asked.again(is_secret=asked.secret), str(free))
-    raise Fault(f"{target}: {words}", Status.BAD_WORDS)
+    cure = f"publish into another folder: {command(election, *asked.again(is_secret=asked.secret), str(free))}"
+    raise Fault(target, "it is there already, and stays as it is", cure, Status.BAD_WORDS)
 
 
 def demand_ballots(election: Election, files: Files, asked: Asked) -> None:
     """Stops where there is no ballot file, of which debvote-publish could say no more than that it is not there."""
     if files.ballots is None and not asked.even_so:
         cure = f"add them with {command(election, 'add', 'FILE')}, or publish without any with --even-so"
-        raise Fault(f"{election.ballots}: there are no ballots; {cure}", Status.DOUBT)
+        raise Fault(election.ballots, "there are no ballots", cure, Status.DOUBT)
 
 
 def free_name(target: pathlib.Path) -> pathlib.Path:

@@ -78,7 +78,7 @@ def propose(election: Election, members: Members, *, has_all: bool) -> None:
         words = f"no name can be made for {who} from who or mail; write one into the column name"
     else:
         words = "names were proposed where there were none; open the file anew, look at its column name, and change what you want"
-    raise doubt(members.file, f"{words}, {AGAIN}; the roll of the poll is as it was")
+    raise doubt(members.file, f"{words}, {AGAIN}", "the roll of the poll is as it was")
 
 
 def tell_proposals(members: Members, names: dict[int, str], *, has_all: bool) -> None:
@@ -98,8 +98,11 @@ def stop_at_doubles(members: Members) -> None:
     for group in found:
         tell(f"{members.file}: {lines_of([member.line for member in group])} have the same name: {shown(group[0].name)}")
     if found:
-        words = "an elector's name stands there more than once; give each elector another one, or take a line out"
-        raise doubt(members.file, f"{words}, {AGAIN}; the roll of the poll is as it was")
+        raise doubt(
+            members.file,
+            "an elector's name stands there more than once",
+            f"give each elector another one, or take a line out, {AGAIN}; the roll of the poll is as it was",
+        )
 
 
 def demand_allowed(election: Election, members: Members, poll: bytes) -> None:
@@ -108,18 +111,21 @@ def demand_allowed(election: Election, members: Members, poll: bytes) -> None:
     findings = answer.text.splitlines()
     syntax = next((finding for finding in findings if re.match(r"poll:\d", finding)), None)
     if syntax is not None:
-        words = f"debvote can't read it ({syntax}); put this right with an editor"
-        raise Fault(f"{election.poll}: {words}, {AGAIN}", Status.BAD_POLL)
+        raise Fault(election.poll, f"debvote can't read it ({syntax})", f"put this right with an editor, {AGAIN}", Status.BAD_POLL)
     names = [found for found in map(re.compile(r"poll: voter at position (\d+): (.*)").fullmatch, findings) if found]
     for found in names:
         tell(f"{members.file}:{members.members[int(found[1])].line}: {found[2]}")
     if names:
-        words = "a roll does not allow these names: each has 1 to 32 small letters, digits, points and hyphens; put them right"
-        raise doubt(members.file, f"{words}, {AGAIN}; the roll of the poll is as it was")
+        raise doubt(
+            members.file,
+            "a roll does not allow these names: each has 1 to 32 small letters, digits, points and hyphens",
+            f"put them right, {AGAIN}; the roll of the poll is as it was",
+        )
     size = next((finding for finding in findings if finding.startswith("poll: size of roll: ")), None)
     if size is not None:
-        words = f"the roll would have {size.removeprefix('poll: size of roll: ')}"
-        raise doubt(members.file, f"{words}; the roll of the poll is as it was")
+        raise doubt(
+            members.file, f"the roll would have {size.removeprefix('poll: size of roll: ')}", "the roll of the poll is as it was"
+        )
 
 
 def tell_alike(members: Members, column: str, key: Callable[[Member], str]) -> None:
@@ -139,7 +145,7 @@ def demand_same_call(election: Election, files: Files, poll: bytes, members: Mem
         words = f"the call for votes was made with another roll than this list has: {roll_difference(files.poll, poll)}"
         anew = f"to call anew with this one, first take the call back: {command(election, 'call', '--take-back')}"
         cure = given_already(election, files, "the list") or f"put the list back as it was; {anew}"
-        raise Fault(f"{members.file}: {words}; {cure}", Status.DOUBT)
+        raise Fault(members.file, words, cure, Status.DOUBT)
 
 
 def roll_difference(before: bytes, after: bytes) -> str:
