@@ -183,7 +183,7 @@ class MadeTest(CallTest):
     def test_without_time_and_address(self) -> None:
         said = self.call()
         missing = 'until when one can vote (--until "YYYY-MM-DD HH:MM"), nor where ballots are sent (--to ADDRESS)'
-        how = "to say it, remove the folder call before anybody has seen it, and call again"
+        how = "to say it, take the call back before anybody has seen it (debvote-election call --take-back), and call again"
         self.assertIn(f"The call does not say {missing}; {how}.\n", said)
         page = self.read("call/index.html").decode()
         self.assertIn("until the time that the secretary announces", page)
@@ -378,9 +378,9 @@ class ChangedTest(CallTest):
             self.assertNotEqual(self.compared(), self.compared("call"))
 
     def test_a_line_of_a_longer_text_is_covered_by_the_sum(self) -> None:
+        self.take_back()
         self.write("poll.toml", POLL.replace('"At the lake"', '"""\\\nlast_envelope of the lake"""'))
-        shutil.rmtree(self.folder / "call")
-        self.assertEqual(self.election("call").status, 0)
+        self.call()
         self.write("poll.toml", POLL.replace('"At the lake"', '"""\\\nlast_envelope of the sea"""'))
         self.assert_fault(self.election("close"), 9, "was `last_envelope of the lake", "is `last_envelope of the sea")
 
