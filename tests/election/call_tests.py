@@ -378,9 +378,9 @@ class ChangedTest(CallTest):
             self.assertNotEqual(self.compared(), self.compared("call"))
 
     def test_a_line_of_a_longer_text_is_covered_by_the_sum(self) -> None:
-        self.take_back()
+        self.assertEqual(self.election("call", "--take-back").status, 0)
         self.write("poll.toml", POLL.replace('"At the lake"', '"""\\\nlast_envelope of the lake"""'))
-        self.call()
+        self.assertEqual(self.election("call").status, 0)
         self.write("poll.toml", POLL.replace('"At the lake"', '"""\\\nlast_envelope of the sea"""'))
         self.assert_fault(self.election("close"), 9, "was `last_envelope of the lake", "is `last_envelope of the sea")
 
