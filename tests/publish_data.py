@@ -29,7 +29,7 @@ import reference_checks
 
 ROOT = pathlib.Path(__file__).resolve().parent.parent
 PROGRAM = ROOT / "crates" / "debvote" / "out" / "debvote"
-PUBLISH = ROOT / "publish" / "debvote-publish"
+PUBLISH = ROOT / "bin" / "debvote-publish"
 
 POLLS = 200
 SECONDS = 300

@@ -23,7 +23,7 @@ import publish_slips
 
 ROOT = pathlib.Path(__file__).resolve().parent.parent
 PROGRAM = ROOT / "crates" / "debvote" / "out" / "debvote"
-PUBLISH = ROOT / "publish" / "debvote-publish"
+PUBLISH = ROOT / "bin" / "debvote-publish"
 PATH = os.pathsep.join([str(PROGRAM.parent), os.environ["PATH"]])
 EXAMPLES = ROOT / "examples"
 

@@ -7,7 +7,7 @@ poll gets after the call, and that the sum leaves out.
 import dataclasses
 import datetime
 
-from debvote_tools.election import poll_file
+from debvote_tools import poll_file
 from debvote_tools.faults import Fault, Status
 
 DEADLINE, WORDS, ADDRESS, SECRET, EXTENDED = "deadline", "deadline_words", "address", "secret", "extended_to"

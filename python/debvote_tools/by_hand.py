@@ -13,10 +13,10 @@ from collections.abc import Sequence
 
 from debvote_tools import journal
 from debvote_tools.closed import KEPT, beyond, lines_of, number_of
-from debvote_tools.election.lines import lines_in, shown
 from debvote_tools.faults import Doubt
 from debvote_tools.files import sum_of
 from debvote_tools.journal import Entry
+from debvote_tools.lines import lines_in, shown
 
 # what came, in the folder of the election
 RECEIVED = "received"
@@ -167,7 +167,9 @@ def doubts_about(changes: Changes, ballots: str) -> list[Doubt]:
     many = len(changes.missing)
     what = f"{many} {'line' if many == 1 else 'lines'} that came" if many else "the order of lines that came"
     was = "was" if many == 1 or not many else "were"
-    reason = f"{what} {was} changed or taken out by hand before the close" if many else f"{what} was changed by hand before the close"
+    reason = (
+        f"{what} {was} changed or taken out by hand before the close" if many else f"{what} was changed by hand before the close"
+    )
     cure = "look who did it, and why; what came is kept in received"
     said = f"{reason[0].upper()}{reason[1:]}."
     which = "; ".join(changes.lines())

@@ -8,9 +8,8 @@ import difflib
 import pathlib
 import re
 
-from debvote_tools import journal
+from debvote_tools import journal, poll_file
 from debvote_tools.announced import announced_in, in_words
-from debvote_tools.election import poll_file
 from debvote_tools.files import POLL_LIMIT, read_at_most, sum_of
 
 # the poll that was called, in the folder of the election

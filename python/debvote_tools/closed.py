@@ -9,16 +9,14 @@ import dataclasses
 import pathlib
 import re
 
-from debvote_tools.election.lines import shown
 from debvote_tools.faults import Doubt
 from debvote_tools.files import sum_of
 from debvote_tools.journal import NONE, Entry
+from debvote_tools.lines import shown
 from debvote_tools.sheet import Sheet
 
 # the ballots as they were closed, in the folder of the election
 KEPT = pathlib.Path("backup", "ballots.closed")
-
-LAST = "Last envelope"
 
 # so many lines of each kind are told, each with its text
 MOST = 3
@@ -36,8 +34,8 @@ class Counted:
     sheet: Sheet
 
     def lines_in_time(self) -> list[bytes]:
-        number = min(int(self.sheet.facts.get(name, self.sheet.facts["Lines"])) for name in ("Lines", LAST))
-        return lines_of(self.data)[:number]
+        last = self.sheet.last_envelope
+        return lines_of(self.data)[: self.sheet.lines if last is None else min(self.sheet.lines, last)]
 
 
 def number_of(close: Entry) -> int | None:
@@ -68,8 +66,8 @@ def changed_since(close: Entry, folder: pathlib.Path, counted: Counted) -> list[
 # ---------------------------------------------------------------- the last envelope
 def about_last_envelope(number: int, counted: Counted) -> list[Doubt]:
     """That the poll has another last envelope than that of the close, or none."""
-    now = counted.sheet.facts.get(LAST)
-    if now == str(number):
+    now = counted.sheet.last_envelope
+    if now == number:
         return []
     has = "has no last envelope now" if now is None else f"has last_envelope = {now} now"
     # who puts in a line that came in time and was forgotten raises the number

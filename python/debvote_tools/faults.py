@@ -1,10 +1,11 @@
 """How a run ends: the exit statuses, the fault that ends one, and the doubt at which one stops."""
 
 import dataclasses
+import enum
 
 
-class Status:
-    """The exit statuses: those of debvote, and that of a shell where there is no debvote."""
+class Status(enum.IntEnum):
+    """The exit statuses: those of debvote, and that of a shell where there is no debvote. No two have one number."""
 
     DECIDED = 0
     TIE = 1
@@ -13,8 +14,7 @@ class Status:
     BAD_BALLOTS = 4
     BAD_OUTPUT = 7
     CASTING_OUTSIDE = 8
-    DIFFERS = 9
-    # what debvote-election and debvote-publish stop at until a person has looked
+    # a sheet that is another one, lines that are refused, and what a run stops at until a person has looked
     DOUBT = 9
     BAD_SHEET = 10
     NOT_FOUND = 127

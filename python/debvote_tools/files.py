@@ -17,11 +17,18 @@ from debvote_tools.faults import Fault, Status
 # in bytes; one more is read of a longer file, so that debvote says that it is too long
 POLL_LIMIT, BALLOTS_LIMIT = 1_048_576, 33_554_432
 
+# in lines
+LINES_LIMIT = 100_000
+
 # where a process has its open files by their numbers
 OWN_FILES = "/proc/self/fd"
 
 # how each temporary begins, and no file of anybody else: an editor puts its own beside a file, as `.poll.toml.swp`
 TEMPORARY = ".debvote-"
+
+
+class Written(OSError):
+    """A file is written, and its name may not be on the disk yet."""
 
 
 def sum_of(data: bytes) -> str:
@@ -48,7 +55,7 @@ def write_whole(file: pathlib.Path, data: bytes, mode: int = 0o644) -> None:
     """Writes a file whole or not at all: a temporary beside it is brought to the disk, and takes its place.
 
     A file that was there keeps its mode; a new one gets this mode, less what the umask takes. Raises OSError, and then the file
-    is as it was, unless the error has `is_written`: then it is written, and its name may not be on the disk yet.
+    is as it was, unless the error is `Written`.
     """
     mode = file.stat().st_mode & 0o777 if file.exists() else mode & ~umask()
     handle, name = tempfile.mkstemp(prefix=TEMPORARY, dir=file.parent)
@@ -69,8 +76,7 @@ def write_whole(file: pathlib.Path, data: bytes, mode: int = 0o644) -> None:
         sync_folder(file.parent)
     except OSError as error:
         # the file is there, and may be gone after a power cut
-        error.filename, error.is_written = str(file), True
-        raise
+        raise Written(error.errno, error.strerror, str(file)) from None
 
 
 def take_away_temporaries(folder: pathlib.Path) -> None:

@@ -3,11 +3,10 @@
 import pathlib
 import re
 
-from debvote_tools import journal
+from debvote_tools import journal, poll_file
 from debvote_tools.by_hand import RECEIVED
 from debvote_tools.called import FOLDER, KEPT as CALLED, LETTER
 from debvote_tools.closed import KEPT as CLOSED
-from debvote_tools.election import poll_file
 
 # the act that is noted first in a journal which begins anew in the place of one that was lost
 ACT = "lost"

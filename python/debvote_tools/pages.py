@@ -87,9 +87,7 @@ PAGE = """<!DOCTYPE html>
 def page(head: str, heading: str, sections: str, *, style: str = STYLE, script: str = "") -> str:
     """A whole page. `head` is what the window is called. It loads nothing, and runs its own script alone, where it has one."""
     shown = f"<script>{script}</script>\n" if script else ""
-    return PAGE.format(
-        policy=policy_of(style, script), head=head, style=style, heading=heading, sections=sections, script=shown
-    )
+    return PAGE.format(policy=policy_of(style, script), head=head, style=style, heading=heading, sections=sections, script=shown)
 
 
 def policy_of(style: str, script: str) -> str:

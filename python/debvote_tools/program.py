@@ -66,18 +66,23 @@ class Debvote:
 
     def ask(self, *words: str | os.PathLike[str], given: bytes | None = None) -> Answer:
         """Runs debvote with these words, and with these bytes as its standard input."""
-        how = {"stdin": subprocess.DEVNULL} if given is None else {"input": given}
         if given is not None and not os.path.isdir(OWN_FILES):
             words_of = f"{OWN_FILES}: it is not there, and debvote is given its input by it; nothing was counted"
             raise Fault(f"{words_of}: have /proc mounted, then run the command again", Status.BAD_OUTPUT)
         try:
-            ended = subprocess.run([self.path, *map(os.fspath, words)], cwd=self.folder, capture_output=True, **how)
+            ended = self.run([self.path, *(os.fspath(word) for word in words)], given)
         except OSError as error:
             words_of = f"it can't be started ({error.strerror}); nothing was counted, and no file was changed by it"
             raise Fault(f"{self.path}: {words_of}: run the command again", Status.BAD_OUTPUT) from None
         status = ended.returncode if ended.returncode >= 0 else 128 - ended.returncode
         answer = Answer(ended.stdout.decode("ascii", "replace"), ended.stderr.decode("utf-8", "replace"), status)
         return without_announced(answer) if words[:1] == ("explain",) else answer
+
+    def run(self, words: list[str], given: bytes | None) -> subprocess.CompletedProcess[bytes]:
+        """Runs a program in the folder. Raises OSError where it can't be started."""
+        if given is None:
+            return subprocess.run(words, cwd=self.folder, capture_output=True, stdin=subprocess.DEVNULL)
+        return subprocess.run(words, cwd=self.folder, capture_output=True, input=given)
 
     def version(self) -> str:
         """The line of `--version`, as `debvote 1.0.0`."""

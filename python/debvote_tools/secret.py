@@ -16,9 +16,8 @@ import secrets
 import stat
 from collections.abc import Iterable
 
-from debvote_tools import called, journal
+from debvote_tools import called, journal, poll_file
 from debvote_tools.ballots import in_normal_form
-from debvote_tools.election import poll_file
 from debvote_tools.faults import Fault, Status
 
 # the folder of what is secret, in that of the election, and its files
@@ -116,7 +115,7 @@ def has_aliases(poll: bytes) -> bool:
 
 
 # ---------------------------------------------------------------- the file of codes
-def text_of(holders: list[Holder]) -> bytes:
+def table_of(holders: list[Holder]) -> bytes:
     """The file of codes."""
     text = io.StringIO()
     table = csv.writer(text, lineterminator="\n")
@@ -252,7 +251,7 @@ def demand_called(codes: pathlib.Path, poll: bytes, *, is_published: bool = Fals
     before = private_bytes(kept)
     if before == poll:
         return
-    then, now = (set(map(str, poll_file.document(data)["roll"])) for data in (before, poll))
+    then, now = (set(poll_file.roll_of(data)) for data in (before, poll))
     if then == now:
         raise Fault(f"{kept}: it is not the poll of this vote under aliases; find out who changed it", Status.DOUBT)
     who = [holder.name for holder in holders_in(codes) if holder.alias in now - then]

@@ -1,9 +1,7 @@
 """How an elector checks in a secret vote, and what a secret vote cannot hide: the page, the slips and the call say the same."""
 
 # what an elector types to find their alias; the first asks for both, so that no history of commands keeps the code
-BY_PYTHON = (
-    "python3 -I -c \"import hmac; print(hmac.new(input('Code: ').replace(' ', '').encode(), input('Name: ').encode(), 'sha256').hexdigest()[:32])\""
-)
+BY_PYTHON = "python3 -I -c \"import hmac; print(hmac.new(input('Code: ').replace(' ', '').encode(), input('Name: ').encode(), 'sha256').hexdigest()[:32])\""
 BY_OPENSSL = "printf %s NAME | openssl dgst -sha256 -hmac CODE -r | cut -c1-32"
 
 # the part of the page of the result where an elector types name and code

@@ -1,48 +1,54 @@
-"""A result sheet, read by its format."""
+"""A result sheet, read by its format into numbers."""
 
 import dataclasses
 import re
 
 from debvote_tools.faults import Fault, Status
 
+Pair = tuple[int, int]
 
-@dataclasses.dataclass
+OPTION = re.compile(r" *(\d+) (?:ratio (\d+)|default) (.*)")
+QUORUM = re.compile(r"(\d+)Q, (\d+) votes")
+DEFEAT = re.compile(r"(\d+) over (\d+)")
+
+
+@dataclasses.dataclass(frozen=True)
 class Round:
     """A round: the options of its set, and the defeats that it removes."""
 
     options: list[int]
-    removed: list[tuple[int, int]]
+    removed: list[Pair]
 
 
+@dataclasses.dataclass(frozen=True)
 class Sheet:
     """A result sheet. Options are numbered from 1, and the last is the default option."""
 
-    def __init__(self, text: str) -> None:
-        lines = text.removesuffix("\n").split("\n")
-        # the first line is the title's, which may be any of these words
-        places = [lines.index(head, 1) for head in ("Options:", "Votes:", "Dropped:", "Defeats:")]
-        end = next(place for place in range(places[3], len(lines)) if lines[place].startswith("Round "))
-        self.facts: dict[str, str] = dict(line.split(": ", 1) for line in lines[: places[0]])
-        self.names: dict[int, str] = {}
-        self.ratios: dict[int, str] = {}
-        for line in lines[places[0] + 1 : places[1]]:
-            option, ratio, name = re.fullmatch(r" *(\d+) (?:ratio (\d+)|default) (.*)", line).groups()
-            self.names[int(option)] = name
-            if ratio is not None:
-                self.ratios[int(option)] = ratio
-        self.default = len(self.names)
-        rows = [line.split() for line in lines[places[1] + 2 : places[2]]]
-        self.votes = {(int(row[0]), b): cell for row in rows for b, cell in enumerate(row[1:], start=1)}
-        causes = [line.split() for line in lines[places[2] + 1 : places[3]] if line != "  none"]
-        self.dropped = {int(option): cause for option, cause in causes}
-        self.defeats = [pair_in(line) for line in lines[places[3] + 1 : end] if line != "  none"]
-        self.rounds: list[Round] = []
-        for line in lines[end:-1]:
-            if line.startswith("Round "):
-                self.rounds.append(Round([int(option) for option in line.split(": ")[1].split()], []))
-            else:
-                self.rounds[-1].removed.append(pair_in(line))
-        self.last_line = lines[-1]
+    title: str
+    electors: int
+    # how many times Q the quorum is, and how many votes that is
+    quorum_multiple: int
+    quorum: int
+    # whether a majority is more than the ratio, where Debian has at least the ratio
+    is_more_than: bool
+    lines: int
+    last_envelope: int | None
+    valid: int
+    refused: int
+    voters: int
+    names: dict[int, str]
+    # all options have one but the default option
+    ratios: dict[int, int]
+    # how many electors prefer the first of two options to the second
+    votes: dict[Pair, int]
+    dropped: dict[int, str]
+    defeats: list[Pair]
+    rounds: list[Round]
+    last_line: str
+
+    @property
+    def default(self) -> int:
+        return len(self.names)
 
     def winner(self) -> tuple[int, bool] | None:
         """The option that wins, and whether by the casting vote; none where it is a tie."""
@@ -66,12 +72,64 @@ class Sheet:
 def sheet_in(text: str) -> Sheet:
     """The sheet of a text. That of another version of debvote may have another format."""
     try:
-        return Sheet(text)
-    except (ValueError, LookupError, AttributeError, StopIteration):
+        return sheet_of(text.removesuffix("\n").split("\n"))
+    except (ValueError, LookupError):
         raise Fault("the sheet of this debvote has another format", Status.BAD_SHEET) from None
 
 
-def pair_in(line: str) -> tuple[int, int]:
+def sheet_of(lines: list[str]) -> Sheet:
+    """The sheet of these lines. Raises ValueError or LookupError where they are none."""
+    # the first line is the title's, which may be any of these words
+    options, votes, dropped, defeats = (lines.index(head, 1) for head in ("Options:", "Votes:", "Dropped:", "Defeats:"))
+    end = next((place for place in range(defeats, len(lines)) if lines[place].startswith("Round ")), len(lines))
+    facts = dict(line.split(": ", 1) for line in lines[:options])
+    multiple, quorum = parts_of(QUORUM, facts["Quorum"])
+    shown = [parts_of(OPTION, line) for line in lines[options + 1 : votes]]
+    rows = [line.split() for line in lines[votes + 2 : dropped]]
+    causes = [line.split() for line in lines[dropped + 1 : defeats] if line != "  none"]
+    return Sheet(
+        title=facts["Poll"],
+        electors=int(facts["Electors"]),
+        quorum_multiple=int(multiple),
+        quorum=int(quorum),
+        is_more_than="Majority" in facts,
+        lines=int(facts["Lines"]),
+        last_envelope=int(facts["Last envelope"]) if "Last envelope" in facts else None,
+        valid=int(facts["Valid"]),
+        refused=int(facts["Refused"]),
+        voters=int(facts["Voters"]),
+        names={int(option): name for option, _, name in shown},
+        ratios={int(option): int(ratio) for option, ratio, _ in shown if ratio},
+        votes={(int(row[0]), b): int(cell) for row in rows for b, cell in enumerate(row[1:], start=1) if cell != "-"},
+        dropped={int(option): cause for option, cause in causes},
+        defeats=[pair_in(line) for line in lines[defeats + 1 : end] if line != "  none"],
+        rounds=rounds_in(lines[end:-1]),
+        last_line=lines[-1],
+    )
+
+
+def rounds_in(lines: list[str]) -> list[Round]:
+    """The rounds; behind the line of each stand the defeats that it removes."""
+    found: list[Round] = []
+    for line in lines:
+        if line.startswith("Round "):
+            found.append(Round([int(option) for option in line.split(": ")[1].split()], []))
+        else:
+            found[-1].removed.append(pair_in(line))
+    return found
+
+
+def pair_in(line: str) -> Pair:
     """The two options of a line such as `1 over 2 by 4 to 2`."""
-    found = re.search(r"(\d+) over (\d+)", line)
+    found = DEFEAT.search(line)
+    if found is None:
+        raise ValueError(line)
     return int(found[1]), int(found[2])
+
+
+def parts_of(pattern: re.Pattern[str], line: str) -> tuple[str, ...]:
+    """The parts of a line that has to fit; one that is not there is empty."""
+    found = pattern.fullmatch(line)
+    if found is None:
+        raise ValueError(line)
+    return found.groups("")

@@ -242,11 +242,11 @@ class OpenFolder(Binding):
 
     def test_a_second_count_that_differs_stops(self) -> None:
         """The package has the second count beside the modules: there another one is laid."""
-        for name in ("python", "publish"):
+        for name in ("python", "bin"):
             shutil.copytree(support.ROOT / name, self.scratch / name, ignore=shutil.ignore_patterns("__pycache__"))
         shutil.copy(support.ROOT / "docs" / "READING-A-SHEET.md", self.scratch / "python")
         program = (support.ROOT / "tests" / "reference.py").read_text(encoding="utf-8")
-        path = self.scratch / "publish" / "debvote-publish"
+        path = self.scratch / "bin" / "debvote-publish"
         for before, after, told in [
             ("return over >= poll.ratios", "return over > 9 + poll.ratios", "with its `count`: line "),
             ("voter in sorted(last_ballots)]", "voter in sorted(last_ballots)[1:]]", "with its `standing`: line 1 is `ben 2,1,3`, where"),

@@ -55,7 +55,7 @@ def run(folder, faults, at):
         os.dup2(os.open(faults, os.O_WRONLY | os.O_CREAT, 0o644), 2)
         if at:
             stop_at(at)
-        os._exit(main(pathlib.Path(root) / "election", words))
+        os._exit(main(pathlib.Path(root) / "bin", words))
     return os.waitstatus_to_exitcode(os.waitpid(child, 0)[1])
 for at in range(1, 200):
     here = pathlib.Path(out) / str(at)

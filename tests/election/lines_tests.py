@@ -7,8 +7,8 @@ import support
 
 sys.path.insert(0, str(support.ROOT / "python"))
 
-from debvote_tools.election.lines import changed, differences, lines_in, shown  # noqa: E402
-from debvote_tools.election.shapes import plain_words  # noqa: E402
+from debvote_tools.lines import changed, differences, lines_in, shown  # noqa: E402
+from debvote_tools.shapes import plain_words  # noqa: E402
 
 
 class Changes(unittest.TestCase):

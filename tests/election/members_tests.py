@@ -11,7 +11,7 @@ import support
 
 sys.path.insert(0, str(support.ROOT / "python"))
 
-from debvote_tools.election import members  # noqa: E402
+from debvote_tools import members  # noqa: E402
 from debvote_tools.faults import Fault, Status  # noqa: E402
 
 

@@ -2,6 +2,7 @@
 
 import fcntl
 import html
+import json
 import os
 import pathlib
 import shlex
@@ -18,10 +19,23 @@ WON = "ada 1,2,4,3\nben 2,1,4,3\ncleo 1,2,4,3\n"
 CAST = ["--cast-by=Zo\u00eb <b>", "--cast-on=2026-12-05"]
 TIE = "ada 1,2,4,3\nben 2,1,4,3\n"
 
-# stands for debvote-publish: notes its words, and does what it is told to by its environment
-STUB = r"""#!/bin/sh
-printf '%s\n' "$@" > "$NOTED"
-eval "$THEN"
+# debvote-election, but that nothing is published: it notes what is asked of debvote-publish, and does what its environment says
+STUB = """
+import dataclasses, json, os, pathlib, subprocess, sys
+from debvote_tools.election import command_line
+from debvote_tools.election.commands import publish
+def ended(asked, beside):
+    given = {field.name: getattr(asked, field.name) for field in dataclasses.fields(asked) if getattr(asked, field.name) != field.default}
+    pathlib.Path(os.environ["NOTED"]).write_text(json.dumps(given))
+    return subprocess.run(["sh", "-c", os.environ["THEN"]]).returncode
+publish.ended = ended
+sys.exit(command_line.main(pathlib.Path(sys.argv[1]), sys.argv[2:]))
+"""
+
+# stands for Graphviz, and takes its time
+SLOW = """#!/bin/sh
+touch began
+exec sleep 60
 """
 
 
@@ -264,59 +278,48 @@ class Publish(PublishTest):
 
 
 class Words(PublishTest):
-    """What debvote-publish is given, and what becomes of what it answers."""
+    """What is asked of debvote-publish, and what becomes of what it answers."""
 
     def setUp(self) -> None:
         super().setUp()
-        # a checkout: the program, its Python, and debvote-publish beside it
-        self.checkout = self.scratch / "checkout"
-        (self.checkout / "election").mkdir(parents=True)
-        (self.checkout / "publish").mkdir()
-        shutil.copy(support.ELECTION, self.checkout / "election" / "debvote-election")
-        (self.checkout / "python").symlink_to(support.ROOT / "python")
-        self.stub(self.checkout / "publish" / "debvote-publish")
         self.noted = self.scratch / "noted"
 
-    def stub(self, file: pathlib.Path) -> None:
-        file.write_text(STUB)
-        file.chmod(0o755)
-
-    def asked(self, *words: str, then: str = "exit 0", path: str | None = None, **how: object) -> tuple[support.Ended, list[str]]:
-        """How the run ended, and the words that debvote-publish was given."""
-        env = {**support.environment(), "NOTED": str(self.noted), "THEN": then}
-        env["PATH"] = env["PATH"] if path is None else path
-        ended = self.run_program(sys.executable, self.checkout / "election" / "debvote-election", *words, env=env, **how)
-        return ended, self.noted.read_text().splitlines() if self.noted.exists() else []
+    def asked(self, *words: str, then: str = "exit 0", **how: object) -> tuple[support.Ended, dict[str, object] | None]:
+        """How the run ended, and what debvote-publish was asked, but for what was not given."""
+        env = {**support.environment(), "PYTHONPATH": str(support.ROOT / "python"), "NOTED": str(self.noted), "THEN": then}
+        ended = self.run_program(sys.executable, "-c", STUB, support.ELECTION.parent, *words, env=env, **how)
+        return ended, json.loads(self.noted.read_text()) if self.noted.exists() else None
 
     def test_the_words(self) -> None:
-        files = ["--poll", "poll.toml", "--ballots", "ballots"]
-        self.assertEqual(self.asked("publish")[1], [*files, "result"])
-        self.assertEqual(self.asked("publish", "--even-so", "x y")[1], [*files, "--even-so", "x y"])
-        self.assertEqual(self.asked("publish", "--casting", "At the lake")[1], [*files, "--casting", "At the lake", "result"])
-        given = ["--labels=my labels", "--about=--even-so"]
-        self.assertEqual(self.asked("publish", "--about=--even-so", "--labels", "my labels")[1], [*files, *given, "result"])
-        given = ["--even-so", "--who=my members", "--because=--no doubt"]
+        files = {"poll": "poll.toml", "ballots": "ballots", "folder": "result"}
+        self.assertEqual(self.asked("publish")[1], files)
+        self.assertEqual(self.asked("publish", "--even-so", "x y")[1], files | {"even_so": True, "folder": "x y"})
+        self.assertEqual(self.asked("publish", "--casting", "At the lake")[1], files | {"casting": "At the lake"})
+        given = {"labels": "my labels", "about": "--even-so"}
+        self.assertEqual(self.asked("publish", "--about=--even-so", "--labels", "my labels")[1], files | given)
+        given = {"even_so": True, "who": "my members", "because": "--no doubt"}
         words = ["--because=--no doubt", "--who", "my members", "--even-so"]
-        self.assertEqual(self.asked("publish", *words)[1], [*files, *given, "result"])
-        where = ["--poll", "election/poll.toml", "--ballots", "election/ballots", "election/result"]
+        self.assertEqual(self.asked("publish", *words)[1], files | given)
+        given = {"cast_by": "Zo", "cast_on": "2026-12-05"}
+        self.assertEqual(self.asked("publish", "--cast-by=Zo", "--cast-on=2026-12-05")[1], files | given)
+        where = {"poll": "election/poll.toml", "ballots": "election/ballots", "folder": "election/result"}
         self.assertEqual(self.asked("--folder", "election", "publish", cwd=self.scratch)[1], where)
 
     def test_no_ballots(self) -> None:
         (self.folder / "ballots").unlink()
         (self.folder / "journal").unlink()
-        ended, words = self.asked("publish")
+        ended, asked = self.asked("publish")
         self.assert_fault(
             ended, 9, "ballots: there are no ballots; add them with debvote-election add FILE, or publish without any with"
         )
-        self.assertEqual(words, [])
-        words = ["--poll", "poll.toml", "--ballots", "/dev/null", "--even-so", "result"]
-        self.assertEqual(self.asked("publish", "--even-so")[1], words)
+        self.assertIsNone(asked)
+        wanted = {"poll": "poll.toml", "ballots": "/dev/null", "even_so": True, "folder": "result"}
+        self.assertEqual(self.asked("publish", "--even-so")[1], wanted)
 
     def test_its_lines_and_its_status_are_passed_on(self) -> None:
         for status in (2, 4, 7, 9, 127):
             ended, _ = self.asked("publish", then=f"echo out; echo fault >&2; exit {status}")
             self.assertEqual((ended.output, ended.faults, ended.status), ("out\n", "fault\n", status))
-        self.assertEqual(self.asked("publish", then="kill -9 $$")[0].status, 137)
 
     def test_it_holds_the_lock_as_a_reader(self) -> None:
         lock = shlex.quote(str(self.folder / ".lock"))
@@ -324,36 +327,34 @@ class Words(PublishTest):
         ended, _ = self.asked("publish", then=f"{shared}; {alone}; exit 0")
         self.assertEqual(ended.output, "-s\n")
 
-    def test_where_it_is_found(self) -> None:
-        place = self.checkout / "publish" / "debvote-publish"
-        beside = self.checkout / "election" / "debvote-publish"
-        self.stub(beside)
-        place.write_text(STUB + "echo of the checkout\n")
-        beside.write_text(STUB + "echo beside\n")
-        self.assertEqual(self.asked("publish", then=":")[0].output, "of the checkout\n")
-        place.unlink()
-        self.assertEqual(self.asked("publish", then=":")[0].output, "beside\n")
-        beside.unlink()
-        (self.scratch / "bin").mkdir()
-        self.stub(self.scratch / "bin" / "debvote-publish")
-        (self.scratch / "bin" / "debvote-publish").write_text(STUB + "echo in the path\n")
-        path = f"{self.scratch / 'bin'}:{support.environment()['PATH']}"
-        self.assertEqual(self.asked("publish", then=":", path=path)[0].output, "in the path\n")
-        ended, _ = self.asked("publish", path=f"{support.PROGRAM.parent}:/nowhere")
-        self.assert_fault(ended, 127, "debvote-publish: the program is neither beside this one nor in the PATH; install")
+    def test_no_second_program_is_needed(self) -> None:
+        """A checkout that has debvote-election alone, and no debvote-publish in the PATH."""
+        checkout = self.scratch / "checkout"
+        (checkout / "bin").mkdir(parents=True)
+        shutil.copy(support.ELECTION, checkout / "bin" / "debvote-election")
+        for name in ("python", "tests", "docs"):
+            (checkout / name).symlink_to(support.ROOT / name)
+        ended = self.run_program(sys.executable, checkout / "bin" / "debvote-election", "publish")
+        self.assertEqual(ended.status, 0, ended)
+        self.assert_published(self.folder / "result")
 
-    def test_an_interrupt_ends_both(self) -> None:
-        then = "trap 'sleep 0.5; echo taken away; exit 130' INT; touch began; while :; do sleep 0.05; done"
-        env = {**support.environment(), "NOTED": str(self.noted), "THEN": then}
-        words = [sys.executable, self.checkout / "election" / "debvote-election", "publish"]
+    def test_an_interrupt_leaves_nothing(self) -> None:
+        tools = self.scratch / "tools"
+        tools.mkdir()
+        (tools / "dot").write_text(SLOW)
+        (tools / "dot").chmod(0o755)
+        env = support.environment()
+        env["PATH"] = f"{tools}:{env['PATH']}"
         how = {"cwd": self.folder, "env": env, "stdout": subprocess.PIPE, "stderr": subprocess.PIPE, "text": True}
-        running = subprocess.Popen(words, start_new_session=True, **how)
+        running = subprocess.Popen([sys.executable, support.ELECTION, "publish"], start_new_session=True, **how)
+        before = {file for file in self.contents() if not file.startswith(".result")}
         until = time.monotonic() + support.SECONDS
         while not (self.folder / "began").exists() and time.monotonic() < until:
             time.sleep(0.01)
         os.killpg(running.pid, signal.SIGINT)
         output, faults = running.communicate(timeout=support.SECONDS)
-        self.assertEqual((output, running.returncode), ("taken away\n", 130))
+        self.assertEqual((output, running.returncode), ("", 130))
         self.assertEqual(faults, "debvote-election: interrupted; what was told is done, and nothing else\n")
+        self.assertEqual(set(self.contents()), before | {"began"})
         with open(self.folder / ".lock") as lock:
             fcntl.flock(lock, fcntl.LOCK_EX | fcntl.LOCK_NB)

@@ -27,8 +27,7 @@ sys.path.insert(0, str(support.ROOT / "python"))
 
 from debvote_tools import secret  # noqa: E402
 from debvote_tools.faults import Fault  # noqa: E402
-from debvote_tools.publish import command_line  # noqa: E402
-from debvote_tools.publish import secret as published  # noqa: E402
+from debvote_tools.publish import command_line, secret as published  # noqa: E402
 
 BROWSER = shutil.which("chromium") or shutil.which("chromium-browser")
 FLAGS = ["--headless", "--no-sandbox", "--disable-gpu", "--hide-scrollbars", "--allow-file-access-from-files", "--dump-dom"]
@@ -93,7 +92,7 @@ class RandomTest(SecretTest):
         (room / "ballots").write_text(found.ballots)
         codes = room / "private" / "codes.csv"
         codes.touch(0o600)
-        codes.write_bytes(secret.text_of(found.codes))
+        codes.write_bytes(secret.table_of(found.codes))
         words = ["--poll", "poll.toml", "--ballots", "ballots", "--secret", "private/codes.csv", "--even-so", "result"]
         return room, found, self.run_program(sys.executable, support.PUBLISH, *words, cwd=room)
 

@@ -73,13 +73,13 @@ class Guards(SecretTest):
         (other / "debvote").write_text(OTHER_COUNT % (support.PROGRAM, support.PROGRAM))
         (other / "debvote").chmod(0o755)
         # the program that lies beside debvote-publish is taken first
-        shutil.copytree(support.ROOT / "publish", self.scratch / "publish")
+        shutil.copytree(support.ROOT / "bin", self.scratch / "bin")
         shutil.copytree(support.ROOT / "python", self.scratch / "python", ignore=shutil.ignore_patterns("__pycache__"))
         shutil.copy(support.ROOT / "tests" / "reference.py", self.scratch / "python" / "recount.py")
-        (self.scratch / "publish" / "debvote").unlink(missing_ok=True)
+        (self.scratch / "bin" / "debvote").unlink(missing_ok=True)
         words = ["--poll", "poll.toml", "--ballots", "ballots", "--secret", "private/codes.csv", "result"]
         path = os.pathsep.join([str(other), os.environ["PATH"]])
-        ended = self.run_program(sys.executable, self.scratch / "publish" / "debvote-publish", *words, env=support.environment() | {"PATH": path})
+        ended = self.run_program(sys.executable, self.scratch / "bin" / "debvote-publish", *words, env=support.environment() | {"PATH": path})
         self.assert_stopped(ended, "the sheet under aliases is not that of the votes as they came; nothing was published")
 
     def test_a_code_in_the_poll(self) -> None:

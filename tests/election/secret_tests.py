@@ -239,7 +239,7 @@ class DamageTest(SecretTest):
         self.election("add", given="ada 1,2,3,4\n")
         self.done("close")
         ada = self.codes.splitlines()[1]
-        other = secret.text_of([secret.new_holder("ada", "", "")]).decode().splitlines()[1]
+        other = secret.table_of([secret.new_holder("ada", "", "")]).decode().splitlines()[1]
         for content in (self.codes.replace(ada + "\n", ""), self.codes.replace(ada, other)):
             self.write("private/codes.csv", content)
             for words in (["codes"], ["call"], ["publish", "--secret", "--even-so"]):

@@ -11,8 +11,8 @@ from dataclasses import dataclass
 
 ROOT = pathlib.Path(__file__).resolve().parent.parent.parent
 PROGRAM = pathlib.Path(os.environ.get("DEBVOTE", ROOT / "crates" / "debvote" / "out" / "debvote"))
-ELECTION = ROOT / "election" / "debvote-election"
-PUBLISH = ROOT / "publish" / "debvote-publish"
+ELECTION = ROOT / "bin" / "debvote-election"
+PUBLISH = ROOT / "bin" / "debvote-publish"
 
 # a run that has not ended by then hangs: far more than any takes beside other work
 SECONDS = 600

@@ -16,7 +16,7 @@ from support import POLL
 sys.path.insert(0, str(support.ROOT / "python"))
 
 from debvote_tools import journal  # noqa: E402
-from debvote_tools.election.poll_file import COMPARE  # noqa: E402
+from debvote_tools.poll_file import COMPARE  # noqa: E402
 
 NOW = "2026-11-26T10:00:00+00:00"
 FIRST, FIRST_WORDS = "2026-12-04 18:00 +01:00", "Friday, 4 December 2026, 18:00 (UTC+01:00)"

@@ -7,9 +7,9 @@ import json
 import re
 import unicodedata
 
-from debvote_tools import announced
+from debvote_tools import announced, poll_file
 from debvote_tools.announced import ADDRESS, DEADLINE, EXTENDED, SECRET, WORDS, announced_in, in_words
-from debvote_tools.election import call_page, deadlines, poll_file
+from debvote_tools.election import call_page, deadlines
 from debvote_tools.election.asking import command
 from debvote_tools.election.folder import Election, Files
 from debvote_tools.election.telling import time_of
@@ -24,8 +24,18 @@ TURNING = "\u202a\u202b\u202c\u202d\u202e\u2066\u2067\u2068\u2069"
 
 
 @dataclasses.dataclass(frozen=True)
+class Asked:
+    """The words about time and address; each is none where it was not given."""
+
+    until: str | None
+    zone: str | None
+    until_words: str | None
+    to: str | None
+
+
+@dataclasses.dataclass(frozen=True)
 class Wanted:
-    """What the command line asks for; each is none where it does not."""
+    """What is to be announced; each is none where it is not."""
 
     until: datetime.datetime | None
     words: str | None
@@ -53,7 +63,7 @@ def options(parser: argparse.ArgumentParser) -> None:
     parser.add_argument("--to", metavar="ADDRESS", help="The mail address that ballots are sent to")
 
 
-def wanted_of(asked: argparse.Namespace) -> Wanted:
+def wanted_of(asked: Asked) -> Wanted:
     """What is asked for. Stops where it can't be meant."""
     if asked.zone is not None and asked.until is None:
         raise Fault("--zone: it goes with --until; nothing was changed: write both, or none of them", Status.BAD_WORDS)
@@ -112,7 +122,7 @@ def with_wanted(poll: bytes, wanted: Wanted) -> bytes:
         poll = poll_file.with_key(poll, DEADLINE, quoted(wanted.until.isoformat()))
     if wanted.words is not None:
         poll = poll_file.with_key(poll, WORDS, quoted(wanted.words))
-    if wanted.address not in (None, said.address):
+    if wanted.address is not None and wanted.address != said.address:
         poll = poll_file.with_key(poll, ADDRESS, quoted(wanted.address))
     return poll
 
@@ -153,12 +163,11 @@ def said_already(election: Election, option: str, what: str) -> Fault:
 def said_of(election: Election, poll: bytes) -> Said:
     """What a call with this poll says. Of a call of version 1.0.0 its page says what its poll does not."""
     said = announced_in(poll)
-    is_extended = said.extended_to is not None
     until, address = said.first_words, said.address
     if until is None or address is None:
         page_until, page_address = said_on_page(election)
         until, address = until or page_until, address or page_address
-    if not is_extended:
+    if said.extended_to is None:
         return Said(until, None, False, address)
     return Said(in_words(said.extended_to), until, True, address)
 

@@ -1,10 +1,12 @@
 """What the commands ask debvote, and what they say where it refuses."""
 
+import pathlib
 import shlex
 from collections.abc import Iterable
 
 from debvote_tools.election.folder import Election, Files
 from debvote_tools.faults import Fault, Status
+from debvote_tools.files import BALLOTS_LIMIT, LINES_LIMIT, POLL_LIMIT
 from debvote_tools.program import Answer
 from debvote_tools.sheet import Sheet, sheet_in
 
@@ -46,11 +48,11 @@ def files_of(election: Election, files: Files) -> list[str]:
 def refused(election: Election, answer: Answer) -> Fault:
     """The fault of an answer without a text: what debvote said, with the file that it is about, and its status."""
     said = answer.faults.strip().removeprefix("debvote: ") or f"it ended with status {answer.status}"
-    cures = {
+    cures: dict[int, tuple[pathlib.Path, str]] = {
         Status.BAD_POLL: (election.poll, f"what is wrong with it says: {command(election, 'check')}"),
-        Status.BAD_BALLOTS: (election.ballots, "it has at most 100000 lines and 33554432 bytes"),
+        Status.BAD_BALLOTS: (election.ballots, f"it has at most {LINES_LIMIT} lines and {BALLOTS_LIMIT} bytes"),
     }
-    file, cure = cures.get(answer.status, ("debvote", "nothing was counted: run the command again"))
+    file, cure = cures.get(answer.status, (pathlib.Path("debvote"), "nothing was counted: run the command again"))
     return Fault(f"{file}: {said}; {cure}", answer.status)
 
 
@@ -60,7 +62,7 @@ def explained(election: Election, poll: bytes) -> Answer:
     if answer.text:
         return answer
     if answer.status == Status.BAD_POLL:
-        words = f"{election.poll}: {answer.faults.strip().removeprefix('debvote: ')}; a poll has at most 1048576 bytes"
+        words = f"{election.poll}: {answer.faults.strip().removeprefix('debvote: ')}; a poll has at most {POLL_LIMIT} bytes"
         raise Fault(words, answer.status)
     raise refused(election, answer)
 
@@ -73,13 +75,12 @@ def empty_sheet(election: Election) -> Sheet | None:
 
 def quorum_words(sheet: Sheet) -> str:
     """What the quorum of a sheet wants."""
-    multiple, votes = sheet.facts["Quorum"].split(", ")
-    if multiple == "0Q":
+    multiple, least = f"{sheet.quorum_multiple}Q", sheet.quorum
+    if sheet.quorum_multiple == 0:
         return "Quorum: none"
-    least = votes.removesuffix(" votes")
-    if least == "1":
+    if least == 1:
         return f"Quorum: 1 vote ({multiple}): at least 1 elector must prefer an option to the default option"
-    return f"Quorum: {votes} ({multiple}): at least {least} electors must prefer an option to the default option"
+    return f"Quorum: {least} votes ({multiple}): at least {least} electors must prefer an option to the default option"
 
 
 def demand_option(election: Election, name: str) -> None:

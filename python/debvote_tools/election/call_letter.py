@@ -1,12 +1,8 @@
 """The call for votes as a letter, in plain text."""
 
-import textwrap
-
 from debvote_tools.election import call_words
 from debvote_tools.election.call_words import Call
-
-# mail programs leave lines of this length as they are
-COLUMNS = 72
+from debvote_tools.letters import copied, heading, wrapped
 
 # the names of a longer roll stand in the poll alone
 NAMES_LIMIT = 200
@@ -63,18 +59,3 @@ def roll(call: Call) -> list[str]:
 def option_of(call: Call, option: int) -> str:
     """An option, by its number; what does not fit on the line stands below its name."""
     return wrapped(f"{option:4} {call.sheet.names[option]} ({call.kind_of(option)})", "", " " * 5)
-
-
-def wrapped(text: str, first: str = "", then: str = "") -> str:
-    """A paragraph. A word that is longer than a line, as an address, stays whole."""
-    how = {"initial_indent": first, "subsequent_indent": then, "break_long_words": False, "break_on_hyphens": False}
-    return textwrap.fill(text, COLUMNS, **how) + "\n"
-
-
-def heading(text: str) -> str:
-    return text.upper() + "\n"
-
-
-def copied(line: str) -> str:
-    """A line to be copied, as it is."""
-    return f"  {line}\n"

@@ -76,7 +76,8 @@ def html(call: Call) -> str:
 
 def head(call: Call) -> str:
     """Until when, and where to."""
-    extended = [] if call.extended_words() is None else [paragraph(extended_from(call))]
+    words = call.extended_words()
+    extended = [] if words is None else [paragraph(extended_from(call, words))]
     said = "\n".join([paragraph(until(call)), *extended, paragraph(to(call))])
     return f'<div class="outcome">\n{said}\n</div>\n'
 
@@ -86,9 +87,9 @@ def until(call: Call) -> str:
     return escape(call.until_words()) if call.until is None else f"Until when: <b><bdi>{escape(call.until)}</bdi></b>"
 
 
-def extended_from(call: Call) -> str:
-    """What the call said at first."""
-    return f"{call_words.FIRST}<bdi>{escape(call.first)}</bdi>" if call.first is not None else call.extended_words()
+def extended_from(call: Call, words: str) -> str:
+    """What the call said at first; without that the words of plain text."""
+    return words if call.first is None else f"{call_words.FIRST}<bdi>{escape(call.first)}</bdi>"
 
 
 def to(call: Call) -> str:

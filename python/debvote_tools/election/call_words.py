@@ -2,8 +2,8 @@
 
 import dataclasses
 
+from debvote_tools import poll_file
 from debvote_tools.ballots import UNRANKED, in_words
-from debvote_tools.election import poll_file
 from debvote_tools.sheet import Sheet
 
 # it stands in the example where the elector's own name goes
@@ -44,9 +44,7 @@ LATER = (
     "The poll is not changed any more, but for two lines that it may get: extended_to, where the time is extended, and "
     "last_envelope, which says how many lines were in time when the vote was closed. The sum and the command leave them out."
 )
-YOURS = (
-    "Whoever keeps the web site can show each reader another page: compare this sum with the one in <b>your</b> letter."
-)
+YOURS = "Whoever keeps the web site can show each reader another page: compare this sum with the one in <b>your</b> letter."
 
 # in a secret vote the poll of the call never changes
 COMPARE_SECRET = "sha256sum poll.toml"
@@ -108,7 +106,7 @@ class Call:
 
     @property
     def title(self) -> str:
-        return self.sheet.facts["Poll"]
+        return self.sheet.title
 
     def until_words(self) -> str:
         """Until when one can vote."""
@@ -130,13 +128,13 @@ class Call:
 
     def ratio_words(self) -> list[str]:
         """What each ratio of the poll means, a sentence each."""
-        return [f"Majority ratio {ratio}: {self.rule(ratio)}." for ratio in sorted(set(map(int, self.sheet.ratios.values())))]
+        return [f"Majority ratio {ratio}: {self.rule(ratio)}." for ratio in sorted(set(self.sheet.ratios.values()))]
 
     def rule(self, ratio: int) -> str:
         """What a ratio means."""
         if ratio == 1:
             return "more electors must prefer the option to the default option than prefer the default option to it"
-        least = "more than" if "Majority" in self.sheet.facts else "at least"
+        least = "more than" if self.sheet.is_more_than else "at least"
         times = f"{least} {TIMES[ratio]} as many electors"
         return f"{times} must prefer the option to the default option as prefer the default option to it"
 
@@ -146,14 +144,12 @@ class Call:
 
     def quorum_words(self) -> str:
         """What the quorum wants, in votes."""
-        multiple, votes = self.sheet.facts["Quorum"].split(", ")
-        electors = self.sheet.facts["Electors"]
-        of = f"The roll has {electors} elector{'' if electors == '1' else 's'}."
-        if multiple == "0Q":
+        electors, least = self.sheet.electors, self.sheet.quorum
+        of = f"The roll has {electors} elector{'' if electors == 1 else 's'}."
+        if self.sheet.quorum_multiple == 0:
             return f"There is no quorum. {of}"
-        least = votes.removesuffix(" votes")
-        who = "1 elector must prefer" if least == "1" else f"{least} electors must prefer"
-        return f"The quorum is {least} vote{'' if least == '1' else 's'}: at least {who} an option to the default option. {of}"
+        who = "1 elector must prefer" if least == 1 else f"{least} electors must prefer"
+        return f"The quorum is {least} vote{'' if least == 1 else 's'}: at least {who} an option to the default option. {of}"
 
     def example(self) -> str:
         """A ballot line of this poll."""

@@ -5,17 +5,17 @@ import dataclasses
 import re
 from collections.abc import Callable, Iterator
 
+from debvote_tools import poll_file
 from debvote_tools.ballots import in_words
-from debvote_tools.election import poll_file
 from debvote_tools.election.asking import NO_BALLOTS, refused
 from debvote_tools.election.folder import Election, Files
-from debvote_tools.election.lines import Line, differences, shown
-from debvote_tools.election.shapes import plainly
 from debvote_tools.election.telling import count_of, tell
 from debvote_tools.faults import Fault, Status
-from debvote_tools.files import in_memory, uninterrupted
+from debvote_tools.files import BALLOTS_LIMIT, LINES_LIMIT, in_memory, uninterrupted
+from debvote_tools.lines import Line, differences, shown
 from debvote_tools.pages import joined
 from debvote_tools.program import Answer, Finding, findings_in, replies_in, standing_in
+from debvote_tools.shapes import plainly
 from debvote_tools.sheet import Sheet, sheet_in
 
 
@@ -98,7 +98,7 @@ def findings_of(election: Election, poll: bytes, lines: list[Line]) -> tuple[dic
     The lines are asked about alone, and without the last envelope: so what is late does not hide what is wrong, and names that
     are near to an earlier line's do not use up the hints.
     """
-    with in_memory(poll_file.without_last_envelope(poll)) as path:
+    with in_memory(poll_file.without_key(poll, poll_file.LAST_ENVELOPE)) as path:
         of_changed = found_in(election, path, [line.changed for line in lines])
         others = [at for at in of_changed if lines[at].kept != lines[at].changed]
         of_kept = found_in(election, path, [lines[at].kept for at in others]) if others else {}
@@ -116,7 +116,7 @@ def asked_of(election: Election, task: str, poll: str, ballots: bytes) -> Answer
     answer = election.debvote.ask(task, "--poll", poll, "--ballots", "/dev/stdin", given=ballots)
     if answer.status == Status.BAD_BALLOTS:
         said = answer.faults.strip().removeprefix("debvote: ")
-        cure = f"it takes 100000 lines and 33554432 bytes at most; what came is kept in {election.received}: add less of it"
+        cure = f"it takes {LINES_LIMIT} lines and {BALLOTS_LIMIT} bytes at most; what came is kept in {election.received}: add less of it"
         raise Fault(f"{election.ballots}: nothing was added, for with it debvote says `{said}`; {cure}", Status.BAD_BALLOTS)
     if answer.faults:
         raise refused(election, answer)
@@ -126,7 +126,7 @@ def asked_of(election: Election, task: str, poll: str, ballots: bytes) -> Answer
 def right_line(poll: bytes, options: int) -> str:
     """A line that is right in this poll: of an elector of the roll, with a rank for each option."""
     try:
-        name = poll_file.document(poll)["roll"][0]
+        name = poll_file.roll_of(poll)[0]
     except (Fault, LookupError, TypeError):
         name = "name"
     return f"{name} {','.join(map(str, range(1, options + 1)))}"
@@ -217,7 +217,7 @@ def ballot_words(ballot: Ballot, names: list[str]) -> str:
     """The ballot in words, or the line and why debvote refuses it."""
     if ballot.finding is not None:
         word = "" if ballot.finding.word == ballot.reply else f"{ballot.finding.word}: "
-        plain = "" if has_other_cause(ballot) else plainly(ballot.line.changed, ballot.finding)
+        plain = "" if other_cause(ballot) else plainly(ballot.line.changed, ballot.finding)
         return f"{shown(ballot.text)}: {word}{ballot.finding.hint}{plain}{more_words(ballot)}"
     voter, ranks = ballot.text.decode("ascii").split(" ")
     return f"{voter}: {in_words(ranks, names)}"
@@ -229,7 +229,9 @@ def more_words(ballot: Ballot) -> str:
     """
     others = f" (or {joined(ballot.others)})" if ballot.others else ""
     if re.search(rb"(?<![0-9a-f])[0-9a-f]{32}(?![0-9a-f])", ballot.line.changed):
-        others += " (it has 32 digits, as codes and aliases have: a ballot has the elector's name alone, and a code is shown to nobody)"
+        others += (
+            " (it has 32 digits, as codes and aliases have: a ballot has the elector's name alone, and a code is shown to nobody)"
+        )
     return others
 
 
@@ -247,8 +249,8 @@ def bare_name(name: str) -> str:
 
 def cause_words(ballot: Ballot) -> Iterator[str]:
     """Why debvote refuses the changed line too, where that is another cause."""
-    if has_other_cause(ballot):
-        other = ballot.finding_of_changed
+    other = other_cause(ballot)
+    if other is not None:
         why = f"{other.word}: {other.hint}{plainly(ballot.line.changed, other)}"
         yield f"  it went in as it came; written as `{shown(ballot.line.changed)}` it is refused too: {why}"
 
@@ -256,13 +258,16 @@ def cause_words(ballot: Ballot) -> Iterator[str]:
 def would_words(ballot: Ballot) -> str:
     """A line that is not cast yet, as it would go in, and the one cause that would stay after the changes that are allowed."""
     finding = ballot.finding_of_changed
-    return f"{shown(ballot.text)}: {finding.word}: {finding.hint}{plainly(ballot.line.changed, finding)}"
+    why = "" if finding is None else f": {finding.word}: {finding.hint}{plainly(ballot.line.changed, finding)}"
+    return f"{shown(ballot.text)}{why}"
 
 
-def has_other_cause(ballot: Ballot) -> bool:
-    """Whether debvote refuses the changed line for another cause than the line as it came."""
+def other_cause(ballot: Ballot) -> Finding | None:
+    """Why debvote refuses the changed line; none where it does not, or for the same cause as the line as it came."""
     finding, other = ballot.finding, ballot.finding_of_changed
-    return other is not None and (other.word, other.hint) != (finding.word, finding.hint)
+    if finding is None or other is None or (other.word, other.hint) == (finding.word, finding.hint):
+        return None
+    return other
 
 
 def right_words(batch: Batch) -> str:

@@ -3,11 +3,11 @@
 import re
 import sys
 
-from debvote_tools.election import poll_file
+from debvote_tools import poll_file
 from debvote_tools.election.asking import NO_BALLOTS, command, explained, refused
 from debvote_tools.election.folder import Election, Files
-from debvote_tools.election.members import plain
 from debvote_tools.faults import Fault, Status
+from debvote_tools.members import plain
 from debvote_tools.sheet import Sheet, sheet_in
 from debvote_tools.signs import written
 

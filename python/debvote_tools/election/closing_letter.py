@@ -5,14 +5,13 @@ It follows from the poll, the ballots and the entry of the close in the journal,
 
 import dataclasses
 
-from debvote_tools import closed
-from debvote_tools.election import poll_file
-from debvote_tools.election.call_letter import copied, wrapped
+from debvote_tools import closed, poll_file
 from debvote_tools.election.folder import Election, Files
 from debvote_tools.election.telling import count_of, time_of
 from debvote_tools.faults import Fault, Status
 from debvote_tools.files import sum_of, write_whole
 from debvote_tools.journal import NONE, Entry
+from debvote_tools.letters import copied, wrapped
 
 BALLOTS_SUM = "head -n {number} ballots.txt | sha256sum"
 
@@ -42,7 +41,9 @@ class Letter:
             copied(self.poll),
             wrapped(f"Without the lines that a poll gets after its call it is {as_called}:"),
             copied(self.announced),
-            wrapped(f"The {lines} of the ballot file that came in time have this sum:" if self.number else "No ballots have this sum:"),
+            wrapped(
+                f"The {lines} of the ballot file that came in time have this sum:" if self.number else "No ballots have this sum:"
+            ),
             copied(self.ballots),
             wrapped(
                 "Keep this letter. Where it reaches you before the result does, none of these lines can be changed, taken out or "

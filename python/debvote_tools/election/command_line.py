@@ -2,6 +2,7 @@
 
 import argparse
 import importlib
+import io
 import os
 import pathlib
 import signal
@@ -10,6 +11,7 @@ from collections.abc import Sequence
 
 from debvote_tools.election.folder import Election
 from debvote_tools.faults import Fault, Status
+from debvote_tools.files import Written
 from debvote_tools.signs import written
 
 PROGRAM = "debvote-election"
@@ -38,9 +40,7 @@ def parser() -> argparse.ArgumentParser:
     commands = top.add_subparsers(dest="command", metavar="COMMAND", required=True)
     for name in COMMANDS:
         module = importlib.import_module(f"debvote_tools.election.commands.{name}")
-        command = commands.add_parser(
-            name, help=module.HELP, description=f"{module.HELP}.", allow_abbrev=False, parents=[folder]
-        )
+        command = commands.add_parser(name, help=module.HELP, description=f"{module.HELP}.", allow_abbrev=False, parents=[folder])
         module.options(command)
         command.set_defaults(run=module.run)
     return top
@@ -53,12 +53,13 @@ def main(beside: pathlib.Path, words: Sequence[str] | None = None) -> int:
     if sys.stdout is None:
         return failed("standard output is closed; nothing was changed", Status.BAD_OUTPUT)
     # a name that the terminal can't show is no reason to stop
-    sys.stdout.reconfigure(errors="backslashreplace")
+    if isinstance(sys.stdout, io.TextIOWrapper):
+        sys.stdout.reconfigure(errors="backslashreplace")
     asked = parser().parse_args(words)
     signal.signal(signal.SIGINT, signal.default_int_handler)
     try:
         election = Election(pathlib.Path(getattr(asked, "folder", ".")), beside)
-        status = asked.run(election, asked)
+        status: int = asked.run(election, asked)
         sys.stdout.flush()
         return status
     except Fault as fault:
@@ -72,7 +73,7 @@ def main(beside: pathlib.Path, words: Sequence[str] | None = None) -> int:
             if isinstance(error, BrokenPipeError) and asked.command in QUIET:
                 return failed(None, 128 + signal.SIGPIPE)
             return failed("the output failed; what was told is done: ask debvote-election status", Status.BAD_OUTPUT)
-        state = "it is written, but perhaps not on the disk yet" if getattr(error, "is_written", False) else "it is as it was"
+        state = "it is written, but perhaps not on the disk yet" if isinstance(error, Written) else "it is as it was"
         words = f"{error.filename}: {error.strerror}; {state}; put this right, then run the command again"
         return failed(words, Status.BAD_OUTPUT)
 

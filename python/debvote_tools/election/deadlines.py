@@ -44,7 +44,9 @@ def in_zone(plain: datetime.datetime, name: str | None) -> datetime.datetime:
     if not comes:
         raise refused(f"{where} there is no such time: on that day clocks are put forward over it; write another time")
     if first.utcoffset() != second.utcoffset():
-        both = " or ".join(f'"{plain:%Y-%m-%d %H:%M} {offset_in_words(time).removeprefix("UTC") or "UTC"}"' for time in (first, second))
+        both = " or ".join(
+            f'"{plain:%Y-%m-%d %H:%M} {offset_in_words(time).removeprefix("UTC") or "UTC"}"' for time in (first, second)
+        )
         raise refused(f"{where} this time comes twice, since on that day clocks are put back; write {both}")
     return datetime.datetime.fromisoformat(first.isoformat(timespec="seconds"))
 

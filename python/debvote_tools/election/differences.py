@@ -6,14 +6,14 @@ It is looked for beside the new one, and in the folder of the election.
 import os
 import pathlib
 
+from debvote_tools import poll_file
 from debvote_tools.ballots import in_normal_form
-from debvote_tools.election import poll_file
 from debvote_tools.election.folder import Election
 from debvote_tools.election.telling import count_of
 from debvote_tools.faults import Fault
 from debvote_tools.files import BALLOTS_LIMIT, POLL_LIMIT, read_at_most
 from debvote_tools.publish.calls import BALLOTS, POLL
-from debvote_tools.publish.secret import VOTERS
+from debvote_tools.publish.roll import VOTERS
 
 
 def tell_differences(election: Election, target: pathlib.Path) -> None:

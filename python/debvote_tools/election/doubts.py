@@ -7,18 +7,15 @@ import re
 
 from debvote_tools.election.casting import Ballot
 from debvote_tools.election.folder import Election, Files
-from debvote_tools.election.lines import MARK, Line, lines_in, shown
-from debvote_tools.election.members import COLUMNS
 from debvote_tools.faults import Fault, Status
-from debvote_tools.files import BALLOTS_LIMIT
+from debvote_tools.files import BALLOTS_LIMIT, LINES_LIMIT
+from debvote_tools.lines import MARK, Line, lines_in, shown
+from debvote_tools.members import COLUMNS
 
 EVEN_SO = "add it all the same with --even-so"
 
 # in bytes; no ballot has half as many, and nobody's letter has such lines of ballots
 LONGEST_LINE = 500
-
-# a ballot file has at most so many lines
-MOST_LINES = 100_000
 
 # the part of what is left that a file may take without a question
 SHARE = 10
@@ -55,7 +52,8 @@ def cure_of(part: Part, is_form: bool) -> str:
     if is_table(part.ballots):
         return "it looks like a table, which is added with --csv --name COLUMN --ranks COLUMN,COLUMN,.."
     first = part.ballots[0]
-    return f"look at the file, whose first line is `{shown(first.text)}` ({first.finding.word}: {first.finding.hint})"
+    why = "" if first.finding is None else f" ({first.finding.word}: {first.finding.hint})"
+    return f"look at the file, whose first line is `{shown(first.text)}`{why}"
 
 
 def is_list_of_members(data: bytes) -> bool:
@@ -66,7 +64,7 @@ def is_list_of_members(data: bytes) -> bool:
 
 def is_table(ballots: list[Ballot]) -> bool:
     """Whether the lines have as many cells each, and most of them are no shape of a ballot."""
-    if sum(ballot.finding.word == "bad shape" for ballot in ballots) * 2 <= len(ballots):
+    if sum(ballot.finding is not None and ballot.finding.word == "bad shape" for ballot in ballots) * 2 <= len(ballots):
         return False
     texts = [ballot.line.kept.decode("utf-8", "replace") for ballot in ballots]
     return any(has_cells(texts, sign) for sign in ",;\t")
@@ -144,7 +142,7 @@ def stop_at_too_much(files: Files, parts: list[Part]) -> None:
     was added can't be taken out again.
     """
     ballots = files.ballots or b""
-    lines_left = MOST_LINES - ballots.count(b"\n")
+    lines_left = LINES_LIMIT - ballots.count(b"\n")
     bytes_left = BALLOTS_LIMIT - len(ballots)
     left = f"{lines_left} lines and {bytes_left} bytes are left in all"
     cure = f"look at it, and take out what is no ballot, or {EVEN_SO}"

@@ -28,4 +28,6 @@ def stop_at_changes(election: Election, files: Files, *, even_so: bool) -> None:
     if changes.is_loss and not even_so:
         words = "lines that came were taken out, changed or put in another order by hand; the election is not closed"
         right = f"put them back with an editor (what came is kept in {election.received})"
-        raise Fault(f"{election.ballots}: {words}: {right}, or close as it is: {command(election, 'close', '--even-so')}", Status.DOUBT)
+        raise Fault(
+            f"{election.ballots}: {words}: {right}, or close as it is: {command(election, 'close', '--even-so')}", Status.DOUBT
+        )

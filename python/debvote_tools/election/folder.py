@@ -11,7 +11,16 @@ from collections.abc import Iterator
 
 from debvote_tools import called, closed, journal, lost, secret
 from debvote_tools.faults import Fault, Status
-from debvote_tools.files import BALLOTS_LIMIT, POLL_LIMIT, append_whole, locked, read_at_most, take_away_temporaries, write_new, write_whole
+from debvote_tools.files import (
+    BALLOTS_LIMIT,
+    POLL_LIMIT,
+    append_whole,
+    locked,
+    read_at_most,
+    take_away_temporaries,
+    write_new,
+    write_whole,
+)
 from debvote_tools.journal import Entry, Sums
 from debvote_tools.program import Debvote
 from debvote_tools.sheet import Sheet
@@ -193,7 +202,9 @@ class Election:
             self.settle(now)
         if now is not None and now.sums == after.sums:
             words = f"it is written, but perhaps not on the disk yet ({error.strerror}); this {name} is done"
-            raise Fault(f"{error.filename}: {words}: do not repeat it, but ask {self.command('status')}", Status.BAD_OUTPUT) from None
+            raise Fault(
+                f"{error.filename}: {words}: do not repeat it, but ask {self.command('status')}", Status.BAD_OUTPUT
+            ) from None
 
     def note_end(self, name: str) -> None:
         """Notes that an act is done. Where this fails the act is done all the same, and the next run notes it."""
@@ -297,4 +308,3 @@ def bytes_of(file: pathlib.Path, limit: int, status: int, cure: str) -> bytes:
         return read_at_most(file, limit)
     except OSError as error:
         raise Fault(f"{file}: {error.strerror}; {cure}", status) from None
-

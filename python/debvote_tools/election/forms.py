@@ -1,18 +1,13 @@
 """The rows of a web form, as a spreadsheet or the form saves them: a row is a ballot, with one column a rank."""
 
-import codecs
 import csv
 import dataclasses
 import io
 import re
 
-from debvote_tools.election.lines import BLANKS, Line
 from debvote_tools.faults import Fault, Status
-
-DELIMITERS = {",": "comma", ";": "semicolon", "\t": "tab"}
-
-# the mark that a text begins with, and how it is written
-MARKS = {codecs.BOM_UTF8: "utf-8", codecs.BOM_UTF16_LE: "utf-16-le", codecs.BOM_UTF16_BE: "utf-16-be"}
+from debvote_tools.lines import BLANKS, Line
+from debvote_tools.tables import DELIMITERS, MARKS, mark_of
 
 # above what a ballot file has as a whole
 LONGEST_CELL = 67_108_864
@@ -45,8 +40,8 @@ def columns_of(name: str, ranks: str, options: list[str]) -> Columns:
 
 def lines_of_form(data: bytes, file: str, columns: Columns) -> list[Line]:
     """The lines that the rows of a form make. A cell that is empty stays so, and debvote refuses its line."""
-    rows = rows_in(text_of(data, file), file, columns)
-    number, head = next(((number, row) for number, row in enumerate(rows, start=1) if any(row)), (0, []))
+    rows = rows_in(text_in(data, file), file, columns)
+    number, head = next(((number, row) for number, row in enumerate(rows, start=1) if any(row)), (0, list[str]()))
     places = places_of(head, file, columns)
     found = []
     for at, row in enumerate(rows[number:], start=number + 1):
@@ -56,9 +51,9 @@ def lines_of_form(data: bytes, file: str, columns: Columns) -> list[Line]:
 
 
 # ---------------------------------------------------------------- the table
-def text_of(data: bytes, file: str) -> str:
+def text_in(data: bytes, file: str) -> str:
     """The text of a file, by its mark; without one it is in UTF-8."""
-    mark = next((mark for mark in MARKS if data.startswith(mark)), b"")
+    mark = mark_of(data)
     try:
         return data.removeprefix(mark).decode(MARKS.get(mark, "utf-8"))
     except UnicodeDecodeError as error:

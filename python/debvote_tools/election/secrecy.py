@@ -1,7 +1,6 @@
 """What the commands ask of a secret vote: the aliases of the roll, and the poll that has them."""
 
-from debvote_tools import secret
-from debvote_tools.election import poll_file
+from debvote_tools import poll_file, secret
 from debvote_tools.election.asking import command
 from debvote_tools.election.folder import Election
 

@@ -42,7 +42,7 @@ def html(sheet: Sheet, holders: list[Holder], until: str | None, to: str | None)
     """The page of slips, with what the call says of time and address. It loads nothing, and has no script."""
     slips = "".join(slip(sheet, holder, until, to) for holder in holders)
     note = f'<p class="note">{NOTE}</p>\n'
-    title = escape(sheet.facts["Poll"])
+    title = escape(sheet.title)
     return pages.page(f"Slips: {title}", title, note + slips, style=pages.STYLE + STYLE)
 
 
@@ -57,7 +57,7 @@ def slip(sheet: Sheet, holder: Holder, until: str | None, to: str | None) -> str
     ]
     shown = "".join(f"<dt>{name}</dt><dd>{value}</dd>\n" for name, value in rows)
     check = f'<p class="small">{CHECK}<br>\n<code>{escape(BY_PYTHON)}</code></p>'
-    title = paragraph(escape(sheet.facts["Poll"]))
+    title = paragraph(escape(sheet.title))
     parts = [title, f"<dl>\n{shown}</dl>", paragraph(f"{VOTE} {SHOWN}"), *what_to_write(sheet, holder), check]
     # what is not known of somebody is the name alone
     head = f"<h2><bdi>{escape(holder.who or holder.name)}</bdi></h2>"

@@ -17,9 +17,8 @@ def options(parser: argparse.ArgumentParser) -> None:
     parser.add_argument("--take-back", action="store_true", help=said)
 
 
-def run(election: Election, asked: argparse.Namespace) -> int:
-    if asked.no_roll or any(word is not None for word in (asked.until, asked.zone, asked.until_words, asked.to)):
-        raise Fault("--take-back: it stands alone; first take the call back, then call anew", Status.BAD_WORDS)
+def take_back(election: Election) -> int:
+    """Takes the call back, and returns the exit status."""
     with election.changing(any_poll=True) as files:
         demand_call(election)
         demand_unvoted(election, files)

@@ -5,7 +5,7 @@ All numbers are those of the sheet. Each bar has its number in words, so that no
 
 from debvote_tools.pages import paragraph, part
 from debvote_tools.publish.published import Published
-from debvote_tools.publish.why import against_default, least, prefer, quorum_of, verdict, wanted
+from debvote_tools.publish.why import against_default, least, prefer, verdict, wanted
 from debvote_tools.sheet import Sheet
 
 HEADING = "The result in bars"
@@ -51,7 +51,7 @@ def in_order(sheet: Sheet) -> list[int]:
 
 def whole_width(sheet: Sheet) -> int:
     """The number for which the whole width stands: all voters, or the quorum where it is greater."""
-    return max(int(sheet.facts["Voters"]), quorum_of(sheet), 1)
+    return max(sheet.voters, sheet.quorum, 1)
 
 
 def legend(found: Published) -> str:
@@ -68,12 +68,12 @@ def legend(found: Published) -> str:
 
 def voted(sheet: Sheet) -> str:
     """How many have voted."""
-    number = sheet.facts["Voters"]
-    return f"{number} {'elector has' if number == '1' else 'electors have'} voted"
+    number = sheet.voters
+    return f"{number} {'elector has' if number == 1 else 'electors have'} voted"
 
 
 def has_quorum(sheet: Sheet) -> bool:
-    return not sheet.facts["Quorum"].startswith("0Q, ")
+    return sheet.quorum_multiple > 0
 
 
 def entry(found: Published, option: int) -> str:
@@ -96,7 +96,7 @@ def entry(found: Published, option: int) -> str:
 
 def judged(sheet: Sheet, option: int) -> str:
     """What the marks stand for, and whether the option was kept or dropped."""
-    said = [f"Quorum: {wanted(quorum_of(sheet))}."] if has_quorum(sheet) else []
+    said = [f"Quorum: {wanted(sheet.quorum)}."] if has_quorum(sheet) else []
     number = least(sheet, option)
     beyond = ", more than there is room for in this bar, so it has no mark" if number > whole_width(sheet) else ""
     said.append(f"Majority, with the ratio {sheet.ratios[option]}: {wanted(number)}{beyond}.")
@@ -107,11 +107,9 @@ def judged(sheet: Sheet, option: int) -> str:
 
 def marks(sheet: Sheet, option: int) -> str:
     """The marks of the quorum and of the majority. One that is greater than the whole width has no place."""
-    places = [("quorum", quorum_of(sheet))] if has_quorum(sheet) else []
+    places = [("quorum", sheet.quorum)] if has_quorum(sheet) else []
     places.append(("majority", least(sheet, option)))
-    return "".join(
-        f'<path class="{kind}" d="M{number} {MARK}"/>' for kind, number in places if number <= whole_width(sheet)
-    )
+    return "".join(f'<path class="{kind}" d="M{number} {MARK}"/>' for kind, number in places if number <= whole_width(sheet))
 
 
 def bar(sheet: Sheet, number: int, kind: str, marked: str) -> str:

@@ -5,9 +5,9 @@ import os
 import pathlib
 import re
 
-from debvote_tools.election.poll_file import COMPARE, as_announced
 from debvote_tools.faults import Doubt
 from debvote_tools.files import read_at_most, sum_of
+from debvote_tools.poll_file import COMPARE, as_announced
 
 # the letter of the call has the sum on a line of its own
 LETTER = pathlib.Path("call", "call.txt")
@@ -28,7 +28,7 @@ class Called:
 
     poll_sum: str
     whole_sum: str
-    last_envelope: str | None
+    last_envelope: int | None
     announced: str | None
     is_secret: bool
 
@@ -46,7 +46,7 @@ class Called:
         return f"{self.whole_sum}  poll.toml" if self.is_secret else f"{self.poll_sum}  -"
 
 
-def called_of(poll: bytes, last_envelope: str | None, announced: str | None, *, is_secret: bool = False) -> Called:
+def called_of(poll: bytes, last_envelope: int | None, announced: str | None, *, is_secret: bool = False) -> Called:
     """What is said of the call, for the bytes of the published poll."""
     whole = sum_of(poll)
     return Called(whole if is_secret else sum_of(as_announced(poll)), whole, last_envelope, announced, is_secret)
@@ -64,7 +64,7 @@ def announced_sum(poll: str) -> str | None:
             letter = read_at_most(folder / LETTER, LETTER_LIMIT)
         except OSError:
             continue
-        found = SUM.findall(letter)
+        found: list[bytes] = SUM.findall(letter)
         if found:
             return found[-1].decode("ascii")
     return None

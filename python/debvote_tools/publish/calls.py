@@ -50,16 +50,16 @@ class Calls:
 
     def verify(self) -> str:
         """What `verify` says of the sheet in the folder; a sheet that differs is a fault."""
-        text, status = self.write("verify", *FILES, "--sheet", SHEET, *self.desks, also=(Status.DIFFERS,))
-        if status == Status.DIFFERS:
+        text, status = self.write("verify", *FILES, "--sheet", SHEET, *self.desks, also=(Status.DOUBT,))
+        if status == Status.DOUBT:
             raise Fault(text.rstrip("\n"), status)
         return text
 
     def explain(self) -> str:
         """What `explain` says of a poll in order and its ballots."""
-        return self.write("explain", *FILES, also=(Status.DIFFERS,))[0]
+        return self.write("explain", *FILES, also=(Status.DOUBT,))[0]
 
 
-def calls_in(folder: pathlib.Path, beside: pathlib.Path, casting: str | None, desks: int) -> Calls:
+def calls_in(folder: pathlib.Path, beside: pathlib.Path | None, casting: str | None, desks: int) -> Calls:
     """The calls of debvote in this folder. `beside` is the folder of the program that asks."""
     return Calls(Debvote(folder, beside), casting_words(casting), ["--desks", str(desks)])

@@ -11,10 +11,10 @@ import unicodedata
 from collections.abc import Iterable
 from html import escape
 
-from debvote_tools.election.poll_file import as_announced
 from debvote_tools.faults import Doubt, Fault, Status
 from debvote_tools.files import POLL_LIMIT, read_at_most
 from debvote_tools.pages import paragraph
+from debvote_tools.poll_file import as_announced
 from debvote_tools.publish.calls import POLL, SHEET
 from debvote_tools.publish.texts import ODD, TURNING
 from debvote_tools.sheet import Sheet, sheet_in

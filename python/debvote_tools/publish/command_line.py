@@ -1,6 +1,7 @@
 """The command line of debvote-publish."""
 
 import argparse
+import io
 import os
 import pathlib
 import signal
@@ -8,7 +9,9 @@ import sys
 from collections.abc import Sequence
 
 from debvote_tools.faults import Fault, Status
+from debvote_tools.publish.asked import Asked
 from debvote_tools.publish.folder import publish
+from debvote_tools.words import taken
 
 PROGRAM = "debvote-publish"
 
@@ -21,8 +24,8 @@ def parser() -> argparse.ArgumentParser:
     found.add_argument("--poll", metavar="FILE", required=True, help="The poll file, in TOML")
     found.add_argument("--ballots", metavar="FILE", required=True, help="The ballot file, one ballot a line: name 1,2,3")
     found.add_argument("--casting", metavar="NAME", help="The exact name of the option that the casting vote chooses in a tie")
-    desks = {"metavar": "K", "type": int, "choices": range(1, 9), "default": 1}
-    found.add_argument("--desks", **desks, help="How many desks enter the ballots, 1 to 8")
+    desks = "How many desks enter the ballots, 1 to 8"
+    found.add_argument("--desks", metavar="K", type=int, choices=range(1, 9), default=1, help=desks)
     found.add_argument(
         "--even-so", action="store_true", help="Publish where there are doubts about the files; the page then tells each of them"
     )
@@ -46,11 +49,6 @@ def cast_options(parser: argparse.ArgumentParser) -> None:
     parser.add_argument("--cast-on", metavar="DATE", help="When the casting vote was given, as 2026-12-05")
 
 
-def cast_words(asked: argparse.Namespace) -> list[str]:
-    """The words that pass these options on."""
-    return [f"{name}={said}" for name, said in (("--cast-by", asked.cast_by), ("--cast-on", asked.cast_on)) if said is not None]
-
-
 def page_options(parser: argparse.ArgumentParser) -> None:
     """What is given for the page, as debvote-election takes it too."""
     labels = "What title and options are called on the page: lines with a number (0 is the title), a tab and a text, in UTF-8"
@@ -63,21 +61,20 @@ def page_options(parser: argparse.ArgumentParser) -> None:
     parser.add_argument("--because", metavar="TEXT", help=because)
 
 
-def page_words(asked: argparse.Namespace) -> list[str]:
-    """The words that pass these options on."""
-    given = [("--labels", asked.labels), ("--about", asked.about), ("--who", asked.who), ("--because", asked.because)]
-    return [f"{name}={value}" for name, value in given if value is not None]
-
-
 def main(beside: pathlib.Path, words: Sequence[str] | None = None) -> int:
     """Publishes, and returns the exit status. `beside` is the folder of the program."""
     # where it is asked to end, it takes away what it has made
     for number in (signal.SIGHUP, signal.SIGINT, signal.SIGTERM):
         signal.signal(number, lambda number, _: sys.exit(128 + number))
-    asked = parser().parse_args(words)
+    asked = taken(Asked, parser().parse_args(words))
     # a label that the terminal can't show is no reason to stop
-    if sys.stdout is not None:
+    if isinstance(sys.stdout, io.TextIOWrapper):
         sys.stdout.reconfigure(errors="backslashreplace")
+    return ended(asked, beside)
+
+
+def ended(asked: Asked, beside: pathlib.Path | None) -> int:
+    """Publishes, tells how it ended, and returns the exit status."""
     try:
         said, status = publish(asked, beside)
     except Fault as fault:

@@ -22,9 +22,8 @@ h3 { font-size: 1.05rem; margin: 1.5rem 0 0.3rem; }
 
 def style(found: Published) -> str:
     """The style of these parts: a picture may become smaller than it was drawn, but not too small to be read."""
-    if not has_picture(found):
-        return STYLE
-    return f"{STYLE}.picture svg {{ min-width: {least_width(found.picture)}px; }}\n"
+    picture = picture_within(found)
+    return STYLE if picture is None else f"{STYLE}.picture svg {{ min-width: {least_width(picture)}px; }}\n"
 
 
 def options(found: Published) -> str:
@@ -86,9 +85,9 @@ def defeat(found: Published, a: int, b: int) -> str:
     return f"{found.option(a)} over {found.option(b)} by {found.sheet.votes[a, b]} to {found.sheet.votes[b, a]}"
 
 
-def has_picture(found: Published) -> bool:
-    """Whether the picture stands within the page."""
-    return found.picture is not None and len(found.sheet.names) <= MOST_IN_PAGE
+def picture_within(found: Published) -> bytes | None:
+    """The picture that stands within the page; none where it is too large for it, or where there is none."""
+    return found.picture if len(found.sheet.names) <= MOST_IN_PAGE else None
 
 
 def figure(found: Published) -> str:
@@ -101,9 +100,10 @@ def figure(found: Published) -> str:
     )
     if not found.labels.is_empty:
         legend += " The picture has the names of the poll."
-    if not has_picture(found):
+    picture = picture_within(found)
+    if picture is None:
         return paragraph(f'<a href="picture.svg">The picture</a> of so many options is too large for this page. {legend}')
-    drawn = wide("Picture of the defeats", f'<div class="picture">\n{picture_in_page(found.picture)}\n</div>')
+    drawn = wide("Picture of the defeats", f'<div class="picture">\n{picture_in_page(picture)}\n</div>')
     scrolls = "Where the picture is wider than the window, it scrolls sideways by itself."
     link = 'The picture <a href="picture.svg">alone</a>.'
     return f"<figure>\n{drawn}\n<figcaption>{scrolls} {legend} {link}</figcaption>\n</figure>"

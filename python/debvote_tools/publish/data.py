@@ -9,8 +9,6 @@ from debvote_tools.sheet import Round, Sheet
 
 FORMAT = "debvote result 1"
 
-Pair = dict[str, int]
-
 
 def result_json(sheet: Sheet, labels: Labels, version: str) -> str:
     """The sheet as JSON, a key a line."""
@@ -20,23 +18,21 @@ def result_json(sheet: Sheet, labels: Labels, version: str) -> str:
 
 def document(sheet: Sheet, labels: Labels, version: str) -> list[tuple[str, object]]:
     """The keys of the document with their values, in their order."""
-    facts = sheet.facts
-    multiple, votes = facts["Quorum"].split(", ")
     return [
         ("format", FORMAT),
         ("program", version),
-        ("title", facts["Poll"]),
-        ("label", labels.title or facts["Poll"]),
-        ("electors", int(facts["Electors"])),
-        ("quorum", {"multiple": int(multiple.removesuffix("Q")), "votes": int(votes.removesuffix(" votes"))}),
-        ("wording", "more_than" if "Majority" in facts else "at_least"),
-        ("lines", int(facts["Lines"])),
-        ("last_envelope", int(facts["Last envelope"]) if "Last envelope" in facts else None),
-        ("valid", int(facts["Valid"])),
-        ("refused", int(facts["Refused"])),
-        ("voters", int(facts["Voters"])),
+        ("title", sheet.title),
+        ("label", labels.title or sheet.title),
+        ("electors", sheet.electors),
+        ("quorum", {"multiple": sheet.quorum_multiple, "votes": sheet.quorum}),
+        ("wording", "more_than" if sheet.is_more_than else "at_least"),
+        ("lines", sheet.lines),
+        ("last_envelope", sheet.last_envelope),
+        ("valid", sheet.valid),
+        ("refused", sheet.refused),
+        ("voters", sheet.voters),
         ("options", [option_of(sheet, labels, option) for option in sheet.names]),
-        ("votes", [[number_in(sheet.votes[a, b]) for b in sheet.names] for a in sheet.names]),
+        ("votes", [[sheet.votes.get((a, b)) for b in sheet.names] for a in sheet.names]),
         ("defeats", [defeat_of(sheet, a, b) for a, b in sheet.defeats]),
         ("rounds", [round_of(step) for step in sheet.rounds]),
         ("outcome", outcome_of(sheet)),
@@ -44,24 +40,19 @@ def document(sheet: Sheet, labels: Labels, version: str) -> list[tuple[str, obje
 
 
 def option_of(sheet: Sheet, labels: Labels, option: int) -> dict[str, object]:
-    ratio, name = sheet.ratios.get(option), sheet.names[option]
+    name = sheet.names[option]
     return {
         "number": option,
         "name": name,
         "label": labels.options.get(option, name),
         "is_default": option == sheet.default,
-        "ratio": None if ratio is None else int(ratio),
+        "ratio": sheet.ratios.get(option),
         "dropped": sheet.dropped.get(option),
     }
 
 
-def number_in(cell: str) -> int | None:
-    """A number of the table; none where an option meets itself."""
-    return None if cell == "-" else int(cell)
-
-
-def defeat_of(sheet: Sheet, a: int, b: int) -> Pair:
-    return {"over": a, "under": b, "votes": int(sheet.votes[a, b]), "against": int(sheet.votes[b, a])}
+def defeat_of(sheet: Sheet, a: int, b: int) -> dict[str, int]:
+    return {"over": a, "under": b, "votes": sheet.votes[a, b], "against": sheet.votes[b, a]}
 
 
 def round_of(step: Round) -> dict[str, object]:
@@ -84,7 +75,7 @@ def votes_csv(sheet: Sheet) -> str:
     writer = csv.writer(table, lineterminator="\n")
     writer.writerow(["option", "name", "ratio", "ended", *sheet.names])
     for a, name in sheet.names.items():
-        votes = ["" if a == b else sheet.votes[a, b] for b in sheet.names]
+        votes = [sheet.votes.get((a, b), "") for b in sheet.names]
         writer.writerow([a, name, sheet.ratios.get(a, ""), ended(sheet, a), *votes])
     return table.getvalue()
 

@@ -12,10 +12,10 @@ import sys
 
 from debvote_tools import by_hand, called, journal, lost
 from debvote_tools.closed import Counted, changed_since
-from debvote_tools.election.poll_file import as_announced
 from debvote_tools.faults import Doubt, Fault, Status
 from debvote_tools.files import sum_of
 from debvote_tools.journal import Sums
+from debvote_tools.poll_file import as_announced
 from debvote_tools.program import Debvote, Findings, Totals, findings_in
 from debvote_tools.publish.called import announced_sum, folders_of
 from debvote_tools.publish.calls import BALLOTS, POLL, Calls
@@ -155,9 +155,7 @@ def unended(file: pathlib.Path, ballots: str) -> list[Doubt]:
         return []
     reason = "its last line has no line feed, as in a file that was cut off"
     cure = "look whether its end is missing; where it is whole, end the last line with the Enter key in an editor"
-    sentence = (
-        "The last line of the ballot file has no line feed, as in a file that was cut off: ballots may be missing behind it."
-    )
+    sentence = "The last line of the ballot file has no line feed, as in a file that was cut off: ballots may be missing behind it."
     return [Doubt(ballots, reason, cure, sentence, sentence)]
 
 

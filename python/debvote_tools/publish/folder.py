@@ -1,18 +1,18 @@
 """The folder that is made: whole, or not at all."""
 
-import argparse
 import dataclasses
 import os
 import pathlib
 import shutil
 import tempfile
 
+from debvote_tools.closed import lines_of
 from debvote_tools.faults import Doubt, Fault, Status
 from debvote_tools.files import BALLOTS_LIMIT, POLL_LIMIT, read_at_most, sum_of, sync_folder, write_public
-from debvote_tools.closed import LAST, lines_of
-from debvote_tools.election.poll_file import roll_of
+from debvote_tools.poll_file import roll_of
 from debvote_tools.program import findings_in, standing_in
 from debvote_tools.publish import casting, doubts, letter, recounting, roll, second_count, secret
+from debvote_tools.publish.asked import Asked
 from debvote_tools.publish.called import about_call, announced_sum, called_of, folders_of
 from debvote_tools.publish.calls import BALLOTS, POLL, SHEET, Calls, calls_in
 from debvote_tools.publish.data import result_json, votes_csv
@@ -46,7 +46,7 @@ class Given:
     cast: casting.Cast = casting.Cast()
 
 
-def publish(asked: argparse.Namespace, beside: pathlib.Path) -> tuple[str, int]:
+def publish(asked: Asked, beside: pathlib.Path | None) -> tuple[str, int]:
     """Makes the folder beside its place, and moves it there when all is done; a run that fails leaves nothing.
 
     Returns the last line of the sheet with what `debvote verify` says, and the status of the count. `beside` is the folder of
@@ -59,8 +59,10 @@ def publish(asked: argparse.Namespace, beside: pathlib.Path) -> tuple[str, int]:
     given = given_in(asked)
     folder = pathlib.Path(tempfile.mkdtemp(prefix=f".{target.name}.", dir=target.parent))
     try:
-        make_files = fill if asked.secret is None else fill_secret
-        said, status = make_files(folder, asked, given, beside)
+        if asked.secret is None:
+            said, status = fill(folder, asked, given, beside)
+        else:
+            said, status = fill_secret(folder, asked, pathlib.Path(asked.secret), given, beside)
         folder.chmod(0o755)
         sync_folder(folder)
         folder.rename(target)
@@ -71,7 +73,7 @@ def publish(asked: argparse.Namespace, beside: pathlib.Path) -> tuple[str, int]:
     return said, status
 
 
-def demand_words(asked: argparse.Namespace) -> None:
+def demand_words(asked: Asked) -> None:
     """Stops where the words do not go together: above all where an open publication would tell the votes of a secret vote."""
     if asked.secret is None:
         secret.demand_open(asked.poll, asked.ballots)
@@ -84,7 +86,7 @@ def demand_words(asked: argparse.Namespace) -> None:
         raise Fault("--because: it goes with --even-so: it says why a doubt is none; leave it out", Status.BAD_WORDS)
 
 
-def given_in(asked: argparse.Namespace) -> Given:
+def given_in(asked: Asked) -> Given:
     """Reads what is given beside poll and ballots. A fault of it is told before anything is counted."""
     labels = {} if asked.labels is None else labels_in(asked.labels)
     about = None if asked.about is None else text_in(asked.about, "about")
@@ -94,15 +96,14 @@ def given_in(asked: argparse.Namespace) -> Given:
     return Given(asked.labels, labels, about, asked.who, who, because, announced_sum(asked.poll), cast)
 
 
-def texts_of(asked: argparse.Namespace, given: Given) -> dict[str, str]:
+def texts_of(asked: Asked, given: Given) -> dict[str, str]:
     """The texts that are given for the page, by their files."""
     labels = "\n".join(text for _, text in given.labels.values())
-    found = {file: text for file, text in ((asked.labels, labels), (asked.about, given.about)) if file is not None}
-    said = (("--because", given.because), ("--cast-by", given.cast.by))
-    return found | {option: text for option, text in said if text is not None}
+    said = ((asked.labels, labels), (asked.about, given.about), ("--because", given.because), ("--cast-by", given.cast.by))
+    return {where: text for where, text in said if where is not None and text is not None}
 
 
-def fill(folder: pathlib.Path, asked: argparse.Namespace, given: Given, beside: pathlib.Path) -> tuple[str, int]:
+def fill(folder: pathlib.Path, asked: Asked, given: Given, beside: pathlib.Path | None) -> tuple[str, int]:
     """Writes all files of an open vote: poll and ballots are published as they are."""
     calls = calls_in(folder, beside, asked.casting, asked.desks)
     poll, ballots = inputs_of(asked)
@@ -112,16 +113,17 @@ def fill(folder: pathlib.Path, asked: argparse.Namespace, given: Given, beside: 
     text, status = count(calls, asked)
     found = doubts.found_in(calls, asked.poll, asked.ballots, sheet_in(text))
     found += about_casting(asked, given, sheet_in(text), poll)
-    found += about_call(asked.poll, called_of(poll, sheet_in(text).facts.get(LAST), given.announced))
+    found += about_call(asked.poll, called_of(poll, sheet_in(text).last_envelope, given.announced))
     settle(found, asked)
-    times = times_of(doubts.election_of(asked.poll), poll, ballots, sheet_in(text).facts.get(LAST))
+    times = times_of(doubts.election_of(asked.poll), poll, ballots, sheet_in(text).last_envelope)
     return make(calls, text, given, found, Further(), times), status
 
 
-def fill_secret(folder: pathlib.Path, asked: argparse.Namespace, given: Given, beside: pathlib.Path) -> tuple[str, int]:
+def fill_secret(
+    folder: pathlib.Path, asked: Asked, codes: pathlib.Path, given: Given, beside: pathlib.Path | None
+) -> tuple[str, int]:
     """Writes all files of a secret vote: poll and ballots are published under aliases, and what they come from is not written."""
     poll, ballots = inputs_of(asked)
-    codes = pathlib.Path(asked.secret)
     secret.demand_texts(texts_of(asked, given), codes, (asked.poll, poll), (asked.ballots, ballots))
     with secret.private_folder(poll, ballots) as room:
         private = calls_in(room, beside, asked.casting, asked.desks)
@@ -137,7 +139,7 @@ def fill_secret(folder: pathlib.Path, asked: argparse.Namespace, given: Given, b
     calls = calls_in(folder, beside, asked.casting, asked.desks)
     published, status = calls.count()
     secret.demand_same(text, published)
-    secret.demand_all_count(published)
+    secret.demand_all_count(sheet_in(published))
     further = secret.further_of(hidden, totals, with_voters=asked.voters)
     # the sum of the lines in time is private
     times = times_of(doubts.election_of(asked.poll), poll, ballots, None)
@@ -146,14 +148,14 @@ def fill_secret(folder: pathlib.Path, asked: argparse.Namespace, given: Given, b
     return said, status
 
 
-def about_casting(asked: argparse.Namespace, given: Given, sheet: Sheet, poll: bytes) -> list[Doubt]:
+def about_casting(asked: Asked, given: Given, sheet: Sheet, poll: bytes) -> list[Doubt]:
     """What there is to doubt about the casting vote; one that can't decide stops the run. The poll is the one to be published."""
     casting.demand_left(sheet, asked.casting)
     beside = pathlib.Path(os.path.realpath(asked.folder)).parent
     return casting.doubts_of(sheet, given.cast, poll, dict.fromkeys([beside, *folders_of(asked.poll)]))
 
 
-def settle(found: list[Doubt], asked: argparse.Namespace) -> None:
+def settle(found: list[Doubt], asked: Asked) -> None:
     """Stops at doubts, unless it is published even so; and at a reason that is given although there is no doubt."""
     if found and not asked.even_so:
         raise doubts.stop(found)
@@ -186,7 +188,7 @@ def make(calls: Calls, text: str, given: Given, found: list[Doubt], further: Fur
     write_public(folder / SHEET, text.encode())
     verified, picture = calls.verify(), picture_of(calls.picture(), len(sheet.names))
     poll, ballots = ((folder / name).read_bytes() for name in (POLL, BALLOTS))
-    called = called_of(poll, sheet.facts.get(LAST), given.announced, is_secret=further.unlisted is not None)
+    called = called_of(poll, sheet.last_envelope, given.announced, is_secret=further.unlisted is not None)
     lines = lines_of(ballots)
     published = Published(
         sheet, standing, refused, lines, picture, calls.casting, verified.rstrip("\n"), version, found, called, labels,
@@ -229,7 +231,7 @@ def made_of(found: Published, poll: bytes, ballots: bytes) -> list[File]:
     return [*files, *found.further.files]
 
 
-def count(calls: Calls, asked: argparse.Namespace) -> tuple[str, int]:
+def count(calls: Calls, asked: Asked) -> tuple[str, int]:
     """The sheet, and how the count ended. Where the poll is refused since a file is in the place of the other, it says so."""
     try:
         return calls.count()
@@ -239,7 +241,7 @@ def count(calls: Calls, asked: argparse.Namespace) -> tuple[str, int]:
         raise
 
 
-def inputs_of(asked: argparse.Namespace) -> tuple[bytes, bytes]:
+def inputs_of(asked: Asked) -> tuple[bytes, bytes]:
     """The poll and the ballots. They are read once, so that all commands read the same bytes."""
     poll = input_in(asked.poll, POLL_LIMIT, "poll", Status.BAD_POLL)
     return poll, input_in(asked.ballots, BALLOTS_LIMIT, "ballots", Status.BAD_BALLOTS)

@@ -107,7 +107,7 @@ def alike(text: str) -> str:
 
 def told(labels: Labels, sheet: Sheet) -> str:
     """The number of each option with its name in the poll and its label, for who publishes."""
-    title = [] if labels.title is None else [f"  the title {sheet.facts['Poll']}: {labels.title}"]
+    title = [] if labels.title is None else [f"  the title {sheet.title}: {labels.title}"]
     options = [f"  {number} {name}: {labels.options.get(number, '(no label)')}" for number, name in sheet.names.items()]
     return "\n".join(["The page calls them so, each behind its name in the poll:", *title, *options, ""])
 

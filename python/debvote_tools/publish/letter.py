@@ -1,7 +1,7 @@
 """The letter of the result: what an elector compares with the web site, sent by a way that does not lead over it."""
 
-from debvote_tools.election.call_letter import copied, heading, wrapped
 from debvote_tools.files import sum_of
+from debvote_tools.letters import copied, heading, wrapped
 from debvote_tools.publish import casting
 from debvote_tools.publish.published import Published
 
@@ -23,12 +23,14 @@ THEN = "The page index.html, under How to verify, says how to look at your own b
 
 def letter_of(found: Published, poll: bytes, ballots: bytes) -> bytes:
     """The letter, in plain text. The names are those of the poll."""
-    called = found.called
-    said = [wrapped(SAME)] if called.last_envelope is None else [wrapped(LATER.format(called.last_envelope)), copied(called.poll_sum)]
+    called, told = found.called, casting.told(found.cast)
+    said = (
+        [wrapped(SAME)] if called.last_envelope is None else [wrapped(LATER.format(called.last_envelope)), copied(called.poll_sum)]
+    )
     parts = [
-        wrapped(found.sheet.facts["Poll"]),
+        wrapped(found.sheet.title),
         wrapped(found.sheet.last_line),
-        *([] if casting.told(found.cast) is None else [wrapped(casting.told(found.cast))]),
+        *([] if told is None else [wrapped(told)]),
         heading("The files of the result"),
         wrapped("The sum (SHA-256) of the file poll.toml:"),
         copied(sum_of(poll)),

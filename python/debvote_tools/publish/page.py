@@ -52,7 +52,7 @@ FROM_ELSEWHERE = (
 )
 
 NO_OTHER = "No file lies in the folder that is not named there. Look at this before you run anything in it:"
-NO_OTHER_FILE = "ls -A | grep -vxF \"$(cut -c67- SHA256SUMS)\""
+NO_OTHER_FILE = 'ls -A | grep -vxF "$(cut -c67- SHA256SUMS)"'
 
 
 def page_of(found: Published, files: list[File]) -> str:
@@ -72,12 +72,12 @@ def page_of(found: Published, files: list[File]) -> str:
 
 def head_of(found: Published) -> str:
     """What the window is called; there are no marks there."""
-    return escape(found.labels.title or found.sheet.facts["Poll"])
+    return escape(found.labels.title or found.sheet.title)
 
 
 def contents(parts: list[str]) -> str:
     """Links to the parts."""
-    headings = [re.search(r'<h2 id="(.*)">(.*)</h2>', text).groups() for text in parts]
+    headings = [found for text in parts for found in re.findall(r'<h2 id="(.*)">(.*)</h2>', text)]
     links = [f'<a href="#{name}">{heading}</a>' for name, heading in headings]
     return f'<nav aria-label="On this page">\n{listed("ul", links)}\n</nav>\n'
 
@@ -183,7 +183,11 @@ def debvote_commands(found: Published) -> list[Command]:
     voter = found.standing.partition(" ")[0] or "NAME"
     draw = shlex.join(words_for_dot(len(found.sheet.names)))
     return [
-        (f"The sheet is that of the poll{with_later(found)}, and the ballots:", debvote("verify", *FILES, "--sheet", SHEET), found.verified),
+        (
+            f"The sheet is that of the poll{with_later(found)}, and the ballots:",
+            debvote("verify", *FILES, "--sheet", SHEET),
+            found.verified,
+        ),
         (f"The ballot of {voter}{in_time(found)}:", debvote("standing", *FILES) + f" | grep '^{voter} '", None),
         ("The ballots that stand are those of standing.txt:", same_standing(debvote("standing", *FILES)), "the same"),
         ("What became of each line of the ballot file:", debvote("steps", *FILES), None),
@@ -198,7 +202,11 @@ def python_commands(found: Published) -> list[Command]:
     return [
         ("The sheet anew:", words, None),
         (f"It is the published one{with_later(found)}:", f"{words} | cmp - {SHEET} && echo the same", "the same"),
-        ("The ballots that stand are those of standing.txt:", same_standing(shlex.join([*ISOLATED, RECOUNT, "standing", *FILES])), "the same"),
+        (
+            "The ballots that stand are those of standing.txt:",
+            same_standing(shlex.join([*ISOLATED, RECOUNT, "standing", *FILES])),
+            "the same",
+        ),
     ]
 
 

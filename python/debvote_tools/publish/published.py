@@ -94,7 +94,7 @@ class Published:
 
     def title(self) -> str:
         """What the election is called on the page, in HTML."""
-        return shown(self.labels.title, self.sheet.facts["Poll"])
+        return shown(self.labels.title, self.sheet.title)
 
     def name(self, option: int) -> str:
         """What an option is called on the page, in HTML."""

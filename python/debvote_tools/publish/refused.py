@@ -3,11 +3,11 @@
 import dataclasses
 from html import escape
 
-from debvote_tools.election.shapes import plainly
 from debvote_tools.pages import listed, paragraph, part
 from debvote_tools.program import Finding, Totals
 from debvote_tools.publish.calls import BALLOTS
 from debvote_tools.publish.published import Published
+from debvote_tools.shapes import plainly
 
 HEADING = "Refused lines"
 
@@ -59,7 +59,7 @@ def runs_of(findings: list[Finding], lines: list[bytes]) -> list[Run]:
     left = TEXTS_LIMIT
     for finding in findings:
         line = lines[finding.envelope - 1]
-        cause, text = cause_of(finding, line), text_of(line) if left > 0 else None
+        cause, text = cause_of(finding, line), shown_line(line) if left > 0 else None
         if runs and runs[-1].last == finding.envelope - 1 and (runs[-1].cause, runs[-1].text) == (cause, text):
             runs[-1].last = finding.envelope
         else:
@@ -68,7 +68,7 @@ def runs_of(findings: list[Finding], lines: list[bytes]) -> list[Run]:
     return runs
 
 
-def text_of(line: bytes) -> str:
+def shown_line(line: bytes) -> str:
     """A line as it stands on the page, in HTML: characters that are not seen stand by their numbers, and a long one is cut."""
     if not line:
         return "(an empty line)"

@@ -2,9 +2,9 @@
 
 from html import escape
 
+from debvote_tools.faults import Doubt
 from debvote_tools.pages import in_their_words, joined, listed, paragraph, part
 from debvote_tools.publish import casting
-from debvote_tools.publish.doubts import Doubt
 from debvote_tools.publish.published import Published
 from debvote_tools.publish.recounting import GUIDE
 from debvote_tools.publish.texts import paragraphs_of
@@ -48,7 +48,7 @@ def outcome(found: Published) -> str:
 
 def recasts(sheet: Sheet) -> str:
     """Why there are more valid lines than voters; nothing where each voter has one."""
-    voters, valid = (int(sheet.facts[name]) for name in ("Voters", "Valid"))
+    voters, valid = sheet.voters, sheet.valid
     if voters == valid:
         return ""
     of = "1 voter has" if voters == 1 else f"{voters} voters have"
@@ -66,21 +66,24 @@ def share(voters: int, electors: int) -> str:
 
 def facts(found: Published) -> str:
     """The numbers that the sheet begins with."""
-    facts = found.sheet.facts
-    multiple, least = facts["Quorum"].split(", ")
-    voters, electors = int(facts["Voters"]), int(facts["Electors"])
-    quorum = f"{least}: at least {multiple}, where Q is half of the square root of the number of electors"
+    sheet = found.sheet
+    quorum = (
+        f"{sheet.quorum} votes: at least {sheet.quorum_multiple}Q, where Q is half of the square root of the number of electors"
+    )
     rows = [
-        ("Electors", facts["Electors"]),
-        ("Voters", f"{voters}, which is {share(voters, electors)} of the electors: those with a ballot that stands"),
-        ("Quorum", "none" if multiple == "0Q" else quorum),
+        ("Electors", str(sheet.electors)),
+        (
+            "Voters",
+            f"{sheet.voters}, which is {share(sheet.voters, sheet.electors)} of the electors: those with a ballot that stands",
+        ),
+        ("Quorum", "none" if sheet.quorum_multiple == 0 else quorum),
     ]
     if found.further.unlisted is None:
-        lines = f"{facts['Lines']} in the ballot file: {facts['Valid']} valid, {facts['Refused']} refused"
-        rows.append(("Lines", lines + recasts(found.sheet)))
-    if "Last envelope" in facts:
-        rows.append(("Last envelope", f"{facts['Last envelope']}: a line with a greater number is late, and is refused"))
-    if "Majority" in facts:
+        lines = f"{sheet.lines} in the ballot file: {sheet.valid} valid, {sheet.refused} refused"
+        rows.append(("Lines", lines + recasts(sheet)))
+    if sheet.last_envelope is not None:
+        rows.append(("Last envelope", f"{sheet.last_envelope}: a line with a greater number is late, and is refused"))
+    if sheet.is_more_than:
         rows.append(("Majority", "more than the ratio, where the Constitution of Debian has at least the ratio"))
     shown = "".join(f"<dt>{name}</dt><dd>{value}</dd>\n" for name, value in rows)
     return f"<dl>\n{shown}</dl>"
@@ -100,7 +103,7 @@ def result(found: Published) -> str:
         marked.append(in_their_words(paragraphs_of(found.because), WHY_NONE))
     in_poll = []
     if found.labels.title is not None:
-        in_poll = [paragraph(f"In the poll the title is: {escape(found.sheet.facts['Poll'])}")]
+        in_poll = [paragraph(f"In the poll the title is: {escape(found.sheet.title)}")]
     said = [f'<p class="outcome">{outcome(found)}</p>', *casting.on_page(found.cast), *marked, facts(found), paragraph(COUNTED)]
     return part("Result", *in_poll, *said)
 

@@ -5,8 +5,8 @@ import pathlib
 from collections.abc import Iterable, Mapping, Sequence
 from html import escape
 
-from debvote_tools.election.members import members_in
 from debvote_tools.faults import Fault, Status
+from debvote_tools.members import members_in
 from debvote_tools.pages import paragraph, part
 from debvote_tools.publish.texts import odd_sign
 

@@ -20,20 +20,23 @@ def demand_same(folder: pathlib.Path, casting: list[str], sheet: str, standing: 
     """Stops where the program of the folder finds another sheet there, or other ballots that stand. Both are counted at once."""
     with contextlib.ExitStack() as stack:
         runs = {task: stack.enter_context(begun(folder, [task, *FILES, *(casting if task == "count" else [])])) for task in TASKS}
-        stack.callback(lambda: [run.kill() for run in runs.values()])
+        for run in runs.values():
+            stack.callback(run.kill)
         answers = {task: run.communicate() for task, run in runs.items()}
     for task, wanted in zip(TASKS, (sheet, standing), strict=True):
         found, faults = (data.decode("utf-8", "replace") for data in answers[task])
         if found != wanted:
             said = f"it says `{faults.strip()}`" if faults else difference(found, wanted)
             words = f"{NAME}, the second count, does not find the same as debvote with its `{task}`: {said}; nothing was published"
-            raise Fault(f"{words}: write the poll as TOML 1.0, or, if it is so, keep all files and tell the maintainers", Status.DIFFERS)
+            raise Fault(
+                f"{words}: write the poll as TOML 1.0, or, if it is so, keep all files and tell the maintainers", Status.DOUBT
+            )
 
 
 def begun(folder: pathlib.Path, words: list[str]) -> subprocess.Popen[bytes]:
     """A run of the program of the folder."""
-    how = {"stdin": subprocess.DEVNULL, "stdout": subprocess.PIPE, "stderr": subprocess.PIPE}
-    return subprocess.Popen([sys.executable, *ISOLATED[1:], NAME, *words], cwd=folder, **how)
+    program = [sys.executable, *ISOLATED[1:], NAME, *words]
+    return subprocess.Popen(program, cwd=folder, stdin=subprocess.DEVNULL, stdout=subprocess.PIPE, stderr=subprocess.PIPE)
 
 
 def difference(found: str, wanted: str) -> str:

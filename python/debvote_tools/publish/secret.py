@@ -9,8 +9,7 @@ import tempfile
 from collections.abc import Iterator
 from html import escape
 
-from debvote_tools import journal, pages, secret
-from debvote_tools.election import poll_file
+from debvote_tools import journal, pages, poll_file, secret
 from debvote_tools.faults import Doubt, Fault, Status
 from debvote_tools.files import in_memory
 from debvote_tools.pages import command_block, listed, paragraph, part
@@ -21,6 +20,7 @@ from debvote_tools.publish.calls import BALLOTS, POLL
 from debvote_tools.publish.published import File, Further
 from debvote_tools.publish.roll import VOTERS
 from debvote_tools.secret_words import ALIAS, BY_OPENSSL, BY_PYTHON, FIND, REMAINS
+from debvote_tools.sheet import Sheet
 
 SCRIPT = pathlib.Path(__file__).with_name("find.js")
 
@@ -145,7 +145,7 @@ def hidden_of(codes: pathlib.Path, poll: bytes, standing: dict[str, str]) -> Hid
 def demand_same(private: str, published: str) -> None:
     """Stops where the sheet under aliases is not the one of the private files: from the line `Voters:` on, and in its head."""
     if from_voters(private) != from_voters(published) or head_of(private) != head_of(published):
-        raise Fault("the sheet under aliases is not that of the votes as they came; nothing was published", Status.DIFFERS)
+        raise Fault("the sheet under aliases is not that of the votes as they came; nothing was published", Status.DOUBT)
 
 
 def from_voters(sheet: str) -> str:
@@ -159,11 +159,10 @@ def head_of(sheet: str) -> list[str]:
     return lines[:1] + [line for line in lines[1:] if not re.match("(Lines|Last envelope|Valid|Refused): ", line)]
 
 
-def demand_all_count(published: str) -> None:
+def demand_all_count(published: Sheet) -> None:
     """Stops where a line of the published ballots would not count, or counts no more."""
-    facts = dict(re.findall("(?m)^(Lines|Last envelope|Valid|Voters): ([0-9]+)$", published.partition("\nOptions:\n")[0]))
-    if len(facts) != 3 or len(set(facts.values())) != 1:
-        raise Fault("not each of the ballots under aliases would count, once; nothing was published", Status.DIFFERS)
+    if published.last_envelope is not None or not published.lines == published.valid == published.voters:
+        raise Fault("not each of the ballots under aliases would count, once; nothing was published", Status.DOUBT)
 
 
 def demand_no_code(folder: pathlib.Path, codes: pathlib.Path) -> None:

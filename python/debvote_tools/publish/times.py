@@ -30,11 +30,10 @@ BALLOTS = "head -n {number} ballots.txt | sha256sum"
 CLOSED_BALLOTS = "The lines that were in time at the close; the letter of the close, if it was sent to you, names this sum:"
 
 
-def times_of(election: pathlib.Path | None, poll: bytes, ballots: bytes, last_envelope: str | None) -> Times:
+def times_of(election: pathlib.Path | None, poll: bytes, ballots: bytes, last_envelope: int | None) -> Times:
     """What is known of an election in a folder, for its poll and its ballots; without a last envelope no sum is named."""
     acts = None if election is None else journal.acts_done(election / journal.NAME, Sums.of(poll, ballots))
-    number = None if last_envelope is None else int(last_envelope)
-    in_time = None if number is None else (number, sum_of(first_lines(ballots, number)))
+    in_time = None if last_envelope is None else (last_envelope, sum_of(first_lines(ballots, last_envelope)))
     return Times(announced_in(poll), acts, in_time)
 
 
@@ -55,7 +54,12 @@ def times(published: Published) -> str:
     late = sum(finding.word == "late" for finding in published.refused) if unlisted is None else unlisted.late
     rows = [("One could vote until", until(found))]
     if found.acts is not None:
-        rows = [("The call was made", called(found)), *rows, ("The vote was closed", closed(found)), ("Lines that came late", f"{late}, {CLOCK}")]
+        rows = [
+            ("The call was made", called(found)),
+            *rows,
+            ("The vote was closed", closed(found)),
+            ("Lines that came late", f"{late}, {CLOCK}"),
+        ]
     shown = "".join(f"<dt>{name}</dt><dd>{value}</dd>\n" for name, value in rows)
     return part(HEADING, f"<dl>\n{shown}</dl>", paragraph(UNKNOWN if found.acts is None else UNSEEN))
 

@@ -10,9 +10,7 @@ from debvote_tools.publish.published import Published
 
 HEADING = "What nobody can see from here"
 
-SAID = (
-    "Each of the following may be wrong although the count of the files is right. Electors alone can see it, if they look:"
-)
+SAID = "Each of the following may be wrong although the count of the files is right. Electors alone can see it, if they look:"
 
 
 @dataclasses.dataclass(frozen=True)

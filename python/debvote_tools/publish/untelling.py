@@ -7,9 +7,9 @@ import pathlib
 import re
 
 from debvote_tools import journal, secret
-from debvote_tools.election.poll_file import as_announced
 from debvote_tools.faults import Fault, Status
 from debvote_tools.files import sum_of
+from debvote_tools.poll_file import as_announced
 from debvote_tools.secret import Holder
 
 # the files and folders of an election that are nobody's but the secretary's

@@ -2,12 +2,10 @@
 
 from debvote_tools.pages import joined, listed, paragraph, part
 from debvote_tools.publish.published import Published
-from debvote_tools.sheet import Sheet
+from debvote_tools.sheet import Pair, Sheet
 
 # of more options than these the numbers of the nearest alone are told
 MOST = 3
-
-Pair = tuple[int, int]
 
 AT_LEAST = "At least the ratio times as many electors must prefer it as prefer the default option, and in any case more."
 MORE_THAN = "More than the ratio times as many electors must prefer it as prefer the default option."
@@ -18,7 +16,7 @@ def rule(sheet: Sheet) -> str:
     return (
         "An option other than the default option is dropped unless it reaches the quorum and has its majority. For the quorum so "
         "many electors must prefer it to the default option. For the majority its ratio counts. "
-        + (MORE_THAN if "Majority" in sheet.facts else AT_LEAST)
+        + (MORE_THAN if sheet.is_more_than else AT_LEAST)
     )
 
 
@@ -58,16 +56,16 @@ def admitted(sheet: Sheet, option: int) -> list[str]:
     if option == sheet.default:
         return ["it needs no quorum and no majority"]
     over, under = against_default(sheet, option)
-    quorum = f"it reached the quorum: {prefer(over)} it to the default option, {wanted(quorum_of(sheet))}"
+    quorum = f"it reached the quorum: {prefer(over)} it to the default option, {wanted(sheet.quorum)}"
     ratio = sheet.ratios[option]
-    needed = "" if ratio == "1" else f", and its ratio is {ratio}, so {wanted(least(sheet, option))}"
+    needed = "" if ratio == 1 else f", and its ratio is {ratio}, so {wanted(least(sheet, option))}"
     majority = f"it has its majority: {over} to {under}{needed}"
-    return [majority] if sheet.facts["Quorum"].startswith("0Q, ") else [quorum, majority]
+    return [majority] if sheet.quorum_multiple == 0 else [quorum, majority]
 
 
 def missed_quorum(sheet: Sheet, option: int) -> str:
     over, _ = against_default(sheet, option)
-    return f"it did not reach the quorum: {prefer(over)} it to the default option, {wanted(quorum_of(sheet))}"
+    return f"it did not reach the quorum: {prefer(over)} it to the default option, {wanted(sheet.quorum)}"
 
 
 def missed_majority(sheet: Sheet, option: int) -> str:
@@ -77,18 +75,13 @@ def missed_majority(sheet: Sheet, option: int) -> str:
 
 def against_default(sheet: Sheet, option: int) -> Pair:
     """How many prefer an option to the default option, and how many the reverse."""
-    return int(sheet.votes[option, sheet.default]), int(sheet.votes[sheet.default, option])
-
-
-def quorum_of(sheet: Sheet) -> int:
-    """The votes that the quorum wants."""
-    return int(sheet.facts["Quorum"].split(", ")[1].removesuffix(" votes"))
+    return sheet.votes[option, sheet.default], sheet.votes[sheet.default, option]
 
 
 def least(sheet: Sheet, option: int) -> int:
     """The least number of votes that is a majority against those that prefer the default option."""
-    ratio, (_, under) = int(sheet.ratios[option]), against_default(sheet, option)
-    return ratio * under + 1 if "Majority" in sheet.facts else max(ratio * under, under + 1)
+    ratio, (_, under) = sheet.ratios[option], against_default(sheet, option)
+    return ratio * under + 1 if sheet.is_more_than else max(ratio * under, under + 1)
 
 
 def prefer(number: int) -> str:
@@ -121,7 +114,7 @@ def defeated(found: Published, option: int, beaten: list[int], others: int) -> s
         each = "each other option that was not dropped: " if 1 < len(beaten) == others else ""
         return f"it defeats {each}{joined(by.values())}"
     votes = found.sheet.votes
-    nearest = min(beaten, key=lambda other: int(votes[option, other]) - int(votes[other, option]))
+    nearest = min(beaten, key=lambda other: votes[option, other] - votes[other, option])
     of = f"each of the {others}" if len(beaten) == others else f"{len(beaten)} of the {others}"
     return f"it defeats {of} other options that were not dropped, most narrowly {by[nearest]}"
 

@@ -14,27 +14,29 @@ from debvote_tools.election.casting import Batch, cast, sheet_of, summary
 from debvote_tools.election.doubts import Part, stop_at_added_before, stop_at_no_ballot, stop_at_too_much
 from debvote_tools.election.folder import Election, Files
 from debvote_tools.election.forms import columns_of, lines_of_form
-from debvote_tools.election.lines import Line, lines_in
 from debvote_tools.election.secrecy import demand_own_folder
 from debvote_tools.election.telling import tell, tell_edits, tell_time
 from debvote_tools.faults import Fault, Status
 from debvote_tools.files import BALLOTS_LIMIT, in_memory, read_at_most, write_new
+from debvote_tools.lines import Line, lines_in
+from debvote_tools.tables import kind_of
+from debvote_tools.words import taken
 
 HELP = "Append ballots from files or standard input, and tell the reply to each"
 
 STANDARD_INPUT = "-"
 
-# how a file begins that is no plain text, and what it is
-KINDS = {
-    b"PK\x03\x04": "a ZIP, as word processors and spreadsheets save",
-    b"PK\x05\x06": "a ZIP, as word processors and spreadsheets save",
-    b"\xd0\xcf\x11\xe0": "a document of a word processor or spreadsheet",
-    b"{\\rtf": "a document with formats (RTF)",
-    b"%PDF": "a PDF",
-}
 UTF_16 = (codecs.BOM_UTF16_LE, codecs.BOM_UTF16_BE)
 
 POLL_KEY = re.compile(rb"(?m)^[ \t]*(title|options|ratios|default|quorum|roll)[ \t]*=")
+
+
+@dataclasses.dataclass(frozen=True)
+class Table:
+    """The heads of the columns of a table, as they were given: that of the names, and those of the ranks, with commas between."""
+
+    name: str
+    ranks: str
 
 
 @dataclasses.dataclass(frozen=True)
@@ -44,6 +46,17 @@ class Input:
     name: str
     kept_as: str
     data: bytes
+
+
+@dataclasses.dataclass(frozen=True)
+class Asked:
+    """The words of this command."""
+
+    files: list[str]
+    csv: bool
+    name: str | None
+    ranks: str | None
+    even_so: bool
 
 
 def options(parser: argparse.ArgumentParser) -> None:
@@ -56,16 +69,17 @@ def options(parser: argparse.ArgumentParser) -> None:
     parser.add_argument("--even-so", action="store_true", help="Add them although no line is a ballot, or they came before")
 
 
-def run(election: Election, asked: argparse.Namespace) -> int:
-    check_words(asked)
+def run(election: Election, words: argparse.Namespace) -> int:
+    asked = taken(Asked, words)
+    table = table_of(asked)
     election.check_folder()
     inputs = [read(name) for name in asked.files or [STANDARD_INPUT]]
     with election.changing() as files:
         demand_own_folder(election)
         tell_edits(election, files)
         for source in inputs:
-            check_kind(election, source, asked.csv)
-        found = lines_of(election, files, inputs, asked)
+            check_kind(election, source, is_form=asked.csv)
+        found = lines_of(election, files, inputs, table)
         tell_time(election, files, "what is added")
 
         parts: list[Part] = []
@@ -85,22 +99,24 @@ def run(election: Election, asked: argparse.Namespace) -> int:
     return Status.DECIDED
 
 
-def check_words(asked: argparse.Namespace) -> None:
-    """Stops where the words do not go together."""
-    if asked.csv and (asked.name is None or asked.ranks is None):
+def table_of(asked: Asked) -> Table | None:
+    """The heads of the columns, where the files are tables. Stops where the words do not go together."""
+    if not asked.csv:
+        if asked.name is not None or asked.ranks is not None:
+            raise Fault("--name, --ranks: they name columns of a table; write --csv with them", Status.BAD_WORDS)
+        return None
+    if asked.name is None or asked.ranks is None:
         words = "--csv: it takes --name COLUMN and --ranks COLUMN,COLUMN,.. with it, one column a rank"
         raise Fault(words, Status.BAD_WORDS)
-    if not asked.csv and (asked.name is not None or asked.ranks is not None):
-        raise Fault("--name, --ranks: they name columns of a table; write --csv with them", Status.BAD_WORDS)
-    if asked.csv:
-        check_quotes(asked)
+    check_quotes(asked.files, asked.ranks)
+    return Table(asked.name, asked.ranks)
 
 
-def check_quotes(asked: argparse.Namespace) -> None:
+def check_quotes(files: list[str], ranks: str) -> None:
     """Stops where heads stand without quotes: the shell cuts them at their spaces, and the rest looks like files."""
-    gone = [name for name in asked.files if name != STANDARD_INPUT and not os.path.lexists(name)]
-    if asked.ranks.rstrip().endswith(",") or gone:
-        found = f"there is no file {gone[0]}" if gone else f"the list ends with a comma: {asked.ranks}"
+    gone = [name for name in files if name != STANDARD_INPUT and not os.path.lexists(name)]
+    if ranks.rstrip().endswith(",") or gone:
+        found = f"there is no file {gone[0]}" if gone else f"the list ends with a comma: {ranks}"
         cure = "type the name of the file, and the heads between single quotes where a space is in them, as --ranks 'First, Second'"
         raise Fault(f"--csv: {found}; nothing was added: {cure}", Status.BAD_WORDS)
 
@@ -124,7 +140,7 @@ def read(name: str) -> Input:
     return Input(name, kept_as, data)
 
 
-def check_kind(election: Election, source: Input, is_form: bool) -> None:
+def check_kind(election: Election, source: Input, *, is_form: bool) -> None:
     """Stops at what is no file of ballots."""
     if not source.data:
         raise Fault(f"{source.name}: it is empty; nothing was added: write a ballot a line into it", Status.DOUBT)
@@ -134,18 +150,19 @@ def check_kind(election: Election, source: Input, is_form: bool) -> None:
     if source.name != "standard input" and election.ballots.exists() and os.path.samefile(source.name, election.ballots):
         words = "these are the ballots of this election, which are there already; nothing was added"
         raise Fault(f"{source.name}: {words}: name a file that has come", Status.DOUBT)
-    kind = next((kind for start, kind in KINDS.items() if source.data.startswith(start)), None)
+    found = kind_of(source.data)
+    kind = None if found is None else found.value
     if not is_form and source.data.startswith(UTF_16):
         kind = "a text in UTF-16"
     if kind is not None:
         cure = "save it as CSV" if is_form else "save it as plain text in UTF-8"
         raise Fault(f"{source.name}: it is {kind}; nothing was added: {cure}", Status.BAD_BALLOTS)
-    if reads_as_poll(election, source.data):
+    if is_poll(election, source.data):
         words = "it reads as a poll, and not as ballots; nothing was added: name the file of the ballots"
         raise Fault(f"{source.name}: {words}", Status.DOUBT)
 
 
-def reads_as_poll(election: Election, data: bytes) -> bool:
+def is_poll(election: Election, data: bytes) -> bool:
     """Whether debvote takes it for a poll, or it sets keys as a poll does."""
     if len({found[1] for found in POLL_KEY.finditer(data)}) > 1:
         return True
@@ -161,18 +178,18 @@ def keep(election: Election, inputs: list[Input], tables: list[Part]) -> None:
 
 
 # ---------------------------------------------------------------- lines
-def lines_of(election: Election, files: Files, inputs: list[Input], asked: argparse.Namespace) -> list[list[Line]]:
+def lines_of(election: Election, files: Files, inputs: list[Input], table: Table | None) -> list[list[Line]]:
     """The lines of each file that came. In each there is at least one that is not empty."""
-    if asked.csv:
+    if table is not None:
         with in_memory(files.poll) as poll:
             names = list(sheet_of(election, poll).names.values())
-        columns = columns_of(asked.name, asked.ranks, names)
+        columns = columns_of(table.name, table.ranks, names)
         found = [lines_of_form(source.data, source.name, columns) for source in inputs]
     else:
         found = [lines_in(source.data, source.name) for source in inputs]
     for source, lines in zip(inputs, found):
         if all(line.is_empty for line in lines):
-            what = "it has no row of a ballot" if asked.csv else "it has empty lines alone"
+            what = "it has no row of a ballot" if table is not None else "it has empty lines alone"
             raise Fault(f"{source.name}: {what}; nothing was added: write a ballot a line into it", Status.DOUBT)
     return found
 

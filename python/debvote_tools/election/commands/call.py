@@ -1,6 +1,7 @@
 """`call`: the call for votes. From then on the poll is not changed."""
 
 import argparse
+import dataclasses
 import contextlib
 import os
 import pathlib
@@ -8,8 +9,8 @@ import shutil
 import stat
 import tempfile
 
-from debvote_tools import called, journal, secret
-from debvote_tools.election import announcing, call_letter, call_page, poll_file, taking_back
+from debvote_tools import called, journal, poll_file, secret
+from debvote_tools.election import announcing, call_letter, call_page, taking_back
 from debvote_tools.election.asking import NO_BALLOTS, command, given_already
 from debvote_tools.election.call_words import Call
 from debvote_tools.election.checking import checked
@@ -19,6 +20,7 @@ from debvote_tools.election.secrecy import aliases_now, demand_own_folder, told_
 from debvote_tools.faults import Fault, Status
 from debvote_tools.files import TEMPORARY, sum_of, sync_folder, take_away_temporaries, umask, write_new, write_whole
 from debvote_tools.sheet import Sheet
+from debvote_tools.words import taken
 
 HELP = "Make the call for votes, a page and a letter; the poll is not changed any more"
 
@@ -29,6 +31,14 @@ NAMES = ("index.html", "call.txt", "poll.toml", SUMS)
 LEFTOVER = f"{TEMPORARY}call-"
 
 
+@dataclasses.dataclass(frozen=True)
+class Asked:
+    """The words of this command."""
+
+    no_roll: bool
+    take_back: bool
+
+
 def options(parser: argparse.ArgumentParser) -> None:
     announcing.options(parser)
     no_roll = "Leave the poll, with its roll, out of the folder: its sum stands alone"
@@ -36,28 +46,37 @@ def options(parser: argparse.ArgumentParser) -> None:
     taking_back.options(parser)
 
 
-def run(election: Election, asked: argparse.Namespace) -> int:
+def run(election: Election, words: argparse.Namespace) -> int:
+    asked, said = taken(Asked, words), taken(announcing.Asked, words)
     if asked.take_back:
-        return taking_back.run(election, asked)
-    wanted = announcing.wanted_of(asked)
+        if asked.no_roll or any(word is not None for word in dataclasses.astuple(said)):
+            raise Fault("--take-back: it stands alone; first take the call back, then call anew", Status.BAD_WORDS)
+        return taking_back.take_back(election)
+    return call(election, announcing.wanted_of(said), no_roll=asked.no_roll)
+
+
+def call(election: Election, wanted: announcing.Wanted, *, no_roll: bool) -> int:
+    """Calls for votes, and returns the exit status."""
     with election.changing() as files:
         sheet = checked(election, files)
         demand_unvoted(election, files)
         demand_covered(election, files.poll)
         demand_own(election)
-        kept = keep_out(election, asked)
+        stays_out = not no_roll and was_without_poll(election)
         changed = announcing.poll_saying(election, files, wanted)
         poll = public_poll(election, files, changed)
         said = announcing.said_of(election, changed)
         files = announce(election, ended(election, files), changed)
-        call = call_of(election, sheet, poll, said, has_poll=not asked.no_roll)
+        made = call_of(election, sheet, poll, said, has_poll=not no_roll and not stays_out)
         is_anew = election.call.exists()
         apart = told_apart(election, poll)
         has_slips = election.is_secret() and not is_anew and write_slips(election, sheet, files.poll)
         take_away_leftovers(election)
-        make(election, files, poll, texts_of(call, poll))
-    print(*(f"{line}\n" for line in kept), sep="", end="")
-    say(election, call, is_anew)
+        make(election, files, poll, texts_of(made, poll))
+    if stays_out:
+        print("The poll stays out of the folder, as in the earlier call.")
+        print(f"To call with it, first run {command(election, 'call', '--take-back')}.")
+    say(election, made, is_anew)
     if has_slips:
         print(f"The slips have got what the call says: print {election.slips}, cut them out, and give each elector their own.")
     if apart:
@@ -94,12 +113,9 @@ def sums_in(file: pathlib.Path) -> dict[str, str]:
     return {row[1]: row[0] for row in rows if len(row) == 2}
 
 
-def keep_out(election: Election, asked: argparse.Namespace) -> list[str]:
-    """Leaves the poll out of the folder as in the earlier call, so that a call anew tells no roll unasked. Returns what is told."""
-    if asked.no_roll or not (election.call / "index.html").is_file() or (election.call / "poll.toml").exists():
-        return []
-    asked.no_roll = True
-    return ["The poll stays out of the folder, as in the earlier call.", f"To call with it, first run {command(election, 'call', '--take-back')}."]
+def was_without_poll(election: Election) -> bool:
+    """Whether the earlier call left the poll out of its folder: so a call anew tells no roll unasked."""
+    return (election.call / "index.html").is_file() and not (election.call / "poll.toml").exists()
 
 
 # ---------------------------------------------------------------- the poll
@@ -294,19 +310,22 @@ def say(election: Election, call: Call, is_anew: bool) -> None:
 def said_lines(election: Election, call: Call) -> list[str]:
     """Until when and where to, or how the call gets to say it."""
     lines = [call.until_words()] if call.until is not None else []
-    if call.is_extended:
-        lines.append(call.extended_words())
+    lines += filter(None, [call.extended_words()])
     missing = ['until when one can vote (--until "YYYY-MM-DD HH:MM")'] if call.until is None else []
     missing += ["where ballots are sent (--to ADDRESS)"] if call.to is None else []
     if missing:
-        how = f"to say it, take the call back before anybody has seen it ({command(election, 'call', '--take-back')}), and call again"
+        how = (
+            f"to say it, take the call back before anybody has seen it ({command(election, 'call', '--take-back')}), and call again"
+        )
         lines.append(f"The call does not say {', nor '.join(missing)}; {how}.")
     return lines
 
 
 def tell_apart(names: list[str]) -> None:
     """Says whose aliases an earlier call gives away."""
-    print(f"Note: an earlier call had another roll, and whoever kept it sees that the new aliases are those of: {secret.some(names)}.")
+    print(
+        f"Note: an earlier call had another roll, and whoever kept it sees that the new aliases are those of: {secret.some(names)}."
+    )
     print("  If it was published, take the call back, and hold the election in a new folder, with new codes for all.")
 
 

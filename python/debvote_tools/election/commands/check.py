@@ -1,14 +1,16 @@
 """`check`: what debvote says of the poll, and what the electors will vote on."""
 
 import argparse
+import dataclasses
 
-from debvote_tools.election import poll_file
+from debvote_tools import poll_file
 from debvote_tools.election.asking import call_command, command, quorum_words
 from debvote_tools.election.checking import checked
 from debvote_tools.election.folder import Election, Files
 from debvote_tools.election.secrecy import without_code
 from debvote_tools.faults import Status
 from debvote_tools.sheet import Sheet
+from debvote_tools.words import taken
 
 HELP = "Say all that is wrong with the poll, or what is voted on"
 
@@ -16,11 +18,19 @@ HELP = "Say all that is wrong with the poll, or what is voted on"
 SHOWN = 200
 
 
+@dataclasses.dataclass(frozen=True)
+class Asked:
+    """The words of this command."""
+
+    all: bool
+
+
 def options(parser: argparse.ArgumentParser) -> None:
     parser.add_argument("--all", action="store_true", help="Print all names of the roll, however many there are")
 
 
-def run(election: Election, asked: argparse.Namespace) -> int:
+def run(election: Election, words: argparse.Namespace) -> int:
+    asked = taken(Asked, words)
     with election.reading() as files:
         sheet = checked(election, files)
     print_poll(sheet, poll_file.roll_of(files.poll), has_all=asked.all)
@@ -39,14 +49,14 @@ def what_next(election: Election, files: Files) -> str:
 
 def print_poll(sheet: Sheet, roll: list[str], *, has_all: bool) -> None:
     """Says what is voted on, by a sheet without ballots, and who votes."""
-    print(f"Title: {sheet.facts['Poll']}")
+    print(f"Title: {sheet.title}")
     print("Options:")
     for option, name in sheet.names.items():
         kind = f"majority ratio {sheet.ratios[option]}" if option in sheet.ratios else "the default option"
         print(f"{option:3}  {name} ({kind})")
-    if "Majority" in sheet.facts:
+    if sheet.is_more_than:
         print("Majority: more than the ratio, where Debian has at least the ratio")
     print(quorum_words(sheet))
     most = len(roll) if has_all else SHOWN
     more = [f"and {len(roll) - most} more, in the poll and with --all"] if len(roll) > most else []
-    print(f"Electors: {sheet.facts['Electors']} ({', '.join([*roll[:most], *more])})")
+    print(f"Electors: {sheet.electors} ({', '.join([*roll[:most], *more])})")

@@ -1,11 +1,12 @@
 """`close`: the end of the vote. The poll gets the number of the last envelope, so that later lines are late."""
 
 import argparse
+import dataclasses
 import re
 
-from debvote_tools import announced, journal, secret
+from debvote_tools import announced, closed, journal, poll_file, secret
 from debvote_tools.announced import announced_in, in_words, minute_of
-from debvote_tools.election import closing_letter, poll_file
+from debvote_tools.election import closing_letter
 from debvote_tools.election.asking import NO_BALLOTS, command, refused
 from debvote_tools.election.edited import EVEN_SO, stop_at_changes
 from debvote_tools.election.folder import Election, Files
@@ -15,10 +16,17 @@ from debvote_tools.faults import Fault, Status
 from debvote_tools.files import in_memory, sum_of, uninterrupted
 from debvote_tools.journal import Entry
 from debvote_tools.sheet import Sheet, sheet_in
+from debvote_tools.words import taken
 
 HELP = "End the vote: lines that are added later are late"
 
-LAST = "Last envelope"
+
+@dataclasses.dataclass(frozen=True)
+class Asked:
+    """The words of this command."""
+
+    early: bool
+    even_so: bool
 
 
 def options(parser: argparse.ArgumentParser) -> None:
@@ -27,7 +35,8 @@ def options(parser: argparse.ArgumentParser) -> None:
     parser.add_argument("--even-so", action="store_true", help=EVEN_SO)
 
 
-def run(election: Election, asked: argparse.Namespace) -> int:
+def run(election: Election, words: argparse.Namespace) -> int:
+    asked = taken(Asked, words)
     with election.changing() as files:
         demand_own_folder(election)
         tell_edits(election, files)
@@ -38,18 +47,19 @@ def run(election: Election, asked: argparse.Namespace) -> int:
             return say_again(election, files, sheet, before)
         stop_at_a_last_envelope(election, files, sheet)
         stop_at_changes(election, files, even_so=asked.even_so)
-        demand_over(election, files, asked)
+        demand_over(election, files, early=asked.early)
         if not election.is_secret():
             closing_letter.demand_free(election)
         files = end_last_line(election, files)
-        number = int(sheet.facts["Lines"])
+        number = sheet.lines
         poll = closed_poll(election, files, number)
         with uninterrupted():
             election.keep_copy(election.poll)
             election.keep_closed(files.ballots or b"")
             after = election.act("close", files, f"1-{number}" if number else journal.NONE, poll=poll)
-            if not election.is_secret():
-                closing_letter.write(election, after, election.closed(), sheet.facts["Poll"])
+            close = journal.last(journal.acts_done(election.journal, after.sums), "close")
+            if close is not None and not election.is_secret():
+                closing_letter.write(election, after, close, sheet.title)
             say(election, after, number)
     return Status.DECIDED
 
@@ -64,18 +74,18 @@ def sheet_of_all(election: Election, files: Files) -> Sheet:
     return sheet_in(answer.text)
 
 
-def demand_over(election: Election, files: Files, asked: argparse.Namespace) -> None:
+def demand_over(election: Election, files: Files, *, early: bool) -> None:
     """Stops where one can still vote, unless the vote is to be closed early."""
     until, now = announced_in(files.poll).until, announced.now()
     if until is None or now >= until:
         return
     there = minute_of(now, until)
-    if asked.early:
+    if early:
         tell(f"Note: one can vote until {in_words(until)}, and it is {there}; the page of the result will tell it.")
         return
     words = f"one can vote until {in_words(until)}, and by the clock of this computer it is {there}; nothing was changed"
-    early = f"{command(election, 'close', '--early')}, which the page of the result tells"
-    raise Fault(f"{election.poll}: {words}: close when that time is over, or now with {early}", Status.DOUBT)
+    how = f"{command(election, 'close', '--early')}, which the page of the result tells"
+    raise Fault(f"{election.poll}: {words}: close when that time is over, or now with {how}", Status.DOUBT)
 
 
 # ---------------------------------------------------------------- where there is a last envelope already
@@ -84,17 +94,17 @@ def say_again(election: Election, files: Files, sheet: Sheet, before: Entry) -> 
 
     Of a close that was killed it makes the letter.
     """
-    number = before.envelopes.rpartition("-")[2] or "0"
-    if sheet.facts.get(LAST) != number:
-        there = f"`last_envelope = {sheet.facts[LAST]}` stands there" if LAST in sheet.facts else "that line is gone"
+    number, now = closed.number_of(before) or 0, sheet.last_envelope
+    if now != number:
+        there = "that line is gone" if now is None else f"`last_envelope = {now}` stands there"
         words = f"the close at {time_of(before)} wrote `last_envelope = {number}` into it, and now {there}"
         cure = "find out who changed it, and put the line of the close back, above every line that begins with ["
         raise Fault(f"{election.poll}: {words}; {cure}", Status.DOUBT)
     tell(f"The election was closed at {time_of(before)}; the last envelope in time is {number}. Nothing was changed.")
     if not election.is_secret() and not election.closing_letter.exists() and files.sums.poll == before.sums.poll:
-        closing_letter.write(election, files, before, sheet.facts["Poll"])
+        closing_letter.write(election, files, before, sheet.title)
         tell(f"{election.closing_letter} was not there, and was made anew: send it to all electors before you count anything.")
-    late = int(sheet.facts["Lines"]) - int(number)
+    late = sheet.lines - number
     if late > 0:
         tell(f"{count_of(late, 'line')} came after it, and late ones count for nothing.")
     tell(f"Next: {command(election, 'count')}")
@@ -103,9 +113,9 @@ def say_again(election: Election, files: Files, sheet: Sheet, before: Entry) -> 
 
 def stop_at_a_last_envelope(election: Election, files: Files, sheet: Sheet) -> None:
     """Stops where the poll has a last envelope that no close has written."""
-    if LAST in sheet.facts:
+    if sheet.last_envelope is not None:
         found = re.search(rb"(?m)^[^#\n]*last_envelope[^\n]*", files.poll)
-        line = found[0].decode("utf-8", "backslashreplace").strip() if found else f"last_envelope = {sheet.facts[LAST]}"
+        line = found[0].decode("utf-8", "backslashreplace").strip() if found else f"last_envelope = {sheet.last_envelope}"
         words = f"`{line}` stands there, and no close has written it; nothing was changed"
         cure = f"take the line out with an editor and run again: {command(election, 'close')}"
         raise Fault(f"{election.poll}: {words}: {cure}", Status.DOUBT)
@@ -130,7 +140,7 @@ def closed_poll(election: Election, files: Files, number: int) -> bytes:
     is_refused = answer.status not in (Status.DECIDED, Status.DOUBT)
     sheet = None if is_refused else sheet_of_all(election, Files(poll, files.ballots))
     is_same = poll_file.as_announced(poll) == poll_file.as_announced(files.poll)
-    if sheet is None or sheet.facts.get(LAST) != str(number) or sheet.facts["Lines"] != str(number) or not is_same:
+    if sheet is None or sheet.last_envelope != number or sheet.lines != number or not is_same:
         words = f"debvote does not read `last_envelope = {number}` where it would be written; nothing was changed"
         raise Fault(f"{election.poll}: {words}: ask {command(election, 'check')}", Status.BAD_POLL)
     return poll

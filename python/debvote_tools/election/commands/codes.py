@@ -6,17 +6,17 @@ import dataclasses
 import os
 import re
 
-from debvote_tools import journal, secret
-from debvote_tools.election import announcing, poll_file, slips
+from debvote_tools import journal, poll_file, secret
+from debvote_tools.election import announcing, slips
 from debvote_tools.election.asking import call_command, command
 from debvote_tools.election.checking import checked
 from debvote_tools.election.folder import Election, Files
-from debvote_tools.election.lines import shown
-from debvote_tools.election.members import Member, members_in
 from debvote_tools.election.secrecy import aliases_now
 from debvote_tools.election.telling import count_of, tell, time_of
 from debvote_tools.faults import Fault, Status
 from debvote_tools.files import sync_folder, uninterrupted, write_new, write_whole
+from debvote_tools.lines import shown
+from debvote_tools.members import Member, members_in
 from debvote_tools.secret import FILE_MODE, FOLDER_MODE, Holder
 from debvote_tools.sheet import Sheet
 
@@ -116,7 +116,9 @@ def kept_holders(election: Election, people: dict[str, Member], before: list[Hol
 
 def tell_others(election: Election, names: list[str]) -> None:
     """Says whose names stand for others in the list of members than when their codes were made."""
-    stands = f"{secret.some(names)} {'has' if len(names) == 1 else 'have'} another real name in {election.members} than with the code"
+    stands = (
+        f"{secret.some(names)} {'has' if len(names) == 1 else 'have'} another real name in {election.members} than with the code"
+    )
     if election.called_aliases.exists():
         tell(f"Note: {stands}; the code stays, for the call has its alias. Whoever had it before can see that ballot.")
     else:
@@ -187,7 +189,7 @@ def write(election: Election, files: Files, before: list[Holder], holders: list[
     poll = files.poll if election.is_called() else secret.saying_secret(files.poll)
     if holders != before:
         keep_copy(election, election.codes.name)
-        write_whole(election.codes, secret.text_of(holders), FILE_MODE)
+        write_whole(election.codes, secret.table_of(holders), FILE_MODE)
     if poll != files.poll:
         election.keep_copy(election.poll)
         election.act(secret.ACT, files, poll=poll)
@@ -237,5 +239,7 @@ def say(
         tell(*([f"The slips, to print and cut out: {election.slips}"] if has_slips else []), f"Next: {command(election, 'status')}")
         return
     if has_slips:
-        tell(f"The slips: {election.slips}; the call writes into them until when one can vote and where to, so print them after it.")
+        tell(
+            f"The slips: {election.slips}; the call writes into them until when one can vote and where to, so print them after it."
+        )
     tell(f"Next: {call_command(election)}")

@@ -1,6 +1,7 @@
 """`count`: the result sheet."""
 
 import argparse
+import dataclasses
 import sys
 
 from debvote_tools.election.asking import command, demand_option, files_of, listed, refused
@@ -9,8 +10,16 @@ from debvote_tools.election.secrecy import publish_words
 from debvote_tools.faults import Status
 from debvote_tools.program import casting_words
 from debvote_tools.sheet import Sheet, sheet_in
+from debvote_tools.words import taken
 
 HELP = "Print the result sheet"
+
+
+@dataclasses.dataclass(frozen=True)
+class Asked:
+    """The words of this command."""
+
+    casting: str | None
 
 
 def options(parser: argparse.ArgumentParser) -> None:
@@ -26,10 +35,11 @@ def casting_option(parser: argparse.ArgumentParser) -> None:
     )
 
 
-def run(election: Election, asked: argparse.Namespace) -> int:
+def run(election: Election, words: argparse.Namespace) -> int:
+    asked = taken(Asked, words)
     with election.reading() as files:
         answer = election.debvote.ask("count", *files_of(election, files), *casting_words(asked.casting))
-        if not answer.text and answer.status == Status.CASTING_OUTSIDE:
+        if not answer.text and answer.status == Status.CASTING_OUTSIDE and asked.casting is not None:
             demand_option(election, asked.casting)
         if not answer.text:
             raise refused(election, answer)
@@ -47,8 +57,9 @@ def what_next(election: Election, sheet: Sheet, casting: str | None) -> str:
     """What the secretary does with this sheet. Before the close it is no result yet."""
     over = "" if election.closed() else f"this is no result yet: when the vote is over {command(election, 'close')}, then "
     publish = publish_words(election)
-    if sheet.winner() is not None:
-        return over + command(election, *publish, *(casting_words(casting) if sheet.winner()[1] else []))
+    winner = sheet.winner()
+    if winner is not None:
+        return over + command(election, *publish, *(casting_words(casting) if winner[1] else []))
     names = [sheet.names[option] for option in sheet.final_set()]
     outside = sheet.casting_outside()
     why = f"; {listed([sheet.names[outside]])} is not among them" if outside is not None else ""

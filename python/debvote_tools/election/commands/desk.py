@@ -9,15 +9,27 @@ import sys
 
 from debvote_tools.ballots import in_words
 from debvote_tools.election.asking import command
-from debvote_tools.election.casting import Ballot, Batch, ballot_words, cast, change_words, judged
-from debvote_tools.election.casting import right_line, right_words, sheet_of, standing_of, summary, would_words
+from debvote_tools.election.casting import (
+    Ballot,
+    Batch,
+    ballot_words,
+    cast,
+    change_words,
+    judged,
+    right_line,
+    right_words,
+    sheet_of,
+    standing_of,
+    summary,
+    would_words,
+)
 from debvote_tools.election.doubts import is_too_long, long_words
 from debvote_tools.election.folder import Election
-from debvote_tools.election.lines import Line, lines_in
 from debvote_tools.election.secrecy import demand_own_folder
 from debvote_tools.election.telling import tell, tell_edits, tell_time
 from debvote_tools.faults import Fault, Status
 from debvote_tools.files import BALLOTS_LIMIT, append_whole, in_memory, uninterrupted, write_new
+from debvote_tools.lines import Line, lines_in
 
 HELP = "Enter ballots by hand, and tell the reply to each; as many desks at once as there are terminals"
 
@@ -91,7 +103,9 @@ class Desk:
                 os.fsync(self.handle)
             except OSError as error:
                 words = f"{error.strerror}; from line {self.next_line} on, nothing that came at this desk was cast"
-                raise Fault(f"{self.received}: {words}: make room, then send it again from that line on", Status.BAD_OUTPUT) from None
+                raise Fault(
+                    f"{self.received}: {words}: make room, then send it again from that line on", Status.BAD_OUTPUT
+                ) from None
             return os.pread(self.handle, size, place)
 
     def close_received(self) -> None:
@@ -153,7 +167,8 @@ def from_pipe(desk: Desk) -> None:
 def moved(source: int, target: int, place: int) -> int:
     """Moves what there is to read into a file, behind its end, and returns its size."""
     try:
-        return os.splice(source, target, READ, offset_dst=place)
+        size: int = os.splice(source, target, READ, offset_dst=place)  # type: ignore[attr-defined]
+        return size
     except OSError as error:
         # neither is a pipe
         if error.errno != errno.EINVAL:
@@ -179,7 +194,7 @@ def at_terminal(desk: Desk) -> None:
     """Asks for lines until there are no more."""
     tell_head(desk.election)
     while (came := typed("Ballot: ")) is not None:
-        (line, *_) = desk.lines_of(came) or [None]
+        line = next(iter(desk.lines_of(came)), None)
         if line is None or line.is_empty:
             tell("Type a ballot, or q to end.")
         elif line.changed.lower() == QUIT:

@@ -1,6 +1,7 @@
 """`new`: the folder of an election, with a poll to fill in."""
 
 import argparse
+import dataclasses
 import contextlib
 import pathlib
 import shlex
@@ -9,6 +10,7 @@ from debvote_tools.election.folder import Election
 from debvote_tools.election.telling import tell
 from debvote_tools.faults import Fault, Status
 from debvote_tools.files import locked, uninterrupted, write_whole
+from debvote_tools.words import taken
 
 HELP = "Make the folder of an election, with a poll and a list of members to fill in"
 
@@ -56,12 +58,20 @@ roll = []
 """
 
 
+@dataclasses.dataclass(frozen=True)
+class Asked:
+    """The words of this command."""
+
+    target: str
+
+
 def options(parser: argparse.ArgumentParser) -> None:
     parser.add_argument("target", metavar="FOLDER", help="The folder to make; one that is there must be empty")
 
 
-def run(election: Election, asked: argparse.Namespace) -> int:
-    if hasattr(asked, "folder"):
+def run(election: Election, words: argparse.Namespace) -> int:
+    asked = taken(Asked, words)
+    if hasattr(words, "folder"):
         raise Fault("--folder: new makes the folder that stands behind it; leave --folder out", Status.BAD_WORDS)
     with uninterrupted():
         say(made_in(pathlib.Path(asked.target), election.beside))

@@ -1,11 +1,10 @@
 """`publish`: the folder of the result, which debvote-publish makes."""
 
 import argparse
+import dataclasses
 import os
 import pathlib
 import shlex
-import shutil
-import subprocess
 import sys
 
 from debvote_tools.election.asking import NO_BALLOTS, command, demand_option
@@ -15,12 +14,37 @@ from debvote_tools.election.folder import Election, Files
 from debvote_tools.election.secrecy import demand_own_folder
 from debvote_tools.faults import Fault, Status
 from debvote_tools.program import casting_words
-from debvote_tools.publish import letter
-from debvote_tools.publish.command_line import cast_options, cast_words, page_options, page_words, voters_option
+from debvote_tools.publish import asked as publish, letter
+from debvote_tools.publish.command_line import cast_options, ended, page_options, voters_option
+from debvote_tools.words import taken
 
 HELP = "Make the folder of the result for a web site"
 
-PROGRAM = "debvote-publish"
+
+@dataclasses.dataclass(frozen=True)
+class Asked:
+    """The words of this command."""
+
+    target: str | None
+    casting: str | None
+    cast_by: str | None
+    cast_on: str | None
+    even_so: bool
+    secret: bool
+    voters: bool
+    labels: str | None
+    about: str | None
+    who: str | None
+    because: str | None
+
+    def again(self, *, is_secret: bool) -> list[str]:
+        """The same words, but for the folder."""
+        with_value = [("--cast-by", self.cast_by), ("--cast-on", self.cast_on)]
+        of_page = [("--labels", self.labels), ("--about", self.about), ("--who", self.who), ("--because", self.because)]
+        cast, page = ([f"{name}={said}" for name, said in given if said is not None] for given in (with_value, of_page))
+        given = [("--even-so", self.even_so), ("--secret", is_secret), ("--voters", self.voters)]
+        flags = [name for name, is_given in given if is_given]
+        return ["publish", *casting_words(self.casting), *cast, *flags, *page]
 
 
 def options(parser: argparse.ArgumentParser) -> None:
@@ -37,7 +61,8 @@ def options(parser: argparse.ArgumentParser) -> None:
     parser.add_argument("target", metavar="FOLDER", nargs="?", help=said)
 
 
-def run(election: Election, asked: argparse.Namespace) -> int:
+def run(election: Election, words: argparse.Namespace) -> int:
+    asked = taken(Asked, words)
     target = pathlib.Path(asked.target) if asked.target else election.result
     with election.reading() as files:
         demand_secrecy(election, asked)
@@ -45,7 +70,9 @@ def run(election: Election, asked: argparse.Namespace) -> int:
         demand_ballots(election, files, asked)
         if asked.casting is not None:
             demand_option(election, asked.casting)
-        status = ended([program(election), *words(election, files, asked), str(target)])
+        # what it tells stands behind what was told before
+        sys.stdout.flush()
+        status = ended(publication(election, files, asked, target), election.beside)
     if status in (Status.DECIDED, Status.TIE, Status.CASTING_OUTSIDE) and target.is_dir():
         if asked.secret:
             tell_differences(election, target)
@@ -53,13 +80,13 @@ def run(election: Election, asked: argparse.Namespace) -> int:
     return status
 
 
-def demand_secrecy(election: Election, asked: argparse.Namespace) -> None:
+def demand_secrecy(election: Election, asked: Asked) -> None:
     """Stops where a secret vote would be published openly, or where an open one has no codes."""
     is_secret = election.is_secret()
     if is_secret and not asked.secret:
         words = "the vote is secret, and this would publish each name with its vote; publish it under aliases"
         named = [asked.target] if asked.target else []
-        raise Fault(f"{election.codes}: {words}: {command(election, *again(asked, is_secret), *named)}", Status.DOUBT)
+        raise Fault(f"{election.codes}: {words}: {command(election, *asked.again(is_secret=is_secret), *named)}", Status.DOUBT)
     if asked.secret and not is_secret:
         words = "no codes were made for this vote, and they come before the call"
         raise Fault(f"{election.codes}: {words}: {command(election, 'codes')}", Status.DOUBT)
@@ -69,58 +96,36 @@ def demand_secrecy(election: Election, asked: argparse.Namespace) -> None:
         raise Fault("--voters: it goes with --secret; in an open vote the page has who voted what", Status.BAD_WORDS)
 
 
-def again(asked: argparse.Namespace, is_secret: bool) -> list[str]:
-    """The words of this command, but for the folder that it makes."""
-    given = [("--even-so", asked.even_so), ("--secret", is_secret), ("--voters", asked.voters)]
-    flags = [name for name, is_given in given if is_given]
-    return ["publish", *casting_words(asked.casting), *cast_words(asked), *flags, *page_words(asked)]
+def publication(election: Election, files: Files, asked: Asked, target: pathlib.Path) -> publish.Asked:
+    """What is asked of debvote-publish."""
+    return publish.Asked(
+        poll=str(election.poll),
+        ballots=NO_BALLOTS if files.ballots is None else str(election.ballots),
+        folder=str(target),
+        casting=asked.casting,
+        even_so=asked.even_so,
+        secret=str(election.codes) if asked.secret else None,
+        voters=asked.voters,
+        cast_by=asked.cast_by,
+        cast_on=asked.cast_on,
+        labels=asked.labels,
+        about=asked.about,
+        who=asked.who,
+        because=asked.because,
+    )
 
 
-def words(election: Election, files: Files, asked: argparse.Namespace) -> list[str]:
-    """The words for debvote-publish, but for the folder."""
-    ballots = NO_BALLOTS if files.ballots is None else str(election.ballots)
-    even_so = ["--even-so"] if asked.even_so else []
-    secret = ["--secret", str(election.codes), *(["--voters"] if asked.voters else [])] if asked.secret else []
-    more = [*casting_words(asked.casting), *cast_words(asked), *even_so, *secret, *page_words(asked)]
-    return ["--poll", str(election.poll), "--ballots", ballots, *more]
-
-
-def program(election: Election) -> str:
-    """Where debvote-publish is: in a checkout, beside this program, or in the PATH."""
-    beside = [] if election.beside is None else [election.beside.parent / "publish", election.beside]
-    found = next(filter(None, (shutil.which(PROGRAM, path=str(folder)) for folder in beside)), None) or shutil.which(PROGRAM)
-    if found is None:
-        words = "the program is neither beside this one nor in the PATH; install the package debvote"
-        raise Fault(f"{PROGRAM}: {words}", Status.NOT_FOUND)
-    return found
-
-
-def ended(words: list[str]) -> int:
-    """Runs the program, which writes where this one does, and returns its exit status.
-
-    Where this one is asked to end, it waits: an interrupt reaches both, and what the other has begun it takes away itself.
-    """
-    sys.stdout.flush()
-    child = subprocess.Popen(words, stdin=subprocess.DEVNULL)
-    try:
-        status = child.wait()
-    except BaseException:
-        child.wait()
-        raise
-    return status if status >= 0 else 128 - status
-
-
-def demand_free(election: Election, asked: argparse.Namespace, target: pathlib.Path) -> None:
+def demand_free(election: Election, asked: Asked, target: pathlib.Path) -> None:
     """Stops where the folder is there and has something in it, and says which name is free."""
     if not os.path.lexists(target) or (target.is_dir() and not any(target.iterdir())):
         return
     free = free_name(target)
     words = "it is there already, and stays as it is; publish into another folder: "
-    words += command(election, *again(asked, asked.secret), str(free))
+    words += command(election, *asked.again(is_secret=asked.secret), str(free))
     raise Fault(f"{target}: {words}", Status.BAD_WORDS)
 
 
-def demand_ballots(election: Election, files: Files, asked: argparse.Namespace) -> None:
+def demand_ballots(election: Election, files: Files, asked: Asked) -> None:
     """Stops where there is no ballot file, of which debvote-publish could say no more than that it is not there."""
     if files.ballots is None and not asked.even_so:
         cure = f"add them with {command(election, 'add', 'FILE')}, or publish without any with --even-so"
@@ -135,7 +140,7 @@ def free_name(target: pathlib.Path) -> pathlib.Path:
     return target.with_name(f"{target.name}-{number}")
 
 
-def what_next(election: Election, asked: argparse.Namespace, target: pathlib.Path, status: int) -> str:
+def what_next(election: Election, asked: Asked, target: pathlib.Path, status: int) -> str:
     """What the secretary does with the folder."""
     if status == Status.DECIDED:
         return f"put the folder {target} on the web site as it is, and send {target / letter.NAME} to each elector"

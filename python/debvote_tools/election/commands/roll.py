@@ -1,20 +1,21 @@
 """`roll`: from the list of members to the roll of the poll."""
 
 import argparse
+import dataclasses
 import json
 import pathlib
 import re
 from collections.abc import Callable
 
-from debvote_tools import called
-from debvote_tools.election import poll_file
+from debvote_tools import called, poll_file
 from debvote_tools.election.asking import command, empty_sheet, explained, given_already, quorum_words
 from debvote_tools.election.folder import Election, Files
-from debvote_tools.election.members import AGAIN, Member, Members, doubles, doubt, members_in, plain, proposals, shown
 from debvote_tools.election.telling import count_of, tell
 from debvote_tools.faults import Fault, Status
 from debvote_tools.files import uninterrupted, write_whole
+from debvote_tools.members import AGAIN, Member, Members, doubles, doubt, members_in, plain, proposals, shown
 from debvote_tools.pages import joined
+from debvote_tools.words import taken
 
 HELP = "Write the roll of the poll from the list of members"
 
@@ -25,12 +26,21 @@ SHOWN = 10
 MOST_MEMBERS = 200
 
 
+@dataclasses.dataclass(frozen=True)
+class Asked:
+    """The words of this command."""
+
+    file: str | None
+    all: bool
+
+
 def options(parser: argparse.ArgumentParser) -> None:
     parser.add_argument("file", metavar="FILE", nargs="?", help="The list of members, as CSV; members.csv if it is not given")
     parser.add_argument("--all", action="store_true", help="Print all names, however many there are")
 
 
-def run(election: Election, asked: argparse.Namespace) -> int:
+def run(election: Election, words: argparse.Namespace) -> int:
+    asked = taken(Asked, words)
     with election.changing() as files:
         members = members_in(pathlib.Path(asked.file) if asked.file else election.members)
         if not all(member.name for member in members.members):

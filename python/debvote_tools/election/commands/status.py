@@ -7,19 +7,18 @@ import re
 import sys
 import textwrap
 
-from debvote_tools import announced, called, journal
+from debvote_tools import announced, called, journal, poll_file
 from debvote_tools.announced import announced_in, in_words
-from debvote_tools.election import poll_file
 from debvote_tools.election.asking import call_command, command, files_of, quorum_words, refused
 from debvote_tools.election.edited import changes_of
 from debvote_tools.election.folder import Election, Files
-from debvote_tools.election.members import shown
 from debvote_tools.election.secrecy import aliases_now, demand_own_folder, publish_words
-from debvote_tools.election.shapes import plainly
 from debvote_tools.election.telling import time_of
 from debvote_tools.faults import Fault, Status
 from debvote_tools.journal import Entry
+from debvote_tools.members import shown
 from debvote_tools.program import Finding, Findings, findings_in, standing_in
+from debvote_tools.shapes import plainly
 from debvote_tools.sheet import Sheet, sheet_in
 
 HELP = "Say how far the election is: lines, ballots, who has none yet, what was refused"
@@ -61,7 +60,7 @@ def run(election: Election, asked: argparse.Namespace) -> int:
         state = state_of(election, files)
         gone = election.what_is_gone(files)
         changed = [*changes_of(election, files).lines(), *election.changed_since_close(files, state.sheet)]
-    print(f"Title: {state.sheet.facts['Poll']}")
+    print(f"Title: {state.sheet.title}")
     tell_secrecy(election, files)
     tell_until(files.poll)
     tell_stage(election, acts, state.sheet)
@@ -95,7 +94,7 @@ def state_of(election: Election, files: Files) -> State:
     return State(
         findings=findings_in(texts["explain"]),
         sheet=sheet_in(texts["count"]),
-        roll=poll_file.document(files.poll)["roll"],
+        roll=poll_file.roll_of(files.poll),
         standing=standing_in(texts["standing"]),
         lines=(files.ballots or b"").split(b"\n"),
     )
@@ -147,9 +146,9 @@ def tell_stage(election: Election, acts: list[Entry], sheet: Sheet) -> None:
     else:
         print("Call for votes: not made yet")
     close = journal.last(acts, "close")
-    last = sheet.facts.get("Last envelope")
+    last = sheet.last_envelope
     if close is not None:
-        print(f"Closed: at {time_of(close)}" + (f"; the last envelope in time is {last}" if last else ""))
+        print(f"Closed: at {time_of(close)}" + ("" if last is None else f"; the last envelope in time is {last}"))
     elif last is not None:
         print(f"Closed: not yet, but the poll says that the last envelope in time is {last}")
     else:

@@ -1,6 +1,5 @@
 """The list of members: a table as spreadsheets save it, of which the cells that are filled in change, and nothing else."""
 
-import codecs
 import collections
 import dataclasses
 import pathlib
@@ -11,9 +10,9 @@ from collections.abc import Callable, Iterable
 from debvote_tools.faults import Fault, Status
 from debvote_tools.files import read_at_most
 from debvote_tools.signs import steering
+from debvote_tools.tables import DELIMITERS, MARKS, Kind, kind_of, mark_of
 
 COLUMNS = ("name", "who", "mail")
-DELIMITERS = {",": "comma", ";": "semicolon", "\t": "tab"}
 
 # in bytes; ten thousand members, with a letter about each, are shorter
 LIMIT = 33_554_432
@@ -29,20 +28,16 @@ BELONGS = (
     "the real names belong under `who`, the addresses under `mail`, and `name` is the name on the roll, which may be left empty"
 )
 
-# how a file begins that is no text, and what it is
-KINDS = {
-    b"PK\x03\x04": "it is a spreadsheet or another packed file, and no CSV",
-    b"\xd0\xcf\x11\xe0": "it is an old spreadsheet, and no CSV",
-    b"%PDF": "it is a PDF, and no CSV",
+# what a list is that is no CSV
+NO_CSV = {
+    Kind.PACKED: "it is a spreadsheet or another packed file, and no CSV",
+    Kind.OLD: "it is an old spreadsheet, and no CSV",
+    Kind.FORMATTED: "it is a document with formats (RTF), and no CSV",
+    Kind.PDF: "it is a PDF, and no CSV",
 }
 
-# the mark that a text begins with, and how it is written
-MARKS = {codecs.BOM_UTF8: "utf-8", codecs.BOM_UTF16_LE: "utf-16-le", codecs.BOM_UTF16_BE: "utf-16-be"}
-
 # letters that Unicode does not take apart into a letter and its accent
-LETTERS = str.maketrans(
-    {"ø": "o", "ł": "l", "đ": "d", "ð": "d", "þ": "th", "æ": "ae", "œ": "oe", "ı": "i", "ħ": "h", "ŧ": "t"}
-)
+LETTERS = str.maketrans({"ø": "o", "ł": "l", "đ": "d", "ð": "d", "þ": "th", "æ": "ae", "œ": "oe", "ı": "i", "ħ": "h", "ŧ": "t"})
 
 
 @dataclasses.dataclass(frozen=True)
@@ -112,9 +107,9 @@ def members_in(file: pathlib.Path, *, may_be_empty: bool = False) -> Members:
     unless it may be empty.
     """
     data = bytes_of(file)
-    mark = next((mark for mark in MARKS if data.startswith(mark)), b"")
+    mark = mark_of(data)
     encoding = MARKS.get(mark, "utf-8")
-    text = text_of(file, data.removeprefix(mark), encoding)
+    text = text_in(file, data.removeprefix(mark), encoding)
     delimiter, rows = table_of(file, text)
     places = places_of(file, rows[0], delimiter)
     members = [member_of(file, row, rows[0], places) for row in rows[1:]]
@@ -142,13 +137,13 @@ def bytes_of(file: pathlib.Path) -> bytes:
         raise doubt(file, f"it is too long for a list of members; {cure}")
     if not data:
         raise doubt(file, f"it is empty; write the head line name,who,mail and a line for each member, {AGAIN}")
-    kind = next((kind for start, kind in KINDS.items() if data.startswith(start)), None)
+    kind = kind_of(data)
     if kind is not None:
-        raise doubt(file, f"{kind}; open it in the spreadsheet and {SAVE_AS}")
+        raise doubt(file, f"{NO_CSV[kind]}; open it in the spreadsheet and {SAVE_AS}")
     return data
 
 
-def text_of(file: pathlib.Path, data: bytes, encoding: str) -> str:
+def text_in(file: pathlib.Path, data: bytes, encoding: str) -> str:
     """The text of a file without its mark."""
     if encoding == "utf-8" and b"\0" in data:
         raise doubt(file, f"it is no text in UTF-8, and for one in UTF-16 its mark is missing; {SAVE_AS}")
@@ -182,6 +177,8 @@ def rows_in(file: pathlib.Path, text: str, delimiter: str) -> Iterable[Row]:
         start, cells = place, []
         while True:
             found = cell.match(text, place)
+            # the second kind of a cell may be empty, so each place begins one
+            assert found is not None
             if found[1] is None and found[2].lstrip(" ").startswith('"'):
                 at = line + line_feeds(text[start:place])
                 words = f"the quotation mark before {shown(found[2].strip()[1:])} has none that ends the cell"

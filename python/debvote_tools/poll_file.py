@@ -32,9 +32,7 @@ class Statement:
 
 
 # what a value is made of, as far as its end has to be found: texts and comments, which may have brackets in them, and brackets
-PART = re.compile(
-    r'"""(?:[^\\]|\\.)*?"""+|\'\'\'.*?\'\'\'+|"(?:[^"\\\n]|\\.)*"|\'[^\'\n]*\'|#[^\n]*|[\[\]{}]|\n', re.DOTALL
-)
+PART = re.compile(r'"""(?:[^\\]|\\.)*?"""+|\'\'\'.*?\'\'\'+|"(?:[^"\\\n]|\\.)*"|\'[^\'\n]*\'|#[^\n]*|[\[\]{}]|\n', re.DOTALL)
 KEY = re.compile(r"""[ \t]*(?:"((?:[^"\\\n]|\\.)*)"|'([^'\n]*)'|([A-Za-z0-9_-]+))[ \t]*[.=]""")
 
 
@@ -76,13 +74,21 @@ def document(data: bytes) -> dict[str, object]:
 
 def roll_of(data: bytes) -> list[str]:
     """The names on the roll of a poll that debvote takes, in their order."""
-    return [str(name) for name in document(data)["roll"]]
+    return texts_at(document(data), "roll")
 
 
 def options_of(data: bytes) -> list[str]:
     """The names of the options of a poll that debvote takes, in their order, the default option last."""
     said = document(data)
-    return [str(name) for name in (*said["options"], said["default"])]
+    return [*texts_at(said, "options"), str(said["default"])]
+
+
+def texts_at(said: dict[str, object], key: str) -> list[str]:
+    """The texts of a list. Raises KeyError where there is none, and TypeError where it is no list."""
+    found = said[key]
+    if not isinstance(found, list):
+        raise TypeError(key)
+    return [str(text) for text in found]
 
 
 def unread(why: str) -> Fault:
@@ -136,7 +142,7 @@ def with_line(text: str, key: str, value: str) -> str:
 
 
 def without_key(data: bytes, key: str) -> bytes:
-    """The poll without a key above all tables, and without what stands on its line."""
+    """The poll without a key above all tables, however its line is written, and without what else stands on it."""
     text = text_of(data)
     above = itertools.takewhile(lambda statement: statement.key is not None, statements(text))
     line = next((statement for statement in above if statement.key == key), None)
@@ -159,14 +165,6 @@ def as_announced(data: bytes) -> bytes:
     ended = data if data.endswith(b"\n") or not data else data + b"\n"
     is_later = re.compile(LATER.encode()).fullmatch
     return b"".join(line + b"\n" for line in ended.split(b"\n")[:-1] if not is_later(line))
-
-
-def without_last_envelope(data: bytes) -> bytes:
-    """The poll in which no envelope is late, however its line is written. It is to be asked about, and never to be compared."""
-    text = text_of(data)
-    above = itertools.takewhile(lambda statement: statement.key is not None, statements(text))
-    line = next((statement for statement in above if statement.key == LAST_ENVELOPE), None)
-    return data if line is None else (text[: line.start] + text[line.end :]).encode()
 
 
 def has_last_envelope(data: bytes) -> bool:

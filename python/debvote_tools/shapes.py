@@ -2,7 +2,7 @@
 
 import re
 
-from debvote_tools.election.lines import BLANKS
+from debvote_tools.lines import BLANKS
 from debvote_tools.pages import joined
 from debvote_tools.program import Finding
 

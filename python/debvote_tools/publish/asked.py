@@ -1,0 +1,24 @@
+"""What is asked of a publication, as `debvote-publish` and `debvote-election publish` both hand it on."""
+
+import dataclasses
+
+
+@dataclasses.dataclass(frozen=True)
+class Asked:
+    """The two files, the folder to make, and the options; each that is none was not given."""
+
+    poll: str
+    ballots: str
+    folder: str
+    casting: str | None = None
+    desks: int = 1
+    even_so: bool = False
+    # the file of codes, where the vote is secret
+    secret: str | None = None
+    voters: bool = False
+    cast_by: str | None = None
+    cast_on: str | None = None
+    labels: str | None = None
+    about: str | None = None
+    who: str | None = None
+    because: str | None = None
