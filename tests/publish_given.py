@@ -137,7 +137,7 @@ def try_names_beside_labels(expect, page):
     with_label = [section for section in sections if re.search(r"3 <bdi>[\u0590-\u05ff ]+</bdi>", section)]
     beside = [len(re.findall(r"</bdi>(?:</b>)? \(in the poll: Further discussion\)", section)) for section in with_label]
     expect("labels: the name of the poll once in each section", beside, [1] * len(with_label))
-    expect("labels: in so many sections", len(with_label), 5)
+    expect("labels: in so many sections", len(with_label), 6)
     expect("labels: no sign is left", re.findall(r"[\x00-\x09\x0b-\x1f]", page), [])
 
 
@@ -192,11 +192,12 @@ def try_honest_words(expect, scratch):
         ("An elector that is no person, or a person with two names. ", "with your list of members"),
         ("The hand that typed: ", "Keep a copy of what you send, and compare your ballot here with it"),
         ("The clock: ", "Keep what shows when you sent your ballot"),
-        ("Another page for another reader: ", "with other electors"),
+        ("Another page for another reader: ", "with the letter of the result"),
     ]:
         expect(f"nobody can see: {start}", [check in row for row in rows if row.startswith(start)], [True])
     table = (ROOT / "SECURITY.md").read_text(encoding="utf-8").partition("## Who could do what")[2]
-    expect("nobody can see: as many as SECURITY.md has", len(rows), table.count("| **nobody from the page**"))
+    # one more is told where a casting vote decides
+    expect("nobody can see: as many as SECURITY.md has", len(rows) + 1, table.count("| **nobody from the page**"))
     verify = sections["How-to-verify"]
     heads = [head.text() for head in verify.all("h3")]
     program = subprocess.run([PROGRAM, "--version"], capture_output=True, text=True).stdout.strip()
@@ -231,6 +232,7 @@ def try_who(expect, scratch):
     known = {"ada": "ada Ada <b>Lovelace</b> & Co", "ben": "ben Zoë \u05d3\u05d9\u05d5\u05df", "cleo": "cleo"}
     wanted = {known.get(name, f"{name} Member {name}") for name in roll}
     expect("who: the real names", found, wanted)
+    expect("who: whose names", "The real names are those of the list that was given by those who publish" in section.text(), True)
     said = "whether each stands where they belong, and whether each is a person, is the check that every member can make"
     expect("who: what it is for", said in section.text(), True)
     for file in (room / "result").iterdir():
@@ -246,10 +248,10 @@ def try_bad_who(expect, scratch):
     roll = re.findall(r'"([a-z0-9.-]+)"', (room / "poll.toml").read_text().partition("roll")[2])
     whole = "name,who,mail\n" + "".join(f"{name},Member {name},\n" for name in roll)
     missing = f"{roll[0]} of the roll has no row there; nothing was published: give the list of members of this vote with --who"
-    turned = f"the real name of {roll[1]} has the sign U+202E, which no name has; take it out"
+    turned = "`\\x202EMember` has the sign U+202E, which steers a terminal or turns the direction of a text; take it out"
     for name, text, wanted, status in [
         ("a row is missing", whole.replace(f"{roll[0]},Member {roll[0]},\n", ""), f"m.csv: {missing}", 9),
-        ("a sign that turns", whole.replace(f"Member {roll[1]}", "\u202eMember"), f"m.csv:3: {turned}", 2),
+        ("a sign that turns", whole.replace(f"Member {roll[1]}", "\u202eMember"), f"m.csv:3: {turned}", 9),
         ("no table", "ada 1,2,3\n", "m.csv:1: the head line has no column `name`", 9),
     ]:
         (room / "m.csv").write_text(text, encoding="utf-8")
@@ -321,7 +323,7 @@ REFUSED_TEXTS = [
     "(it has 381 bytes, and no ballot has more than 200)",
     "line 11: ada 1,2: bad rank count: 2 ranks, the poll has 3 options",
     "line 12: café\\u202E 1,2,3: bad shape: column 4: byte 0xC3",
-    "line 13: cleo 1,\\u00092,3: bad shape: column 8: tab",
+    "line 13: cleo 1,\\u00092,3: bad shape: column 8: tab (a tab; write a comma)",
 ]
 
 
@@ -377,7 +379,7 @@ def try_call(expect, scratch):
     expect("a poll that was not called", (output, faults, status), ("", wanted, 9))
     expect("a poll that was not called, even so", publish(room, *FILES, "--even-so", "other")[1:], ("", 0))
     page = (room / "other" / "index.html").read_text()
-    said = f"The poll is not the one that was called: the secretary's copy of the call has the sum {called}."
+    said = html.escape(f"The poll is not the one that was called: the secretary's copy of the call has the sum {called}.")
     expect("a poll that was not called: the page", (said in page, "The poll below has another one." in page), (True, True))
 
 
@@ -406,7 +408,7 @@ def try_commands(expect, scratch):
     before = {file.name: file.read_bytes() for file in folder.iterdir()}
     page = (folder / "index.html").read_text().partition('<h2 id="How-to-verify">')[2]
     found = re.findall(r"<pre><code>(.*?)</code></pre>\n(?:<p>It answers:</p>\n<pre><code>(.*?)</code></pre>)?", page, re.DOTALL)
-    expect("commands: how many", len({command for command, _ in found}), 13)
+    expect("commands: how many", len({command for command, _ in found}), 15)
     answers = {}
     for command, wanted in found:
         if "| dot " in command and not HAS_PICTURES:

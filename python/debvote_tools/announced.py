@@ -47,6 +47,8 @@ def announced_in(poll: bytes) -> Announced:
     if said.get(SECRET, True) is not True:
         raise wrong(SECRET, "it has to be `secret = true`, or not to be there")
     times = {key: time_at(key, texts[key]) for key in (DEADLINE, EXTENDED)}
+    if None not in times.values() and times[EXTENDED] <= times[DEADLINE]:
+        raise wrong(EXTENDED, f"it has to be a later time than {DEADLINE}, on which electors rely")
     return Announced(times[DEADLINE], texts[WORDS], texts[ADDRESS], SECRET in said, times[EXTENDED])
 
 

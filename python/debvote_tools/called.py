@@ -9,6 +9,7 @@ import pathlib
 import re
 
 from debvote_tools import journal, poll_file
+from debvote_tools.announced import announced_in, in_words
 from debvote_tools.files import POLL_LIMIT, read_at_most, sum_of
 
 # the poll that was called, in the folder of the election
@@ -44,13 +45,21 @@ class Called:
         bare = poll_file.as_announced(poll)
         if self.poll is None:
             return not self.sums.isdisjoint((sum_of(poll), sum_of(bare)))
-        return poll_file.as_announced(self.poll) == bare
+        return poll_file.as_announced(self.poll) == bare and not self.is_shortened(poll)
+
+    def is_shortened(self, poll: bytes) -> bool:
+        """Whether the poll lacks the later time to which this call has extended the vote, or says an earlier one."""
+        then, now = (announced_in(data).extended_to for data in (self.poll or poll, poll))
+        return then is not None and (now is None or now < then)
 
     def change_in(self, poll: bytes) -> str:
         """How a poll that is another one differs from the one that was called."""
         if self.poll is None:
             return f"the journal has another sum of the poll that was called, and no copy of that one is in {KEPT}"
-        return difference(poll_file.as_announced(self.poll), poll_file.as_announced(poll))
+        before, now = poll_file.as_announced(self.poll), poll_file.as_announced(poll)
+        if before == now:
+            return f"the vote was extended until {in_words(announced_in(self.poll).extended_to)}, and the poll does not say so any more"
+        return difference(before, now)
 
 
 def call_of(folder: pathlib.Path) -> Called | None:

@@ -47,16 +47,22 @@ def number_of(close: Entry) -> int | None:
 def changed_since(close: Entry, folder: pathlib.Path, counted: Counted) -> list[Doubt]:
     """What has changed since the close of the election in this folder.
 
-    Where there is no copy of the closed lines, as of a close by an older version, the last envelope alone is looked at.
+    Where the copy of the closed lines is gone, their sum in the journal tells whether they are the same.
     """
     number, kept = number_of(close), folder / KEPT
     if number is None:
         return []
     found = about_last_envelope(number, counted)
+    closed_sum = sum_of(b"") if close.sums.ballots == NONE else close.sums.ballots
     if not kept.is_file():
-        return found
+        lines = b"".join(line + b"\n" for line in lines_of(counted.data)[:number])
+        return (
+            found
+            if closed_sum in (sum_of(lines), sum_of(lines.removesuffix(b"\n")))
+            else [*found, are_others(number, kept, counted)]
+        )
     data = kept.read_bytes()
-    if sum_of(data) != (sum_of(b"") if close.sums.ballots == NONE else close.sums.ballots):
+    if sum_of(data) != closed_sum:
         return [*found, kept_is_another(kept)]
     return [*found, *about_lines(lines_of(data), kept, counted)]
 
@@ -136,6 +142,16 @@ def other_order(kept: pathlib.Path, counted: Counted) -> Doubt:
         f"its lines stand {words}",
         f"put them back in their order (the lines of the close are in {kept})",
         f"The lines of the ballot file stand {words}.",
+    )
+
+
+def are_others(number: int, kept: pathlib.Path, counted: Counted) -> Doubt:
+    return Doubt(
+        counted.ballots,
+        f"its first {number} lines are not those of the close, and the copy of these, {kept}, is gone",
+        "look who changed them, and compare the ballots with what came, which is kept in received",
+        f"The first {number} lines of the ballot file are not those of the close. Which of them were changed is not known, since the "
+        "copy that the close kept is gone.",
     )
 
 

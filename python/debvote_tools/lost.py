@@ -28,6 +28,17 @@ def trace_in(folder: pathlib.Path) -> str | None:
     return next((str(file.relative_to(folder)) for file in there if file.is_file()), None)
 
 
+def is_emptied(folder: pathlib.Path) -> bool:
+    """Whether the journal is empty although acts were done: a run that was killed in the first act leaves no call, and not both the
+    poll that was called and what came.
+    """
+    file, received = folder / journal.NAME, folder / RECEIVED
+    if not file.is_file() or file.stat().st_size:
+        return False
+    has_come = received.is_dir() and any(re.match(r"\d{4,}-", came.name) for came in received.iterdir())
+    return (folder / FOLDER / LETTER).is_file() or ((folder / CALLED).is_file() and has_come)
+
+
 def lost_in(folder: pathlib.Path, poll: bytes) -> str | None:
     """What shows that the journal of the election in this folder was lost, or its close; none where neither was. A close that was
     cut off has written no last envelope into the poll.
@@ -36,6 +47,8 @@ def lost_in(folder: pathlib.Path, poll: bytes) -> str | None:
     if not file.exists():
         trace = trace_in(folder)
         return None if trace is None else f"the journal is lost: {trace} is there, and no journal"
+    if is_emptied(folder):
+        return f"the journal is lost: {trace_in(folder)} is there, and the journal is empty"
     noted = NOTED.search(file.read_bytes())
     if noted is not None:
         return f"the journal was lost before {journal.in_words(noted[1].decode('ascii', 'replace'))}"

@@ -41,6 +41,42 @@ class LastLine(DangerTest):
         self.assertEqual(self.replies(), ["1 counted", "2 counted"])
 
 
+class AfterTheClose(DangerTest):
+    def test_the_copy_of_the_close_is_gone(self) -> None:
+        """The journal has the sum of the closed lines."""
+        self.add("ada 1,2,4,3\nben 2,1,4,3\n")
+        self.assertEqual(self.election("close").status, 0)
+        self.add("cleo 1,2,4,3\n")
+        (self.folder / "backup" / "ballots.closed").unlink()
+        self.assertEqual(self.election("publish", "--even-so", "--because=x", "none").status, 2)
+        self.write("ballots", self.read("ballots").replace(b"ben 2,1", b"ben 1,2"))
+        words = "ballots: its first 2 lines are not those of the close, and the copy of these, backup/ballots.closed, is gone"
+        self.assertIn(f"Note: {words}; ", self.election("status").output)
+        self.assert_fault(self.election("publish"), 9, words)
+        self.assertEqual(self.election("publish", "--even-so").status, 0)
+        page = self.read("result/index.html").decode()
+        self.assertIn("The first 2 lines of the ballot file are not those of the close.", page)
+
+
+class EmptiedJournal(support.ElectionTest):
+    def test_it_is_lost_as_one_that_is_gone(self) -> None:
+        self.assertEqual(self.election("call").status, 0)
+        self.assertEqual(self.election("add", given="ada 1,2,4,3\nben 2,1,4,3\n").status, 0)
+        self.write("ballots", self.read("ballots").replace(b"ben 2,1", b"ben 1,2"))
+        self.write("journal", b"")
+        words = "the journal is lost: backup/poll.toml.called is there, and the journal is empty"
+        self.assertIn(f"Note: {words}; ", self.election("status").output)
+        self.assert_fault(self.election("close"), 9, words)
+        # with the folder of the call gone as well it is seen by what came, and the next act notes it
+        (self.folder / "call").rename(self.scratch / "call")
+        self.assert_fault(self.election("close"), 9, words)
+        self.assertEqual(self.election("add", given="cleo 1,2,4,3\n").status, 0)
+        self.assert_fault(self.election("close"), 9, "the journal was lost before ")
+        self.assertEqual(self.election("close", "--even-so").status, 0)
+        self.assertEqual(self.election("publish", "--even-so").status, 0)
+        self.assertIn(b"The journal of this election was lost", self.read("result/index.html"))
+
+
 class EditedByHand(DangerTest):
     def setUp(self) -> None:
         super().setUp()

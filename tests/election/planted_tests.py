@@ -3,6 +3,7 @@
 import datetime
 import os
 import re
+import shutil
 import signal
 import sys
 
@@ -20,7 +21,8 @@ WON = "ada 1,2,4,3\nben 1,3,4,2\ncleo 1,2,4,3\n"
 class ClockTest(support.ElectionTest):
     def test_times_are_those_of_greenwich_wherever_the_computer_stands(self) -> None:
         for place in ("Pacific/Kiritimati", "America/Los_Angeles", "UTC"):
-            (self.folder / "journal").unlink(missing_ok=True)
+            shutil.rmtree(self.folder)
+            self.folder.mkdir()
             self.write("poll.toml", support.POLL)
             self.write("ballots", WON)
             ended = self.election("close", "--even-so", env={**support.environment(), "TZ": place})

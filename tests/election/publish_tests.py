@@ -194,6 +194,7 @@ class Publish(PublishTest):
         for words, told in [
             (["--cast-by=", CAST[1]], "--cast-by: it has to be a name on one line, of at most 200 characters"),
             (["--cast-by=a\nb", CAST[1]], "--cast-by: it has to be a name on one line"),
+            (['--cast-by=a". It was checked', CAST[1]], "of at most 200 characters, and without quotation marks"),
             (["--cast-by=a\u202eb", CAST[1]], "--cast-by: it has to be a name on one line"),
             ([CAST[0], "--cast-on=tomorrow"], "--cast-on: `tomorrow` is no day; write it as 2026-12-05"),
             ([CAST[0], "--cast-on=2026-02-30"], "--cast-on: `2026-02-30` is no day"),
@@ -201,8 +202,9 @@ class Publish(PublishTest):
             self.assert_fault(self.election("publish", "--casting", "At the lake", *words), 2, told)
         self.assertEqual(self.election("publish", "--casting", "At the lake", *CAST).status, 0)
         page = html.unescape(self.read("result/index.html").decode())
-        said = "The secretary says that the casting vote was the one of Zo\u00eb <b>, given on 5 December 2026. No count can show this."
+        said = "The secretary says that the casting vote was the one of \"Zo\u00eb <b>\", given on 5 December 2026. No count can show this."
         self.assertIn(said, page.partition("</section>")[0])
+        self.assertIn("The casting vote: whose it was, for which option, and whether there was another one before.", page)
         self.assertIn(said, " ".join(self.read("result/letter.txt").decode().split()))
         self.assertNotIn("Zo\u00eb <b>", self.read("result/index.html").decode())
         ended = self.election("publish", "--casting", "At the lake", "--even-so", "not-said")
@@ -248,7 +250,9 @@ class Publish(PublishTest):
         self.assert_fault(ended, 9, "debvote-publish: ballots: all refused lines end with a carriage return", cure)
         subprocess.run(["sh", "-c", ended.faults.partition("of the file: ")[2].partition(" (or")[0]], cwd=self.folder, check=True)
         self.assertEqual(self.read("ballots"), (WON + "dan 1,2,3,4\n").encode())
-        self.assertEqual(self.election("publish").status, 0)
+        # it is an edit after the close, and the page says so
+        self.assert_fault(self.election("publish"), 9, "debvote-publish: ballots: its first 4 lines are not those of the close")
+        self.assertEqual(self.election("publish", "--even-so").status, 0)
 
     def test_a_poll_that_is_refused_makes_nothing(self) -> None:
         self.write("poll.toml", support.POLL.replace("quorum = 1", "quorum = 11"))

@@ -85,7 +85,7 @@ Refused lines of which no elector can be told (4):
   line 13: \xff\x1B[31m 1,2,3,4
     bad shape: column 1: byte 0xFF
   line 14: dan_x 1,2,3,4
-    bad shape: column 4: "_"
+    bad shape: column 4: "_" (an underscore; write a space)
 Next: """
         said += "add the ballots as they come: debvote-election add FILE, or debvote-election desk; "
         said += "when the vote is over: debvote-election close"

@@ -211,7 +211,7 @@ class Extended(TimeTest):
         self.assertIn(f"poll.toml has got the line: {EXTENDED}", output)
         self.assertIn(f"\nUntil when: {LATER_WORDS}\n", output)
         self.assertEqual(self.read("poll.toml"), self.called + EXTENDED.encode())
-        self.assertEqual(self.read("backup/poll.toml.called"), self.called)
+        self.assertEqual(self.read("backup/poll.toml.called"), self.called + EXTENDED.encode())
         self.assertEqual({self.compared(), self.compared("call")}, {sum_of(self.called)})
         for name in ("call/call.txt", "call/index.html"):
             text = self.text(name)
@@ -231,6 +231,32 @@ class Extended(TimeTest):
         said = f"One could vote until Tuesday, 8 December 2026, 18:00 (UTC+01:00). This was extended at 2026-12-03 09:00:00 UTC, {CLOCK}"
         self.assertRegex(self.time_on_page(), re.escape(said).replace("09:00:00", r"09:00:\d\d") + "; at first the call said: " + re.escape(FIRST_WORDS))
         self.assertEqual(self.compared("result"), sum_of(self.called))
+
+    def test_an_earlier_time_by_hand_closes_nothing(self) -> None:
+        self.done("add", given=BALLOTS)
+        self.write("poll.toml", self.called + b'extended_to = "2026-11-20T18:00:00+01:00"\n')
+        for words in (["close"], ["publish", "--even-so"]):
+            self.assert_fault(self.election(*words), 3, "`extended_to` can't be read: it has to be a later time than deadline")
+
+    def test_an_extension_that_is_taken_out_or_shortened_by_hand(self) -> None:
+        """The sum of the call leaves that line out; the copy of the call has it."""
+        self.done("add", given=BALLOTS)
+        self.done("call", "--until", LATER)
+        called = self.read("poll.toml")
+        for poll in (self.called, called.replace(b"12-06T", b"12-05T")):
+            self.write("poll.toml", poll)
+            for words in (["status"], ["add"], ["close", "--early"], ["publish"]):
+                ended = self.election(*words, given=BALLOTS)
+                self.assert_fault(ended, 9, f"it was changed after the call for votes: the vote was extended until {LATER_WORDS}, and the poll")
+        self.write("poll.toml", called)
+        self.done("close", "--early")
+        self.write("poll.toml", self.read("poll.toml").replace(EXTENDED.encode(), b""))
+        ended = self.run_program(support.PUBLISH, "--poll", "poll.toml", "--ballots", "ballots", "result")
+        self.assert_fault(ended, 9, f"poll.toml: it was changed after the call for votes: the vote was extended until {LATER_WORDS}, and")
+        # a call anew after the close keeps what was called, and not the line of the close
+        self.write("poll.toml", called + b"last_envelope = 2\n")
+        self.done("call")
+        self.assertEqual(self.read("backup/poll.toml.called"), called)
 
     def test_what_is_refused(self) -> None:
         said = "electors rely on that; nothing was changed: write a later time"
@@ -359,6 +385,21 @@ class Page(TimeTest):
         self.done("close")
         self.done("publish", "--even-so")
         return self.time_on_page()
+
+    def test_a_call_that_was_taken_back_is_told(self) -> None:
+        self.done("call")
+        self.set_clock("2026-11-27T10:00:00+00:00")
+        self.done("call", "--take-back")
+        self.write("poll.toml", POLL.replace("ratios = [1, 1, 3]", "ratios = [1, 1, 1]"))
+        self.set_clock("2026-11-28T10:00:00+00:00")
+        self.done("call")
+        self.done("add", given=BALLOTS)
+        self.done("close")
+        self.done("publish")
+        self.assertRegex(
+            self.time_on_page(),
+            rf"The call was made 2026-11-28 10:00:\d\d UTC, {CLOCK}\. An earlier call was taken back at 2026-11-27 10:00:\d\d UTC",
+        )
 
     def test_of_two_files_alone_it_is_not_known(self) -> None:
         self.write("ballots", "ada 1,2,4,3\nben 1,2,4,3\n")

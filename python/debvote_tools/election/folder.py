@@ -181,7 +181,7 @@ class Election:
 
     def begin_journal(self) -> None:
         """Makes the journal before the first file that is kept beside it, so that one sees when it is lost, and notes this."""
-        if self.journal.exists():
+        if self.journal.exists() and not lost.is_emptied(self.folder):
             return
         if lost.trace_in(self.folder) is None:
             append_whole(self.journal, b"")

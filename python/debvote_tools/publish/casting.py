@@ -22,6 +22,9 @@ from debvote_tools.sheet import Sheet, sheet_in
 # in characters
 LONGEST = 200
 
+# the name stands between quotation marks, so that nothing behind it reads as words of the program
+QUOTATION_MARKS = '"\u201c\u201d\u201e\u201f\u2033\uff02\u00ab\u00bb'
+
 CURE = 'say it with --cast-by "NAME" --cast-on 2026-12-05'
 
 OPTIONS = ("--cast-by", "--cast-on")
@@ -38,9 +41,9 @@ class Cast:
 def cast_in(by: str | None, on: str | None) -> Cast:
     """The words of the command line, looked through."""
     if by is not None:
-        is_odd = any(unicodedata.category(sign) in ODD or sign in TURNING for sign in by)
+        is_odd = any(unicodedata.category(sign) in ODD or sign in TURNING or sign in QUOTATION_MARKS for sign in by)
         if not by.strip() or is_odd or len(by) > LONGEST:
-            words = f"it has to be a name on one line, of at most {LONGEST} characters"
+            words = f"it has to be a name on one line, of at most {LONGEST} characters, and without quotation marks"
             raise Fault("--cast-by", words, "write it anew", Status.BAD_WORDS)
     try:
         day = None if on is None else datetime.date.fromisoformat(on)
@@ -104,7 +107,7 @@ def told(cast: Cast) -> str | None:
     """What is said of it, in plain text."""
     if cast.by is None and cast.on is None:
         return None
-    by = "" if cast.by is None else f" of {cast.by}"
+    by = "" if cast.by is None else f' of "{cast.by}"'
     on = "" if cast.on is None else f", given on {cast.on.day} {cast.on:%B %Y}"
     return f"The secretary says that the casting vote was the one{by}{on}. No count can show this."
 

@@ -200,6 +200,7 @@ def make(calls: Calls, text: str, given: Given, found: list[Doubt], further: Fur
     published = Published(
         sheet, standing, refused, lines, picture, calls.casting, verified.rstrip("\n"), version, found, called, labels,
         given.about, further, times, voting_of((folder / POLL).read_bytes(), standing, given, further), given.because, given.cast,
+        ballots_sum=sum_of(ballots),
     )  # fmt: skip
     write_files(folder, published, poll, ballots)
     second_count.demand_same(folder, calls.casting, text, standing)

@@ -8,7 +8,7 @@ from debvote_tools import ballots, pages
 from debvote_tools.pages import command_block, joined, listed, paragraph, part
 from debvote_tools.publish import bars, count, result, roll, times
 from debvote_tools.publish.called import WHOLE
-from debvote_tools.publish.calls import FILES, POLL, SHEET
+from debvote_tools.publish.calls import BALLOTS, FILES, POLL, SHEET
 from debvote_tools.publish.picture import words_for_dot
 from debvote_tools.publish.published import File, Published
 from debvote_tools.publish.recounting import GUIDE, NAME as RECOUNT
@@ -21,7 +21,11 @@ from debvote_tools.publish.why import why
 NAMES_LIMIT = 2_000_000
 
 COMPARE_WHOLE_SUM = "The sum of the poll. Compare it with the one in <strong>your</strong> letter of the call:"
-COMPARE_SUM = "The sum of the poll without its last envelope. Compare it with the one in <strong>your</strong> letter of the call:"
+COMPARE_SUM = (
+    "The sum of the poll without the lines that it got after the call. Compare it with the one in <strong>your</strong> letter of "
+    "the call:"
+)
+BALLOTS_SUM = "The ballots have the sum that stands in the letter of the result:"
 
 OWN = (
     '<b>Your own ballot.</b> It stands under <a href="#Ballots">Ballots</a> as you sent it. If you did not vote, you stand under '
@@ -32,9 +36,14 @@ OWN_IN_SECRET = (
     "counts under your alias."
 )
 LETTER = "<b>The sum in your letter.</b> The letter of the call that came to you must have this sum, the poll's: <code>{}</code>."
+RESULT_LETTER = (
+    "<b>The letter of the result.</b> It came to you by another way than this page, and must name the same winner. If none came, ask "
+    "the secretary for it."
+)
 TOGETHER = (
-    "Where every elector does so on the same files, no ballot was left out or changed unseen, and nobody has changed what was "
-    "voted on. Anybody can count the rest again; one who does is enough for all who trust them."
+    "Where every elector does so on the same files, those with the sums of the letter of the result, no ballot was left out or "
+    "changed unseen, and nobody has changed what was voted on. Anybody can count these files again; one who does is enough for all "
+    "who trust them. This page alone shows nothing of this: whoever keeps the web site can show each reader another one."
 )
 WHERE_DEBVOTE = "Ask your secretary where to get it: it is in the package debvote."
 FROM_ELSEWHERE = (
@@ -139,7 +148,7 @@ def check(found: Published, files: list[File]) -> str:
 def enough(found: Published) -> list[str]:
     """What an elector looks at who does not count again."""
     is_secret = found.further.unlisted is not None
-    entries = [OWN_IN_SECRET if is_secret else OWN, LETTER.format(found.called.poll_sum)]
+    entries = [OWN_IN_SECRET if is_secret else OWN, LETTER.format(found.called.poll_sum), RESULT_LETTER]
     guide = f'<a href="{GUIDE}">{GUIDE}</a> says how, and how to read all that is here.'
     return [listed("ul", entries), paragraph(TOGETHER), paragraph(guide)]
 
@@ -156,6 +165,7 @@ def whole_commands(found: Published) -> list[Command]:
     if found.called.has_last_envelope or found.called.announced is not None:
         words = COMPARE_WHOLE_SUM if found.called.is_secret else COMPARE_SUM
         commands.append((words, found.called.command, found.called.answer))
+    commands.append((BALLOTS_SUM, f"sha256sum {BALLOTS}", f"{found.ballots_sum}  {BALLOTS}"))
     return commands + times.commands(found.times)
 
 

@@ -89,6 +89,8 @@ class Published:
     because: str | None = None
     # whose the casting vote was, in the words of those who publish
     cast: Cast = Cast()
+    # the sum of the published ballots
+    ballots_sum: str = ""
 
     def title(self) -> str:
         """What the election is called on the page, in HTML."""

@@ -28,6 +28,7 @@ LOOK_IN_SECRET = (
     "Look for yourself, and for those whom you know: who voted must stand there, who did not must not. Whether each is a person "
     "is a check that every member can make."
 )
+WHOSE_NAMES = "The real names are those of the list that was given by those who publish; the sum of the poll does not cover them."
 NOBODY = paragraph("Nobody.")
 NONE_COUNTS = "Of these no ballot counts: they did not vote, or all that came of them was refused or late."
 
@@ -80,7 +81,7 @@ def demand_all(file: str | None, who: Mapping[str, str], names: Sequence[str]) -
 # ---------------------------------------------------------------- the part
 def roll(voting: Voting) -> str:
     """Who voted and who did not, each in the order of the roll; in a secret vote who voted alone, and the page has real names."""
-    blocks = [paragraph(said(voting))]
+    blocks = [paragraph(said(voting)), *([paragraph(WHOSE_NAMES)] if voting.who else [])]
     if voting.absent is None:
         link = f'Their names, in the order of the roll and without their votes: <a href="{VOTERS}">{VOTERS}</a>'
         blocks += [paragraph(LOOK_IN_SECRET), paragraph(link)]

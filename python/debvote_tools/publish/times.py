@@ -9,6 +9,7 @@ from html import escape
 
 from debvote_tools import journal
 from debvote_tools.announced import announced_in, in_words
+from debvote_tools.called import MADE, TAKEN_BACK
 from debvote_tools.files import sum_of
 from debvote_tools.journal import Entry, Sums
 from debvote_tools.pages import paragraph, part
@@ -75,12 +76,15 @@ def until(found: Times) -> str:
 
 
 def called(found: Times) -> str:
-    """When the call was made first, and when last, if that was later."""
-    when = [time_of(entry) for entry in found.entries("call")]
+    """When the call was made first, and when last, if that was later; and when an earlier one was taken back."""
+    acts = [entry for entry in found.acts or [] if entry.act in (MADE, TAKEN_BACK)]
+    back = max((place for place, entry in enumerate(acts) if entry.act == TAKEN_BACK), default=None)
+    taken = "" if back is None else f". An earlier call was taken back at {time_of(acts[back])}: it may have been for another poll"
+    when = [time_of(entry) for entry in acts[0 if back is None else back + 1 :]]
     if not when:
-        return "no call for votes was made with debvote-election"
+        return f"no call for votes was made with debvote-election{taken}"
     anew = f"; made anew at {when[-1]}" if when[-1] != when[0] else ""
-    return f"{when[0]}{anew}, {CLOCK}"
+    return f"{when[0]}{anew}, {CLOCK}{taken}"
 
 
 def closed(found: Times) -> str:

@@ -53,22 +53,32 @@ UNSEEN = (
         KEEP_COPY,
     ),
     Unseen(
-        "The clock: which ballot was late, and when the vote was closed, is known by the secretary's computer alone.",
+        "The clock: which ballot was late, and when the vote was closed, is known by the secretary's computer alone, and whoever has "
+        "it can set its clock and write its notes anew.",
         KEEP_REPLY,
         KEEP_REPLY,
     ),
     Unseen(
         "Another page for another reader: whoever keeps the web site can show each reader another folder.",
-        "Compare the sum of the poll with the one in your letter, and the sums of the folder with other electors.",
+        "Compare winner and sums with the letter of the result, the sum of the poll with your letter of the call, and the sums of the "
+        "folder with other electors.",
         None,
     ),
+)
+
+ASK_FOR_CASTING = "Ask the one who gave it, and others whether they have seen another result with another one."
+# where a casting vote decides
+CASTING = Unseen(
+    "The casting vote: whose it was, for which option, and whether there was another one before.", ASK_FOR_CASTING, ASK_FOR_CASTING
 )
 
 
 def unseen(found: Published) -> str:
     """The part of the page."""
     is_secret = found.further.unlisted is not None
-    rows = [(row.what, row.check_in_secret if is_secret else row.check) for row in UNSEEN]
+    winner = found.sheet.winner()
+    all_rows = [*UNSEEN, *([CASTING] if winner is not None and winner[1] else [])]
+    rows = [(row.what, row.check_in_secret if is_secret else row.check) for row in all_rows]
     entries = [f"<b>{what}</b> {check}" for what, check in rows if check is not None]
     more = [paragraph('<a href="#What-is-not-hidden">What is not hidden</a> has more of them.')] if is_secret else []
     return part(HEADING, paragraph(SAID), listed("ul", entries), *more)

@@ -252,15 +252,17 @@ def note_undone(election: Election, files: Files, count: int) -> None:
 
 
 def keep_called(election: Election, files: Files) -> None:
-    """Keeps the poll that is called; of one that was called before, and taken back, a copy."""
-    kept = election.called_poll
+    """Keeps the poll that is called, with the time to which it is extended; of one that was called before, and taken back, a copy."""
+    kept, poll = election.called_poll, poll_file.without_last_envelope(files.poll)
     election.begin_journal()
     if kept.exists():
-        if poll_file.as_announced(kept.read_bytes()) == poll_file.as_announced(files.poll):
+        before = kept.read_bytes()
+        if before == poll:
             return
-        election.keep_copy(kept)
+        if poll_file.as_announced(before) != poll_file.as_announced(poll):
+            election.keep_copy(kept)
     election.backup.mkdir(exist_ok=True)
-    write_whole(kept, files.poll)
+    write_whole(kept, poll)
 
 
 def keep_called_aliases(election: Election, poll: bytes) -> None:
