@@ -370,13 +370,13 @@ def try_call(expect, scratch):
     other = hashlib.sha256(changed).hexdigest()
     output, faults, status = publish(room, *FILES, "other")
     wanted = (
-        f"debvote-publish: poll.toml: it is not the poll that was called: the call announced the sum {called}, and this one has the "
+        f"debvote-publish: poll.toml: it is not the poll that was called: the copy of the call has the sum {called}, and this one has the "
         f"sum {other}; find out who changed it, and publish the poll that was called{publish_slips.EVEN_SO}\n"
     )
     expect("a poll that was not called", (output, faults, status), ("", wanted, 9))
     expect("a poll that was not called, even so", publish(room, *FILES, "--even-so", "other")[1:], ("", 0))
     page = (room / "other" / "index.html").read_text()
-    said = f"The poll is not the one that was called: the call for votes announced the sum {called}."
+    said = f"The poll is not the one that was called: the secretary's copy of the call has the sum {called}."
     expect("a poll that was not called: the page", (said in page, "The poll below has another one." in page), (True, True))
 
 

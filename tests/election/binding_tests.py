@@ -259,10 +259,10 @@ class OpenFolder(Binding):
             self.assertFalse((self.folder / "result").exists())
             self.assertEqual([file.name for file in self.folder.iterdir() if "result" in file.name], [])
 
-    def test_a_poll_that_the_second_count_does_not_read(self) -> None:
+    def test_a_poll_that_the_second_count_cannot_read(self) -> None:
         """TOML 1.1 lets a line end in an inline table, and Python reads TOML 1.0."""
         ended = self.publish(OPEN_POLL + "more = {\n a = 1 }\n", OPEN_BALLOTS, "--even-so")
-        self.assert_fault(ended, 3, "poll.toml: it can't be read as TOML 1.0: ")
+        self.assert_fault(ended, 3, "poll.toml: it can't be read as TOML 1.0", "put this right with an editor")
         self.assertFalse((self.folder / "result").exists())
 
     def test_the_second_count_runs_alone(self) -> None:

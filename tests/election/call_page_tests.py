@@ -361,19 +361,18 @@ class CallPageTextTest(support.ElectionTest):
         self.assertEqual(ended.status, 0, ended)
         return self.read("call/index.html").decode()
 
-    def take_back(self) -> None:
-        """Takes an earlier call back, where there is one."""
-        if (self.folder / "call").exists():
-            ended = self.election("call", "--take-back")
-            self.assertEqual(ended.status, 0, ended)
+    def begin_anew(self, poll: str) -> None:
+        """An election with this poll and nothing else."""
+        shutil.rmtree(self.folder)
+        self.folder.mkdir()
+        self.write("poll.toml", poll)
 
     @unittest.skipUnless(shutil.which("tidy"), "tidy is not installed")
     def test_tidy(self) -> None:
         polls = [support.POLL, *(poll_of(names_of(size), HOSTILE_TITLE, 9) for size in (2, 8, 32))]
         for poll in polls:
             for words in ([], ["--to", ADDRESS, "--until-words", "<i>", "--no-roll"]):
-                self.take_back()
-                self.write("poll.toml", poll)
+                self.begin_anew(poll)
                 self.page(*words)
                 ended = self.run_program("tidy", "-q", "-e", "call/index.html")
                 self.assertEqual((ended.output, ended.faults, ended.status), ("", "", 0))
@@ -388,8 +387,7 @@ class CallPageTextTest(support.ElectionTest):
 
     def test_the_names_on_a_long_roll(self) -> None:
         for count, is_listed in {2_000: True, 2_001: False}.items():
-            self.take_back()
-            self.write("poll.toml", poll_of(["A", "B"], "x", count))
+            self.begin_anew(poll_of(["A", "B"], "x", count))
             page = self.page()
             self.assertEqual(page.count("<li>e"), count if is_listed else 0)
             elsewhere = 'The names on the roll stand in the file <a href="poll.toml">poll.toml</a>, which lies beside this page.'

@@ -17,7 +17,7 @@ RATIOS = (b"ratios = [1, 1, 3]", b"ratios = [1, 1, 1]")
 class CalledTest(support.ElectionTest):
     def setUp(self) -> None:
         super().setUp()
-        self.done("call", "--to", "vote@club.example")
+        self.done("call")
 
     def done(self, *words: object, **how: object) -> str:
         """What a command prints that has to end well."""

@@ -98,7 +98,7 @@ class Guards(SecretTest):
         announced = re.search(r"(?m)^  ([0-9a-f]{64})$", letter)[1]
         self.write("call/call.txt", letter.replace(announced, "0" * 64))
         ended = self.election("publish", "--secret")
-        self.assert_stopped(ended, "it is not the poll that was called: the call announced the sum 000000")
+        self.assert_stopped(ended, "it is not the poll that was called: the copy of the call has the sum 000000")
 
     def test_the_sum_of_ballots_as_they_were(self) -> None:
         """It stands in the journal alone, and with it one tries guesses of single ballots."""

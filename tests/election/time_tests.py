@@ -300,6 +300,22 @@ class Close(TimeTest):
         self.set_clock("2026-12-04T17:00:00+00:00")
         self.assertIn(f"\nUntil when: {FIRST_WORDS}; that is over\n", self.done("status"))
 
+    def test_add_and_desk_say_that_the_time_is_over_and_refuse_no_line_for_it(self) -> None:
+        over = f"Note: one could vote until {FIRST_WORDS}, and that is over; what is {{}} is not late before the vote is closed"
+        for command, word in (("add", "added"), ("desk", "cast")):
+            self.set_clock("2026-12-04T16:50:00+00:00")
+            self.assertNotIn("Note", self.done(command, given=f"eve {len(word)},2,1,1\n"))
+            self.set_clock("2026-12-04T17:00:00+00:00")
+            output = self.done(command, given=f"fay {len(word)},2,1,1\n")
+            self.assertIn(f"{over.format(word)}: debvote-election close\n", output)
+            self.assertIn(" fay: ", output)
+        self.done("close")
+        self.assertNotIn(" late", self.done("status").replace("0 of them late", ""))
+        for command in ("add", "desk"):
+            output = self.done(command, given=f"gus {len(command)},2,1,1\n")
+            self.assertIn("now is late", output)
+            self.assertNotIn("one could vote until", output)
+
     def test_a_time_that_was_extended_is_the_one_that_holds(self) -> None:
         self.done("call", "--until", LATER)
         self.set_clock("2026-12-05T12:00:00+00:00")

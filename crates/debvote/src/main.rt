@@ -6,159 +6,76 @@
 //! reports every problem in it and in the ballots. Without arguments the program reads a poll and its ballots from
 //! standard input, joined by a line `%%`, and acts as `steps`.
 //!
-//! The program reads, calls and reports. What the words ask for is said by `vote_job_words`, and the files of a task are read, made
-//! a job of, and its end reported, by `vote_job_files`; all else is one call of `vote_jobs`, which writes what is meant by the bytes
-//! that were read and says how the run ended.
+//! The program gives its words, the files and the standard input of the system, and standard output to one call of
+//! `vote_job_files`, which answers them.
 #![tactic(auto)]
 
-ghost use Rattle.std.specs.Prelude.{◌≡◌, ◌<◌, IfErr, IfOk, length};
-ghost use Rattle.vote_job_words.specs.Order.{DesksFit};
-ghost use Rattle.vote_job_words.specs.Words.{texts_of};
-ghost use Rattle.vote_job_files.specs.Doing.{EndsJoined, EndsTask, IsDone};
-ghost use Rattle.vote_job_files.specs.Jobs.{files_of};
-ghost use Rattle.vote_job_files.specs.WordStatus.{AnswersWords};
-ghost use Rattle.debvote.specs.Program.{Answers, AnswersJoined, AnswersWorded};
+ghost use Rattle.std.specs.Prelude.{◌≡◌, IfErr};
+ghost use Rattle.debvote.specs.Program.{Answers, AnswersAny, AreNotGiven};
 
+use std::alloc::AllocError;
 use std::io::{ErrorKind, IsTerminal};
+use std::marker::Brand;
 use std::process::ExitCode;
 use std::rt::{Env, Files};
 use std::sync::Wait;
+use std::sync::ledger::{Blank, Ledger};
 use std::thread::Threads;
 use std::{env, io};
-use vote_desks::NoGate;
-use vote_job_files::{Inputs, job_of, order_status, read_inputs, read_joined, report};
-use vote_job_words::{OrderFault, Task, order};
-use vote_jobs::{Ended, Job, RunFault, perform_on};
+use vote_files::{Meter, SystemSources, WriterSink};
+use vote_job_files::{answer, refuse};
+use vote_job_words::OrderFault;
 
-const TERMINAL_HINT: &str = "reading a poll and its ballots from the terminal; see debvote --help";
-
-/// Does the job of a task whose files are read. It is a function of its own since words and bytes stand in one job, so that they
-/// have to live equally long: here both are lent.
-fn do_job<R: Print + AllocGlobal + Threads + Wait + Sync>(
-    rt: &R,
-    task: &Task<'_>,
-    inputs: &Inputs,
-) -> Result<Ended, RunFault>
-    requires { DesksFit task.now }
-    ensures { IsDone task.now (files_of inputs.now) result }
+/// The words after the program's name, as the system gives them: which they are, no contract of std says.
+fn words_given<R: Env + AllocGlobal>(rt: &R) -> Result<Vec<String>, OrderFault>
+    ensures { IfErr result AreNotGiven }
 {
-    let job = job_of(task, inputs);
-    let (_, outcome) = perform_on(rt, rt.alloc(), &job, &NoGate, io::writer(rt));
-    outcome
-}
-
-/// Reads the files of a task, before anything is checked, and does its job.
-fn carry_out<R: Files + Print + AllocGlobal + Threads + Wait + Sync>(
-    rt: &R,
-    task: &Task<'_>,
-) -> Result<Ended, RunFault>
-    requires { DesksFit task.now }
-    ensures { EndsTask task.now result }
-{
-    let inputs = match read_inputs(rt, task) {
-        Ok(inputs) => inputs,
-        Err(fault) => return Err(fault),
-    };
-    do_job(rt, task, &inputs)
-}
-
-/// Writes the reply to each ballot of standard input, a poll and its ballots joined by a line `%%`.
-fn print_joined<R: Input + Print + AllocGlobal + Threads + Wait + Sync>(
-    rt: &R,
-) -> Result<Ended, RunFault>
-    ensures { EndsJoined result }
-{
-    let input = match read_joined(rt) {
-        Ok(input) => input,
-        Err(fault) => return Err(fault),
-    };
-    let job = Job::Joined {
-        input: input.as_slice(),
-    };
-    let (_, outcome) = perform_on(rt, rt.alloc(), &job, &NoGate, io::writer(rt));
-    outcome
-}
-
-/// Prints the text for words that are no task, help on standard output and a refusal on standard error, and gives the exit status.
-fn report_no_task<R: Print + Eprint>(rt: &R, fault: &OrderFault) -> u8
-    ensures { AnswersWords fault.now result }
-{
-    match fault {
-        OrderFault::Help(text) => {
-            if rt.print(text).is_err() {
-                return report(rt, &Err(RunFault::Output));
-            }
-        }
-        OrderFault::Refused(text) => {
-            let _ = rt.eprint(text);
-        }
-        OrderFault::NotUtf8 => {
-            let _ = eprintln!(rt; "debvote: an argument is not UTF-8");
-        }
-        OrderFault::Memory => return report(rt, &Err(RunFault::Memory)),
-    }
-    order_status(fault)
-}
-
-/// Acts on words: does the task that they ask for, or says why they are none; and gives the exit status.
-fn act_on_words<R: Files + Print + Eprint + AllocGlobal + Threads + Wait + Sync>(
-    rt: &R,
-    words: &[&str],
-) -> u8
-    ensures { AnswersWorded (texts_of words.now) result }
-{
-    match order(rt.alloc(), words) {
-        Ok(task) => report(rt, &carry_out(rt, &task)),
-        Err(fault) => report_no_task(rt, &fault),
+    match env::args(rt) {
+        Ok(args) => Ok(args.skip(1).collect(rt.alloc())?),
+        Err(error) if error.kind() == ErrorKind::InvalidData => Err(OrderFault::NotUtf8),
+        Err(_) => Err(OrderFault::Memory),
     }
 }
 
-/// Acts on the words, or without any on standard input, and gives the exit status.
-fn act<R: Files + Input + Print + Eprint + AllocGlobal + Threads + Wait + Sync>(
+/// Answers words, on the files and the standard input of the system, and a standard output that counts by this blank; and gives
+/// the exit status.
+fn run_metered<R: Files + Input + Print + Eprint + AllocGlobal + Threads + Wait + Sync, L: Ledger>(
     rt: &R,
     words: &[&str],
     at_terminal: bool,
+    blank: Blank,
 ) -> u8
-    ensures alone { length words.now ≡ 0 → AnswersJoined result }
-    ensures worded { 0 < length words.now → AnswersWorded (texts_of words.now) result }
+    requires name { blank.name ≡ L.name }
+    requires parts { blank.parts ≡ L.parts }
+    requires two { blank.parts ≡ 2 }
+    ensures { Answers words.now result }
 {
-    if !words.is_empty() {
-        return act_on_words(rt, words);
-    }
-    if at_terminal {
-        let _ = eprintln!(rt; "debvote: {TERMINAL_HINT}");
-    }
-    report(rt, &print_joined(rt))
+    let mut sink = WriterSink::new(io::writer(rt), Meter::<L>::new(blank));
+    answer(rt, &SystemSources::new(rt), words, at_terminal, &mut sink)
 }
 
-/// Acts on the words after the program's name, and gives the exit status.
-fn run_program<R: Files + Input + Print + Eprint + Env + AllocGlobal + Threads + Wait + Sync>(
+/// Answers the words that the system gave, and gives the exit status.
+fn run_program<R: Files + Input + Print + Eprint + AllocGlobal + Threads + Wait + Sync>(
     rt: &R,
+    given: &[String],
     at_terminal: bool,
-) -> Result<u8, RunFault>
-    ensures answers { IfOk result Answers }
-    ensures fault { IfErr result (λ fault. fault ≡ RunFault.Memory) }
+) -> u8
+    ensures { AnswersAny result }
 {
-    let args = match env::args(rt) {
-        Ok(args) => args,
-        Err(error) if error.kind() == ErrorKind::InvalidData => {
-            return Ok(report_no_task(rt, &OrderFault::NotUtf8));
-        }
-        Err(_) => return Err(RunFault::Memory),
-    };
-    let args: Vec<String> = args.collect(rt.alloc())?;
-    let words: Vec<&str> = args
+    let words: Result<Vec<&str>, AllocError> = given
         .iter()
-        .skip(1)
         .map(|word| word.as_str())
-        .collect(rt.alloc())?;
-    Ok(act(rt, words.as_slice(), at_terminal))
+        .collect(rt.alloc());
+    match words {
+        Ok(words) => run_metered::<R, Brand>(rt, words.as_slice(), at_terminal, Blank::new(2)),
+        Err(fault) => refuse(rt, &OrderFault::from(fault)),
+    }
 }
 
 fn main(rt: HostRuntime) -> ExitCode {
-    let status = match run_program(&rt, rt.stdin().is_terminal()) {
-        Ok(status) => status,
-        Err(fault) => report(&rt, &Err(fault)),
+    let status = match words_given(&rt) {
+        Ok(words) => run_program(&rt, words.as_slice(), rt.stdin().is_terminal()),
+        Err(fault) => refuse(&rt, &fault),
     };
     ExitCode::from(status)
 }

@@ -18,10 +18,10 @@ const LINES: &str =
 const OF_WINDOWS: &str = "\u{feff}ada 1,2,3\r\nben 1,2,3\r\nben 1,2,3cleo 1,2,3";
 
 const SAID_OF_WINDOWS: &str =
-    "ballots:1: bad shape: column 1: byte-order mark\nballots:2: bad shape: column 10: carriage return\nballots:3: bad shape: column 10: \"c\"; two ballots on one line?\na ballot line of this poll: ada 1,2,3\nlines of bad shape end with a carriage return: the file comes from Windows; take it out with tr -d '\\r' < ballots > ballots.new\n3 lines: 0 valid, 3 refused, 0 of them late; 0 of 4 electors have a ballot\n";
+    "ballots:1: bad shape: column 1: byte-order mark\nballots:2: bad shape: column 10: carriage return\nballots:3: bad shape: column 10: \"c\"; two ballots on one line? look at both files: the first may lack its last line feed\na ballot line of this poll: ada 1,2,3\nlines of bad shape end with a carriage return: the file comes from Windows; take it out with tail -c +4 < 'my ballots' | tr -d '\\r' > 'my ballots'.new\n3 lines: 0 valid, 3 refused, 0 of them late; 0 of 4 electors have a ballot\n";
 
 const FINDINGS: &str =
-    "the ballot file looks like a poll: are the files exchanged?\nballots:2: bad shape: column 9: byte 0x0B\nballots:3: bad rank count: 2 ranks, the poll has 3 options\nballots:4: bad not on roll: bo is not on the roll; did you mean bob?\nballots:5: bad not on roll: daniela is not on the roll\nballots:6: bad not on roll: cloe is not on the roll; did you mean cleo?\nballots:8: bad shape: column 7: \"\"\"\nballots:9: bad shape: column 1: byte-order mark\nballots:10: late: the last envelope is 9\nballots:11: late: the last envelope is 9\na ballot line of this poll: ada 1,2,3\n11 lines: 2 valid, 9 refused, 2 of them late; 1 of 4 electors have a ballot\n";
+    "the ballot file looks like a poll: are the files exchanged?\nballots:2: bad shape: column 9: byte 0x0B\nballots:3: bad rank count: 2 ranks, the poll has 3 options\nballots:4: bad not on roll: bo is not on the roll\nballots:5: bad not on roll: daniela is not on the roll\nballots:6: bad not on roll: cloe is not on the roll; did you mean cleo?\nballots:8: bad shape: column 7: \"\"\"\nballots:9: bad shape: column 1: byte-order mark\nballots:10: late: the last envelope is 9\nballots:11: late: the last envelope is 9\na ballot line of this poll: ada 1,2,3\n11 lines: 2 valid, 9 refused, 2 of them late; 1 of 4 electors have a ballot\n";
 
 /// What is said of a ballot file for a poll.
 fn explained_for(
@@ -31,7 +31,13 @@ fn explained_for(
     text: &str,
 ) -> Result<Explained, AllocError> {
     let lines = lines_of(rt, alloc, text)?;
-    let found = explain_ballots(alloc, poll, &lines, text.as_bytes().ends_with(b"\n"));
+    let found = explain_ballots(
+        alloc,
+        poll,
+        &lines,
+        text.as_bytes().ends_with(b"\n"),
+        Some("my ballots"),
+    );
     drop(lines);
     found
 }

@@ -84,7 +84,8 @@ fn written_of_cycle<R: Threads + Wait + Sync>(
         desks: 1,
         casting: None,
     };
-    let (paper, ended) = perform_on(rt, alloc, &job, &NoGate, paper);
+    let (paper, done) = perform_on(rt, alloc, &job, &NoGate, paper);
+    let ended = done.end;
     let is_front = SHEET.as_bytes().starts_with(paper.written.as_slice());
     let flushed = (paper.flushes, paper.is_flushed);
     let len = paper.written.len();
@@ -160,7 +161,8 @@ fn performed<G: Gate + Sync, R: Threads + Wait + Sync>(
     requires { HasDesks job.now }
 {
     let paper = endless(alloc)?;
-    let (paper, ended) = perform_on(rt, alloc, job, gate, paper);
+    let (paper, done) = perform_on(rt, alloc, job, gate, paper);
+    let ended = done.end;
     let is_text = paper.written.as_slice() == text.as_bytes();
     let len = paper.written.len();
     drop(paper);

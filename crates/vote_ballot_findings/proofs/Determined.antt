@@ -1,5 +1,5 @@
 -- The poll and the lines leave no choice in what is said.
-use Rattle.std.proofs.Common.{◌≡◌, ◌<◌, ◌++◌, ◌∙◌, inl, inr, ℕ, zero, suc, List, [], ◌∷◌, refl, ap, ap₂, sym, Bool, Option, Some, None, arith, nat_lt, slice_get}
+use Rattle.std.proofs.Common.{◌≡◌, ◌<◌, ◌++◌, ◌∙◌, inl, inr, ℕ, zero, suc, List, [], ◌∷◌, refl, ap, ap₂, sym, Bool, true, false, Option, Some, None, arith, nat_lt, slice_get}
 use Rattle.std.proofs.lemmas.Bool.{cases_Bool}
 use Rattle.std.proofs.lemmas.Bool.Decides.{nat_tests}
 use Rattle.vote_poll.specs.PollContent.{PollContent}
@@ -9,10 +9,11 @@ use Rattle.vote_steps.specs.declared.Reply.TheVariants.{BadLine, BoxClosed, Coun
 use Rattle.vote_sheet.specs.Texts.{Text}
 use Rattle.vote_ballot_findings.specs.Column.{IsColumnHint, column_words}
 use Rattle.vote_ballot_findings.specs.Explained.{IsExplained}
-use Rattle.vote_ballot_findings.specs.FileSigns.{advice_text, closing_text, exchanged_text, look_like_poll, unended_line}
-use Rattle.vote_ballot_findings.specs.Hints.{AreFindings, IsHint, IsStrangerHint, IsSuggested, finding_line, left_after, name_of, not_on_roll_words}
+use Rattle.vote_ballot_findings.specs.FileSigns.{advice_text, closing_text, opening_text}
+use Rattle.vote_ballot_findings.specs.Hints.{AreFindings, AreSuggested, AreSuggestedWhere, IsHint, IsStrangerHint, finding_line, left_after, not_on_roll_words}
+use Rattle.vote_ballot_findings.specs.Remarks.{name_of}
 use Rattle.vote_ballot_findings.specs.Refusals.{Refusal, refusals}
-use Rattle.vote_ballot_findings.specs.Nearest.{IsFound, IsNearest}
+use Rattle.vote_ballot_findings.specs.Nearest.{AreNear, IsFound, IsNearest, as_near, has_few_letters}
 use Rattle.vote_ballot_findings.proofs.LinePrefixes.{columns_are_one}
 use Rattle.vote_ballot_findings.specs.declared.TheConstants.{MOST_SEARCHES}
 
@@ -39,9 +40,16 @@ found_is_one name roll (Some near) (Some other) (p, one) (q, two) =
     sym one.is_there ∙ ap (slice_get roll) same ∙ two.is_there
 
 -- ---- a hint
-suggested_is_one : (poll : PollContent) (left : ℕ) (name : Text) (a b : Option Text) → IsSuggested poll left name a → IsSuggested poll left name b → a ≡ b
+near_are_one : (name : Text) (roll : List Text) (a b : List Text) → AreNear name roll a → AreNear name roll b → a ≡ b
+near_are_one name roll a b (near, is, all) (near', is', all') = all ∙ ap (as_near name roll) (found_is_one name roll near near' is is') ∙ sym all'
+
+suggested_where : (few : Bool) (poll : PollContent) (name : Text) (a b : List Text) → AreSuggestedWhere few poll name a → AreSuggestedWhere few poll name b → a ≡ b
+suggested_where true poll name a b one two = one ∙ sym two
+suggested_where false poll name a b one two = near_are_one name poll.roll a b one two
+
+suggested_is_one : (poll : PollContent) (left : ℕ) (name : Text) (a b : List Text) → AreSuggested poll left name a → AreSuggested poll left name b → a ≡ b
 suggested_is_one poll zero name a b one two = one ∙ sym two
-suggested_is_one poll (suc left) name a b one two = found_is_one name poll.roll a b one two
+suggested_is_one poll (suc left) name a b one two = suggested_where (has_few_letters name) poll name a b one two
 
 stranger_is_one : (poll : PollContent) (left : ℕ) (name a b : Text) → IsStrangerHint poll left name a → IsStrangerHint poll left name b → a ≡ b
 stranger_is_one poll left name a b (near, is, text) (near', is', text') =
@@ -67,7 +75,7 @@ findings_are_one poll left (refusal ∷ refusals) a b (hint, others, is, are, te
     text ∙ ap₂ (λ h t. finding_line refusal h ++ t) (hint_is_one poll left refusal.bytes refusal.reply hint hint' is is')
     (findings_are_one poll (left_after refusal.reply left) refusals others others' are are') ∙ sym text'
 
-pub explained_is_one : (poll : PollContent) (lines : List Text) (all_ended : Bool) (a b : Text) → IsExplained poll lines all_ended a → IsExplained poll lines all_ended b → a ≡ b
-explained_is_one poll lines all_ended a b (findings, are, text) (findings', are', text') =
-    let rest = advice_text poll (unended_line lines all_ended) (refusals poll lines) ++ (closing_text poll lines ++ []) in
-    text ∙ ap (λ t. exchanged_text (look_like_poll lines) ++ (t ++ rest)) (findings_are_one poll MOST_SEARCHES (refusals poll lines) findings findings' are are') ∙ sym text'
+pub explained_is_one : (poll : PollContent) (lines : List Text) (all_ended : Bool) (file : Option Text) (a b : Text) → IsExplained poll lines all_ended file a → IsExplained poll lines all_ended file b → a ≡ b
+explained_is_one poll lines all_ended file a b (findings, are, text) (findings', are', text') =
+    let rest = advice_text poll lines all_ended file (refusals poll lines) ++ (closing_text poll lines ++ []) in
+    text ∙ ap (λ t. opening_text lines ++ (t ++ rest)) (findings_are_one poll MOST_SEARCHES (refusals poll lines) findings findings' are are') ∙ sym text'

@@ -1,6 +1,7 @@
 pub mod Texts
 pub mod LastBytes
 pub mod Distances
+pub mod NearNames
 pub mod Listing
 pub mod Signs
 pub mod BoxReplies

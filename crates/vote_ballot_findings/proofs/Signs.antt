@@ -1,9 +1,10 @@
 -- What the refusals tell of a file, one after another.
-use Rattle.std.proofs.Common.{◌≡◌, ◌||◌, ◌&&◌, ◌++◌, ◌∙◌, ℕ, List, [], ◌∷◌, refl, ap, ap₂, sym, not, Bool, true, false}
+use Rattle.std.proofs.Common.{◌≡◌, ◌||◌, ◌&&◌, ◌++◌, ◌∙◌, ℕ, List, [], ◌∷◌, refl, ap, ap₂, sym, not, Bool, true, false, Option}
 use Rattle.std.specs.List.{list_any}
 use Rattle.vote_poll.specs.PollContent.{PollContent}
+use Rattle.vote_sheet.specs.Texts.{Text}
 use Rattle.vote_ballot_findings.specs.Adding.{AddsSigns, AreSigns, advice_of}
-use Rattle.vote_ballot_findings.specs.FileSigns.{advice_text, example_text, has_return, is_bad_shape, lacks_return, windows_text}
+use Rattle.vote_ballot_findings.specs.FileSigns.{advice_text, example_text, has_return, is_bad_row, is_bad_shape, is_marked_shape, is_of_old_mac, lacks_return, returns_within, unended_line}
 use Rattle.vote_ballot_findings.specs.Refusals.{Refusal}
 use Rattle.vote_ballot_findings.specs.declared.file_signs.FileSigns.{FileSigns}
 
@@ -27,10 +28,13 @@ signs_append unended some others before after are adds = record {
   shape = by_parts is_bad_shape some others before.has_bad_shape after.has_bad_shape are.shape adds.shape;
   return = by_parts has_return some others before.has_return after.has_return are.return adds.return;
   lacking = by_parts (lacks_return unended) some others before.lacks_return after.lacks_return are.lacking adds.lacking;
+  within = by_parts (returns_within unended) some others before.has_return_within after.has_return_within are.within adds.within;
+  marked = by_parts is_marked_shape some others before.is_marked after.is_marked are.marked adds.marked;
+  row = by_parts is_bad_row some others before.has_row after.has_row are.row adds.row;
 }
 
 -- what is advised by the signs is what is advised by the refusals
-pub advice_is : (poll : PollContent) (unended : ℕ) (refusals : List Refusal) (signs : FileSigns) → AreSigns unended refusals signs → advice_of poll signs ≡ advice_text poll unended refusals
-advice_is poll unended refusals signs are =
-    ap₂ (λ a b. a ++ b) (ap (λ b. example_text b poll) are.shape)
-    (ap windows_text (ap₂ (λ a b. a && not b) are.return are.lacking))
+pub advice_is : (poll : PollContent) (lines : List Text) (all_ended : Bool) (unended : ℕ) (file : Option Text) (refusals : List Refusal) (signs : FileSigns) → unended ≡ unended_line lines all_ended
+    → AreSigns unended refusals signs → advice_of poll (is_of_old_mac lines all_ended) signs file ≡ advice_text poll lines all_ended file refusals
+advice_is poll lines all_ended unended file refusals signs number are =
+    rw (are.shape, are.row, are.within, are.return, are.lacking, are.marked, number)

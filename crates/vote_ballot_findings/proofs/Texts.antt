@@ -81,3 +81,14 @@ three_parts a b c t0 t1 t2 t3 e1 e2 e3 = rw (e3, e2, e1) (simp (append_assoc, ap
 pub last_part : {X E : Type 0} (r : Result X E) (a b c t0 t1 t2 t3 : List ℕ) → t1 ≡ t0 ++ a → t2 ≡ t1 ++ b → t3 ≡ (if is_ok r then t2 ++ c else t2) → OnOk r (t3 ≡ t0 ++ concat (a ∷ b ∷ c ∷ []))
 last_part (Ok x) a b c t0 t1 t2 t3 e1 e2 e3 = three_parts a b c t0 t1 t2 t3 e1 e2 e3
 last_part (Err e) a b c t0 t1 t2 t3 e1 e2 e3 = tt
+
+-- five parts, and seven
+pub last_of_five : {X E : Type 0} (r : Result X E) (a b c d e t0 t1 t2 t3 t4 t5 : List ℕ) → t1 ≡ t0 ++ a → t2 ≡ t1 ++ b → t3 ≡ t2 ++ c → t4 ≡ t3 ++ d → t5 ≡ (if is_ok r then t4 ++ e else t4)
+    → OnOk r (t5 ≡ t0 ++ concat (a ∷ b ∷ c ∷ d ∷ e ∷ []))
+last_of_five (Ok x) a b c d e t0 t1 t2 t3 t4 t5 e1 e2 e3 e4 e5 = rw (e5, e4, e3, e2, e1) (simp (append_assoc, append-nil))
+last_of_five (Err x) a b c d e t0 t1 t2 t3 t4 t5 e1 e2 e3 e4 e5 = tt
+
+pub last_of_seven : {X E : Type 0} (r : Result X E) (a b c d e f g t0 t1 t2 t3 t4 t5 t6 t7 : List ℕ) → t1 ≡ t0 ++ a → t2 ≡ t1 ++ b → t3 ≡ t2 ++ c → t4 ≡ t3 ++ d → t5 ≡ t4 ++ e → t6 ≡ t5 ++ f
+    → t7 ≡ (if is_ok r then t6 ++ g else t6) → OnOk r (t7 ≡ t0 ++ concat (a ∷ b ∷ c ∷ d ∷ e ∷ f ∷ g ∷ []))
+last_of_seven (Ok x) a b c d e f g t0 t1 t2 t3 t4 t5 t6 t7 e1 e2 e3 e4 e5 e6 e7 = rw (e7, e6, e5, e4, e3, e2, e1) (simp (append_assoc, append-nil))
+last_of_seven (Err x) a b c d e f g t0 t1 t2 t3 t4 t5 t6 t7 e1 e2 e3 e4 e5 e6 e7 = tt

@@ -1,5 +1,7 @@
 -- What private functions say of the findings that they add to, and of what they read in the lines.
-use Rattle.std.specs.Prelude.{◌≡◌, ℕ, ◌-◌, ◌&&◌, ◌||◌, ◌++◌, not, List, [], ◌∷◌, string_bytes}
+use Rattle.std.specs.Prelude.{◌≡◌, ℕ, ◌-◌, ◌&&◌, ◌||◌, ◌++◌, not, Bool, List, [], ◌∷◌, Option, map, string_bytes}
+use Rattle.std.proofs.Common.{Bor}
+use Rattle.std.specs.Global.{Vec}
 use Rattle.std.specs.List.{list_any}
 use Rattle.std.specs.declared.string.String.{String}
 use Rattle.vote_poll.specs.PollContent.{PollContent}
@@ -7,13 +9,18 @@ use Rattle.vote_steps.specs.declared.Reply.{Reply}
 use Rattle.vote_sheet.specs.LastBallots.{refused_count, valid_count, voter_count}
 use Rattle.vote_sheet.specs.Texts.{Text}
 use Rattle.vote_steps.specs.declared.ballot_box.Totals.{Totals}
-use Rattle.vote_ballot_findings.specs.FileSigns.{example_text, has_return, is_bad_shape, lacks_return, windows_text}
+use Rattle.vote_ballot_findings.specs.FileSigns.{example_text, has_return, is_bad_row, is_bad_shape, is_marked_shape, lacks_return, returns_text, returns_within, table_text}
 use Rattle.vote_ballot_findings.specs.Column.{IsColumnHint}
 use Rattle.vote_ballot_findings.specs.Hints.{AreFindings, IsHint, IsStrangerHint, left_after}
 use Rattle.vote_ballot_findings.specs.Refusals.{Refusal}
 use Rattle.vote_ballot_findings.specs.declared.file_signs.FileSigns.{FileSigns}
 use Rattle.vote_ballot_findings.specs.declared.findings.Findings.{Findings}
 use Rattle.vote_ballot_findings.specs.declared.TheConstants.{MOST_SEARCHES}
+
+-- ---- names
+-- the names that a call found
+abbrev pub names_of : Vec (Bor Text) → List Text
+names_of names = map (λ name. name.now) names.items
 
 -- ---- findings
 -- this text was added, and so many searches are left
@@ -48,16 +55,24 @@ pub record AreSigns (unended : ℕ) (refusals : List Refusal) (signs : FileSigns
   pub shape : signs.has_bad_shape ≡ list_any is_bad_shape refusals
   pub return : signs.has_return ≡ list_any has_return refusals
   pub lacking : signs.lacks_return ≡ list_any (lacks_return unended) refusals
+  pub within : signs.has_return_within ≡ list_any (returns_within unended) refusals
+  pub marked : signs.is_marked ≡ list_any is_marked_shape refusals
+  pub row : signs.has_row ≡ list_any is_bad_row refusals
 
 -- what these refusals tell was added to the signs
 pub record AddsSigns (unended : ℕ) (refusals : List Refusal) (before after : FileSigns) : Type 0 where
   pub shape : after.has_bad_shape ≡ before.has_bad_shape || list_any is_bad_shape refusals
   pub return : after.has_return ≡ before.has_return || list_any has_return refusals
   pub lacking : after.lacks_return ≡ before.lacks_return || list_any (lacks_return unended) refusals
+  pub within : after.has_return_within ≡ before.has_return_within || list_any (returns_within unended) refusals
+  pub marked : after.is_marked ≡ before.is_marked || list_any is_marked_shape refusals
+  pub row : after.has_row ≡ before.has_row || list_any is_bad_row refusals
 
--- what is advised by these signs
-abbrev pub advice_of : PollContent → FileSigns → Text
-advice_of poll signs = example_text signs.has_bad_shape poll ++ windows_text (signs.has_return && not signs.lacks_return)
+-- what is advised by these signs, where the file may be of an old Mac, and may have a name
+abbrev pub advice_of : PollContent → Bool → FileSigns → Option Text → Text
+advice_of poll is_mac signs file =
+    example_text signs.has_bad_shape poll ++ table_text signs.has_row
+    ++ returns_text is_mac signs.has_return_within (signs.has_return && not signs.lacks_return) signs.is_marked file
 
 -- ---- the whole
 -- nothing is said yet, and all searches are left

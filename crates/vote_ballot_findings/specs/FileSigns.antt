@@ -1,18 +1,21 @@
 -- What the lines of a ballot file tell of the whole file, and what is said of it.
-use Rattle.std.specs.Prelude.{ℕ, ◌==◌, ◌&&◌, not, nat_eq, if◌then◌else◌, Bool, true, false, List, [], ◌∷◌, ◌++◌, length, map, slice_index_or, Option, Some, codes, decimal}
-use Rattle.std.specs.List.{ends_with, join_with_byte, list_any, range_with_len, starts_with}
+use Rattle.std.specs.Prelude.{ℕ, ◌==◌, ◌-◌, ◌&&◌, ◌||◌, not, nat_eq, nat_le, if◌then◌else◌, Bool, true, false, List, [], ◌∷◌, ◌++◌, count_by, length, take, drop, map, slice_index_or, Option, Some, None, codes, decimal}
+use Rattle.std.specs.List.{before_first, ends_with, join_with_byte, list_all, list_any, position_or_len, range_with_len, starts_with}
 use Rattle.std.specs.Str.{byte}
 use Rattle.vote_poll.specs.BallotLine.{line_text, rank_text}
 use Rattle.vote_poll.specs.PollContent.{IsPoll, PollContent, elector_count, option_count}
-use Rattle.vote_poll.specs.Readings.{IsReading}
+use Rattle.vote_poll.specs.Readings.{IsReading, is_space}
 use Rattle.vote_poll.specs.declared.LineFault.TheVariants.{Shape}
 use Rattle.vote_poll.specs.declared.Reading.TheVariants.{Ballot}
 use Rattle.vote_steps.specs.declared.Reply.{Reply}
 use Rattle.vote_steps.specs.declared.Reply.TheVariants.{BadLine}
+use Rattle.vote_poll_text.specs.Names.{is_within}
 use Rattle.vote_sheet.specs.LastBallots.{refused_count, valid_count, voter_count}
 use Rattle.vote_sheet.specs.Texts.{Text, line}
 use Rattle.vote_ballot_findings.specs.Characters.{byte_order_mark}
+use Rattle.vote_ballot_findings.specs.Commands.{mending_text}
 use Rattle.vote_ballot_findings.specs.Refusals.{Refusal, late_count, refusals}
+use Rattle.vote_ballot_findings.specs.declared.file_signs.TheConstants.{OLD_MAC, WINDOWS, WITHIN}
 
 -- ---- the files may be exchanged
 -- the line begins as the first key of a poll file does
@@ -26,6 +29,29 @@ look_like_poll lines = list_any begins_a_poll lines
 unfoldable pub exchanged_text : Bool → Text
 exchanged_text true = line (codes "the ballot file looks like a poll: are the files exchanged?" ∷ [])
 exchanged_text false = []
+
+-- ---- the file may be no text of lines
+abbrev pub first_line : List Text → Text
+first_line lines = slice_index_or lines 0 []
+
+-- what a file is, by its first line
+unfoldable pub file_kind : Text → Option Text
+file_kind first =
+    if starts_with nat_eq first (0xFF ∷ 0xFE ∷ []) || starts_with nat_eq first (0xFE ∷ 0xFF ∷ []) then Some (codes "saved as UTF-16: save it as UTF-8\n")
+    else if starts_with nat_eq first (0x50 ∷ 0x4B ∷ 0x03 ∷ 0x04 ∷ []) then Some (codes "a ZIP file, as word processors and spreadsheets save: save it as plain text\n")
+    else if starts_with nat_eq first (0xD0 ∷ 0xCF ∷ 0x11 ∷ 0xE0 ∷ []) then Some (codes "an old Word or Excel file: save it as plain text\n")
+    else if starts_with nat_eq first (codes "{\\rtf") then Some (codes "an RTF file: save it as plain text\n")
+    else if starts_with nat_eq first (codes "%PDF") then Some (codes "a PDF file: save it as plain text\n")
+    else if starts_with nat_eq first (codes "{") || starts_with nat_eq first (codes "[") then Some (codes "JSON: write a line for each ballot\n")
+    else None
+
+unfoldable pub kind_text : Option Text → Text
+kind_text None = []
+kind_text (Some kind) = codes "the ballot file is " ++ kind
+
+-- what is said before the findings
+abbrev pub opening_text : List Text → Text
+opening_text lines = exchanged_text (look_like_poll lines) ++ kind_text (file_kind (first_line lines))
 
 -- ---- a ballot line, as an example
 abbrev pub is_of_shape : Reply → Bool
@@ -85,15 +111,67 @@ lacks_return unended refusal =
 abbrev pub is_from_windows : ℕ → List Refusal → Bool
 is_from_windows unended refusals = list_any has_return refusals && not (list_any (lacks_return unended) refusals)
 
-unfoldable pub windows_text : Bool → Text
-windows_text true = line (
-    codes "lines of bad shape end with a carriage return: the file comes from Windows; " ∷
-    codes "take it out with tr -d '\\r' < ballots > ballots.new" ∷ [])
-windows_text false = []
+-- ---- other carriage returns
+abbrev pub is_return : ℕ → Bool
+is_return b = b == 0x0D
 
--- what is advised: a ballot line that is one, and how a file from Windows is mended
-abbrev pub advice_text : PollContent → ℕ → List Refusal → Text
-advice_text poll unended refusals = example_text (list_any is_bad_shape refusals) poll ++ windows_text (is_from_windows unended refusals)
+-- a carriage return that is not the last byte of the line
+abbrev pub has_return_within : Text → Bool
+has_return_within bytes = list_any is_return (take (length bytes - 1) bytes)
+
+-- in a line of bad shape that does not lack one at its end
+abbrev pub returns_within : ℕ → Refusal → Bool
+returns_within unended refusal = is_bad_shape refusal && not (lacks_return unended refusal) && has_return_within refusal.bytes
+
+-- a marked line of bad shape
+abbrev pub is_marked_shape : Refusal → Bool
+is_marked_shape refusal = is_bad_shape refusal && is_marked refusal
+
+-- a space stands in the text behind its first carriage return
+abbrev pub goes_on_after_return : Text → Bool
+goes_on_after_return text = list_any is_space (drop (position_or_len is_return text) text)
+
+-- no line feed stands in the file, and behind a carriage return it goes on
+abbrev pub is_of_old_mac : List Text → Bool → Bool
+is_of_old_mac lines all_ended = length lines == 1 && not all_ended && goes_on_after_return (first_line lines)
+
+-- what the carriage returns are, the first that holds: the ends of lines of an old Mac, or within lines, or those of Windows
+unfoldable pub returns_text : Bool → Bool → Bool → Bool → Option Text → Text
+returns_text true within windows marked file = mending_text OLD_MAC.now (codes "'\\r' '\\n'") marked file
+returns_text false true windows marked file = WITHIN.now
+returns_text false false true marked file = mending_text WINDOWS.now (codes "-d '\\r'") marked file
+returns_text false false false marked file = []
+
+-- ---- a table
+-- neither a blank nor a byte that can't be printed
+abbrev pub is_cell_byte : ℕ → Bool
+is_cell_byte b = is_within 0x21 0x7E b
+
+-- the line begins with a cell that this byte ends, and has at least two of the byte
+abbrev pub has_cells : ℕ → Text → Bool
+has_cells separator bytes =
+    list_all is_cell_byte (before_first (λ b. b == separator) bytes) && nat_le 2 (count_by (λ b. b == separator) bytes)
+
+-- a row of a table, its cells parted by commas, semicolons or tabs
+unfoldable pub is_row : Text → Bool
+is_row bytes = has_cells (byte ",") bytes || has_cells (byte ";") bytes || has_cells 0x09 bytes
+
+-- the first line of a file, which is of bad shape and looks like a row
+abbrev pub is_bad_row : Refusal → Bool
+is_bad_row refusal = is_bad_shape refusal && refusal.number == 1 && is_row refusal.bytes
+
+unfoldable pub table_text : Bool → Text
+table_text true = line (
+    codes "the file looks like a table: debvote-election add --csv takes its rows as ballots; " ∷
+    codes "in a cell a hyphen stands for no rank" ∷ [])
+table_text false = []
+
+-- what is advised: a ballot line that is one, how a table is brought in, and how carriage returns are mended
+abbrev pub advice_text : PollContent → List Text → Bool → Option Text → List Refusal → Text
+advice_text poll lines all_ended file refusals =
+    example_text (list_any is_bad_shape refusals) poll ++ table_text (list_any is_bad_row refusals)
+    ++ returns_text (is_of_old_mac lines all_ended) (list_any (returns_within (unended_line lines all_ended)) refusals) (is_from_windows (unended_line lines all_ended) refusals)
+    (list_any is_marked_shape refusals) file
 
 -- ---- the totals
 unfoldable pub totals_text : ℕ → ℕ → ℕ → ℕ → ℕ → ℕ → Text

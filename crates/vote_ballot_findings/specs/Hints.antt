@@ -1,10 +1,8 @@
 -- What is said of each line that is refused.
-use Rattle.std.specs.Prelude.{◌≡◌, ℕ, zero, suc, ◌+◌, ◌-◌, ◌==◌, List, [], ◌∷◌, ◌++◌, count_by, Option, Some, None, option_copied, codes, decimal}
-use Rattle.std.proofs.Common.{Bor}
-use Rattle.std.specs.List.{before_first, concat}
+use Rattle.std.specs.Prelude.{◌≡◌, ℕ, zero, suc, ◌+◌, ◌-◌, ◌==◌, List, [], ◌∷◌, ◌++◌, count_by, Bool, true, false, codes, decimal}
+use Rattle.std.specs.List.{concat}
 use Rattle.std.specs.Str.{byte}
 use Rattle.vote_poll.specs.PollContent.{PollContent, last_in_time, option_count}
-use Rattle.vote_poll.specs.Readings.{is_space}
 use Rattle.vote_poll_text.specs.Shown.{shown}
 use Rattle.vote_poll.specs.declared.LineFault.TheVariants.{Shape, RankCount, Roll}
 use Rattle.vote_steps.specs.declared.Reply.{Reply}
@@ -12,7 +10,8 @@ use Rattle.vote_steps.specs.declared.Reply.TheVariants.{BadLine, Late}
 use Rattle.vote_sheet.specs.Steps.{reply_words}
 use Rattle.vote_sheet.specs.Texts.{Text, line}
 use Rattle.vote_ballot_findings.specs.Column.{IsColumnHint}
-use Rattle.vote_ballot_findings.specs.Nearest.{IsFound}
+use Rattle.vote_ballot_findings.specs.Nearest.{AreNear, has_few_letters}
+use Rattle.vote_ballot_findings.specs.Remarks.{name_of}
 use Rattle.vote_ballot_findings.specs.Refusals.{Refusal}
 use Rattle.vote_ballot_findings.specs.declared.TheConstants.{MOST_SHOWN}
 
@@ -26,29 +25,38 @@ rank_count_words ranks options = concat (decimal ranks ∷ codes " ranks, the po
 unfoldable pub last_words : ℕ → Text
 last_words last = codes "the last envelope is " ++ decimal last
 
--- what is suggested for a name: the nearest on the roll, where one is near, as long as searches are left
-abbrev pub IsSuggested : PollContent → ℕ → Text → Option Text → Type 0
-IsSuggested poll zero name near = near ≡ None
-IsSuggested poll (suc left) name near = IsFound name poll.roll near
+-- what is suggested for a name: all names on the roll that are nearest, as long as searches are left
+abbrev pub AreSuggestedWhere : Bool → PollContent → Text → List Text → Type 0
+AreSuggestedWhere true poll name near = near ≡ []
+AreSuggestedWhere false poll name near = AreNear name poll.roll near
 
--- the same for a name that a call found
-abbrev pub Suggests : PollContent → ℕ → Text → Option (Bor Text) → Type 0
-Suggests poll left name near = IsSuggested poll left name (option_copied near)
+abbrev pub AreSuggested : PollContent → ℕ → Text → List Text → Type 0
+AreSuggested poll zero name near = near ≡ []
+AreSuggested poll (suc left) name near = AreSuggestedWhere (has_few_letters name) poll name near
 
-unfoldable pub suggestion_words : Option Text → Text
-suggestion_words None = []
-suggestion_words (Some name) = concat (codes "; did you mean " ∷ shown MOST_SHOWN name ∷ codes "?" ∷ [])
+abbrev pub one_words : Text → Text
+one_words name = concat (codes "; did you mean " ∷ shown MOST_SHOWN name ∷ codes "?" ∷ [])
+
+abbrev pub two_words : Text → Text → Text
+two_words name other = concat (codes "; did you mean " ∷ shown MOST_SHOWN name ∷ codes " or " ∷ shown MOST_SHOWN other ∷ codes "?" ∷ [])
+
+abbrev pub three_words : Text → Text → Text → Text
+three_words name other last = concat (
+    codes "; did you mean " ∷ shown MOST_SHOWN name ∷ codes ", " ∷ shown MOST_SHOWN other ∷ codes " or " ∷ shown MOST_SHOWN last ∷ codes "?" ∷ [])
+
+-- at most three names are told
+unfoldable pub suggestion_words : List Text → Text
+suggestion_words [] = []
+suggestion_words (name ∷ []) = one_words name
+suggestion_words (name ∷ other ∷ []) = two_words name other
+suggestion_words (name ∷ other ∷ last ∷ more) = three_words name other last
 
 -- a name that is not on the roll, and what is suggested for it
-unfoldable pub not_on_roll_words : Text → Option Text → Text
+unfoldable pub not_on_roll_words : Text → List Text → Text
 not_on_roll_words name near = concat (shown MOST_SHOWN name ∷ codes " is not on the roll" ∷ suggestion_words near ∷ [])
 
--- the text before the first space of a line
-abbrev pub name_of : Text → Text
-name_of bytes = before_first is_space bytes
-
 abbrev pub IsStrangerHint : PollContent → ℕ → Text → Text → Type 0
-IsStrangerHint poll left name hint = (near : Option Text) × IsSuggested poll left name near × (hint ≡ not_on_roll_words name near)
+IsStrangerHint poll left name hint = (near : List Text) × AreSuggested poll left name near × (hint ≡ not_on_roll_words name near)
 
 -- what is said after the words of the reply, where so many searches are left; no other reply refuses a line
 abbrev pub IsHint : PollContent → ℕ → Text → Reply → Text → Type 0

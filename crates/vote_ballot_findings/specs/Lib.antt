@@ -1,10 +1,12 @@
 -- what the contracts of public calls say
 pub mod Limits
 pub mod Characters
+pub mod Remarks
 pub mod Column
 pub mod Nearest
 pub mod Refusals
 pub mod Hints
+pub mod Commands
 pub mod FileSigns
 pub mod Explained
 pub mod Replies

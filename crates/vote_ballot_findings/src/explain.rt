@@ -1,6 +1,6 @@
 //! What is wrong with the lines of a ballot file, as a text.
 
-ghost use Rattle.std.specs.Prelude.{◌≡◌, IfOk, OnOk};
+ghost use Rattle.std.specs.Prelude.{◌≡◌, IfOk, OnOk, option_copied};
 ghost use Rattle.vote_poll_text.specs.Adding.{Adds};
 ghost use Rattle.vote_steps.specs.Casting.{HoldsLines};
 ghost use Rattle.vote_sheet.specs.LastBallots.{refused_count};
@@ -10,7 +10,7 @@ ghost use Rattle.vote_ballot_findings.specs.FileSigns.{closing_text};
 ghost use Rattle.vote_ballot_findings.specs.Refusals.{EachRefusalIsListed, late_count};
 ghost use Rattle.vote_ballot_findings.specs.Replies.{AreReplies, RefusedAsBySteps};
 
-use crate::file_signs::{push_advice, push_exchanged, unended_line};
+use crate::file_signs::{push_advice, push_opening, unended_line};
 use crate::findings::Findings;
 use std::alloc::{AllocError, Global};
 use vote_poll::{Lines, Poll};
@@ -67,30 +67,33 @@ fn push_explained(
     poll: &Poll,
     lines: &Lines<'_>,
     ended: bool,
+    file: Option<&str>,
     steps: &[Step],
     totals: &Totals,
 ) -> Result<(), AllocError>
     requires unsaid { IsUnsaid findings.old }
     requires replies { AreReplies poll.now lines.now steps.now }
     requires totals { AreTotals poll.now lines.now totals.now }
-    ensures { OnOk result (SaysAll poll.now lines.now ended findings.new.text) }
+    ensures { OnOk result (SaysAll poll.now lines.now ended (option_copied file.entry) findings.new.text) }
 {
-    push_exchanged(&mut findings.text, lines)?;
+    push_opening(&mut findings.text, lines)?;
     let signs = findings.add_all(poll, lines, steps, unended_line(lines, ended))?;
-    push_advice(&mut findings.text, poll, &signs)?;
+    push_advice(&mut findings.text, poll, lines, ended, &signs, file)?;
     push_totals(&mut findings.text, poll, lines, totals)
 }
 
 /// What is wrong with the lines of a ballot file: whether it looks like a poll; a line for each line that is refused, in their
-/// order, with the words that `steps` has for it and a hint; a ballot line as an example, if a line is of bad shape; whether the
-/// file comes from Windows; and how many lines are valid and refused. `ended` says whether a line feed ends the last line too.
+/// order, with the words that `steps` has for it and a hint; a ballot line as an example, if a line is of bad shape; how a table is
+/// brought in; what carriage returns are; and how many lines are valid and refused. `ended` says whether a line feed ends the last
+/// line too, and `file` the name of the file for a command that mends it, where it has one.
 pub fn explain_ballots(
     alloc: Global,
     poll: &Poll,
     lines: &Lines<'_>,
     ended: bool,
+    file: Option<&str>,
 ) -> Result<Explained, AllocError>
-    ensures text { IfOk result (λ said. SaysAll poll.now lines.now ended said.text) }
+    ensures text { IfOk result (λ said. SaysAll poll.now lines.now ended (option_copied file.entry) said.text) }
     ensures refused { IfOk result (λ said. said.refused ≡ refused_count poll.now lines.now) }
 {
     let ballot_box = cast_all(alloc, poll, lines)?;
@@ -101,6 +104,7 @@ pub fn explain_ballots(
         poll,
         lines,
         ended,
+        file,
         ballot_box.steps(),
         &totals,
     )?;

@@ -4,7 +4,8 @@ ghost use Rattle.std.specs.Prelude.{◌≡◌};
 ghost use Rattle.std.specs.List.{position, position_or_len};
 ghost use Rattle.vote_poll_text.specs.Adding.{Adds};
 ghost use Rattle.vote_poll.specs.Readings.{is_space};
-ghost use Rattle.vote_ballot_findings.specs.Hints.{last_words, name_of, rank_count, rank_count_words};
+ghost use Rattle.vote_ballot_findings.specs.Hints.{last_words, rank_count, rank_count_words};
+ghost use Rattle.vote_ballot_findings.specs.Remarks.{name_of};
 
 use std::alloc::AllocError;
 
@@ -24,7 +25,7 @@ pub(crate) fn first_space(text: &[u8]) -> Option<usize>
 
 /// The place of the first space of a line, or the line's length.
 #[tactic(auto, using(crate::proofs::Texts::first_or_len))]
-fn end_of_name(line: &[u8]) -> usize
+pub(crate) fn end_of_name(line: &[u8]) -> usize
     ensures { result ≡ position_or_len is_space line.now }
 {
     first_space(line).unwrap_or(line.len())

@@ -18,10 +18,12 @@ mod device;
 mod input;
 mod meter;
 mod output;
+mod sources;
 mod standard;
 
 pub use device::{DeviceFault, Sink, Source};
 pub use input::{ReadFault, read_limited};
 pub use meter::Meter;
 pub use output::write_text;
+pub use sources::{Sources, SystemSources};
 pub use standard::{ReaderSource, WriterSink, read_all};

@@ -1,5 +1,6 @@
 -- The files of a task, and its job once they are read.
-use Rattle.std.specs.Prelude.{◌≡◌, List, ℕ, Option, Some, None, option_copied, option_map}
+use Rattle.std.specs.Prelude.{◌≡◌, List, ℕ, Option, Some, None, IfSome, option_copied, option_map}
+use Rattle.vote_files.specs.Device.{IsWhole}
 use Rattle.vote_job_words.specs.declared.Task.{Task}
 use Rattle.vote_job_words.specs.declared.Task.TheVariants as task
 use Rattle.vote_jobs.specs.declared.Job.{Job}
@@ -26,6 +27,11 @@ ballots_name (task.Standing poll ballots) = Some ballots.now
 ballots_name (task.Verify poll ballots sheet desks) = Some ballots.now
 ballots_name (task.Picture poll ballots desks casting) = Some ballots.now
 
+-- the name of the published sheet, if the task compares one
+abbrev pub sheet_name : Task → Option (List ℕ)
+sheet_name (task.Verify poll ballots sheet desks) = Some sheet.now
+sheet_name other = None
+
 -- the bytes of the files that a task may name: its poll file, its ballot file and its published sheet
 pub record Files : Type 0 where
   pub poll : List ℕ
@@ -35,6 +41,12 @@ pub record Files : Type 0 where
 -- those that were read
 abbrev pub files_of : Inputs → Files
 files_of inputs = record { poll = inputs.poll.items; ballots = inputs.ballots.items; sheet = inputs.sheet.items }
+
+-- each file that the task names has just the bytes that are told of its name
+pub record AreFilesOf (file_bytes : List ℕ → Option (List ℕ)) (asked : Task) (files : Files) : Type 0 where
+  pub poll : IsWhole (file_bytes (poll_name asked)) files.poll
+  pub ballots : IfSome (ballots_name asked) (λ name. IsWhole (file_bytes name) files.ballots)
+  pub sheet : IfSome (sheet_name asked) (λ name. IsWhole (file_bytes name) files.sheet)
 
 -- what the task asks for, with these bytes of its files, and with its desks and its casting vote
 abbrev pub IsJobOf : Task → Files → Job → Type 0

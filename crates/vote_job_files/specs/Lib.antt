@@ -3,3 +3,4 @@ pub mod Jobs
 pub mod Unread
 pub mod WordStatus
 pub mod Doing
+pub mod Answering

@@ -1,11 +1,10 @@
 -- Which fault a file of a task gives that could not be read.
 use Rattle.std.specs.Prelude.{◌≡◌, ◌⊎◌, Some, Result, Ok, Err}
 use Rattle.vote_job_words.specs.declared.Task.{Task}
-use Rattle.vote_job_words.specs.declared.Task.TheVariants as task
 use Rattle.vote_files.specs.declared.ReadFault.{ReadFault}
 use Rattle.vote_jobs.specs.Status.{ballots_unread, poll_unread, sheet_unread}
 use Rattle.vote_jobs.specs.declared.RunFault.{RunFault}
-use Rattle.vote_job_files.specs.Jobs.{ballots_name}
+use Rattle.vote_job_files.specs.Jobs.{ballots_name, sheet_name}
 
 -- the bytes that were read; or the fault of an input that was not, by the fault of its device, its length or memory
 abbrev pub IsReadOr : {T : Type 0} → (ReadFault → RunFault) → Result T ReadFault → Result T RunFault → Type 0
@@ -28,8 +27,7 @@ HasBallots asked = (name : _) × (ballots_name asked ≡ Some name)
 
 -- the task names a published sheet
 abbrev pub HasSheet : Task → Type 0
-HasSheet (task.Verify poll ballots sheet desks) = Unit {0}
-HasSheet other = ⊥
+HasSheet asked = (name : _) × (sheet_name asked ≡ Some name)
 
 -- one of the files that the task names was not read
 abbrev pub IsUnread : Task → RunFault → Type 0

@@ -1,6 +1,6 @@
 //! How a run ended, told to the caller of the program.
 
-ghost use Rattle.std.specs.Prelude.{◌≡◌};
+ghost use Rattle.std.specs.Prelude.{◌≡◌, ◌↔◌, IsErrOf};
 ghost use Rattle.vote_jobs.specs.Status.{status};
 ghost use Rattle.vote_job_files.specs.WordStatus.{order_status};
 
@@ -9,7 +9,8 @@ use vote_jobs::{Ended, RunFault, status};
 
 /// Says on standard error why a run did not come to its end, and gives the exit status.
 pub fn report<R: Eprint>(rt: &R, outcome: &Result<Ended, RunFault>) -> u8
-    ensures { result ≡ status outcome.now }
+    ensures status { result ≡ status outcome.now }
+    ensures output { (result ≡ 7) ↔ IsErrOf outcome.now RunFault.Output }
 {
     if let Err(fault) = outcome {
         let _ = eprintln!(rt; "debvote: {fault}");

@@ -1,13 +1,14 @@
 //! The inputs of the program, read whole up to their limits.
 
-ghost use Rattle.std.specs.Prelude.{◌≡◌, ◌≤◌, [], IfErr, IfOk, vec_len};
+ghost use Rattle.std.specs.Prelude.{◌≡◌, ◌≤◌, [], IfErr, IfOk, IfSome, vec_len};
+ghost use Rattle.vote_files.specs.Device.{IsWhole};
 ghost use Rattle.vote_jobs.specs.Status.{ballots_unread, poll_unread, sheet_unread};
+ghost use Rattle.vote_job_files.specs.Jobs.{AreFilesOf, ballots_name, files_of, poll_name, sheet_name};
 ghost use Rattle.vote_job_files.specs.Unread.{AreBallotsUnread, HasBallots, HasSheet, IsPollUnread, IsReadOr, IsSheetUnread, IsUnread};
 
-use crate::tasks::{ballots_name, poll_name};
-use std::fs::File;
-use std::rt::Files;
-use vote_files::{ReadFault, read_all};
+use crate::tasks::{ballots_name, poll_name, sheet_name};
+use std::alloc::Global;
+use vote_files::{ReadFault, Sources};
 use vote_job_words::Task;
 use vote_jobs::{RunFault, ballots_unread, poll_unread, sheet_unread};
 
@@ -22,16 +23,6 @@ pub(crate) const BALLOTS_LIMIT: usize = 33_554_432;
 
 /// The most bytes of a joined input: both files and the line between them.
 pub(crate) const JOINED_LIMIT: usize = 34_603_011;
-
-/// All bytes of a file. One that can't be opened is as one whose device failed.
-fn read_file<R: Files + AllocGlobal>(rt: &R, name: &str, limit: usize) -> Result<Vec<u8>, ReadFault>
-    ensures within { IfOk result (λ bytes. vec_len bytes ≤ limit) }
-{
-    match File::open(rt, name) {
-        Ok(file) => read_all(rt.alloc(), file, limit),
-        Err(_) => Err(ReadFault::Device),
-    }
-}
 
 /// What was read of a poll file.
 fn of_poll(read: Result<Vec<u8>, ReadFault>) -> Result<Vec<u8>, RunFault>
@@ -64,34 +55,41 @@ fn of_sheet(read: Result<Vec<u8>, ReadFault>) -> Result<Vec<u8>, RunFault>
 }
 
 /// All bytes of a task's poll file.
-fn read_poll<R: Files + AllocGlobal>(rt: &R, task: &Task<'_>) -> Result<Vec<u8>, RunFault>
+fn read_poll<S: Sources>(sources: &S, alloc: Global, task: &Task<'_>) -> Result<Vec<u8>, RunFault>
+    ensures whole { IfOk result (λ bytes. IsWhole (S.file_bytes sources.now (poll_name task.now)) bytes.items) }
     ensures within { IfOk result (λ bytes. vec_len bytes ≤ POLL_LIMIT) }
     ensures fault { IfErr result IsPollUnread }
 {
-    of_poll(read_file(rt, poll_name(task), POLL_LIMIT))
+    of_poll(sources.read_file(alloc, poll_name(task), POLL_LIMIT))
 }
 
 /// All bytes of a task's ballot file, or none if it names none.
-fn read_ballots<R: Files + AllocGlobal>(rt: &R, task: &Task<'_>) -> Result<Vec<u8>, RunFault>
+fn read_ballots<S: Sources>(
+    sources: &S,
+    alloc: Global,
+    task: &Task<'_>,
+) -> Result<Vec<u8>, RunFault>
+    ensures whole { IfOk result (λ bytes. IfSome (ballots_name task.now) (λ name. IsWhole (S.file_bytes sources.now name) bytes.items)) }
     ensures within { IfOk result (λ bytes. vec_len bytes ≤ BALLOTS_LIMIT) }
     ensures unnamed { ¬ HasBallots task.now → IfOk result (λ bytes. bytes.items ≡ []) }
     ensures fault { IfErr result (λ fault. HasBallots task.now × AreBallotsUnread fault) }
 {
     match ballots_name(task) {
-        Some(name) => of_ballots(read_file(rt, name, BALLOTS_LIMIT)),
-        None => Ok(Vec::new(rt.alloc())),
+        Some(name) => of_ballots(sources.read_file(alloc, name, BALLOTS_LIMIT)),
+        None => Ok(Vec::new(alloc)),
     }
 }
 
 /// All bytes of the published sheet that a task compares, or none if it compares none.
-fn read_sheet<R: Files + AllocGlobal>(rt: &R, task: &Task<'_>) -> Result<Vec<u8>, RunFault>
+fn read_sheet<S: Sources>(sources: &S, alloc: Global, task: &Task<'_>) -> Result<Vec<u8>, RunFault>
+    ensures whole { IfOk result (λ bytes. IfSome (sheet_name task.now) (λ name. IsWhole (S.file_bytes sources.now name) bytes.items)) }
     ensures within { IfOk result (λ bytes. vec_len bytes ≤ SHEET_LIMIT) }
     ensures unnamed { ¬ HasSheet task.now → IfOk result (λ bytes. bytes.items ≡ []) }
     ensures fault { IfErr result (λ fault. HasSheet task.now × IsSheetUnread fault) }
 {
-    match task {
-        Task::Verify { sheet, .. } => of_sheet(read_file(rt, sheet, SHEET_LIMIT)),
-        _ => Ok(Vec::new(rt.alloc())),
+    match sheet_name(task) {
+        Some(name) => of_sheet(sources.read_file(alloc, name, SHEET_LIMIT)),
+        None => Ok(Vec::new(alloc)),
     }
 }
 
@@ -104,7 +102,12 @@ pub struct Inputs {
 }
 
 /// Reads the files of a task: the poll, then the ballots, then a published sheet.
-pub fn read_inputs<R: Files + AllocGlobal>(rt: &R, task: &Task<'_>) -> Result<Inputs, RunFault>
+pub fn read_inputs<S: Sources>(
+    sources: &S,
+    alloc: Global,
+    task: &Task<'_>,
+) -> Result<Inputs, RunFault>
+    ensures files { IfOk result (λ inputs. AreFilesOf (S.file_bytes sources.now) task.now (files_of inputs)) }
     ensures poll { IfOk result (λ inputs. vec_len inputs.poll ≤ POLL_LIMIT) }
     ensures ballots { IfOk result (λ inputs. vec_len inputs.ballots ≤ BALLOTS_LIMIT) }
     ensures sheet { IfOk result (λ inputs. vec_len inputs.sheet ≤ SHEET_LIMIT) }
@@ -112,15 +115,15 @@ pub fn read_inputs<R: Files + AllocGlobal>(rt: &R, task: &Task<'_>) -> Result<In
     ensures no_sheet { ¬ HasSheet task.now → IfOk result (λ inputs. inputs.sheet.items ≡ []) }
     ensures fault { IfErr result (IsUnread task.now) }
 {
-    let poll = match read_poll(rt, task) {
+    let poll = match read_poll(sources, alloc, task) {
         Ok(poll) => poll,
         Err(fault) => return Err(fault),
     };
-    let ballots = match read_ballots(rt, task) {
+    let ballots = match read_ballots(sources, alloc, task) {
         Ok(ballots) => ballots,
         Err(fault) => return Err(fault),
     };
-    let sheet = match read_sheet(rt, task) {
+    let sheet = match read_sheet(sources, alloc, task) {
         Ok(sheet) => sheet,
         Err(fault) => return Err(fault),
     };
@@ -132,9 +135,10 @@ pub fn read_inputs<R: Files + AllocGlobal>(rt: &R, task: &Task<'_>) -> Result<In
 }
 
 /// All bytes of standard input, a joined input. One that can't be read is as a ballot file that can't be.
-pub fn read_joined<R: Input + AllocGlobal>(rt: &R) -> Result<Vec<u8>, RunFault>
+pub fn read_joined<S: Sources>(sources: &S, alloc: Global) -> Result<Vec<u8>, RunFault>
+    ensures whole { IfOk result (λ bytes. IsWhole (S.standard_bytes sources.now) bytes.items) }
     ensures within { IfOk result (λ bytes. vec_len bytes ≤ JOINED_LIMIT) }
     ensures fault { IfErr result AreBallotsUnread }
 {
-    of_ballots(read_all(rt.alloc(), rt.reader(), JOINED_LIMIT))
+    of_ballots(sources.read_standard_input(alloc, JOINED_LIMIT))
 }

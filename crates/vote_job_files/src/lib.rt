@@ -1,21 +1,28 @@
-//! A task of the command line: its files read, its job, and the report of how it ended.
+//! The program between its words and its output: a task of the command line with the files that it names, or a joined input.
 //!
-//! - [`read_inputs`] reads the files that a task names, whole and up to their limits, and [`read_joined`] standard input.
-//! - [`job_of`] is the job that a task asks for, once its files are read.
-//! - [`report`] says on standard error why a run did not come to its end, and gives the exit status; [`order_status`] is that of
-//!   words that are no task.
+//! - [`answer`] is the one call that the program makes: it answers the words after the program's name, over any
+//!   [`Sources`](vote_files::Sources) and any [`Sink`](vote_files::Sink), and gives the exit status.
+//! - [`carry_out`] reads the files that a task names, whole and up to their limits ([`read_inputs`]), and does its job
+//!   ([`job_of`]); [`print_joined`] does so for standard input ([`read_joined`]).
+//! - [`report`] says on standard error why a run did not come to its end, and gives the exit status; [`refuse`] does so for words
+//!   that are no task, and [`order_status`] is their status.
 //!
-//! **What is promised.** A job asks for what its task asks for, with the bytes of its own files. An input that was not read is
-//! told by the fault of that input, and of the files of a task only one that the task names; an input has no more bytes than its
-//! limit, which [`laws`] has in numbers. The exit status of a run is that of the table in `vote_jobs`. What a file holds no
-//! contract can say.
+//! **What is promised.** Words are answered as the task ends that they ask for, on the bytes that the sources tell of the names in
+//! those words; or as words end that are no task. A job asks for what its task asks for, with the bytes of its own files. An input
+//! that was not read is told by the fault of that input, and of the files of a task only one that the task names; an input has no
+//! more bytes than its limit, which [`laws`] has in numbers. The exit status is that of the tables of `vote_jobs` and of
+//! [`order_status`], and it is that of a failed output exactly when the sink failed.
 #![tactic(auto)]
 
+mod answering;
+mod doing;
 mod ending;
 mod inputs;
 pub mod laws;
 mod tasks;
 
+pub use answering::{answer, refuse};
+pub use doing::{carry_out, print_joined};
 pub use ending::{order_status, report};
 pub use inputs::{Inputs, read_inputs, read_joined};
 pub use tasks::job_of;

@@ -1,7 +1,7 @@
 //! The files that a task names, and its job once they are read.
 
 ghost use Rattle.std.specs.Prelude.{◌≡◌, option_copied};
-ghost use Rattle.vote_job_files.specs.Jobs.{IsJobOf, ballots_name, files_of, poll_name};
+ghost use Rattle.vote_job_files.specs.Jobs.{IsJobOf, ballots_name, files_of, poll_name, sheet_name};
 ghost use Rattle.vote_job_words.specs.Order.{DesksFit};
 ghost use Rattle.vote_jobs.specs.Performing.{HasDesks};
 
@@ -36,6 +36,16 @@ pub(crate) fn ballots_name<'a>(task: &Task<'a>) -> Option<&'a str>
         | Task::Picture { ballots, .. } => Some(ballots),
         Task::Explain { ballots, .. } => *ballots,
         Task::Check { .. } => None,
+    }
+}
+
+/// The name of the published sheet that a task compares, if it compares one.
+pub(crate) fn sheet_name<'a>(task: &Task<'a>) -> Option<&'a str>
+    ensures { option_copied result ≡ sheet_name task.now }
+{
+    match task {
+        Task::Verify { sheet, .. } => Some(sheet),
+        _ => None,
     }
 }
 

@@ -1,5 +1,5 @@
 -- What a count is refused for, what it tells, and how it ends.
-use Rattle.std.specs.Prelude.{◌≡◌, ◌≢◌, ◌+◌, ℕ, List, length, Option, Some, None, option_map, IfSome, Ok}
+use Rattle.std.specs.Prelude.{◌≡◌, ◌≢◌, ◌+◌, ℕ, Bool, List, All, length, Option, Some, None, option_map, IfSome, Ok}
 use Rattle.vote_count.specs.declared.Decision.{Decision}
 use Rattle.vote_count.specs.declared.Decision.TheVariants as decision
 use Rattle.vote_poll_text.specs.Lines.{lines_of}
@@ -7,9 +7,9 @@ use Rattle.vote_poll.specs.Names.{place_of}
 use Rattle.vote_poll.specs.Options.{IsOption}
 use Rattle.vote_poll.specs.PollContent.{PollContent, option_count}
 use Rattle.vote_poll.specs.PollFile.{poll_in}
-use Rattle.vote_steps.specs.Boxes.{BoxState}
-use Rattle.vote_desks_box.specs.declared.Slip.{Slip}
-use Rattle.vote_desks.specs.Audit.{IsAudited}
+use Rattle.vote_desks_box.specs.Desks.{SealedState}
+use Rattle.vote_desks_box.specs.Slips.{Rises}
+use Rattle.vote_desks.specs.Audit.{IsAuditedFor}
 use Rattle.vote_desks.specs.Faults.{CanStopVotes, IsOfDesk}
 use Rattle.vote_desks.specs.declared.VoteFault.{VoteFault}
 use Rattle.vote_sheet.specs.Picture.{IsPictureAndDecision}
@@ -52,12 +52,12 @@ AnswersCasting inputs (Some run.NoSuchOption) = (poll : PollContent) × (poll_in
 AnswersCasting inputs stop = (poll : PollContent) × (poll_in inputs.poll ≡ Ok poll) × ¬ NamesNoOption poll inputs.casting
 
 -- the inputs are refused exactly when they are to be, in their order, memory aside; their votes are stopped only by a fault that they
--- can have at so many desks; and no input is told to be unread
-pub record AnswersInputs (inputs : Inputs) (stop : Option RunFault) : Type 0 where
+-- can have at so many desks, by a gate that may stop these of them; and no input is told to be unread
+pub record AnswersInputs (bars : ℕ → Bool) (inputs : Inputs) (stop : Option RunFault) : Type 0 where
   pub poll : AnswersPoll inputs.poll stop
   pub casting : AnswersCasting inputs stop
   pub lines : AnswersLines (lines_of inputs.ballots) stop
-  pub votes : (fault : VoteFault) → stop ≡ Some (run.Vote fault) → CanStopVotes fault × IsOfDesk inputs.desks fault
+  pub votes : (fault : VoteFault) → stop ≡ Some (run.Vote fault) → CanStopVotes bars fault × IsOfDesk inputs.desks fault
   pub input : (fault : InputFault) → stop ≢ Some (run.Input fault)
 
 -- how a count ends that is decided so
@@ -72,11 +72,18 @@ ended_by_verification found.Differs = ended.Differs
 ended_by_verification found.Matches = ended.Done
 ended_by_verification (found.MatchesCasting option) = ended.Done
 
--- there is an audited box of the lines of the inputs, with a sheet for each of their desks
-abbrev pub IsCountedAt : Inputs → Type 0
-IsCountedAt inputs =
-    (poll : PollContent) × (b : BoxState) × (sheets : List (List Slip)) × (poll_in inputs.poll ≡ Ok poll) × IsAudited poll (lines_of inputs.ballots) b sheets
-    × (length sheets ≡ inputs.desks)
+-- this is an audited box of the lines of the inputs, with a sheet for each of their desks, whose stamps rise
+pub record IsCountedIn (inputs : Inputs) (sealed : SealedState) : Type 0 where
+  pub poll : PollContent
+  pub meant : poll_in inputs.poll ≡ Ok poll
+  pub audited : IsAuditedFor poll (lines_of inputs.ballots) sealed
+  pub at : length sealed.sheets ≡ inputs.desks
+  pub rising : All Rises sealed.sheets
+
+-- a box is told, and it is one
+abbrev pub IsCountedAt : Inputs → Option SealedState → Type 0
+IsCountedAt inputs None = ⊥
+IsCountedAt inputs (Some sealed) = IsCountedIn inputs sealed
 
 -- what is told of a count that is made for this, of the poll, the lines and the option of the casting vote
 abbrev pub IsMade : Purpose → PollContent → List Text → Option ℕ → Told → Type 0

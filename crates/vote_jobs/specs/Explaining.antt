@@ -31,7 +31,7 @@ ended_by_findings findings refused = if (length findings == 0) && (refused == 0)
 -- after the findings of a poll all that is said of its lines, of which a line feed ends all, or all but the last
 abbrev pub IsSaidOfLines : PollContent → List Text → Bool → Text → Told → Type 0
 IsSaidOfLines poll lines all_ended findings told =
-    (rest : Text) × IsExplained poll lines all_ended rest × (told.text ≡ findings ++ rest) × (told.end ≡ ended_by_findings findings (refused_count poll lines))
+    (rest : Text) × IsExplained poll lines all_ended None rest × (told.text ≡ findings ++ rest) × (told.end ≡ ended_by_findings findings (refused_count poll lines))
 
 -- after the findings of a poll in order all that is said of its ballots, or where none are given the line of `check`
 abbrev pub IsSaid : PollContent → Option Text → Text → Told → Type 0

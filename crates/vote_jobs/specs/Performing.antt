@@ -1,5 +1,5 @@
 -- What the program does with the bytes of its inputs, job by job.
-use Rattle.std.specs.Prelude.{◌≡◌, ◌≢◌, Option, Some, None, option_copied, Result, IfOk, OnOk}
+use Rattle.std.specs.Prelude.{◌≡◌, ◌≢◌, ℕ, Bool, Option, Some, None, option_copied, Result, IfOk, OnOk}
 use Rattle.std.specs.Result.{result_err}
 use Rattle.vote_poll_text.specs.declared.lines.LinesFault.{LinesFault}
 use Rattle.vote_steps.specs.Desks.{AreDesks}
@@ -19,6 +19,7 @@ use Rattle.vote_jobs.specs.declared.fault.Ended.{Ended}
 use Rattle.vote_jobs.specs.declared.fault.Ended.TheVariants as ended
 use Rattle.vote_jobs.specs.declared.fault.RunFault.{RunFault}
 use Rattle.vote_jobs.specs.declared.fault.RunFault.TheVariants as run
+use Rattle.vote_jobs.specs.declared.performed.Performed.{Performed}
 use Rattle.vote_jobs.specs.declared.jobs.Job.{Job}
 use Rattle.vote_jobs.specs.declared.jobs.Job.TheVariants.{Count, Steps, Standing, Check, Joined, Picture, Verify, Explain}
 
@@ -33,11 +34,11 @@ HasDesks (Verify poll ballots sheet desks) = AreDesks desks
 HasDesks (Explain poll ballots) = Unit {0}
 HasDesks (Picture poll ballots desks casting) = AreDesks desks
 
--- what the count of these inputs is made for is written, and the run ends by it
-pub record Counts (made_for : Purpose) (inputs : Inputs) (old new : Option Text) (result : Result Ended RunFault) : Type 0 where
-  pub answers : AnswersInputs inputs (result_err result)
-  pub at : OnOk result (IsCountedAt inputs)
-  pub writes : Writes (Tells (IsCountFor made_for inputs) result) old new (result_err result)
+-- what the count of these inputs is made for is written, and the run ends by it; the box that it was counted in is told
+pub record Counts (bars : ℕ → Bool) (made_for : Purpose) (inputs : Inputs) (old new : Option Text) (performed : Performed) : Type 0 where
+  pub answers : AnswersInputs bars inputs (result_err performed.end)
+  pub at : OnOk performed.end (IsCountedAt inputs performed.audited)
+  pub writes : Writes (Tells (IsCountFor made_for inputs) performed.end) old new (result_err performed.end)
 
 -- what is to be listed of a poll file and a ballot file is written, unless the run stops by this fault
 pub record Lists (listed : Listing) (poll_text ballots : Text) (old new : Option Text) (stop : Option RunFault) : Type 0 where
@@ -58,8 +59,8 @@ pub record Checks (poll_text : Text) (old new : Option Text) (stop : Option RunF
   pub writes : Writes (IsCheck poll_text) old new stop
 
 -- ---- a call does so, by what its sink holds before and after it
-abbrev pub CountsTo : {S : Type 0} → Purpose → Inputs → (S → Option Text) → S → S → Result Ended RunFault → Type 0
-CountsTo made_for inputs contents old new result = Counts made_for inputs (contents old) (contents new) result
+abbrev pub CountsTo : {S : Type 0} → (ℕ → Bool) → Purpose → Inputs → (S → Option Text) → S → S → Performed → Type 0
+CountsTo bars made_for inputs contents old new performed = Counts bars made_for inputs (contents old) (contents new) performed
 
 abbrev pub ListsTo : {S T : Type 0} → Listing → Text → Text → (S → Option Text) → S → S → Result T RunFault → Type 0
 ListsTo listed poll_text ballots contents old new result = Lists listed poll_text ballots (contents old) (contents new) (result_err result)
@@ -75,13 +76,15 @@ ChecksTo poll_text contents old new result = Checks poll_text (contents old) (co
 abbrev pub EndsDone : Result Ended RunFault → Type 0
 EndsDone result = IfOk result (λ end. end ≡ ended.Done)
 
--- what a sink holds before and after a job, and how the job ends
-abbrev pub Performs : Job → Option Text → Option Text → Result Ended RunFault → Type 0
-Performs (Count poll ballots desks casting) old new result = Counts purpose.Sheet (inputs_at poll ballots desks casting) old new result
-Performs (Steps poll ballots) old new result = Lists listing.Steps poll.now ballots.now old new (result_err result) × EndsDone result
-Performs (Standing poll ballots) old new result = Lists listing.Standing poll.now ballots.now old new (result_err result) × EndsDone result
-Performs (Check poll) old new result = Checks poll.now old new (result_err result) × EndsDone result
-Performs (Joined input) old new result = ListsJoined input.now old new (result_err result) × EndsDone result
-Performs (Picture poll ballots desks casting) old new result = Counts purpose.Picture (inputs_at poll ballots desks casting) old new result
-Performs (Verify poll ballots sheet desks) old new result = Counts (purpose.Verification sheet) (inputs_at poll ballots desks None) old new result
-Performs (Explain poll ballots) old new result = Explains poll.now (option_copied ballots) old new result
+-- what a sink holds before and after a job, and how the job ends, whose votes a gate may stop at these desks
+abbrev pub Performs : (ℕ → Bool) → Job → Option Text → Option Text → Performed → Type 0
+Performs bars (Count poll ballots desks casting) old new performed = Counts bars purpose.Sheet (inputs_at poll ballots desks casting) old new performed
+Performs bars (Steps poll ballots) old new performed = Lists listing.Steps poll.now ballots.now old new (result_err performed.end) × EndsDone performed.end
+Performs bars (Standing poll ballots) old new performed =
+    Lists listing.Standing poll.now ballots.now old new (result_err performed.end) × EndsDone performed.end
+Performs bars (Check poll) old new performed = Checks poll.now old new (result_err performed.end) × EndsDone performed.end
+Performs bars (Joined input) old new performed = ListsJoined input.now old new (result_err performed.end) × EndsDone performed.end
+Performs bars (Picture poll ballots desks casting) old new performed = Counts bars purpose.Picture (inputs_at poll ballots desks casting) old new performed
+Performs bars (Verify poll ballots sheet desks) old new performed =
+    Counts bars (purpose.Verification sheet) (inputs_at poll ballots desks None) old new performed
+Performs bars (Explain poll ballots) old new performed = Explains poll.now (option_copied ballots) old new performed.end

@@ -3,19 +3,20 @@
 ghost use Rattle.std.specs.Prelude.{◌≡◌, ◌≢◌, ◌<◌, ◌↔◌, true, Err, IfOk, IsErrOf, OnOk};
 ghost use Rattle.std.specs.Result.{result_err};
 ghost use Rattle.vote_steps.specs.Desks.{AreDesks};
-ghost use Rattle.vote_jobs.specs.Counting.{AnswersInputs, IsCountFor, IsCountedAt, IsMade, ended_by_decision, ended_by_verification};
+ghost use Rattle.vote_jobs.specs.Counting.{AnswersInputs, IsCountFor, IsCountedIn, IsMade, ended_by_decision, ended_by_verification};
 ghost use Rattle.vote_jobs.specs.Inputs.{inputs_at};
 ghost use Rattle.vote_jobs.specs.Performing.{CountsTo};
 ghost use Rattle.vote_jobs.specs.Taking.{CanBeCounted};
 
 use crate::fault::{Ended, RunFault};
 use crate::output::{RunText, write_run};
+use crate::performed::{Performed, unaudited};
 use crate::taking::{CountInputs, Taken, take_inputs};
 use std::alloc::{AllocError, Global};
 use std::sync::Wait;
 use std::thread::Threads;
 use vote_count::Decision;
-use vote_desks::Gate;
+use vote_desks::{AuditWitness, Gate};
 use vote_files::Sink;
 use vote_sheet::{Verification, picture_of_box, sheet_of_box, verify_sheet};
 
@@ -86,25 +87,26 @@ fn text_of_taken(
     }
 }
 
-/// The text of a count of the inputs.
+/// The text of a count of the inputs, and the witness of its audit.
 fn count_inputs<G: Gate + Sync, R: Threads + Wait + Sync>(
     rt: &R,
     alloc: Global,
     inputs: &CountInputs<'_>,
     purpose: Purpose<'_>,
     gate: &G,
-) -> Result<RunText, RunFault>
+) -> Result<(RunText, AuditWitness), RunFault>
     requires { AreDesks inputs.now.desks }
-    ensures counted { IfOk result (IsCountFor purpose.entry inputs.now) }
-    ensures desks { OnOk result (IsCountedAt inputs.now) }
-    ensures answers { AnswersInputs inputs.now (result_err result) }
+    ensures counted { IfOk result (λ counted. IsCountFor purpose.entry inputs.now counted.0) }
+    ensures desks { IfOk result (λ counted. IsCountedIn inputs.now counted.1) }
+    ensures answers { AnswersInputs G.bars inputs.now (result_err result) }
     ensures unwritten { result ≢ Err RunFault.Output }
 {
     let taken = match take_inputs(rt, alloc, inputs, gate) {
         Ok(taken) => taken,
         Err(fault) => return Err(fault),
     };
-    Ok(text_of_taken(alloc, &taken, purpose)?)
+    let text = text_of_taken(alloc, &taken, purpose)?;
+    Ok((text, taken.audited.witness()))
 }
 
 /// Takes the votes of a ballot file at so many desks, each in a thread of its own, and writes what they are taken for, with the
@@ -116,19 +118,22 @@ pub fn count_for<G: Gate + Sync, W: Sink, R: Threads + Wait + Sync>(
     purpose: Purpose<'_>,
     gate: &G,
     sink: &mut W,
-) -> Result<Ended, RunFault>
+) -> Performed
     requires { AreDesks inputs.now.desks }
-    ensures counts { CountsTo purpose.entry inputs.now W.contents sink.old sink.new result }
-    ensures output { IsErrOf result RunFault.Output ↔ (W.faults sink.old < W.faults sink.new) }
-    ensures flushed { OnOk result (W.flushed sink.new ≡ true) }
+    ensures counts { CountsTo G.bars purpose.entry inputs.now W.contents sink.old sink.new result }
+    ensures output { IsErrOf result.end RunFault.Output ↔ (W.faults sink.old < W.faults sink.new) }
+    ensures flushed { OnOk result.end (W.flushed sink.new ≡ true) }
 {
-    let RunText { text, ended } = match count_inputs(rt, alloc, inputs, purpose, gate) {
+    let (counted, witness) = match count_inputs(rt, alloc, inputs, purpose, gate) {
         Ok(counted) => counted,
-        Err(fault) => return Err(fault),
+        Err(fault) => return unaudited(Err(fault)),
     };
-    match write_run(sink, text.as_bytes()) {
-        Ok(()) => Ok(ended),
-        Err(fault) => Err(fault),
+    match write_run(sink, counted.text.as_bytes()) {
+        Ok(()) => Performed {
+            end: Ok(counted.ended),
+            audited: Some(witness),
+        },
+        Err(fault) => unaudited(Err(fault)),
     }
 }
 
@@ -143,12 +148,12 @@ pub fn run<G: Gate + Sync, W: Sink, R: Threads + Wait + Sync>(
     casting: Option<&[u8]>,
     gate: &G,
     sink: &mut W,
-) -> Result<Ended, RunFault>
+) -> Performed
     requires { AreDesks desks }
     ensures counts { let inputs = inputs_at poll_text.entry ballots.entry desks casting.entry in
-        CountsTo Purpose.Sheet inputs W.contents sink.old sink.new result }
-    ensures output { IsErrOf result RunFault.Output ↔ (W.faults sink.old < W.faults sink.new) }
-    ensures flushed { OnOk result (W.flushed sink.new ≡ true) }
+        CountsTo G.bars Purpose.Sheet inputs W.contents sink.old sink.new result }
+    ensures output { IsErrOf result.end RunFault.Output ↔ (W.faults sink.old < W.faults sink.new) }
+    ensures flushed { OnOk result.end (W.flushed sink.new ≡ true) }
 {
     let inputs = CountInputs {
         poll: poll_text,

@@ -60,7 +60,7 @@ fn with_lines(
     let Explained {
         text: rest,
         refused,
-    } = explain_ballots(alloc, poll, lines, all_ended)?;
+    } = explain_ballots(alloc, poll, lines, all_ended, None)?;
     let ended = ended_by_findings(&findings, refused);
     let text = appended(findings, rest)?;
     Ok(RunText { text, ended })

@@ -1,6 +1,6 @@
 //! How a run ends, and the exit status that says so.
 
-ghost use Rattle.std.specs.Prelude.{◌≡◌};
+ghost use Rattle.std.specs.Prelude.{◌≡◌, ◌≢◌, ◌↔◌, IsErrOf};
 ghost use Rattle.vote_jobs.specs.Status.{ballots_unread, fault_status, input_status, poll_unread, sheet_unread, status, vote_status};
 
 use std::alloc::AllocError;
@@ -159,7 +159,8 @@ pub fn sheet_unread(fault: ReadFault) -> RunFault
 }
 
 fn input_status(fault: &InputFault) -> u8
-    ensures { result ≡ input_status fault.now }
+    ensures status { result ≡ input_status fault.now }
+    ensures other { result ≢ 7 }
 {
     match fault {
         InputFault::PollUnreadable | InputFault::PollTooLong => 3,
@@ -169,7 +170,8 @@ fn input_status(fault: &InputFault) -> u8
 }
 
 fn vote_status(fault: &VoteFault) -> u8
-    ensures { result ≡ vote_status fault.now }
+    ensures status { result ≡ vote_status fault.now }
+    ensures other { result ≢ 7 }
 {
     match fault {
         VoteFault::Memory | VoteFault::Thread | VoteFault::Desk(DeskFault::Memory) => 5,
@@ -180,9 +182,10 @@ fn vote_status(fault: &VoteFault) -> u8
     }
 }
 
-/// The exit status of a run that did not come to its end.
+/// The exit status of a run that did not come to its end. It is 7 for a failed output alone.
 pub fn fault_status(fault: &RunFault) -> u8
-    ensures { result ≡ fault_status fault.now }
+    ensures status { result ≡ fault_status fault.now }
+    ensures output { (result ≡ 7) ↔ (fault.now ≡ RunFault.Output) }
 {
     match fault {
         RunFault::Input(fault) => input_status(fault),
@@ -196,9 +199,10 @@ pub fn fault_status(fault: &RunFault) -> u8
     }
 }
 
-/// The exit status of a run.
+/// The exit status of a run. It is 7 for a failed output alone.
 pub fn status(outcome: &Result<Ended, RunFault>) -> u8
-    ensures { result ≡ status outcome.now }
+    ensures status { result ≡ status outcome.now }
+    ensures output { (result ≡ 7) ↔ IsErrOf outcome.now RunFault.Output }
 {
     match outcome {
         Ok(Ended::Decided(_) | Ended::Done) => 0,

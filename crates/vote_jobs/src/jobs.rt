@@ -9,6 +9,7 @@ use crate::counting::{Purpose, count_for, run};
 use crate::explaining::explain;
 use crate::fault::{Ended, RunFault};
 use crate::listing::{Listing, print_listing, print_steps, steps_joined};
+use crate::performed::{Performed, unaudited};
 use crate::taking::CountInputs;
 use std::alloc::Global;
 use std::io::Write;
@@ -74,13 +75,13 @@ pub enum Job<'a> {
 }
 
 /// How a run ends that decides nothing.
-fn ended_as_done(outcome: Result<(), RunFault>) -> Result<Ended, RunFault>
-    ensures stop { result_err result ≡ result_err outcome }
-    ensures end { EndsDone result }
+fn ended_as_done(outcome: Result<(), RunFault>) -> Performed
+    ensures stop { result_err result.end ≡ result_err outcome }
+    ensures end { EndsDone result.end }
 {
     match outcome {
-        Ok(()) => Ok(Ended::Done),
-        Err(fault) => Err(fault),
+        Ok(()) => unaudited(Ok(Ended::Done)),
+        Err(fault) => unaudited(Err(fault)),
     }
 }
 
@@ -91,11 +92,11 @@ pub fn perform<G: Gate + Sync, W: Sink, R: Threads + Wait + Sync>(
     job: &Job<'_>,
     gate: &G,
     sink: &mut W,
-) -> Result<Ended, RunFault>
+) -> Performed
     requires { HasDesks job.now }
-    ensures performs { Performs job.now (W.contents sink.old) (W.contents sink.new) result }
-    ensures output { IsErrOf result RunFault.Output ↔ (W.faults sink.old < W.faults sink.new) }
-    ensures flushed { OnOk result (W.flushed sink.new ≡ true) }
+    ensures performs { Performs G.bars job.now (W.contents sink.old) (W.contents sink.new) result }
+    ensures output { IsErrOf result.end RunFault.Output ↔ (W.faults sink.old < W.faults sink.new) }
+    ensures flushed { OnOk result.end (W.flushed sink.new ≡ true) }
 {
     match job {
         Job::Count {
@@ -142,7 +143,7 @@ pub fn perform<G: Gate + Sync, W: Sink, R: Threads + Wait + Sync>(
         )),
         Job::Joined { input } => ended_as_done(steps_joined(alloc, input, sink)),
         Job::Check { poll } => ended_as_done(check_poll(alloc, poll, sink)),
-        Job::Explain { poll, ballots } => explain(alloc, poll, *ballots, sink),
+        Job::Explain { poll, ballots } => unaudited(explain(alloc, poll, *ballots, sink)),
     }
 }
 
@@ -154,16 +155,16 @@ fn perform_metered<G: Gate + Sync, W: Write, L: Ledger, R: Threads + Wait + Sync
     gate: &G,
     writer: W,
     blank: Blank,
-) -> (W, Result<Ended, RunFault>)
+) -> (W, Performed)
     requires desks { HasDesks job.now }
     requires name { blank.name ≡ L.name }
     requires parts { blank.parts ≡ L.parts }
     requires two { blank.parts ≡ 2 }
-    ensures { Performs job.now (W.contents writer) (W.contents result.0) result.1 }
+    ensures { Performs G.bars job.now (W.contents writer) (W.contents result.0) result.1 }
 {
     let mut sink = WriterSink::new(writer, Meter::<L>::new(blank));
-    let outcome = perform(rt, alloc, job, gate, &mut sink);
-    (sink.into_writer(), outcome)
+    let performed = perform(rt, alloc, job, gate, &mut sink);
+    (sink.into_writer(), performed)
 }
 
 /// Does a job as [`perform`] does, on a writer of std, which it gives back.
@@ -173,9 +174,9 @@ pub fn perform_on<G: Gate + Sync, W: Write, R: Threads + Wait + Sync>(
     job: &Job<'_>,
     gate: &G,
     writer: W,
-) -> (W, Result<Ended, RunFault>)
+) -> (W, Performed)
     requires { HasDesks job.now }
-    ensures { Performs job.now (W.contents writer) (W.contents result.0) result.1 }
+    ensures { Performs G.bars job.now (W.contents writer) (W.contents result.0) result.1 }
 {
     perform_metered::<G, W, Brand, R>(rt, alloc, job, gate, writer, Blank::new(2))
 }

@@ -7,8 +7,8 @@
 //!   [`print_steps`] is it for the replies, and [`steps_joined`] does so for a poll and its ballots in one input.
 //! - [`check_poll`] reads a poll file and writes how many options and electors it has, and [`explain`] writes all that is wrong
 //!   with it and with its ballots.
-//! - [`perform`] does whichever of them a [`Job`] asks for, and [`perform_on`] does so on a writer of std: it is the one call
-//!   that the program makes once its inputs are read.
+//! - [`perform`] does whichever of them a [`Job`] asks for, and [`perform_on`] does so on a writer of std: both say how the job was done
+//!   ([`Performed`]).
 //! - [`sheet`] is the result sheet of an audited box, for callers of the library.
 //! - [`status`] and [`fault_status`] are the exit status of a run, by how it ended ([`Ended`]) or why it did not ([`RunFault`],
 //!   whose `Display` is the program's fault line). [`poll_unread`], [`ballots_unread`] and [`sheet_unread`] name the fault of an
@@ -35,6 +35,7 @@ mod joined;
 pub mod laws;
 mod listing;
 mod output;
+mod performed;
 mod taking;
 
 pub use audited::sheet;
@@ -47,4 +48,5 @@ pub use fault::{
 pub use jobs::{Job, perform, perform_on};
 pub use joined::split_joined;
 pub use listing::{Listing, print_listing, print_steps, steps_joined};
+pub use performed::Performed;
 pub use taking::CountInputs;

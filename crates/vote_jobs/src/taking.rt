@@ -59,10 +59,13 @@ fn named_option(poll: &Poll, casting: Option<&[u8]>) -> Option<Option<u8>>
 }
 
 /// The poll of the poll file, and the option of it that the casting vote names, if there is one.
-fn read_poll(alloc: Global, inputs: &CountInputs<'_>) -> Result<(Poll, Option<u8>), RunFault>
+fn read_poll<G: Gate>(
+    alloc: Global,
+    inputs: &CountInputs<'_>,
+) -> Result<(Poll, Option<u8>), RunFault>
     ensures poll { IfOk result (λ read. poll_in inputs.now.poll ≡ Ok read.0) }
     ensures casting { IfOk result (λ read. IsNamed read.0 inputs.now.casting read.1) }
-    ensures stopped { IfErr result (StopsTaking inputs.now) }
+    ensures stopped { IfErr result (StopsTaking G.bars inputs.now) }
 {
     let poll = match Poll::from_text(alloc, inputs.poll) {
         Ok(poll) => poll,
@@ -87,7 +90,7 @@ fn take_ballots<'t, G: Gate + Sync, R: Threads + Wait + Sync>(
     requires poll { poll_in inputs.now.poll ≡ Ok poll.now }
     requires casting { ¬ NamesNoOption poll.now inputs.now.casting }
     ensures taken { IfOk result (AreBallotsTaken poll.now inputs.now) }
-    ensures stopped { IfErr result (StopsTaking inputs.now) }
+    ensures stopped { IfErr result (StopsTaking G.bars inputs.now) }
 {
     let lines = match Lines::split(alloc, inputs.ballots) {
         Ok(lines) => lines,
@@ -109,9 +112,9 @@ pub(crate) fn take_inputs<'t, G: Gate + Sync, R: Threads + Wait + Sync>(
 ) -> Result<Taken<'t>, RunFault>
     requires { AreDesks inputs.now.desks }
     ensures taken { IfOk result (AreTaken inputs.now) }
-    ensures stopped { IfErr result (StopsTaking inputs.now) }
+    ensures stopped { IfErr result (StopsTaking G.bars inputs.now) }
 {
-    let (poll, casting) = match read_poll(alloc, inputs) {
+    let (poll, casting) = match read_poll::<G>(alloc, inputs) {
         Ok(read) => read,
         Err(fault) => return Err(fault),
     };

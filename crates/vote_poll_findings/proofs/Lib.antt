@@ -1,5 +1,6 @@
 mod EditLaws
 mod FindingLaws
+mod OneKeyLine
 mod AddedLines
 mod PathLaws
 mod UnreadLaws

@@ -36,6 +36,11 @@ abbrev pub AreKeyLines : Members → List Place → List ℕ → Type 0
 AreKeyLines file [] text = text ≡ []
 AreKeyLines file (place ∷ places) text = (line : List ℕ) × (rest : List ℕ) × IsKeyLine file place line × AreKeyLines file places rest × (text ≡ line ++ rest)
 
+-- the file leaves no choice in the lines of its keys
+abbrev pub KeyLinesAreDetermined : Type 0
+KeyLinesAreDetermined =
+    (file : Members) (places : List Place) (text other : List ℕ) → AreKeyLines file places text → AreKeyLines file places other → text ≡ other
+
 -- whether the files may be exchanged
 unfoldable pub exchanged_text : Bool → List ℕ
 exchanged_text true = codes "the poll file looks like ballots: are the files exchanged?\n"

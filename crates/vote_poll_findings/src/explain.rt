@@ -6,7 +6,7 @@ ghost use Rattle.vote_poll_keys.specs.FoundView.{found_view};
 ghost use Rattle.vote_poll_keys.specs.Keys.{document};
 ghost use Rattle.vote_poll.specs.PollFaults.{IsJudged, IsPollOrFirst};
 ghost use Rattle.vote_poll.specs.PollFile.{poll_in, poll_in_table};
-ghost use Rattle.vote_poll_findings.specs.Findings.{HasLines, IsSyntaxFinding, ListsAll};
+ghost use Rattle.vote_poll_findings.specs.Findings.{HasLines, IsSyntaxFinding, KeyLinesAreDetermined, ListsAll};
 ghost use Rattle.vote_poll_findings.specs.UnreadView.{TellsAll};
 ghost use Rattle.vote_poll_keys.specs.declared.fault.PollFault.TheVariants.{Memory, Syntax};
 
@@ -141,3 +141,8 @@ pub fn explain_poll(alloc: Global, text: &[u8]) -> Result<ExplainedPoll, AllocEr
         }
     }
 }
+
+/// A law: a file leaves no choice in the lines of its keys that are not read.
+pub fn key_lines_are_determined()
+    ensures { KeyLinesAreDetermined }
+{}

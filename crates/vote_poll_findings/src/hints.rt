@@ -4,6 +4,7 @@ ghost use Rattle.vote_poll_text.specs.Adding.{Adds};
 ghost use Rattle.vote_poll_findings.specs.UnreadKeys.{inside_words};
 
 use crate::MAX_SHOWN;
+use crate::letters::push_letter;
 use crate::unread::UnreadKeys;
 use indexmap::IndexMap;
 use std::alloc::{AllocError, Global};
@@ -14,6 +15,9 @@ use vote_poll_text::{
     MAX_LINES, MAX_OPTION_NAME, MAX_TITLE, MAX_VOTER_NAME, hex_digit, is_option_name, is_printable,
     is_title, is_voter_byte, is_voter_name, push_shown,
 };
+
+/// What is said behind a position of the roll.
+const FROM_ZERO: &str = ", counted from 0";
 
 /// What a name is the name of.
 #[derive(Clone, Copy)]
@@ -61,18 +65,28 @@ fn push_quoted(words: &mut String, text: &str) -> Result<(), AllocError> {
     words.push_str("\"")
 }
 
-/// The first byte of a name that it may not have.
-fn bad_byte(named: Named, name: &str) -> Option<u8> {
-    for byte in name.as_bytes() {
-        if !named.may_have(*byte) {
-            return Some(*byte);
+/// The first character of a name that it may not have.
+fn bad_character(named: Named, name: &str) -> Option<char> {
+    for character in name.chars() {
+        if !character.is_ascii() || !named.may_have(character as u8) {
+            return Some(character);
         }
     }
     None
 }
 
-/// Adds that a name has a byte that it may not have.
-fn push_bad_byte(words: &mut String, byte: u8) -> Result<(), AllocError> {
+/// Adds that a name has a character that it may not have.
+fn push_bad_character(words: &mut String, named: Named, bad: char) -> Result<(), AllocError> {
+    if !bad.is_ascii() {
+        push_letter(words, bad)?;
+        return words.push_str(match named {
+            Named::Voter => "; a voter's name has a to z, 0 to 9, . and -",
+            Named::Poll | Named::Option => {
+                "; options have plain characters, and a page can show another spelling"
+            }
+        });
+    }
+    let byte = bad as u8;
     let (high, low) = (hex_digit(byte / 16) as char, hex_digit(byte % 16) as char);
     match byte {
         b' ' => words.push_str(" has a space"),
@@ -81,7 +95,7 @@ fn push_bad_byte(words: &mut String, byte: u8) -> Result<(), AllocError> {
         b'\r' => words.push_str(" has a carriage return"),
         b',' => words.push_str(" has a comma"),
         b'A'..=b'Z' => words.push_str(" has a capital letter"),
-        0x21..=0x7E => write!(words, " has the character {}", byte as char),
+        0x21..=0x7E => write!(words, " has the character {bad}"),
         _ => write!(words, " has the byte 0x{high}{low}"),
     }
 }
@@ -100,8 +114,8 @@ fn push_shape(words: &mut String, named: Named, name: &str) -> Result<(), AllocE
             named.most()
         );
     }
-    match bad_byte(named, name) {
-        Some(byte) => push_bad_byte(words, byte),
+    match bad_character(named, name) {
+        Some(bad) => push_bad_character(words, named, bad),
         None if name.starts_with(' ') => words.push_str(" begins with a space"),
         None => words.push_str(" ends with a space"),
     }
@@ -130,6 +144,56 @@ fn push_range(
 ) -> Result<(), AllocError> {
     let number = number.unwrap_or(0);
     write!(words, "{number} is not from {low} to {high}")
+}
+
+/// The least number of votes that meets a quorum of so many times Q, where Q is half the square root of the number of electors
+/// (section 4.2.7 of the Constitution).
+fn quorum_votes(multiple: u64, electors: u64) -> u64 {
+    let wanted = multiple.saturating_mul(multiple).saturating_mul(electors);
+    for votes in 0..MAX_LINES as u64 {
+        if votes.saturating_mul(votes).saturating_mul(4) >= wanted {
+            return votes;
+        }
+    }
+    MAX_LINES as u64
+}
+
+/// Q in hundredths of a vote, rounded down.
+fn hundredths_of_q(electors: u64) -> u64 {
+    let square = electors.saturating_mul(2500);
+    for hundredths in 1..MAX_LINES as u64 {
+        if hundredths.saturating_mul(hundredths) > square {
+            return hundredths - 1;
+        }
+    }
+    MAX_LINES as u64
+}
+
+/// Adds which multiple of Q gives so many votes or more, if one does, for so many electors.
+fn push_multiple(words: &mut String, wanted: i64, electors: u64) -> Result<(), AllocError> {
+    for multiple in 0..=u64::from(MAX_QUORUM_MULTIPLE) {
+        let votes = quorum_votes(multiple, electors);
+        if wanted >= 0 && votes >= wanted.unsigned_abs() {
+            return write!(words, "; {multiple} gives {votes} votes");
+        }
+    }
+    Ok(())
+}
+
+/// Adds what is wrong with the quorum of a poll with so many electors: it is not how many votes are needed.
+fn push_quorum(words: &mut String, number: i64, electors: usize) -> Result<(), AllocError> {
+    push_range(words, Some(number), 0, u32::from(MAX_QUORUM_MULTIPLE))?;
+    words.push_str(
+        "; it says how many times Q is needed, half the square root of the number of electors",
+    )?;
+    if electors == 0 {
+        return Ok(());
+    }
+    let electors = electors as u64;
+    let hundredths = hundredths_of_q(electors);
+    let (votes, tenths, rest) = (hundredths / 100, hundredths / 10 % 10, hundredths % 10);
+    write!(words, ", {votes}.{tenths}{rest} votes for {electors}")?;
+    push_multiple(words, number, electors)
 }
 
 /// Adds that there are so many options but the default, which is too few or too many.
@@ -202,7 +266,7 @@ fn push_kind(words: &mut String, key: PollKey, value: &Value) -> Result<(), Allo
         if is_wrong_entry(key, entry) {
             let kind = kind_words(entry);
             return match key {
-                PollKey::Roll => write!(words, " with {kind} at position {place}"),
+                PollKey::Roll => write!(words, " with {kind} at position {place}{FROM_ZERO}"),
                 _ => write!(words, " with {kind} at option {}", place.saturating_add(1)),
             };
         }
@@ -239,6 +303,14 @@ fn push_missing(words: &mut String, table: Option<&[u8]>) -> Result<(), AllocErr
         Some(table) => push_inside(words, table),
         None => Ok(()),
     }
+}
+
+/// Adds that a key is missing, as all keys stand below the line of one table, or of a list of tables.
+fn push_line_above_all(words: &mut String, name: &str, is_list: bool) -> Result<(), AllocError> {
+    let (open, shut) = if is_list { ("[[", "]]") } else { ("[", "]") };
+    write!(words, "it is missing; all keys stand below {open}")?;
+    push_shown(words, name.as_bytes(), MAX_SHOWN)?;
+    write!(words, "{shut}: take that line out")
 }
 
 /// Adds that a key is inside a table, while it is read before all tables.
@@ -330,11 +402,12 @@ impl<'f> Hints<'f> {
                 push_name(words, Named::Option, name, first)
             }
             PollFault::Ratio => push_ratios(words, entries(&keys.ratios), others),
-            PollFault::Quorum => push_range(words, keys.quorum, 0, u32::from(MAX_QUORUM_MULTIPLE)),
+            PollFault::Quorum => push_quorum(words, keys.quorum.unwrap_or(0), self.roll.len()),
             PollFault::RollSize => push_roll_size(words, self.roll.len()),
             PollFault::VoterName(place) => {
                 let (name, first) = name_at(&self.roll, place);
-                push_name(words, Named::Voter, name, first)
+                push_name(words, Named::Voter, name, first)?;
+                words.push_str("; positions count from 0")
             }
             PollFault::LastEnvelope => push_range(words, keys.last_envelope, 0, MAX_LINES as u32),
             PollFault::Wording => push_wording(words, keys.wording.unwrap_or("")),
@@ -349,7 +422,10 @@ impl<'f> Hints<'f> {
                 push_kind(words, key, value)?;
                 words.push_str(wanted_words(key, matches!(value, Value::Array(_))))
             }
-            None => push_missing(words, self.unread.table_with(key.name())),
+            None => match self.unread.line_above_all() {
+                Some((name, is_list)) => push_line_above_all(words, name, is_list),
+                None => push_missing(words, self.unread.table_with(key.name())),
+            },
         }
     }
 

@@ -14,12 +14,12 @@
 //! - The poll that comes beside them, or the fault, is that of `from_text`. So the fault is the first that has a line
 //!   ([`first_fault_is_told`](vote_poll::first_fault_is_told)), and if none has one there is a poll.
 //! - After the faults each key that is not read has a line, in the order of the tables (`specs/UnreadKeys.antt`), with its path, as far
-//!   as it is shown, and what is remarked of it.
+//!   as it is shown, and what is remarked of it. The file leaves no choice in these lines ([`key_lines_are_determined`]).
 //! - What a line says after the words of its fault is open. Of a text that is no TOML the line, the column and the message are open,
 //!   whether the files may be exchanged, and what is shown of a long line; but no line breaks, whatever is in the file.
 //!
 //! The modules: `explain` has the call, `findings` the lines of faults and keys, `hints` what a line says after the words of its
-//! fault, `syntax` what is said of a text that is no TOML, `unread` the keys that are not read, and `path` where they stand. Nothing is judged here: vote_poll_keys and vote_poll
+//! fault, `letters` the names of letters with a mark, `syntax` what is said of a text that is no TOML, `unread` the keys that are not read, and `path` where they stand. Nothing is judged here: vote_poll_keys and vote_poll
 //! find the faults.
 #![tactic(auto)]
 
@@ -28,11 +28,12 @@ ghost use Rattle.vote_poll_findings.specs.Limits.{LimitsAreAsWritten};
 mod explain;
 mod findings;
 mod hints;
+mod letters;
 mod path;
 mod syntax;
 mod unread;
 
-pub use explain::{ExplainedPoll, explain_poll};
+pub use explain::{ExplainedPoll, explain_poll, key_lines_are_determined};
 
 /// The most bytes of a name or text of a file that a finding shows.
 pub const MAX_SHOWN: usize = 60;

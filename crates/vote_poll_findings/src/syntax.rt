@@ -95,11 +95,76 @@ fn touches_curly_quote(before: &[u8], after: &[u8]) -> bool {
 /// What a file was saved as, by its first bytes.
 fn file_remark(text: &[u8]) -> &'static str {
     match text {
-        [0xFF, 0xFE, ..] | [0xFE, 0xFF, ..] => ": saved as UTF-16",
-        [b'P', b'K', 0x03, 0x04, ..] => ": a ZIP file, as word processors save",
-        [b'%', b'P', b'D', b'F', ..] => ": a PDF file",
+        [0xFF, 0xFE, ..] | [0xFE, 0xFF, ..] => ": saved as UTF-16; save it as UTF-8",
+        [b'P', b'K', 0x03, 0x04, ..] => {
+            ": a ZIP file, as word processors save; save it as plain text"
+        }
+        [0xD0, 0xCF, 0x11, 0xE0, ..] => ": an old Word or Excel file; save it as plain text",
+        [b'{', b'\\', b'r', b't', b'f', ..] => ": an RTF file; save it as plain text",
+        [b'%', b'P', b'D', b'F', ..] => ": a PDF file; save it as plain text",
+        [b'{', ..] => ": JSON; write a line for each key, as title = \"A title\"",
         _ => "",
     }
+}
+
+/// Whether carriage returns stand in a text in place of line feeds, as old Macs write them.
+fn is_of_old_mac(text: &[u8]) -> bool {
+    until(text, b'\n').len() == text.len() && until(text, b'\r').len() < text.len()
+}
+
+/// How many quotation marks a text has.
+fn quotes(text: &[u8]) -> usize {
+    text.iter().filter(|byte| **byte == b'"').count()
+}
+
+/// The end of a text after its last quotation mark, or all of it.
+fn after_last_quote(text: &[u8]) -> &[u8] {
+    for (place, byte) in text.iter().enumerate().rev() {
+        if *byte == b'"' {
+            return text.get(place.saturating_add(1)..).unwrap_or(b"");
+        }
+    }
+    text
+}
+
+/// Whether a text ends with a comma and spaces.
+fn ends_with_comma(text: &[u8]) -> bool {
+    for byte in text.iter().rev() {
+        if *byte != b' ' {
+            return *byte == b',';
+        }
+    }
+    false
+}
+
+/// Where the quotation mark of a name is missing if an error stands between these texts, and the name: behind a name whose text goes
+/// on past a comma or to the end of the line, or before a name that stands where the error is and has one behind it.
+fn lost_mark<'t>(before: &'t [u8], after: &'t [u8]) -> (&'static str, &'t [u8]) {
+    let line = last_line(before);
+    let rest = after_last_quote(line);
+    if quotes(line) % 2 == 1 {
+        return ("after", until(until(rest, b','), b']'));
+    }
+    let shut = line.len().saturating_sub(rest.len()).saturating_sub(1);
+    let text = after_last_quote(line.get(..shut).unwrap_or(b""));
+    if rest.is_empty() && ends_with_comma(text) {
+        return ("after", until(text, b','));
+    }
+    let name = until(after, b'"');
+    if name.len() < after.len() && is_voter_name(name) {
+        return ("before", name);
+    }
+    ("", b"")
+}
+
+/// Adds the name whose quotation mark is missing, if there is one.
+fn push_lost_mark(hint: &mut String, before: &[u8], after: &[u8]) -> Result<(), AllocError> {
+    let (side, name) = lost_mark(before, after);
+    if name.is_empty() {
+        return Ok(());
+    }
+    write!(hint, ": a quotation mark is missing {side} ")?;
+    push_shown(hint, name, MAX_SHOWN)
 }
 
 /// What is remarked on an error between these parts of a text.
@@ -116,6 +181,9 @@ fn remark(text: &[u8], before: &[u8], after: &[u8]) -> &'static str {
     }
     if touches(before, after, b"\xC2\xA0") {
         return ": no-break space";
+    }
+    if is_of_old_mac(text) {
+        return ": carriage returns end the lines, as old Macs write; make line feeds of them";
     }
     ""
 }
@@ -199,8 +267,13 @@ fn line_around<'t>(text: &'t [u8], before: &[u8]) -> &'t [u8] {
 fn hint_of(alloc: Global, text: &[u8], error: &toml::de::Error) -> Result<String, AllocError> {
     let before = text_before(text, error);
     let mut hint = String::new(alloc);
+    let after = text_after(text, before);
     hint.push_str(error.message())?;
-    hint.push_str(remark(text, before, text_after(text, before)))?;
+    let remark = remark(text, before, after);
+    hint.push_str(remark)?;
+    if remark.is_empty() {
+        push_lost_mark(&mut hint, before, after)?;
+    }
     Ok(hint)
 }
 

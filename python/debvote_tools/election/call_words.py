@@ -34,7 +34,8 @@ PUBLIC = (
 )
 PUBLIC_OF_SECRET = (
     "The vote is secret. After it each ballot that counts is published under an alias, which is made of its elector's name and "
-    "secret code. So everybody can count again, and nobody sees whose ballot it is; with your code you find your own. "
+    "secret code. Of your ranks their order alone is published: 17,33,99 becomes 1,2,3. So everybody can count again, and nobody "
+    "sees whose ballot it is; with your code you find your own. "
     "The secretary knows how each elector voted, whoever shows their code shows their vote, and with few voters the sum of the "
     "votes may tell. Of lines that were refused or came late their number alone is published. A list of the electors who have "
     "voted, without their votes, may be published too. When this call was made and when the vote was closed is published."

@@ -1,6 +1,9 @@
 """What the commands that cast tell: their lines, what was edited by hand, and what a killed run has left undone."""
 
-from debvote_tools import journal
+import contextlib
+
+from debvote_tools import announced, journal
+from debvote_tools.announced import announced_in, in_words
 from debvote_tools.election.folder import Election, Files
 from debvote_tools.faults import Fault, Status
 from debvote_tools.files import sum_of
@@ -27,13 +30,26 @@ def time_of(entry: Entry) -> str:
 
 
 def tell_time(election: Election, files: Files, what: str) -> None:
-    """Says where ballots come before the call for votes, or after the close; the words say what is done with them."""
+    """Says where ballots come before the call for votes, after its time, or after the close; the words say what is done with them."""
     closed = election.closed()
     if closed is not None:
         tell(f"Note: the election was closed at {time_of(closed)}; {what} now is late.")
-    elif not election.call.exists() and not election.is_called():
-        tell("Note: the call for votes has not been made yet.")
+    else:
+        if not election.call.exists() and not election.is_called():
+            tell("Note: the call for votes has not been made yet.")
+        tell_over(election, files.poll, what)
     tell_what_is_gone(election, files)
+
+
+def tell_over(election: Election, poll: bytes, what: str) -> None:
+    """Says that the time is over until which one could vote. No line is refused for that: late is what comes behind the close."""
+    until = None
+    # what is wrong with such a key, `check` and `close` say
+    with contextlib.suppress(Fault):
+        until = announced_in(poll).until
+    if until is not None and announced.now() >= until:
+        words = f"one could vote until {in_words(until)}, and that is over; {what} is not late before the vote is closed"
+        tell(f"Note: {words}: {election.command('close')}")
 
 
 def tell_what_is_gone(election: Election, files: Files) -> None:

@@ -74,7 +74,7 @@ def about_call(poll: str, called: Called) -> list[Doubt]:
     """That the poll is not the one that was called."""
     if called.announced in (None, called.poll_sum):
         return []
-    then = f"the call announced the sum {called.announced}"
+    then = f"the copy of the call has the sum {called.announced}"
     reason = f"it is not the poll that was called: {then}, and this one has the sum {called.poll_sum}"
-    sentence = f"The poll is not the one that was called: the call for votes announced the sum {called.announced}."
+    sentence = f"The poll is not the one that was called: the secretary's copy of the call has the sum {called.announced}."
     return [Doubt(poll, reason, "find out who changed it, and publish the poll that was called", sentence, sentence)]

@@ -1,7 +1,8 @@
 use Rattle.std.proofs.Common.{◌≡◌, ◌++◌, ◌∙◌, List, ℕ, ap, append_assoc, append-nil, codes, decimal, drop, ◌-◌, refl, string_bytes}
 use Rattle.vote_poll.specs.PollContent.{PollContent}
-use Rattle.vote_ballot_findings.specs.Column.{column_remark, column_words, first_words}
-use Rattle.vote_ballot_findings.proofs.Texts.{on_ok, where_ok}
+use Rattle.vote_ballot_findings.specs.Column.{column_words, first_words}
+use Rattle.vote_ballot_findings.specs.Remarks.{column_remark}
+use Rattle.vote_ballot_findings.proofs.Texts.{on_ok}
 use Rattle.vote_ballot_findings.proofs.words.push_column.Goals as goal
 
 -- the pieces that are written
@@ -17,12 +18,11 @@ returns c =
     let line = c.args.line.now in
     let column = c.column-column.result in
     let first = c.in_ok-push_first.ensures ∙ ap (λ t. string_bytes c.push_str-2.new.self ++ first_words t) c.from_column.ensures in
-    let P = string_bytes c.push_str-3.new.self ≡ string_bytes c.push_first.new.text ++ c.column_remark.result.now in
-    on_ok c.push_str-3.result (λ (is : P). (
+    let P = string_bytes c.push_remark.new.text ≡ string_bytes c.push_first.new.text ++ column_remark c.args.poll.now c.args.line.now c.column-column.result in
+    on_ok c.push_remark.result (λ (is : P). (
       column_words poll line column,
       (column, c.column-column.ensures, refl),
       pieces poll line column (string_bytes c.args.text.now) (string_bytes c.push_str.new.self) (string_bytes c.push_decimal.new.text)
-          (string_bytes c.push_str-2.new.self) (string_bytes c.push_first.new.text) (string_bytes c.push_str-3.new.self)
-          c.in_ok-push_str.ensures.bytes c.in_ok-push_decimal.ensures c.in_ok-push_str-2.ensures.bytes first
-          (is ∙ ap (λ t. string_bytes c.push_first.new.text ++ t) c.column_remark.ensures),
-    )) (where_ok c.push_str-3.result _ _ _ c.push_str-3.ensures.bytes)
+          (string_bytes c.push_str-2.new.self) (string_bytes c.push_first.new.text) (string_bytes c.push_remark.new.text)
+          c.in_ok-push_str.ensures.bytes c.in_ok-push_decimal.ensures c.in_ok-push_str-2.ensures.bytes first is,
+    )) c.push_remark.ensures

@@ -22,4 +22,4 @@ pub returns-in-Check-clause-performs : goal.returns-in-Check-clause-performs
 returns-in-Check-clause-performs g c = rw (c.in-Check.is, c.ended_as_done-in-Check.ensures.stop) (c.check_poll.ensures.checks, c.ended_as_done-in-Check.ensures.end)
 
 pub returns-in-Explain-clause-performs : goal.returns-in-Explain-clause-performs
-returns-in-Explain-clause-performs g c = rw c.in-Explain.is c.explain.ensures.explains
+returns-in-Explain-clause-performs g c = rw (c.in-Explain.is, c.unaudited.ensures) c.explain.ensures.explains

@@ -1,0 +1,98 @@
+//! The command that mends the ends of a file's lines.
+
+ghost use Rattle.std.specs.Prelude.{◌≡◌, not, option_copied};
+ghost use Rattle.std.specs.List.{list_any};
+ghost use Rattle.vote_poll_text.specs.Adding.{Adds};
+ghost use Rattle.vote_ballot_findings.specs.Commands.{command_text, is_plain, is_tellable, mending_text, shell_word};
+
+use std::alloc::AllocError;
+use vote_poll::is_printable;
+
+/// Whether a byte means itself in a shell.
+fn is_plain(byte: u8) -> bool
+    ensures { result ≡ is_plain byte }
+{
+    matches!(byte, b'a'..=b'z' | b'A'..=b'Z' | b'0'..=b'9' | b'.' | b'/' | b'_' | b'-')
+}
+
+/// Whether a shell needs quotes around a name.
+fn needs_quotes(name: &[u8]) -> bool
+    ensures { result ≡ list_any (λ b. not (is_plain b)) name.now }
+{
+    name.iter().any(|byte| !is_plain(*byte))
+}
+
+/// Whether a byte can stand in single quotes on a line.
+fn is_tellable(byte: u8) -> bool
+    ensures { result ≡ is_tellable byte }
+{
+    is_printable(byte) && byte != b'\''
+}
+
+/// Whether a name can't be told in single quotes.
+fn is_untold(name: &[u8]) -> bool
+    ensures { result ≡ list_any (λ b. not (is_tellable b)) name.now }
+{
+    name.iter().any(|byte| !is_tellable(*byte))
+}
+
+/// Adds a name as a shell reads it, in quotes if it needs them.
+#[tactic(auto, unfolding(crate::specs::Commands::shell_word))]
+fn push_shell_word(text: &mut String, name: &str) -> Result<(), AllocError>
+    ensures { Adds result text.old (shell_word name.now) text.new }
+{
+    if !needs_quotes(name.as_bytes()) {
+        return text.push_str(name);
+    }
+    text.push_str("'")?;
+    text.push_str(name)?;
+    text.push_str("'")
+}
+
+/// Adds a command that changes a file's bytes by `tr`, without its byte-order mark if it has one, into another file.
+#[tactic(auto, unfolding(crate::specs::Commands::command_text))]
+fn push_command(
+    text: &mut String,
+    change: &str,
+    is_marked: bool,
+    name: &str,
+) -> Result<(), AllocError>
+    ensures { Adds result text.old (command_text change.now is_marked name.now) text.new }
+{
+    if is_marked {
+        text.push_str("tail -c +4 ")?;
+        text.push_str("< ")?;
+        push_shell_word(text, name)?;
+        text.push_str(" | tr ")?;
+        text.push_str(change)?;
+    } else {
+        text.push_str("tr ")?;
+        text.push_str(change)?;
+        text.push_str(" < ")?;
+        push_shell_word(text, name)?;
+    }
+    text.push_str(" > ")?;
+    push_shell_word(text, name)?;
+    text.push_str(".new\n")
+}
+
+/// Adds how a file is mended, with the command if the file has a name that can be told.
+#[tactic(auto, unfolding(crate::specs::Commands::mending_text))]
+pub(crate) fn push_mending(
+    text: &mut String,
+    cure: &str,
+    change: &str,
+    is_marked: bool,
+    file: Option<&str>,
+) -> Result<(), AllocError>
+    ensures { Adds result text.old (mending_text cure.now change.now is_marked (option_copied file.entry)) text.new }
+{
+    text.push_str(cure)?;
+    match file {
+        Some(name) if !is_untold(name.as_bytes()) => {
+            text.push_str(" with ")?;
+            push_command(text, change, is_marked, name)
+        }
+        _ => text.push_str("\n"),
+    }
+}

@@ -1,0 +1,82 @@
+//! A task, or a joined input, from its files to the end of its job.
+
+ghost use Rattle.std.specs.Prelude.{◌≡◌, ◌<◌, ◌↔◌, Err, IsErrOf};
+ghost use Rattle.vote_job_words.specs.Order.{DesksFit};
+ghost use Rattle.vote_job_files.specs.Doing.{EndsJoined, EndsTask, IsDone, written_by};
+ghost use Rattle.vote_job_files.specs.Jobs.{files_of};
+
+use crate::inputs::{Inputs, read_inputs, read_joined};
+use crate::tasks::job_of;
+use std::alloc::Global;
+use std::sync::Wait;
+use std::thread::Threads;
+use vote_desks::NoGate;
+use vote_files::{Sink, Sources};
+use vote_job_words::Task;
+use vote_jobs::{Job, Performed, RunFault, perform};
+
+/// How a run ends whose inputs were not all read.
+fn unread(fault: RunFault) -> Performed
+    ensures { result.end ≡ Err fault }
+{
+    Performed {
+        end: Err(fault),
+        audited: None,
+    }
+}
+
+/// Does the job of a task whose files are read. It is a function of its own since words and bytes stand in one job, so that they
+/// have to live equally long: here both are lent.
+fn do_job<W: Sink, R: Threads + Wait + Sync>(
+    rt: &R,
+    alloc: Global,
+    task: &Task<'_>,
+    inputs: &Inputs,
+    sink: &mut W,
+) -> Performed
+    requires { DesksFit task.now }
+    ensures done { IsDone task.now (files_of inputs.now) (written_by W.contents W.flushed sink.old sink.new) result }
+    ensures output { IsErrOf result.end RunFault.Output ↔ (W.faults sink.old < W.faults sink.new) }
+{
+    let job = job_of(task, inputs);
+    perform(rt, alloc, &job, &NoGate, sink)
+}
+
+/// Reads the files of a task, before anything is checked, and does its job.
+pub fn carry_out<S: Sources, W: Sink, R: Threads + Wait + Sync>(
+    rt: &R,
+    alloc: Global,
+    sources: &S,
+    task: &Task<'_>,
+    sink: &mut W,
+) -> Performed
+    requires { DesksFit task.now }
+    ensures ends { EndsTask (S.file_bytes sources.now) task.now (written_by W.contents W.flushed sink.old sink.new) result }
+    ensures output { IsErrOf result.end RunFault.Output ↔ (W.faults sink.old < W.faults sink.new) }
+{
+    let inputs = match read_inputs(sources, alloc, task) {
+        Ok(inputs) => inputs,
+        Err(fault) => return unread(fault),
+    };
+    do_job(rt, alloc, task, &inputs, sink)
+}
+
+/// Writes the reply to each ballot of standard input, a poll and its ballots joined by a line `%%`.
+pub fn print_joined<S: Sources, W: Sink, R: Threads + Wait + Sync>(
+    rt: &R,
+    alloc: Global,
+    sources: &S,
+    sink: &mut W,
+) -> Performed
+    ensures ends { EndsJoined (S.standard_bytes sources.now) (written_by W.contents W.flushed sink.old sink.new) result }
+    ensures output { IsErrOf result.end RunFault.Output ↔ (W.faults sink.old < W.faults sink.new) }
+{
+    let input = match read_joined(sources, alloc) {
+        Ok(input) => input,
+        Err(fault) => return unread(fault),
+    };
+    let job = Job::Joined {
+        input: input.as_slice(),
+    };
+    perform(rt, alloc, &job, &NoGate, sink)
+}
