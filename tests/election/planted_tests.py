@@ -3,6 +3,7 @@
 import datetime
 import os
 import re
+import shutil
 import signal
 import sys
 
@@ -20,14 +21,17 @@ WON = "ada 1,2,4,3\nben 1,3,4,2\ncleo 1,2,4,3\n"
 class ClockTest(support.ElectionTest):
     def test_times_are_those_of_greenwich_wherever_the_computer_stands(self) -> None:
         for place in ("Pacific/Kiritimati", "America/Los_Angeles", "UTC"):
-            (self.folder / "journal").unlink(missing_ok=True)
+            shutil.rmtree(self.folder)
+            self.folder.mkdir()
             self.write("poll.toml", support.POLL)
             self.write("ballots", WON)
+            before = datetime.datetime.now(datetime.UTC).replace(microsecond=0)
             ended = self.election("close", "--even-so", env={**support.environment(), "TZ": place})
             self.assertEqual(ended.status, 0, ended)
+            after = datetime.datetime.now(datetime.UTC)
             said = re.search(r"Closed: at (.*) UTC", self.election("status").output)
             time = datetime.datetime.strptime(said[1], "%Y-%m-%d %H:%M:%S").replace(tzinfo=datetime.UTC)
-            self.assertLess(abs(datetime.datetime.now(datetime.UTC) - time), datetime.timedelta(minutes=2), place)
+            self.assertTrue(before <= time <= after, (place, before, time, after))
 
 
 class JournalTest(support.ElectionTest):
