@@ -46,10 +46,10 @@ def announced_in(poll: bytes) -> Announced:
     texts = {key: text_at(said, key) for key in (DEADLINE, WORDS, ADDRESS, EXTENDED)}
     if said.get(SECRET, True) is not True:
         raise wrong(SECRET, "it has to be `secret = true`, or not to be there")
-    times = {key: time_at(key, texts[key]) for key in (DEADLINE, EXTENDED)}
-    if None not in times.values() and times[EXTENDED] <= times[DEADLINE]:
+    deadline, extended_to = (time_at(key, texts[key]) for key in (DEADLINE, EXTENDED))
+    if deadline is not None and extended_to is not None and extended_to <= deadline:
         raise wrong(EXTENDED, f"it has to be a later time than {DEADLINE}, on which electors rely")
-    return Announced(times[DEADLINE], texts[WORDS], texts[ADDRESS], SECRET in said, times[EXTENDED])
+    return Announced(deadline, texts[WORDS], texts[ADDRESS], SECRET in said, extended_to)
 
 
 def text_at(said: dict[str, object], key: str) -> str | None:

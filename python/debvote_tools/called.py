@@ -57,8 +57,9 @@ class Called:
         if self.poll is None:
             return f"the journal has another sum of the poll that was called, and no copy of that one is in {KEPT}"
         before, now = poll_file.as_announced(self.poll), poll_file.as_announced(poll)
-        if before == now:
-            return f"the vote was extended until {in_words(announced_in(self.poll).extended_to)}, and the poll does not say so any more"
+        extended_to = announced_in(self.poll).extended_to
+        if before == now and extended_to is not None:
+            return f"the vote was extended until {in_words(extended_to)}, and the poll does not say so any more"
         return difference(before, now)
 
 

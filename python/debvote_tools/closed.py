@@ -56,7 +56,11 @@ def changed_since(close: Entry, folder: pathlib.Path, counted: Counted) -> list[
     closed_sum = sum_of(b"") if close.sums.ballots == NONE else close.sums.ballots
     if not kept.is_file():
         lines = b"".join(line + b"\n" for line in lines_of(counted.data)[:number])
-        return found if closed_sum in (sum_of(lines), sum_of(lines.removesuffix(b"\n"))) else [*found, are_others(number, kept, counted)]
+        return (
+            found
+            if closed_sum in (sum_of(lines), sum_of(lines.removesuffix(b"\n")))
+            else [*found, are_others(number, kept, counted)]
+        )
     data = kept.read_bytes()
     if sum_of(data) != closed_sum:
         return [*found, kept_is_another(kept)]

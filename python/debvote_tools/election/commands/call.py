@@ -238,7 +238,7 @@ def note_undone(election: Election, files: Files, count: int) -> None:
 
 def keep_called(election: Election, files: Files) -> None:
     """Keeps the poll that is called, with the time to which it is extended; of one that was called before, and taken back, a copy."""
-    kept, poll = election.called_poll, poll_file.without_last_envelope(files.poll)
+    kept, poll = election.called_poll, poll_file.without_key(files.poll, poll_file.LAST_ENVELOPE)
     election.begin_journal()
     if kept.exists():
         before = kept.read_bytes()
