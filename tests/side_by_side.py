@@ -128,8 +128,16 @@ def run_all(classes: dict[str, list[unittest.TestCase]], at_once: int, room: pat
                 yield one, one.told()
 
 
+def demand_utf_8() -> None:
+    """Begins anew where Python would read texts as the place of the machine has them: pages, letters and tables are in UTF-8."""
+    if not sys.flags.utf8_mode:
+        sys.stdout.flush()
+        os.execv(sys.executable, [sys.executable, "-X", "utf8", *sys.orig_argv[1:]])
+
+
 def run_modules(modules: list[str], at_once: int | None = None) -> int:
     """Runs the tests of these modules, tells what they came to, and returns the exit status."""
+    demand_utf_8()
     classes = classes_of(modules)
     passed, lost, skipped = 0, [], {}
     seconds: dict[str, float] = {}
@@ -150,4 +158,4 @@ def run_modules(modules: list[str], at_once: int | None = None) -> int:
     for name, why in skipped.items():
         print(f"skipped: {name}: {why}")
     print(f"{passed} passed, {len(lost)} failed")
-    return 1 if lost or not passed else 0
+    return 1 if lost or not (passed or skipped) else 0

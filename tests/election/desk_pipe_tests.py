@@ -23,6 +23,12 @@ class PipeTest(support.ElectionTest):
         files = sorted(folder.iterdir()) if folder.is_dir() else []
         return b"".join(file.read_bytes() for file in files)
 
+    def wait_for_more_than(self, before: bytes) -> None:
+        """Until the desk has kept something of what was sent."""
+        until = time.monotonic() + support.SECONDS
+        while self.kept() == before and time.monotonic() < until:
+            time.sleep(0.01)
+
     def test_killed_at_any_moment_what_was_read_is_kept(self) -> None:
         """What was sent stands in received/, or is still in the pipe, whenever the desk is killed."""
         read = 0
@@ -32,7 +38,8 @@ class PipeTest(support.ElectionTest):
             before = self.kept()
             sent = b"".join(b"ada %d,%d,3,4\n" % (number + 1, line + 1) for line in range(40))
             os.write(writing, sent[:300])
-            time.sleep(random.uniform(0.1, 1.5))
+            if number % 4:
+                self.wait_for_more_than(before)
             os.write(writing, sent[300:])
             time.sleep(random.uniform(0, 0.1))
             desk.send_signal(signal.SIGKILL)

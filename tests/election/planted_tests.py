@@ -25,11 +25,13 @@ class ClockTest(support.ElectionTest):
             self.folder.mkdir()
             self.write("poll.toml", support.POLL)
             self.write("ballots", WON)
+            before = datetime.datetime.now(datetime.UTC).replace(microsecond=0)
             ended = self.election("close", "--even-so", env={**support.environment(), "TZ": place})
             self.assertEqual(ended.status, 0, ended)
+            after = datetime.datetime.now(datetime.UTC)
             said = re.search(r"Closed: at (.*) UTC", self.election("status").output)
             time = datetime.datetime.strptime(said[1], "%Y-%m-%d %H:%M:%S").replace(tzinfo=datetime.UTC)
-            self.assertLess(abs(datetime.datetime.now(datetime.UTC) - time), datetime.timedelta(minutes=2), place)
+            self.assertTrue(before <= time <= after, (place, before, time, after))
 
 
 class JournalTest(support.ElectionTest):

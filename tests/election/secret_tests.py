@@ -5,6 +5,7 @@ import hashlib
 import html
 import io
 import json
+import os
 import pathlib
 import re
 import shutil
@@ -19,6 +20,7 @@ from secret_votes import MEMBERS, NAMES, SecretTest, has_word
 sys.path.insert(0, str(support.ROOT / "python"))
 
 from debvote_tools import journal, secret  # noqa: E402
+from debvote_tools.faults import Fault  # noqa: E402
 from debvote_tools.secret_words import BY_OPENSSL, BY_PYTHON  # noqa: E402
 
 
@@ -183,7 +185,14 @@ class DamageTest(SecretTest):
     def test_a_link_is_refused(self) -> None:
         (self.folder / "private" / "codes.csv").rename(self.folder / "elsewhere")
         (self.folder / "private" / "codes.csv").symlink_to("../elsewhere")
-        self.assert_fault(self.election("call"), 9, "private/codes.csv: ")
+        self.assert_fault(self.election("call"), 9, "private/codes.csv: Too many levels of symbolic links; ")
+
+    def test_codes_of_somebody_else_are_refused(self) -> None:
+        file = self.folder / "private" / "codes.csv"
+        secret.demand_private(file, 0o600)
+        with unittest.mock.patch("os.geteuid", return_value=os.geteuid() + 1):
+            with self.assertRaisesRegex(Fault, "codes.csv: it belongs to somebody else; "):
+                secret.demand_private(file, 0o600)
 
     def test_a_damaged_file_is_refused(self) -> None:
         rows = self.codes.splitlines()

@@ -1,5 +1,7 @@
 -- The files of a task, and its job once they are read.
-use Rattle.std.specs.Prelude.{◌≡◌, List, ℕ, Option, Some, None, IfSome, option_copied, option_map}
+use Rattle.std.specs.Prelude.{◌≡◌, ℕ, Bool, ◌||◌, if◌then◌else◌, List, Option, Some, None, IfSome, nat_eq, option_and_then, option_copied, option_map, codes}
+use Rattle.std.specs.List.{starts_with}
+use Rattle.std.specs.Str.{bytes_eq}
 use Rattle.vote_files.specs.Device.{IsWhole}
 use Rattle.vote_job_words.specs.declared.Task.{Task}
 use Rattle.vote_job_words.specs.declared.Task.TheVariants as task
@@ -32,6 +34,14 @@ abbrev pub sheet_name : Task → Option (List ℕ)
 sheet_name (task.Verify poll ballots sheet desks) = Some sheet.now
 sheet_name other = None
 
+-- the name stands for standard input or a pipe, which a later command can't read again
+abbrev pub is_stream : List ℕ → Bool
+is_stream name = bytes_eq name (codes "-") || bytes_eq name (codes "/dev/stdin") || starts_with nat_eq name (codes "/dev/fd/")
+
+-- the name of a file that a later command can read
+abbrev pub told_name : List ℕ → Option (List ℕ)
+told_name name = if is_stream name then None else Some name
+
 -- the bytes of the files that a task may name: its poll file, its ballot file and its published sheet
 pub record Files : Type 0 where
   pub poll : List ℕ
@@ -54,8 +64,8 @@ IsJobOf (task.Count poll_name ballots_name asked named) files (job.Count poll ba
     (poll.now ≡ files.poll) × (ballots.now ≡ files.ballots) × (desks ≡ asked) × (option_copied casting ≡ option_copied named)
 IsJobOf (task.Steps poll_name ballots_name) files (job.Steps poll ballots) = (poll.now ≡ files.poll) × (ballots.now ≡ files.ballots)
 IsJobOf (task.Check poll_name) files (job.Check poll) = poll.now ≡ files.poll
-IsJobOf (task.Explain poll_name named) files (job.Explain poll ballots) =
-    (poll.now ≡ files.poll) × (option_copied ballots ≡ option_map (λ name. files.ballots) named)
+IsJobOf (task.Explain poll_name named) files (job.Explain poll ballots file) =
+    (poll.now ≡ files.poll) × (option_copied ballots ≡ option_map (λ name. files.ballots) named) × (option_copied file ≡ option_and_then told_name (option_copied named))
 IsJobOf (task.Standing poll_name ballots_name) files (job.Standing poll ballots) = (poll.now ≡ files.poll) × (ballots.now ≡ files.ballots)
 IsJobOf (task.Verify poll_name ballots_name sheet_name asked) files (job.Verify poll ballots sheet desks) =
     (poll.now ≡ files.poll) × (ballots.now ≡ files.ballots) × (sheet.now ≡ files.sheet) × (desks ≡ asked)

@@ -1,7 +1,7 @@
 //! The files that a task names, and its job once they are read.
 
 ghost use Rattle.std.specs.Prelude.{◌≡◌, option_copied};
-ghost use Rattle.vote_job_files.specs.Jobs.{IsJobOf, ballots_name, files_of, poll_name, sheet_name};
+ghost use Rattle.vote_job_files.specs.Jobs.{IsJobOf, ballots_name, files_of, is_stream, poll_name, sheet_name, told_name};
 ghost use Rattle.vote_job_words.specs.Order.{DesksFit};
 ghost use Rattle.vote_jobs.specs.Performing.{HasDesks};
 
@@ -56,6 +56,24 @@ fn bytes_of(casting: Option<&str>) -> Option<&[u8]>
     casting.map(|name| name.as_bytes())
 }
 
+/// Whether a name stands for standard input or a pipe, which a later command can't read again.
+fn is_stream(name: &[u8]) -> bool
+    ensures { result ≡ is_stream name.now }
+{
+    name == b"-".as_slice() || name == b"/dev/stdin".as_slice() || name.starts_with(b"/dev/fd/")
+}
+
+/// The name of a file that a later command can read.
+fn told_name(name: &str) -> Option<&str>
+    ensures { option_copied result ≡ told_name name.now }
+{
+    if is_stream(name.as_bytes()) {
+        None
+    } else {
+        Some(name)
+    }
+}
+
 /// The job of a task whose files were read. A file that the task does not name has no bytes.
 pub fn job_of<'a>(task: &Task<'a>, inputs: &'a Inputs) -> Job<'a>
     requires { DesksFit task.now }
@@ -77,13 +95,15 @@ pub fn job_of<'a>(task: &Task<'a>, inputs: &'a Inputs) -> Job<'a>
         Task::Explain { ballots: None, .. } => Job::Explain {
             poll,
             ballots: None,
+            file: None,
         },
         Task::Explain {
-            ballots: Some(_),
+            ballots: Some(name),
             ..
         } => Job::Explain {
             poll,
             ballots: Some(ballots),
+            file: told_name(name),
         },
         Task::Standing { .. } => Job::Standing { poll, ballots },
         Task::Verify { desks, .. } => Job::Verify {

@@ -28,24 +28,26 @@ use Rattle.vote_jobs.specs.declared.fault.RunFault.TheVariants as run
 abbrev pub ended_by_findings : Text → ℕ → Ended
 ended_by_findings findings refused = if (length findings == 0) && (refused == 0) then ended.Done else ended.Found
 
--- after the findings of a poll all that is said of its lines, of which a line feed ends all, or all but the last
-abbrev pub IsSaidOfLines : PollContent → List Text → Bool → Text → Told → Type 0
-IsSaidOfLines poll lines all_ended findings told =
-    (rest : Text) × IsExplained poll lines all_ended None rest × (told.text ≡ findings ++ rest) × (told.end ≡ ended_by_findings findings (refused_count poll lines))
+-- after the findings of a poll all that is said of its lines, of which a line feed ends all, or all but the last, and of their file,
+-- which may have a name
+abbrev pub IsSaidOfLines : PollContent → List Text → Bool → Option Text → Text → Told → Type 0
+IsSaidOfLines poll lines all_ended file findings told =
+    (rest : Text) × IsExplained poll lines all_ended file rest × (told.text ≡ findings ++ rest) × (told.end ≡ ended_by_findings findings (refused_count poll lines))
 
 -- after the findings of a poll in order all that is said of its ballots, or where none are given the line of `check`
-abbrev pub IsSaid : PollContent → Option Text → Text → Told → Type 0
-IsSaid poll None findings told = (told.text ≡ findings ++ check_text poll) × (told.end ≡ ended_by_findings findings 0)
-IsSaid poll (Some ballots) findings told = IsSaidOfLines poll (lines_of ballots) (ends_with nat_eq ballots line_feed) findings told
+abbrev pub IsSaid : PollContent → Option Text → Option Text → Text → Told → Type 0
+IsSaid poll None file findings told = (told.text ≡ findings ++ check_text poll) × (told.end ≡ ended_by_findings findings 0)
+IsSaid poll (Some ballots) file findings told = IsSaidOfLines poll (lines_of ballots) (ends_with nat_eq ballots line_feed) file findings told
 
 -- after the findings of a poll that is refused nothing
-abbrev pub IsSaidAfter : Result PollContent PollFault → Option Text → Text → Told → Type 0
-IsSaidAfter (Err fault) ballots findings told = (told.text ≡ findings) × (told.end ≡ ended.PollRefused)
-IsSaidAfter (Ok poll) ballots findings told = IsSaid poll ballots findings told
+abbrev pub IsSaidAfter : Result PollContent PollFault → Option Text → Option Text → Text → Told → Type 0
+IsSaidAfter (Err fault) ballots file findings told = (told.text ≡ findings) × (told.end ≡ ended.PollRefused)
+IsSaidAfter (Ok poll) ballots file findings told = IsSaid poll ballots file findings told
 
--- all that is wrong with a poll file, and with its ballots where they are given
-abbrev pub IsExplanation : Text → Option Text → Told → Type 0
-IsExplanation poll_text ballots told = (findings : Text) × AreFindingsOf (document poll_text) findings × IsSaidAfter (poll_in poll_text) ballots findings told
+-- all that is wrong with a poll file, and with its ballots where they are given, in a file that may have a name
+abbrev pub IsExplanation : Text → Option Text → Option Text → Told → Type 0
+IsExplanation poll_text ballots file told =
+    (findings : Text) × AreFindingsOf (document poll_text) findings × IsSaidAfter (poll_in poll_text) ballots file findings told
 
 -- the lines that are read: those of the ballots, where they are given and the poll is in order
 abbrev pub lines_read : Result PollContent PollFault → Option Text → List Text
@@ -75,14 +77,15 @@ IsExplainFault run.Memory = Unit {0}
 IsExplainFault fault = ⊥
 
 -- the explanation of these bytes is written, and the run ends by it
-pub record Explains (poll_text : Text) (ballots : Option Text) (old new : Option Text) (result : Result Ended RunFault) : Type 0 where
+pub record Explains (poll_text : Text) (ballots file : Option Text) (old new : Option Text) (result : Result Ended RunFault) : Type 0 where
   pub lines : AnswersGiven (poll_in poll_text) ballots result
   pub poll : (fault : PollFault) → result_err result ≡ Some (run.Poll fault) → fault ≡ poll_fault.Memory
   pub option : result_err result ≢ Some run.NoSuchOption
   pub votes : (fault : VoteFault) → result_err result ≢ Some (run.Vote fault)
   pub input : (fault : InputFault) → result_err result ≢ Some (run.Input fault)
-  pub writes : Writes (Tells (IsExplanation poll_text ballots) result) old new (result_err result)
+  pub writes : Writes (Tells (IsExplanation poll_text ballots file) result) old new (result_err result)
 
 -- a call does so, by what its sink holds before and after it
-abbrev pub ExplainsTo : {S : Type 0} → Text → Option (Bor Text) → (S → Option Text) → S → S → Result Ended RunFault → Type 0
-ExplainsTo poll_text ballots contents old new result = Explains poll_text (option_copied ballots) (contents old) (contents new) result
+abbrev pub ExplainsTo : {S : Type 0} → Text → Option (Bor Text) → Option (Bor Text) → (S → Option Text) → S → S → Result Ended RunFault → Type 0
+ExplainsTo poll_text ballots file contents old new result =
+    Explains poll_text (option_copied ballots) (option_copied file) (contents old) (contents new) result

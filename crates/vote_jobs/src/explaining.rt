@@ -38,7 +38,7 @@ fn appended(first: String, rest: String) -> Result<String, AllocError>
 
 /// The findings of a poll in order, and after them the line of `check`.
 fn with_sizes(alloc: Global, poll: &Poll, findings: String) -> Result<RunText, AllocError>
-    ensures { IfOk result (IsSaid poll.now None (string_bytes findings)) }
+    ensures { IfOk result (IsSaid poll.now None None (string_bytes findings)) }
 {
     let ended = ended_by_findings(&findings, 0);
     let sizes = check_text(alloc, poll)?;
@@ -46,21 +46,22 @@ fn with_sizes(alloc: Global, poll: &Poll, findings: String) -> Result<RunText, A
     Ok(RunText { text, ended })
 }
 
-/// The findings of a poll in order, and after them all that is said of its lines. A line feed ends all of the lines, or all but
-/// the last.
+/// The findings of a poll in order, and after them all that is said of its lines and of their file. A line feed ends all of the
+/// lines, or all but the last.
 fn with_lines(
     alloc: Global,
     poll: &Poll,
     lines: &Lines<'_>,
     all_ended: bool,
+    file: Option<&str>,
     findings: String,
 ) -> Result<RunText, AllocError>
-    ensures { IfOk result (IsSaidOfLines poll.now lines.now all_ended (string_bytes findings)) }
+    ensures { IfOk result (IsSaidOfLines poll.now lines.now all_ended (option_copied file.entry) (string_bytes findings)) }
 {
     let Explained {
         text: rest,
         refused,
-    } = explain_ballots(alloc, poll, lines, all_ended, None)?;
+    } = explain_ballots(alloc, poll, lines, all_ended, file)?;
     let ended = ended_by_findings(&findings, refused);
     let text = appended(findings, rest)?;
     Ok(RunText { text, ended })
@@ -71,9 +72,10 @@ fn with_rest(
     alloc: Global,
     poll: &Poll,
     ballots: Option<&[u8]>,
+    file: Option<&str>,
     found: String,
 ) -> Result<RunText, RunFault>
-    ensures ok { IfOk result (IsSaid poll.now (option_copied ballots.entry) (string_bytes found)) }
+    ensures ok { IfOk result (IsSaid poll.now (option_copied ballots.entry) (option_copied file.entry) (string_bytes found)) }
     ensures lines { AnswersGiven (Ok poll.now) (option_copied ballots.entry) result }
     ensures fault { IfErr result IsGivenFault }
 {
@@ -81,14 +83,19 @@ fn with_rest(
         return Ok(with_sizes(alloc, poll, found)?);
     };
     match Lines::split(alloc, ballots) {
-        Ok(lines) => Ok(with_lines(alloc, poll, &lines, ballots.ends_with(b"\n"), found)?),
+        Ok(lines) => Ok(with_lines(alloc, poll, &lines, ballots.ends_with(b"\n"), file, found)?),
         Err(fault) => Err(RunFault::Lines(fault)),
     }
 }
 
 /// What is said of a poll and, where they are given, of its ballots.
-fn explanation(alloc: Global, poll_text: &[u8], ballots: Option<&[u8]>) -> Result<RunText, RunFault>
-    ensures told { IfOk result (IsExplanation poll_text.now (option_copied ballots.entry)) }
+fn explanation(
+    alloc: Global,
+    poll_text: &[u8],
+    ballots: Option<&[u8]>,
+    file: Option<&str>,
+) -> Result<RunText, RunFault>
+    ensures told { IfOk result (IsExplanation poll_text.now (option_copied ballots.entry) (option_copied file.entry)) }
     ensures lines { AnswersGiven (poll_in poll_text.now) (option_copied ballots.entry) result }
     ensures fault { IfErr result IsExplainFault }
 {
@@ -97,7 +104,7 @@ fn explanation(alloc: Global, poll_text: &[u8], ballots: Option<&[u8]>) -> Resul
         Err(AllocError) => return Err(RunFault::Poll(PollFault::Memory)),
     };
     match outcome {
-        Ok(poll) => with_rest(alloc, &poll, ballots, findings),
+        Ok(poll) => with_rest(alloc, &poll, ballots, file, findings),
         Err(_) => Ok(RunText {
             text: findings,
             ended: Ended::PollRefused,
@@ -105,19 +112,20 @@ fn explanation(alloc: Global, poll_text: &[u8], ballots: Option<&[u8]>) -> Resul
     }
 }
 
-/// Writes all that is wrong with a poll file, and if it is in order with its ballots too, where they are given. Nothing is written
-/// before all of it is there.
+/// Writes all that is wrong with a poll file, and if it is in order with its ballots too, where they are given. `file` is the name
+/// of the ballot file for a command that mends it, where it has one. Nothing is written before all of it is there.
 pub fn explain<W: Sink>(
     alloc: Global,
     poll_text: &[u8],
     ballots: Option<&[u8]>,
+    file: Option<&str>,
     sink: &mut W,
 ) -> Result<Ended, RunFault>
-    ensures explains { ExplainsTo poll_text.now ballots.entry W.contents sink.old sink.new result }
+    ensures explains { ExplainsTo poll_text.now ballots.entry file.entry W.contents sink.old sink.new result }
     ensures output { IsErrOf result RunFault.Output ↔ (W.faults sink.old < W.faults sink.new) }
     ensures flushed { OnOk result (W.flushed sink.new ≡ true) }
 {
-    let RunText { text, ended } = match explanation(alloc, poll_text, ballots) {
+    let RunText { text, ended } = match explanation(alloc, poll_text, ballots, file) {
         Ok(explained) => explained,
         Err(fault) => return Err(fault),
     };

@@ -71,6 +71,8 @@ pub enum Job<'a> {
     Explain {
         poll: &'a [u8],
         ballots: Option<&'a [u8]>,
+        /// The name of the ballot file, for a command that mends it.
+        file: Option<&'a str>,
     },
 }
 
@@ -143,7 +145,11 @@ pub fn perform<G: Gate + Sync, W: Sink, R: Threads + Wait + Sync>(
         )),
         Job::Joined { input } => ended_as_done(steps_joined(alloc, input, sink)),
         Job::Check { poll } => ended_as_done(check_poll(alloc, poll, sink)),
-        Job::Explain { poll, ballots } => unaudited(explain(alloc, poll, *ballots, sink)),
+        Job::Explain {
+            poll,
+            ballots,
+            file,
+        } => unaudited(explain(alloc, poll, *ballots, *file, sink)),
     }
 }
 
