@@ -5,6 +5,7 @@ What is given to these functions is HTML already: a name or a text goes through 
 
 import base64
 import hashlib
+import importlib.resources
 from collections.abc import Iterable
 from html import escape
 
@@ -88,6 +89,11 @@ def page(head: str, heading: str, sections: str, *, style: str = STYLE, script: 
     """A whole page. `head` is what the window is called. It loads nothing, and runs its own script alone, where it has one."""
     shown = f"<script>{script}</script>\n" if script else ""
     return PAGE.format(policy=policy_of(style, script), head=head, style=style, heading=heading, sections=sections, script=shown)
+
+
+def script_of(package: str, name: str) -> str:
+    """The script of a page, which is a file of one of these packages."""
+    return importlib.resources.files(package).joinpath(name).read_text(encoding="utf-8")
 
 
 def policy_of(style: str, script: str) -> str:

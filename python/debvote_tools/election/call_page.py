@@ -1,6 +1,5 @@
 """The page of the call for votes: it can be read without scripts, and with its one script it makes the line of a ballot."""
 
-import pathlib
 import re
 import urllib.parse
 from html import escape, unescape
@@ -9,8 +8,6 @@ from debvote_tools import pages
 from debvote_tools.election import call_words
 from debvote_tools.election.call_words import Call
 from debvote_tools.pages import command_block, listed, paragraph, part
-
-SCRIPT = pathlib.Path(__file__).with_name("ballot.js")
 
 # in names; above it the page would be long, and the names stand in the poll alone
 NAMES_LIMIT = 2_000
@@ -67,7 +64,7 @@ Look at the letter before you send it: it has to be one line.</p>
 
 def html(call: Call) -> str:
     """The page. It loads nothing, and runs its own script alone."""
-    script = SCRIPT.read_text(encoding="utf-8")
+    script = pages.script_of("debvote_tools.election", "ballot.js")
     style = pages.STYLE + pages.FIELDS_STYLE + STYLE
     parts = [head(call), options(call), form(call), roll(call), how(call), public(call), poll(call)]
     title = escape(call.title)

@@ -25,8 +25,6 @@ from debvote_tools.sheet import Sheet
 # the cure where two counts of the same votes differ
 KEEP_FILES = "keep all files, and tell the maintainers"
 
-SCRIPT = pathlib.Path(__file__).with_name("find.js")
-
 STYLE = """
 .field { margin: 0.75rem 0; }
 #answer p { margin: 0.5rem 0; }
@@ -202,7 +200,7 @@ def further_of(hidden: Hidden, totals: Totals, *, with_voters: bool) -> Further:
         about_ballots=said,
         parts=[find(hidden), remains()],
         style=pages.FIELDS_STYLE + STYLE,
-        script=SCRIPT.read_text(encoding="utf-8"),
+        script=pages.script_of("debvote_tools.publish", "find.js"),
         files=files,
         described=described,
     )
