@@ -11,7 +11,8 @@ from debvote_tools import announced, poll_file
 from debvote_tools.announced import ADDRESS, DEADLINE, EXTENDED, SECRET, WORDS, announced_in, in_words
 from debvote_tools.election import call_page, deadlines
 from debvote_tools.election.asking import command
-from debvote_tools.election.folder import Election, Files
+from debvote_tools.election.folder import Election
+from debvote_tools.election.record import Files
 from debvote_tools.election.telling import time_of
 from debvote_tools.faults import Fault, Status
 

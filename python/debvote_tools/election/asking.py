@@ -4,7 +4,8 @@ import pathlib
 import shlex
 from collections.abc import Iterable
 
-from debvote_tools.election.folder import Election, Files
+from debvote_tools.election.folder import Election
+from debvote_tools.election.record import Files
 from debvote_tools.faults import Fault, Status
 from debvote_tools.files import BALLOTS_LIMIT, LINES_LIMIT, POLL_LIMIT
 from debvote_tools.program import Answer

@@ -8,7 +8,8 @@ from collections.abc import Callable, Iterator
 from debvote_tools import poll_file
 from debvote_tools.ballots import in_words
 from debvote_tools.election.asking import NO_BALLOTS, refused
-from debvote_tools.election.folder import Election, Files
+from debvote_tools.election.folder import Election
+from debvote_tools.election.record import Files
 from debvote_tools.election.telling import count_of, tell
 from debvote_tools.faults import Fault, Status
 from debvote_tools.files import BALLOTS_LIMIT, LINES_LIMIT, in_memory, uninterrupted

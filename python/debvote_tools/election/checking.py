@@ -5,7 +5,8 @@ import sys
 
 from debvote_tools import poll_file
 from debvote_tools.election.asking import NO_BALLOTS, command, explained, refused
-from debvote_tools.election.folder import Election, Files
+from debvote_tools.election.folder import Election
+from debvote_tools.election.record import Files
 from debvote_tools.faults import Fault, Status
 from debvote_tools.members import plain
 from debvote_tools.sheet import Sheet, sheet_in

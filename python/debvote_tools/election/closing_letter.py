@@ -6,7 +6,8 @@ It follows from the poll, the ballots and the entry of the close in the journal,
 import dataclasses
 
 from debvote_tools import closed, poll_file
-from debvote_tools.election.folder import Election, Files
+from debvote_tools.election.folder import Election
+from debvote_tools.election.record import Files
 from debvote_tools.election.telling import count_of, time_of
 from debvote_tools.faults import Fault, Status
 from debvote_tools.files import sum_of, write_whole

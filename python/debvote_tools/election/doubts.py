@@ -6,7 +6,8 @@ import pathlib
 import re
 
 from debvote_tools.election.casting import Ballot
-from debvote_tools.election.folder import Election, Files
+from debvote_tools.election.folder import Election
+from debvote_tools.election.record import Files
 from debvote_tools.faults import Fault, Status
 from debvote_tools.files import BALLOTS_LIMIT, LINES_LIMIT
 from debvote_tools.lines import MARK, Line, lines_in, shown

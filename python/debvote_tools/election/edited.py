@@ -2,7 +2,8 @@
 
 from debvote_tools import by_hand, journal
 from debvote_tools.election.asking import command
-from debvote_tools.election.folder import Election, Files
+from debvote_tools.election.folder import Election
+from debvote_tools.election.record import Files
 from debvote_tools.election.telling import tell
 from debvote_tools.faults import Fault, Status
 

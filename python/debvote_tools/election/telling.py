@@ -4,7 +4,8 @@ import contextlib
 
 from debvote_tools import announced, journal
 from debvote_tools.announced import announced_in, in_words
-from debvote_tools.election.folder import Election, Files
+from debvote_tools.election.folder import Election
+from debvote_tools.election.record import Files
 from debvote_tools.faults import Fault, Status
 from debvote_tools.files import sum_of
 from debvote_tools.journal import Entry

@@ -15,7 +15,8 @@ from debvote_tools.election.asking import NO_BALLOTS, command, given_already
 from debvote_tools.election.call_words import Call
 from debvote_tools.election.checking import checked
 from debvote_tools.election.commands.codes import write_slips
-from debvote_tools.election.folder import Election, Files
+from debvote_tools.election.folder import Election
+from debvote_tools.election.record import Files
 from debvote_tools.election.secrecy import aliases_now, demand_own_folder, told_apart
 from debvote_tools.faults import Fault, Status
 from debvote_tools.files import TEMPORARY, sum_of, sync_folder, take_away_temporaries, umask, write_new, write_whole

@@ -6,7 +6,8 @@ import dataclasses
 from debvote_tools import poll_file
 from debvote_tools.election.asking import call_command, command, quorum_words
 from debvote_tools.election.checking import checked
-from debvote_tools.election.folder import Election, Files
+from debvote_tools.election.folder import Election
+from debvote_tools.election.record import Files
 from debvote_tools.election.secrecy import without_code
 from debvote_tools.faults import Status
 from debvote_tools.sheet import Sheet

@@ -10,7 +10,8 @@ import sys
 from debvote_tools.election.asking import NO_BALLOTS, command, demand_option
 from debvote_tools.election.commands.count import casting_option
 from debvote_tools.election.differences import tell_differences
-from debvote_tools.election.folder import Election, Files
+from debvote_tools.election.folder import Election
+from debvote_tools.election.record import Files
 from debvote_tools.election.secrecy import demand_own_folder
 from debvote_tools.faults import Fault, Status
 from debvote_tools.program import casting_words

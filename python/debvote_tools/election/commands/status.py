@@ -11,7 +11,8 @@ from debvote_tools import announced, called, journal, poll_file
 from debvote_tools.announced import announced_in, in_words
 from debvote_tools.election.asking import call_command, command, files_of, quorum_words, refused
 from debvote_tools.election.edited import changes_of
-from debvote_tools.election.folder import Election, Files
+from debvote_tools.election.folder import Election
+from debvote_tools.election.record import Files
 from debvote_tools.election.secrecy import aliases_now, demand_own_folder, publish_words
 from debvote_tools.election.telling import time_of
 from debvote_tools.faults import Fault, Status
