@@ -156,8 +156,8 @@ class TakenBack(CalledTest):
     def test_where_no_ballot_has_come(self) -> None:
         before = {file.name: file.read_bytes() for file in (self.folder / "call").iterdir()}
         output = self.done("call", "--take-back")
-        self.assertIn("The call is taken back; its folder is kept as backup/0002-call.\n", output)
-        self.assertEqual({file.name: file.read_bytes() for file in (self.folder / "backup" / "0002-call").iterdir()}, before)
+        self.assertIn("The call is taken back; its folder is kept as backup/0001-call.\n", output)
+        self.assertEqual({file.name: file.read_bytes() for file in (self.folder / "backup" / "0001-call").iterdir()}, before)
         self.assertIn("Call for votes: not made yet\n", self.done("status"))
         self.change_poll()
         for words in (["status"], ["check"]):
@@ -203,13 +203,13 @@ class TakenBack(CalledTest):
             shutil.copytree(original, self.folder)
             run = killing.run(self.folder, ["call", "--take-back"], b"", step)
             with self.subTest(step=step):
-                places = [place for place in (self.folder / "call", self.folder / "backup" / "0002-call") if place.exists()]
+                places = [place for place in (self.folder / "call", self.folder / "backup" / "0001-call") if place.exists()]
                 self.assertEqual([(place / "call.txt").read_bytes() for place in places], [sent])
                 is_called = "Call for votes: made" in self.done("status")
                 self.assertTrue(is_called or places[0].parent.name == "backup")
                 following = killing.run(self.folder, ["call", "--take-back"])
                 self.assertEqual(following.status, 0 if is_called else 9, following)
-                self.assertEqual((self.folder / "backup" / "0002-call" / "call.txt").read_bytes(), sent)
+                self.assertEqual((self.folder / "backup" / "0001-call" / "call.txt").read_bytes(), sent)
                 self.assertIn("Call for votes: not made yet\n", self.done("status"))
             if run.status is not None:
                 self.assertEqual(run.status, 0, run)

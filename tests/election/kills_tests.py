@@ -308,5 +308,6 @@ class DesksAtOnce(KillTest):
         self.assertEqual(told_in(following.output)[0][0], len(lines) + 1)
         self.assert_true_journal()
         self.assert_nothing_half_written()
-        kept = b"".join(file.read_bytes() for file in (self.folder / "received").iterdir())
+        # what a desk kept that was killed may end amid a line
+        kept = b"\n".join(file.read_bytes() for file in (self.folder / "received").iterdir())
         self.assertEqual(set(lines) - set(kept.split(b"\n")), set())

@@ -188,7 +188,8 @@ class Stops(RollTest):
         ended = self.election("roll")
         said = [
             'members.csv:2: "Ada" has a capital letter', 'members.csv:5: "c d" has a space',
-            f'members.csv:6: "{"e" * 33}" has 33 bytes, 32 are the most', 'members.csv:7: "zo\\xC3\\xAB" has the byte 0xC3',
+            f'members.csv:6: "{"e" * 33}" has 33 bytes, 32 are the most',
+            'members.csv:7: "zo\\xC3\\xAB" has the letter e with diaeresis (U+00EB); a voter\'s name has a to z, 0 to 9, . and -',
             'members.csv:8: "q"" has the character "',
         ]  # fmt: skip
         self.assertEqual(ended.output.splitlines(), said)

@@ -16,7 +16,7 @@ const FINDINGS: &str = "poll: key title: an integer, and a text is wanted\n\
     poll: name of option 2: \"B \" ends with a space\n\
     poll: name of option 3: \"A\" is option 1 too\n\
     poll: ratios: 12 is not from 1 to 10\n\
-    poll: quorum: 11 is not from 0 to 10\n\
+    poll: quorum: 11 is not from 0 to 10; it says how many times Q is needed, half the square root of the number of electors\n\
     poll: wording: \"most\" is neither at_least nor more_than\n\
     poll: key more.roll is not read; it is inside [more]; put it before the first table\n\
     poll: key rest is not read\n\

@@ -113,7 +113,9 @@ def demand_allowed(election: Election, members: Members, poll: bytes) -> None:
     syntax = next((finding for finding in findings if re.match(r"poll:\d", finding)), None)
     if syntax is not None:
         raise Fault(election.poll, f"debvote can't read it ({syntax})", f"put this right with an editor, {AGAIN}", Status.BAD_POLL)
-    names = [found for found in map(re.compile(r"poll: voter at position (\d+): (.*)").fullmatch, findings) if found]
+    # the lines of the list stand in place of the positions
+    at_position = re.compile(r"poll: voter at position (\d+): (.*?)(?:; positions count from 0)?")
+    names = [found for found in map(at_position.fullmatch, findings) if found]
     for found in names:
         tell(f"{members.file}:{members.members[int(found[1])].line}: {found[2]}")
     if names:
