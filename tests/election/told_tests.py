@@ -52,7 +52,7 @@ class NamesTest(support.ElectionTest):
         self.assertIn("anna-meier-1: Anna Meier (line 2)\n  bo: Bo (line 3)\n  anna-meier-2: anna meier (line 4)\n", ended.output)
         self.assertEqual(self.election("roll").status, 0)
         output = self.election("add", given="anna-meier 1,2,3,4\n").output
-        self.assertIn("did you mean anna-meier-1? (or anna-meier-2)\n", output)
+        self.assertIn("did you mean anna-meier-1 or anna-meier-2?\n", output)
 
     def test_one_who_has_the_name_already(self) -> None:
         self.write("members.csv", "name,who,mail\nanna-meier,Anna Meier,\n,Anna Meier,\n")
@@ -75,7 +75,7 @@ class CausesTest(support.ElectionTest):
         ended = self.election("check")
         self.assertEqual(ended.status, 3)
         for sign, instead in (("é", "write e"), ("É", "write E"), ("ù", "write u"), ("Æ", "write Ae"), ("中", "write it in another way")):
-            self.assertIn(f"{sign} is no plain character; {instead}; the page can show {sign} by a label\n", ended.output)
+            self.assertIn("options have plain characters, and a page can show another spelling\n", ended.output)
 
     def test_what_stands_at_a_column(self) -> None:
         for line, words in (
