@@ -291,7 +291,7 @@ class Extended(TimeTest):
                 self.assertEqual((following.status, following.faults), (0, ""))
                 self.assertEqual(self.read("poll.toml"), self.called + EXTENDED.encode())
                 self.assertIn(LATER_WORDS, self.text("call/call.txt"))
-                self.assertEqual(self.read("backup/poll.toml.called"), self.called)
+                self.assertEqual(self.read("backup/poll.toml.called"), self.called + EXTENDED.encode())
             if run.status is not None:
                 return
         self.fail("the run has more steps than are tried")
