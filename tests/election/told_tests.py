@@ -75,7 +75,7 @@ class CausesTest(support.ElectionTest):
         ended = self.election("check")
         self.assertEqual(ended.status, 3)
         for sign, instead in (("é", "write e"), ("É", "write E"), ("ù", "write u"), ("Æ", "write Ae"), ("中", "write it in another way")):
-            self.assertIn("options have plain characters, and a page can show another spelling\n", ended.output)
+            self.assertIn(f"{sign} is no plain character; {instead}; the page can show {sign} by a label\n", ended.output)
 
     def test_what_stands_at_a_column(self) -> None:
         for line, words in (

@@ -49,7 +49,8 @@ def checked(election: Election, files: Files) -> Sheet:
 
 def plain_words(said: str, poll: bytes) -> list[str]:
     """What is written in place of each letter that is no plain character, where debvote refuses one."""
-    if " has the byte 0x" not in said:
+    # debvote names a letter that it knows, and of any other its first byte
+    if not re.search(r" has the (?:byte 0x|letter )", said):
         return []
     try:
         found = poll_file.document(poll)
