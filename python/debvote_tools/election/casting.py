@@ -7,10 +7,11 @@ from collections.abc import Callable, Iterator
 
 from debvote_tools import poll_file
 from debvote_tools.ballots import in_words
+from debvote_tools.console import OutputFailed, tell
 from debvote_tools.election.asking import NO_BALLOTS, refused
 from debvote_tools.election.folder import Election
 from debvote_tools.election.record import Files
-from debvote_tools.election.telling import count_of, tell
+from debvote_tools.election.telling import count_of
 from debvote_tools.faults import Fault, Status
 from debvote_tools.files import BALLOTS_LIMIT, LINES_LIMIT, in_memory, uninterrupted
 from debvote_tools.lines import Line, differences, shown
@@ -170,7 +171,7 @@ def cast(
         election.act(act, files, envelopes, ballots=batch.new)
         try:
             tell(*report(election, batch))
-        except Fault as fault:
+        except OutputFailed as fault:
             done = f"{election.ballots} has what was to be told ({envelopes}) all the same"
             raise Fault(None, "the output failed", "ask debvote-election status", fault.status, done) from None
     return batch

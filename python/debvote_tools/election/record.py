@@ -4,9 +4,9 @@ import contextlib
 import dataclasses
 import functools
 import pathlib
-import sys
 
 from debvote_tools import journal, lost
+from debvote_tools.console import tell_aside
 from debvote_tools.election.paths import Paths
 from debvote_tools.faults import Fault, Status
 from debvote_tools.files import BALLOTS_LIMIT, POLL_LIMIT, append_whole, read_at_most, take_away_temporaries
@@ -109,7 +109,7 @@ class Record(Paths):
             journal.end(self.journal)
         except OSError as error:
             words = f"{error.strerror}, as its last line was to be ended; this {name} is done all the same: do not repeat it"
-            print(f"debvote-election: {self.journal}: {words}", file=sys.stderr)
+            tell_aside(f"debvote-election: {self.journal}: {words}")
 
     # ------------------------------------------------------------ what a cut-off act has left
     def settle(self, files: Files) -> None:

@@ -7,6 +7,7 @@ import shutil
 import tempfile
 
 from debvote_tools.closed import lines_of
+from debvote_tools.console import tell
 from debvote_tools.faults import Doubt, Fault, Status
 from debvote_tools.files import BALLOTS_LIMIT, POLL_LIMIT, read_at_most, sum_of, sync_folder, write_public
 from debvote_tools.poll_file import roll_of
@@ -190,7 +191,7 @@ def make(calls: Calls, text: str, given: Given, found: list[Doubt], further: Fur
     folder, sheet = calls.debvote.folder, sheet_in(text)
     labels = labels_of(given.labels_file, given.labels, sheet)
     if not labels.is_empty:
-        print(told(labels, sheet), end="", flush=True)
+        tell(*told(labels, sheet))
     version, standing, refused = calls.version(), calls.standing(), findings_in(calls.explain()).refused
     write_public(folder / SHEET, text.encode())
     verified, picture = calls.verify(), picture_of(calls.picture(), len(sheet.names))

@@ -10,6 +10,7 @@ import stat
 import tempfile
 
 from debvote_tools import called, journal, poll_file, secret
+from debvote_tools.console import tell
 from debvote_tools.election import announcing, call_letter, call_page, taking_back
 from debvote_tools.election.asking import NO_BALLOTS, command, given_already
 from debvote_tools.election.call_words import Call
@@ -75,11 +76,11 @@ def call(election: Election, wanted: announcing.Wanted, *, no_roll: bool) -> int
         take_away_leftovers(election)
         make(election, files, poll, texts_of(made, poll))
     if stays_out:
-        print("The poll stays out of the folder, as in the earlier call.")
-        print(f"To call with it, first run {command(election, 'call', '--take-back')}.")
+        tell("The poll stays out of the folder, as in the earlier call.")
+        tell(f"To call with it, first run {command(election, 'call', '--take-back')}.")
     say(election, made, is_anew)
     if has_slips:
-        print(f"The slips have got what the call says: print {election.slips}, cut them out, and give each elector their own.")
+        tell(f"The slips have got what the call says: print {election.slips}, cut them out, and give each elector their own.")
     if apart:
         tell_apart(apart)
     say_next(election)
@@ -156,7 +157,7 @@ def ended(election: Election, files: Files) -> Files:
         return files
     kept = election.keep_copy(election.poll)
     after = election.act("ended", files, poll=files.poll + b"\n")
-    print(f"{election.poll}: its last line had no line feed, and has one now; the file as it was is {kept}")
+    tell(f"{election.poll}: its last line had no line feed, and has one now; the file as it was is {kept}")
     return after
 
 
@@ -167,7 +168,7 @@ def announce(election: Election, files: Files, poll: bytes) -> Files:
     election.keep_copy(election.poll)
     after = election.act("extend" if election.is_called() else "announce", files, poll=poll)
     for line in announcing.lines_that_differ(files.poll, poll):
-        print(f"{election.poll} has got the line: {line}")
+        tell(f"{election.poll} has got the line: {line}")
     return after
 
 
@@ -313,14 +314,14 @@ def take_away_leftovers(election: Election) -> None:
 # ---------------------------------------------------------------- what is said
 def say(election: Election, call: Call, is_anew: bool) -> None:
     """Says what was made."""
-    print(f"Made the folder {election.call} {'anew' if is_anew else 'with the page index.html and the letter call.txt'}.")
+    tell(f"Made the folder {election.call} {'anew' if is_anew else 'with the page index.html and the letter call.txt'}.")
     if call.is_secret:
-        print("The vote is secret: the poll of the call has aliases, and no name of an elector is in the folder.")
-    print(f"The sum of the poll: {call.poll_sum}")
-    print(*(f"{line}\n" for line in said_lines(election, call)), sep="", end="")
+        tell("The vote is secret: the poll of the call has aliases, and no name of an elector is in the folder.")
+    tell(f"The sum of the poll: {call.poll_sum}")
+    tell(*said_lines(election, call))
     if election.closed() is not None:
-        print("The election is closed already: ballots that come now are late.")
-    print(f"{election.poll} must not be changed any more.")
+        tell("The election is closed already: ballots that come now are late.")
+    tell(f"{election.poll} must not be changed any more.")
 
 
 def said_lines(election: Election, call: Call) -> list[str]:
@@ -339,13 +340,13 @@ def said_lines(election: Election, call: Call) -> list[str]:
 
 def tell_apart(names: list[str]) -> None:
     """Says whose aliases an earlier call gives away."""
-    print(
+    tell(
         f"Note: an earlier call had another roll, and whoever kept it sees that the new aliases are those of: {secret.some(names)}."
     )
-    print("  If it was published, take the call back, and hold the election in a new folder, with new codes for all.")
+    tell("  If it was published, take the call back, and hold the election in a new folder, with new codes for all.")
 
 
 def say_next(election: Election) -> None:
     """Says what comes next."""
     send = f"put the folder {election.call} on the web site, or send {election.call / 'call.txt'} to each elector"
-    print(f"Next: {send}; enter the ballots that come with: {command(election, 'add')} or {command(election, 'desk')}")
+    tell(f"Next: {send}; enter the ballots that come with: {command(election, 'add')} or {command(election, 'desk')}")

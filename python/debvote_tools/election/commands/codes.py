@@ -7,13 +7,14 @@ import os
 import re
 
 from debvote_tools import journal, poll_file, secret
+from debvote_tools.console import tell
 from debvote_tools.election import announcing, slips
 from debvote_tools.election.asking import call_command, command
 from debvote_tools.election.checking import checked
 from debvote_tools.election.folder import Election
 from debvote_tools.election.record import Files
 from debvote_tools.election.secrecy import aliases_now
-from debvote_tools.election.telling import count_of, tell, time_of
+from debvote_tools.election.telling import count_of, time_of
 from debvote_tools.faults import Fault, Status
 from debvote_tools.files import sync_folder, uninterrupted, write_new, write_whole
 from debvote_tools.lines import shown

@@ -5,8 +5,8 @@ import dataclasses
 import os
 import pathlib
 import shlex
-import sys
 
+from debvote_tools.console import tell
 from debvote_tools.election.asking import NO_BALLOTS, command, demand_option
 from debvote_tools.election.commands.count import casting_option
 from debvote_tools.election.differences import tell_differences
@@ -71,13 +71,11 @@ def run(election: Election, words: argparse.Namespace) -> int:
         demand_ballots(election, files, asked)
         if asked.casting is not None:
             demand_option(election, asked.casting)
-        # what it tells stands behind what was told before
-        sys.stdout.flush()
         status = ended(publication(election, files, asked, target), election.beside)
     if status in (Status.DECIDED, Status.TIE, Status.CASTING_OUTSIDE) and target.is_dir():
         if asked.secret:
             tell_differences(election, target)
-        print(f"Next: {what_next(election, asked, target, status)}")
+        tell(f"Next: {what_next(election, asked, target, status)}")
     return status
 
 

@@ -8,10 +8,11 @@ import re
 from collections.abc import Callable
 
 from debvote_tools import called, poll_file
+from debvote_tools.console import tell
 from debvote_tools.election.asking import command, empty_sheet, explained, given_already, quorum_words
 from debvote_tools.election.folder import Election
 from debvote_tools.election.record import Files
-from debvote_tools.election.telling import count_of, tell
+from debvote_tools.election.telling import count_of
 from debvote_tools.faults import Fault, Status
 from debvote_tools.files import uninterrupted, write_whole
 from debvote_tools.members import AGAIN, Member, Members, doubles, doubt, members_in, plain, proposals, shown
