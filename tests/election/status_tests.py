@@ -72,7 +72,7 @@ Refused lines of electors without a ballot (4):
     bad shape: column 1: capital letter
   line 4: dan 1,2,3
     bad rank count: 3 ranks, the poll has 4 options
-  line 10: \xFEFFgus 1,2,4,3
+  line 10: \uFEFFgus 1,2,4,3
     bad shape: column 1: byte-order mark
   line 11: "ida";1;2;3;4
     bad shape: column 1: space (it has quotation marks; a ballot has none)
@@ -81,7 +81,7 @@ Refused lines of which no elector can be told (4):
     bad not on roll: gsu is not on the roll
   line 12: (empty)
     bad shape: column 1: end of line
-  line 13: \xff\x1B[31m 1,2,3,4
+  line 13: \xff\u001B[31m 1,2,3,4
     bad shape: column 1: byte 0xFF
   line 14: dan_x 1,2,3,4
     bad shape: column 4: "_" (an underscore; write a space)

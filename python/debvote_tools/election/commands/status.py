@@ -17,10 +17,10 @@ from debvote_tools.election.secrecy import aliases_now, demand_own_folder, publi
 from debvote_tools.election.telling import time_of
 from debvote_tools.faults import Fault, Status
 from debvote_tools.journal import Entry
-from debvote_tools.members import shown
 from debvote_tools.program import Finding, Findings, findings_in, standing_in
 from debvote_tools.shapes import plainly
 from debvote_tools.sheet import Sheet, sheet_in
+from debvote_tools.signs import shown_line
 
 HELP = "Say how far the election is: lines, ballots, who has none yet, what was refused"
 
@@ -231,6 +231,6 @@ def lines_of(finding: Finding, lines: list[bytes]) -> tuple[str, str]:
     """A refused line, and what debvote says of it."""
     line = lines[finding.envelope - 1]
     return (
-        f"  line {finding.envelope}: {shown(line.decode('utf-8', 'backslashreplace')) or '(empty)'}",
+        f"  line {finding.envelope}: {shown_line(line) or '(empty)'}",
         f"    {finding.word}: {finding.hint}{plainly(line, finding)}",
     )
