@@ -58,6 +58,8 @@ def page_options(parser: argparse.ArgumentParser) -> None:
     parser.add_argument("--who", metavar="FILE", help=who)
     because = "With --even-so: why the doubts are none, in your words; the page says that they are yours"
     parser.add_argument("--because", metavar="TEXT", help=because)
+    read = "In a secret vote: you have read the texts for the page, and everybody may; without it you are asked at the terminal"
+    parser.add_argument("--texts-read", action="store_true", help=read)
 
 
 def main(beside: pathlib.Path, words: Sequence[str] | None = None) -> int:

@@ -81,6 +81,9 @@ def demand_words(asked: Asked) -> None:
         if asked.voters:
             words = "it goes with --secret; in an open vote the page has who voted what"
             raise Fault("--voters", words, "leave it out", Status.BAD_WORDS)
+        if asked.texts_read:
+            words = "it goes with --secret: it says that the texts for the page tell nobody's vote"
+            raise Fault("--texts-read", words, "leave it out", Status.BAD_WORDS)
     elif asked.who is not None and not asked.voters:
         raise Fault(
             "--who",
@@ -130,7 +133,8 @@ def fill_secret(
 ) -> tuple[str, int]:
     """Writes all files of a secret vote: poll and ballots are published under aliases, and what they come from is not written."""
     poll, ballots = inputs_of(asked)
-    secret.demand_texts(texts_of(asked, given), codes, (asked.poll, poll), (asked.ballots, ballots))
+    texts = texts_of(asked, given)
+    secret.demand_texts(texts, codes, (asked.poll, poll), (asked.ballots, ballots), are_read=asked.texts_read)
     with secret.private_folder(poll, ballots) as room:
         private = calls_in(room, beside, asked.casting, asked.desks)
         text = count(private, asked)[0]

@@ -123,8 +123,12 @@ def secret_folder_of(place: pathlib.Path) -> pathlib.Path | None:
     return None
 
 
-def demand_texts(texts: dict[str, str], codes: pathlib.Path, poll: tuple[str, bytes], ballots: tuple[str, bytes]) -> None:
-    """Stops where a text for the page, by its file, would tell what is private. Poll and ballots stand with their files."""
+def demand_texts(
+    texts: dict[str, str], codes: pathlib.Path, poll: tuple[str, bytes], ballots: tuple[str, bytes], *, are_read: bool
+) -> None:
+    """Stops where a text for the page, by its file, would tell what is private, or was not read. Poll and ballots stand with their
+    files.
+    """
     if not texts:
         return
     folders = (secret_folder_of(place) for file in (poll[0], ballots[0], str(codes.parent)) for place in folders_of(file))
@@ -133,7 +137,8 @@ def demand_texts(texts: dict[str, str], codes: pathlib.Path, poll: tuple[str, by
     holders, options = secret.holders_in(codes), poll_file.options_of(poll[1])
     for file, text in texts.items():
         untelling.demand_no_private_file(file, election)
-        untelling.demand_untelling(file, text, holders, options, sums)
+        untelling.demand_untelling(file, text, holders, sums)
+    untelling.demand_read(texts, holders, options, are_read=are_read)
 
 
 # ---------------------------------------------------------------- the files under aliases

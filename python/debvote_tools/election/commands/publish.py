@@ -37,15 +37,15 @@ class Asked:
     about: str | None
     who: str | None
     because: str | None
+    texts_read: bool
 
     def again(self, *, is_secret: bool) -> list[str]:
         """The same words, but for the folder."""
         with_value = [("--cast-by", self.cast_by), ("--cast-on", self.cast_on)]
         of_page = [("--labels", self.labels), ("--about", self.about), ("--who", self.who), ("--because", self.because)]
         cast, page = ([f"{name}={said}" for name, said in given if said is not None] for given in (with_value, of_page))
-        given = [("--even-so", self.even_so), ("--secret", is_secret), ("--voters", self.voters)]
-        flags = [name for name, is_given in given if is_given]
-        return ["publish", *casting_words(self.casting), *cast, *flags, *page]
+        flags = ("--even-so", self.even_so), ("--secret", is_secret), ("--voters", self.voters), ("--texts-read", self.texts_read)
+        return ["publish", *casting_words(self.casting), *cast, *(name for name, is_given in flags if is_given), *page]
 
 
 def options(parser: argparse.ArgumentParser) -> None:
@@ -113,6 +113,7 @@ def publication(election: Election, files: Files, asked: Asked, target: pathlib.
         about=asked.about,
         who=asked.who,
         because=asked.because,
+        texts_read=asked.texts_read,
     )
 
 
