@@ -5,7 +5,7 @@ import dataclasses
 import functools
 import pathlib
 
-from debvote_tools import journal, lost
+from debvote_tools import called, journal, lost
 from debvote_tools.console import tell_aside
 from debvote_tools.election.paths import Paths
 from debvote_tools.faults import Fault, Status
@@ -114,7 +114,8 @@ class Record(Paths):
     # ------------------------------------------------------------ what a cut-off act has left
     def settle(self, files: Files) -> None:
         """Notes an act that was cut off, and takes away what a run that was killed has left half written."""
-        for folder in (self.folder, self.received, self.backup, self.private):
+        take_away_temporaries(self.folder, called.NAMES)
+        for folder in (self.received, self.backup, self.private):
             take_away_temporaries(folder)
         begun = journal.begun(self.journal)
         is_undone = begun is not None and begun.sums != files.sums

@@ -7,7 +7,6 @@ import os
 import pathlib
 import shutil
 import stat
-import tempfile
 
 from debvote_tools import called, journal, poll_file, secret
 from debvote_tools.console import tell
@@ -20,17 +19,11 @@ from debvote_tools.election.folder import Election
 from debvote_tools.election.record import Files
 from debvote_tools.election.secrecy import aliases_now, demand_own_folder, told_apart
 from debvote_tools.faults import Fault, Status
-from debvote_tools.files import TEMPORARY, sum_of, sync_folder, take_away_temporaries, umask, write_new, write_whole
+from debvote_tools.files import sum_of, sync_folder, take_away_folder, temporary_folder, umask, write_new, write_whole
 from debvote_tools.sheet import Sheet
 from debvote_tools.words import taken
 
 HELP = "Make the call for votes, a page and a letter; the poll is not changed any more"
-
-SUMS = "SHA256SUMS"
-NAMES = ("index.html", "call.txt", "poll.toml", SUMS)
-
-# how the name of a folder begins that is not in its place yet, or no more
-LEFTOVER = f"{TEMPORARY}call-"
 
 
 @dataclasses.dataclass(frozen=True)
@@ -73,7 +66,6 @@ def call(election: Election, wanted: announcing.Wanted, *, no_roll: bool) -> int
         is_anew = election.call.exists()
         apart = told_apart(election, poll)
         has_slips = election.is_secret() and not is_anew and write_slips(election, sheet, files.poll)
-        take_away_leftovers(election)
         make(election, files, poll, texts_of(made, poll))
     if stays_out:
         tell("The poll stays out of the folder, as in the earlier call.")
@@ -95,11 +87,11 @@ def demand_own(election: Election) -> None:
         return
     if folder.is_symlink() or not folder.is_dir():
         raise foreign(folder, "it is no folder", "move it away")
-    sums = sums_in(folder / SUMS)
+    sums = sums_in(folder / called.SUMS)
     for file in sorted(folder.iterdir()):
-        if file.name not in NAMES or not stat.S_ISREG(file.lstat().st_mode):
+        if file.name not in called.NAMES or not stat.S_ISREG(file.lstat().st_mode):
             raise foreign(file, "this command did not make it", f"move it out of {folder}")
-        if file.name != SUMS and sums.get(file.name) != sum_of(file.read_bytes()):
+        if file.name != called.SUMS and sums.get(file.name) != sum_of(file.read_bytes()):
             raise foreign(file, "it is not as this command made it", f"move the folder {folder} away if you want to keep it")
 
 
@@ -117,7 +109,7 @@ def sums_in(file: pathlib.Path) -> dict[str, str]:
 
 def was_without_poll(election: Election) -> bool:
     """Whether the earlier call left the poll out of its folder: so a call anew tells no roll unasked."""
-    return (election.call / "index.html").is_file() and not (election.call / "poll.toml").exists()
+    return (election.call / called.PAGE).is_file() and not (election.call / called.POLL).exists()
 
 
 # ---------------------------------------------------------------- the poll
@@ -219,17 +211,17 @@ def call_of(election: Election, sheet: Sheet, poll: bytes, said: announcing.Said
 # ---------------------------------------------------------------- the folder
 def texts_of(call: Call, poll: bytes) -> dict[str, bytes]:
     """The files of the call, the sums last."""
-    texts = {"index.html": call_page.html(call).encode(), "call.txt": call_letter.letter(call).encode()}
+    texts = {called.PAGE: call_page.html(call).encode(), called.LETTER: call_letter.letter(call).encode()}
     if call.has_poll:
-        texts["poll.toml"] = poll
+        texts[called.POLL] = poll
     sums = "".join(f"{sum_of(texts[name])}  {name}\n" for name in sorted(texts))
-    return texts | {SUMS: sums.encode()}
+    return texts | {called.SUMS: sums.encode()}
 
 
 def make(election: Election, files: Files, poll: bytes, texts: dict[str, bytes]) -> None:
     """Makes the folder beside its place, keeps the poll that is called, notes the act, and moves the folder there."""
     count = len(journal.done(election.entries()))
-    made = pathlib.Path(tempfile.mkdtemp(prefix=LEFTOVER, dir=election.folder))
+    made = temporary_folder(election.folder)
     try:
         made.chmod(0o777 & ~umask())
         for name, text in texts.items():
@@ -282,7 +274,7 @@ def put_in_place(election: Election, made: pathlib.Path) -> None:
     """Moves the new folder to its place; the earlier one steps aside first. At each moment the one there is whole, or none is."""
     before = None
     if election.call.exists():
-        before = pathlib.Path(tempfile.mkdtemp(prefix=LEFTOVER, dir=election.folder))
+        before = temporary_folder(election.folder)
         # takes the place of the empty folder
         election.call.rename(before)
     try:
@@ -293,22 +285,7 @@ def put_in_place(election: Election, made: pathlib.Path) -> None:
         raise
     sync_folder(election.folder)
     if before is not None:
-        take_away(before)
-
-
-def take_away(folder: pathlib.Path) -> None:
-    """Removes the files of a call, and its folder where nothing else is in it."""
-    with contextlib.suppress(OSError):
-        for name in NAMES:
-            (folder / name).unlink(missing_ok=True)
-        folder.rmdir()
-
-
-def take_away_leftovers(election: Election) -> None:
-    """Removes what runs that were killed have left beside the call."""
-    for folder in election.folder.glob(f"{LEFTOVER}*"):
-        take_away_temporaries(folder)
-        take_away(folder)
+        take_away_folder(before, called.NAMES)
 
 
 # ---------------------------------------------------------------- what is said
