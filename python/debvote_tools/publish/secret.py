@@ -25,13 +25,7 @@ from debvote_tools.sheet import Sheet
 # the cure where two counts of the same votes differ
 KEEP_FILES = "keep all files, and tell the maintainers"
 
-STYLE = """
-.field { margin: 0.75rem 0; }
-#answer p { margin: 0.5rem 0; }
-.found { padding: 0.6rem 0.8rem; background: var(--shade); border-left: 0.4rem solid var(--link); }
-summary { padding: 0.5rem 0; cursor: pointer; }
-.absent { margin: 0; padding: 0; list-style: none; font-family: ui-monospace, monospace; }
-"""
+STYLE = pages.resource("debvote_tools.publish", "find.css")
 
 FORM = """<div id="find" hidden>
 <p>Type your name and your code, and the page shows which ballot counts for you. What you type stays in the page: it sends
@@ -205,7 +199,7 @@ def further_of(hidden: Hidden, totals: Totals, *, with_voters: bool) -> Further:
         about_ballots=said,
         parts=[find(hidden), remains()],
         style=pages.FIELDS_STYLE + STYLE,
-        script=pages.script_of("debvote_tools.publish", "find.js"),
+        script=pages.resource("debvote_tools.publish", "find.js"),
         files=files,
         described=described,
     )
