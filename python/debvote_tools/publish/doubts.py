@@ -42,14 +42,14 @@ NOT_AS_CLOSED = "The ballots that are in time are not those of the close: since 
 REQUIRED_KEYS = 6
 
 
-def tell(lines: list[str]) -> None:
+def tell_lines(lines: list[str]) -> None:
     """Tells each line on standard error."""
     tell_aside(*(f"debvote-publish: {line}" for line in lines))
 
 
 def stop(found: list[Doubt]) -> Fault:
     """The fault that ends the run at these doubts, which are told."""
-    tell([f"{doubt.line()} {EVEN_SO}" for doubt in found])
+    tell_lines([f"{doubt.line()} {EVEN_SO}" for doubt in found])
     return Told(Status.DOUBT)
 
 

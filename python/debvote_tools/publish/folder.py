@@ -249,7 +249,7 @@ def count(calls: Calls, asked: Asked) -> tuple[str, int]:
         return calls.count()
     except Fault as fault:
         if fault.status == Status.BAD_POLL:
-            doubts.tell([doubt.line() for doubt in doubts.misplaced(calls.debvote, asked.poll, asked.ballots)])
+            doubts.tell_lines([doubt.line() for doubt in doubts.misplaced(calls.debvote, asked.poll, asked.ballots)])
         raise
 
 
