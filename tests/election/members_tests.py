@@ -234,4 +234,4 @@ class Doubles(MembersTest):
 class Shown(unittest.TestCase):
     def test_what_would_steer_a_terminal(self) -> None:
         self.assertEqual(signs.shown_text("a\n b\t\x1b[31mc\u202ed"), "a b \\u001B[31mc\\u202Ed")
-        self.assertEqual(members.shown("x" * 61), "x" * 60 + "..")
+        self.assertEqual(signs.shown_text("x" * 61), "x" * 60 + "..")
