@@ -5,7 +5,13 @@ import collections
 import data
 import support
 
+# no random poll leaves as many options in a tie
+MANY = "rounds-cycle-of-31-options"
+
 
 class RandomTest(support.PublishTest):
     def test_random_polls(self):
-        data.try_random_polls(self.expect, collections.Counter())
+        met, case, folder = collections.Counter(), support.CASES / MANY, self.scratch / MANY
+        support.publish_files(case / "poll.toml", case / "ballots", folder)
+        met += data.try_published(self.expect, MANY, folder, None)
+        data.try_random_polls(self.expect, met)
