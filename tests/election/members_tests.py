@@ -10,7 +10,7 @@ import support
 
 sys.path.insert(0, str(support.ROOT / "python"))
 
-from debvote_tools import members  # noqa: E402
+from debvote_tools import members, signs  # noqa: E402
 from debvote_tools.faults import Fault, Status  # noqa: E402
 
 
@@ -233,5 +233,5 @@ class Doubles(MembersTest):
 
 class Shown(unittest.TestCase):
     def test_what_would_steer_a_terminal(self) -> None:
-        self.assertEqual(members.shown("a\n b\t\x1b[31mc\u202ed"), "a b \\x1B[31mc\\x202Ed")
+        self.assertEqual(signs.shown_text("a\n b\t\x1b[31mc\u202ed"), "a b \\u001B[31mc\\u202Ed")
         self.assertEqual(members.shown("x" * 61), "x" * 60 + "..")

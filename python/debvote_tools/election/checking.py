@@ -1,9 +1,9 @@
 """Whether debvote takes the poll, for the commands that go on with it alone where it does."""
 
 import re
-import sys
 
 from debvote_tools import poll_file
+from debvote_tools.console import tell, tell_as_it_is
 from debvote_tools.election.asking import NO_BALLOTS, command, explained, refused
 from debvote_tools.election.folder import Election
 from debvote_tools.election.record import Files
@@ -28,9 +28,9 @@ ABOUT = {
 def checked(election: Election, files: Files) -> Sheet:
     """Prints what debvote says of the poll, and gives its sheet without ballots. It stops where a key is refused or not read."""
     answer = explained(election, files.poll)
-    sys.stdout.write(answer.text)
+    tell_as_it_is(answer.text)
     if answer.status == Status.BAD_POLL:
-        sys.stdout.write("".join(f"{line}\n" for line in plain_words(answer.text, files.poll)))
+        tell(*plain_words(answer.text, files.poll))
         reason, cure = what_to_do(election, files.poll, answer.text.splitlines())
         raise Fault(election.poll, reason, cure, Status.BAD_POLL)
     if answer.status != Status.DECIDED:

@@ -5,10 +5,11 @@ import os
 import re
 
 from debvote_tools import called
+from debvote_tools.console import tell
 from debvote_tools.election.asking import command, given_already
 from debvote_tools.election.folder import Election
 from debvote_tools.election.record import Files
-from debvote_tools.election.telling import tell, time_of
+from debvote_tools.election.telling import time_of
 from debvote_tools.faults import Fault, Status
 from debvote_tools.files import sync_folder, uninterrupted
 

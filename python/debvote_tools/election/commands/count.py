@@ -2,8 +2,8 @@
 
 import argparse
 import dataclasses
-import sys
 
+from debvote_tools.console import tell_as_it_is, tell_aside
 from debvote_tools.election.asking import command, demand_option, files_of, listed, refused
 from debvote_tools.election.folder import Election
 from debvote_tools.election.secrecy import publish_words
@@ -46,10 +46,8 @@ def run(election: Election, words: argparse.Namespace) -> int:
         sheet = sheet_in(answer.text)
         changes = [*election.what_is_gone(files), *election.changed_since_close(files, sheet)]
     # the sheet alone, so that it can go into a file
-    sys.stdout.write(answer.text)
-    sys.stdout.flush()
-    print(*(f"Note: {change}\n" for change in changes), sep="", end="", file=sys.stderr)
-    print(f"Next: {what_next(election, sheet, asked.casting)}", file=sys.stderr)
+    tell_as_it_is(answer.text)
+    tell_aside(*(f"Note: {change}" for change in changes), f"Next: {what_next(election, sheet, asked.casting)}")
     return answer.status
 
 
