@@ -90,8 +90,11 @@ def try_pages(expect, folders, scratch, widths=WIDTHS):
     expect("chromium: light and dark have one pair of colours each, and not the same", len(colours[0] | colours[1]), 2)
 
 
-def try_pictures(expect, folders, scratch):
-    """A picture fits its page, or scrolls by itself and is no smaller than three quarters of what was drawn; dark ones are light."""
+def try_pictures(expect, folders, scratch, wanted):
+    """A picture fits its page, or scrolls by itself and is no smaller than three quarters of what was drawn; dark ones are light.
+
+    Among these there are some that fit, or some that do not, or both, as it is wanted.
+    """
     inks, kinds = set(), set()
     for is_dark in (False, True):
         for page in browser_says(scratch, folders, WIDTHS, PLACE_OF_PICTURE, is_dark):
@@ -103,7 +106,7 @@ def try_pictures(expect, folders, scratch):
             expect(f"chromium: a picture of {drawn} is not blown up", float(width) <= float(drawn) + 1, True)
             kinds.add(fits)
             inks.add(ink)
-    expect("chromium: pictures that fit and that scroll", kinds, {True, False})
+    expect("chromium: pictures that fit and that scroll", kinds, wanted)
     expect("chromium: pictures have one ink in light and another in dark", len(inks), 2)
 
 

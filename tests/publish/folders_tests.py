@@ -114,4 +114,4 @@ class FoldersTest(support.PublishTest):
     @browser.NEEDS_BROWSER
     @browser.NEEDS_PICTURES
     def test_pictures(self):
-        browser.try_pictures(self.expect, self.folders, self.scratch)
+        browser.try_pictures(self.expect, self.folders, self.scratch, {True, False})

@@ -417,6 +417,11 @@ class GivenTest(support.PublishTest):
     def test_browser(self):
         browser.try_pages(self.expect, self.folders, self.scratch)
 
+    @browser.NEEDS_BROWSER
+    @browser.NEEDS_PICTURES
+    def test_pictures(self):
+        browser.try_pictures(self.expect, self.folders, self.scratch, {True, False})
+
 
 class TextsTest(support.PublishTest):
     def test_label_of_the_winner(self):

@@ -66,7 +66,7 @@ class LargeTest(support.PublishTest):
     @browser.NEEDS_BROWSER
     @browser.NEEDS_PICTURES
     def test_pictures(self):
-        browser.try_pictures(self.expect, self.folders, self.scratch)
+        browser.try_pictures(self.expect, self.folders, self.scratch, {False})
 
 
 class LargestTest(support.PublishTest):
