@@ -18,6 +18,9 @@ from debvote_tools.signs import shown_line
 # the ballots as they were closed, in the folder of the election
 KEPT = pathlib.Path("backup", "ballots.closed")
 
+# what answers the sum of the lines that were in time, typed in the published folder
+LINES_IN_TIME = "head -n {number} ballots.txt | sha256sum"
+
 # so many lines of each kind are told, each with its text
 MOST = 3
 

@@ -85,6 +85,13 @@ def write(output: TextIO, text: str) -> None:
         raise
 
 
+def failed(program: str, words: str | None, status: int) -> int:
+    """Says why a program did not come to its end, unless that is told, and gives its exit status."""
+    if words is not None:
+        tell_aside(f"{program}: {words}")
+    return status
+
+
 def typed(question: str) -> bytes | None:
     """What is typed as the answer to a question, with its line end; none at the end of the input."""
     tell_as_it_is(written(question))

@@ -17,6 +17,9 @@ from debvote_tools.faults import Fault, Status
 # in bytes; one more is read of a longer file, so that debvote says that it is too long
 POLL_LIMIT, BALLOTS_LIMIT = 1_048_576, 33_554_432
 
+# in bytes; ten thousand members or electors, with a letter about each, are shorter
+TABLE_LIMIT = 33_554_432
+
 # in lines
 LINES_LIMIT = 100_000
 

@@ -8,14 +8,11 @@ import unicodedata
 from collections.abc import Callable, Iterable
 
 from debvote_tools.faults import Fault, Status
-from debvote_tools.files import read_at_most
+from debvote_tools.files import TABLE_LIMIT, read_at_most
 from debvote_tools.signs import shown_text, steering
 from debvote_tools.tables import DELIMITERS, MARKS, Kind, kind_of, mark_of
 
 COLUMNS = ("name", "who", "mail")
-
-# in bytes; ten thousand members, with a letter about each, are shorter
-LIMIT = 33_554_432
 
 # the longest name that a roll allows
 LONGEST_NAME = 32
@@ -130,10 +127,10 @@ def bytes_of(file: pathlib.Path) -> bytes:
         # a pipe can't be written again
         if file.exists() and not file.is_file():
             raise Fault(file, f"it is {'a folder' if file.is_dir() else 'no file'}", cure, Status.BAD_WORDS)
-        data = read_at_most(file, LIMIT)
+        data = read_at_most(file, TABLE_LIMIT)
     except OSError as error:
         raise Fault(file, error.strerror, cure, Status.BAD_WORDS) from None
-    if len(data) > LIMIT:
+    if len(data) > TABLE_LIMIT:
         raise doubt(file, "it is too long for a list of members", cure)
     if not data:
         raise doubt(file, "it is empty", f"write the head line name,who,mail and a line for each member, {AGAIN}")

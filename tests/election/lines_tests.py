@@ -93,7 +93,7 @@ class Shown(unittest.TestCase):
         self.assertEqual(shown_line("“ada” \u00a0\u202e".encode()), "“ada” \\u00A0\\u202E")
 
     def test_a_long_line_is_cut(self) -> None:
-        self.assertEqual(shown(b"x" * 1000), "x" * 100 + "..")
+        self.assertEqual(shown_line(b"x" * 1000), "x" * 100 + "..")
 
 
 class PlainWords(unittest.TestCase):

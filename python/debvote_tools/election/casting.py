@@ -169,7 +169,8 @@ def cast(
     first, last = batch.ballots[0].envelope, batch.ballots[-1].envelope
     envelopes = str(first) if first == last else f"{first}-{last}"
     with uninterrupted():
-        election.act(act, files, envelopes, ballots=batch.new)
+        own = b"".join(ballot.text + b"\n" for ballot in batch.ballots)
+        election.act(act, files, envelopes, ballots=batch.new, cast=own)
         try:
             tell(*report(election, batch))
         except OutputFailed as fault:

@@ -49,7 +49,7 @@ def main(beside: pathlib.Path, words: Sequence[str] | None = None) -> int:
     for number in (signal.SIGHUP, signal.SIGTERM):
         signal.signal(number, lambda number, _: sys.exit(128 + number))
     if not console.has_output():
-        return failed("standard output is closed; nothing was changed", Status.BAD_OUTPUT)
+        return console.failed(PROGRAM, "standard output is closed; nothing was changed", Status.BAD_OUTPUT)
     console.prepare()
     asked = parser().parse_args(words)
     signal.signal(signal.SIGINT, signal.default_int_handler)
@@ -60,22 +60,17 @@ def main(beside: pathlib.Path, words: Sequence[str] | None = None) -> int:
     except console.OutputFailed as fault:
         # a command that changes nothing ends quietly where nobody reads on
         is_quiet = fault.is_closed_pipe and asked.command in QUIET
-        return 128 + signal.SIGPIPE if is_quiet else failed(fault.words, fault.status)
+        return 128 + signal.SIGPIPE if is_quiet else console.failed(PROGRAM, fault.words, fault.status)
     except Fault as fault:
-        return failed(fault.words, fault.status)
+        return console.failed(PROGRAM, fault.words, fault.status)
     except KeyboardInterrupt:
-        return failed("interrupted; what was told is done, and nothing else", 128 + signal.SIGINT)
+        return console.failed(PROGRAM, "interrupted; what was told is done, and nothing else", 128 + signal.SIGINT)
     except OSError as error:
         # a file that can't be read or written is named, but for standard input
         if error.filename is None:
-            return failed(f"{error.strerror}; what was told is done: ask debvote-election status", Status.BAD_OUTPUT)
+            return console.failed(
+                PROGRAM, f"{error.strerror}; what was told is done: ask debvote-election status", Status.BAD_OUTPUT
+            )
         state = "it is written, but perhaps not on the disk yet" if isinstance(error, Written) else "it is as it was"
         words = f"{error.filename}: {error.strerror}; {state}; put this right, then run the command again"
-        return failed(words, Status.BAD_OUTPUT)
-
-
-def failed(words: str | None, status: int) -> int:
-    """Says why the run did not come to its end, unless that is told, and gives the exit status."""
-    if words is not None:
-        console.tell_aside(f"{PROGRAM}: {words}")
-    return status
+        return console.failed(PROGRAM, words, Status.BAD_OUTPUT)

@@ -77,21 +77,14 @@ def ended(asked: Asked, beside: pathlib.Path | None) -> int:
     try:
         said, status = publish(asked, beside)
     except console.OutputFailed as fault:
-        return failed("the output failed; nothing was published: run it again", fault.status)
+        return console.failed(PROGRAM, "the output failed; nothing was published: run it again", fault.status)
     except Fault as fault:
-        return failed(fault.words, fault.status)
+        return console.failed(PROGRAM, fault.words, fault.status)
     except OSError as error:
-        return failed(f"the folder can't be made: {error}", Status.BAD_OUTPUT)
+        return console.failed(PROGRAM, f"the folder can't be made: {error}", Status.BAD_OUTPUT)
     try:
         console.tell_as_it_is(said)
     except console.OutputFailed as fault:
         words = f"the output failed; the folder {asked.folder} is made all the same: look at its page index.html"
-        return failed(words, fault.status)
-    return status
-
-
-def failed(words: str | None, status: int) -> int:
-    """Says why the run did not come to its end, unless that is told, and gives the exit status."""
-    if words is not None:
-        console.tell_aside(f"{PROGRAM}: {words}")
+        return console.failed(PROGRAM, words, fault.status)
     return status

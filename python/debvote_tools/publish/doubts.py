@@ -42,14 +42,14 @@ NOT_AS_CLOSED = "The ballots that are in time are not those of the close: since 
 REQUIRED_KEYS = 6
 
 
-def tell(lines: list[str]) -> None:
+def tell_lines(lines: list[str]) -> None:
     """Tells each line on standard error."""
     tell_aside(*(f"debvote-publish: {line}" for line in lines))
 
 
 def stop(found: list[Doubt]) -> Fault:
     """The fault that ends the run at these doubts, which are told."""
-    tell([f"{doubt.line()} {EVEN_SO}" for doubt in found])
+    tell_lines([f"{doubt.line()} {EVEN_SO}" for doubt in found])
     return Told(Status.DOUBT)
 
 
@@ -208,7 +208,7 @@ def about_call(folder: pathlib.Path, poll: str, data: bytes) -> list[Doubt]:
         return []
     announced = announced_sum(poll)
     found = [] if announced is not None else [no_folder(folder, call)]
-    if not call.is_of(data) and (announced in (None, sum_of(as_announced(data))) or call.is_shortened(data)):
+    if not call.is_of(data) and (announced in (None, sum_of(as_announced(data))) or call.has_other_time(data)):
         change = f"it was changed after the call for votes: {call.change_in(data)}"
         cure = "find out who changed it, and publish the poll that was called"
         sentence = "The poll is not the one that was called."

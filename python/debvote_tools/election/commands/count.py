@@ -4,7 +4,7 @@ import argparse
 import dataclasses
 
 from debvote_tools.console import tell_as_it_is, tell_aside
-from debvote_tools.election.asking import command, demand_option, files_of, listed, refused
+from debvote_tools.election.asking import command, demand_option, files_of, quoted, refused
 from debvote_tools.election.folder import Election
 from debvote_tools.election.secrecy import publish_words
 from debvote_tools.faults import Status
@@ -60,6 +60,6 @@ def what_next(election: Election, sheet: Sheet, casting: str | None) -> str:
         return over + command(election, *publish, *(casting_words(casting) if winner[1] else []))
     names = [sheet.names[option] for option in sheet.final_set()]
     outside = sheet.casting_outside()
-    why = f"; {listed([sheet.names[outside]])} is not among them" if outside is not None else ""
+    why = f"; {quoted([sheet.names[outside]])} is not among them" if outside is not None else ""
     commands = " or ".join(command(election, *publish, *casting_words(name)) for name in names)
-    return f"{over}it is a tie between {listed(names)}{why}; who has the casting vote chooses one of them: {commands}"
+    return f"{over}it is a tie between {quoted(names)}{why}; who has the casting vote chooses one of them: {commands}"

@@ -15,7 +15,7 @@ from debvote_tools.election.record import Files
 from debvote_tools.election.telling import count_of
 from debvote_tools.faults import Fault, Status
 from debvote_tools.files import uninterrupted, write_whole
-from debvote_tools.members import AGAIN, Member, Members, doubles, doubt, members_in, plain, proposals
+from debvote_tools.members import AGAIN, LONGEST_NAME, Member, Members, doubles, doubt, members_in, plain, proposals
 from debvote_tools.pages import joined
 from debvote_tools.signs import shown_text
 from debvote_tools.words import taken
@@ -123,7 +123,7 @@ def demand_allowed(election: Election, members: Members, poll: bytes) -> None:
     if names:
         raise doubt(
             members.file,
-            "a roll does not allow these names: each has 1 to 32 small letters, digits, points and hyphens",
+            f"a roll does not allow these names: each has 1 to {LONGEST_NAME} small letters, digits, points and hyphens",
             f"put them right, {AGAIN}; the roll of the poll is as it was",
         )
     size = next((finding for finding in findings if finding.startswith("poll: size of roll: ")), None)

@@ -184,7 +184,7 @@ def tell_electors(state: State) -> None:
         tell(f"  {bar_of(len(state.standing), len(state.roll))}")
     if state.without:
         tell(f"Electors without one ({len(state.without)}):")
-        tell(wrapped(state.without))
+        tell(in_lines(state.without))
 
 
 def bar_of(part: int, whole: int) -> str:
@@ -193,7 +193,7 @@ def bar_of(part: int, whole: int) -> str:
     return f"[{'#' * full}{'.' * (BAR - full)}] {part * 100 // whole} %"
 
 
-def wrapped(names: list[str]) -> str:
+def in_lines(names: list[str]) -> str:
     """Names with spaces between, in lines that a terminal shows whole."""
     return textwrap.fill(" ".join(names), WIDTH, initial_indent="  ", subsequent_indent="  ", break_on_hyphens=False)
 
@@ -224,10 +224,10 @@ def elector_of(line: bytes) -> str | None:
 def tell_findings(title: str, findings: list[Finding], lines: list[bytes]) -> None:
     """Tells refused lines, each with what debvote says of it."""
     if findings:
-        tell(f"{title} ({len(findings)}):", *(said for finding in findings for said in lines_of(finding, lines)))
+        tell(f"{title} ({len(findings)}):", *(said for finding in findings for said in told_of(finding, lines)))
 
 
-def lines_of(finding: Finding, lines: list[bytes]) -> tuple[str, str]:
+def told_of(finding: Finding, lines: list[bytes]) -> tuple[str, str]:
     """A refused line, and what debvote says of it."""
     line = lines[finding.envelope - 1]
     return (
