@@ -7,7 +7,7 @@ import re
 import sys
 import textwrap
 
-from debvote_tools import announced, called, journal, poll_file
+from debvote_tools import announced, called, journal, poll_file, secret
 from debvote_tools.announced import announced_in, in_words
 from debvote_tools.election.asking import call_command, command, files_of, quorum_words, refused
 from debvote_tools.election.edited import changes_of
@@ -123,6 +123,9 @@ def tell_secrecy(election: Election, files: Files) -> None:
     if not election.is_secret():
         return
     print("The vote is secret: ballots are published under aliases. What this command tells is for you alone.")
+    gone = secret.copy_is_gone(election.codes, files.poll)
+    if gone is not None:
+        print(f"Note: {gone.line()}")
     try:
         demand_own_folder(election)
         aliases_now(election, files.poll)
