@@ -17,7 +17,8 @@ from debvote_tools.closed import KEPT, beyond, lines_of, number_of
 from debvote_tools.faults import Doubt
 from debvote_tools.files import sum_of
 from debvote_tools.journal import Entry
-from debvote_tools.lines import lines_in, shown
+from debvote_tools.lines import lines_in
+from debvote_tools.signs import shown_line
 
 # what came, in the folder of the election
 RECEIVED = "received"
@@ -66,9 +67,9 @@ class Changes:
 
     def lines(self) -> list[str]:
         """A sentence for each line that differs, of many the first ones."""
-        found = [f"`{shown(came.text)}` came ({came.where}), and is not among the ballots" for came in self.missing[:MOST]]
+        found = [f"`{shown_line(came.text)}` came ({came.where}), and is not among the ballots" for came in self.missing[:MOST]]
         found += more(len(self.missing) - MOST, "came, and not among the ballots")
-        found += [f"line {number}, `{shown(line)}`, is not among what came" for number, line in self.added[:MOST]]
+        found += [f"line {number}, `{shown_line(line)}`, is not among what came" for number, line in self.added[:MOST]]
         found += more(len(self.added) - MOST, "not among what came")
         found += ["the lines stand in another order than that in which they came"] if self.is_reordered else []
         found += ["the lines are not those that were added, by their sums in the journal"] if self.is_other else []

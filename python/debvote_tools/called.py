@@ -16,7 +16,9 @@ from debvote_tools.files import POLL_LIMIT, read_at_most, sum_of
 KEPT = pathlib.Path("backup", "poll.toml.called")
 
 FOLDER = "call"
-LETTER = "call.txt"
+
+# the files in it
+PAGE, LETTER, POLL, SUMS = NAMES = ("index.html", "call.txt", "poll.toml", "SHA256SUMS")
 
 # the acts of the journal by which a call is made, taken back before any ballot has come, and extended to a later time
 MADE, TAKEN_BACK, LATER = "call", "taken-back", "extend"

@@ -6,10 +6,11 @@ import re
 
 from debvote_tools import called, journal
 from debvote_tools.by_hand import CASTING
+from debvote_tools.console import tell
 from debvote_tools.election.asking import command, given_already
 from debvote_tools.election.folder import Election
 from debvote_tools.election.record import Files
-from debvote_tools.election.telling import tell, time_of
+from debvote_tools.election.telling import time_of
 from debvote_tools.faults import Fault, Status
 from debvote_tools.files import sync_folder, uninterrupted
 from debvote_tools.journal import Entry

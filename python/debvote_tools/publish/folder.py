@@ -7,6 +7,7 @@ import shutil
 import tempfile
 
 from debvote_tools.closed import lines_of
+from debvote_tools.console import tell
 from debvote_tools.faults import Doubt, Fault, Status
 from debvote_tools.files import BALLOTS_LIMIT, POLL_LIMIT, read_at_most, sum_of, sync_folder, write_public
 from debvote_tools.poll_file import BadPoll, roll_of
@@ -83,6 +84,9 @@ def demand_words(asked: Asked) -> None:
         if asked.voters:
             words = "it goes with --secret; in an open vote the page has who voted what"
             raise Fault("--voters", words, "leave it out", Status.BAD_WORDS)
+        if asked.texts_read:
+            words = "it goes with --secret: it says that the texts for the page tell nobody's vote"
+            raise Fault("--texts-read", words, "leave it out", Status.BAD_WORDS)
     elif asked.who is not None and not asked.voters:
         raise Fault(
             "--who",
@@ -132,7 +136,8 @@ def fill_secret(
 ) -> tuple[str, int]:
     """Writes all files of a secret vote: poll and ballots are published under aliases, and what they come from is not written."""
     poll, ballots = inputs_of(asked)
-    secret.demand_texts(texts_of(asked, given), codes, (asked.poll, poll), (asked.ballots, ballots))
+    texts = texts_of(asked, given)
+    secret.demand_texts(texts, codes, (asked.poll, poll), (asked.ballots, ballots), are_read=asked.texts_read)
     with secret.private_folder(poll, ballots) as room:
         private = calls_in(room, beside, asked.casting, asked.desks)
         text = count(private, asked)[0]
@@ -194,7 +199,7 @@ def make(calls: Calls, text: str, given: Given, found: list[Doubt], further: Fur
     folder, sheet = calls.debvote.folder, sheet_in(text)
     labels = labels_of(given.labels_file, given.labels, sheet)
     if not labels.is_empty:
-        print(told(labels, sheet), end="", flush=True)
+        tell(*told(labels, sheet))
     version, standing, refused = calls.version(), calls.standing(), findings_in(calls.explain()).refused
     write_public(folder / SHEET, text.encode())
     verified, picture = calls.verify(), picture_of(calls.picture(), len(sheet.names))
@@ -252,7 +257,7 @@ def count(calls: Calls, asked: Asked) -> tuple[str, int]:
         return calls.count()
     except Fault as fault:
         if fault.status == Status.BAD_POLL:
-            doubts.tell([doubt.line() for doubt in doubts.misplaced(calls.debvote, asked.poll, asked.ballots)])
+            doubts.tell_lines([doubt.line() for doubt in doubts.misplaced(calls.debvote, asked.poll, asked.ballots)])
         raise
 
 
