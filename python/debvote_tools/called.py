@@ -33,14 +33,12 @@ LINE = re.compile(
 
 @dataclasses.dataclass(frozen=True)
 class Called:
-    """The call that holds: when it was made last, the sums of the polls of this call, those of them that have its latest time, and
-    the poll itself.
+    """The call that holds: when it was made last, the sums of its polls that have the latest time, and the poll itself.
 
     There is no time and no sum where the journal is lost, and no poll where its copy is lost, or is another one.
     """
 
     time: str | None
-    sums: frozenset[str]
     latest: frozenset[str]
     poll: bytes | None
 
@@ -95,7 +93,8 @@ def call_of(folder: pathlib.Path) -> Called | None:
     latest = ours[max((at for at, act in enumerate(ours) if act[1] == LATER and act[3]), default=0) :]
     sums, of_latest = (frozenset(act[2] for act in some) for some in (ours, latest))
     is_called = not sums or (kept is not None and not sums.isdisjoint((sum_of(kept), sum_of(poll_file.as_announced(kept)))))
-    return Called(ours[-1][0] if ours else None, sums, of_latest, kept if is_called else None)
+    time = next((act[0] for act in reversed(ours) if act[1] == MADE), None)
+    return Called(time, of_latest, kept if is_called else None)
 
 
 def journal_of(folder: pathlib.Path) -> bytes:
