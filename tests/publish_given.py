@@ -118,7 +118,7 @@ def try_labels(expect, scratch):
         ("about, further", '<p class="about"><bdi>Über alles: \u200f&amp;amp;</bdi></p>'),
     ]:
         expect(f"labels: {name}", wanted in page, True)
-    expect("labels: nothing runs", ("<script" in page, "<img" in page), (False, False))
+    expect("labels: nothing runs", (page.count("<script"), "<script>alert" in page, "<img" in page), (1, False, False))
     expect("labels: the sheet has none", "Satzung" in (room / "result" / "sheet.txt").read_text(), False)
     for option, wanted in [("labels", BAD_LABELS), ("about", BAD_ABOUTS)]:
         for name, data, line in wanted:
@@ -407,10 +407,10 @@ def try_commands(expect, scratch):
     before = {file.name: file.read_bytes() for file in folder.iterdir()}
     page = (folder / "index.html").read_text().partition('<h2 id="How-to-verify">')[2]
     found = re.findall(r"<pre><code>(.*?)</code></pre>\n(?:<p>It answers:</p>\n<pre><code>(.*?)</code></pre>)?", page, re.DOTALL)
-    expect("commands: how many", len({command for command, _ in found}), 15)
+    expect("commands: how many", len({command for command, _ in found}), 16)
     answers = {}
     for command, wanted in found:
-        if "| dot " in command and not HAS_PICTURES:
+        if ("| dot " in command and not HAS_PICTURES) or (command.startswith("nodejs") and shutil.which("nodejs") is None):
             continue
         environment = {**os.environ, "PATH": PATH, "PYTHONDONTWRITEBYTECODE": "1"}
         how = {"cwd": folder, "env": environment, "capture_output": True, "text": True, "timeout": SECONDS}

@@ -26,9 +26,7 @@ from debvote_tools.sheet import Sheet
 KEEP_FILES = "keep all files, and tell the maintainers"
 
 STYLE = """
-.field { margin: 0.75rem 0; }
 #answer p { margin: 0.5rem 0; }
-.found { padding: 0.6rem 0.8rem; background: var(--shade); border-left: 0.4rem solid var(--link); }
 summary { padding: 0.5rem 0; cursor: pointer; }
 .absent { margin: 0; padding: 0; list-style: none; font-family: ui-monospace, monospace; }
 """
@@ -199,7 +197,7 @@ def further_of(hidden: Hidden, totals: Totals, *, with_voters: bool) -> Further:
         voters=hidden.voters if with_voters else None,
         about_ballots=said,
         parts=[find(hidden), remains()],
-        style=pages.FIELDS_STYLE + STYLE,
+        style=STYLE,
         script=pages.script_of("debvote_tools.publish", "find.js"),
         files=files,
         described=described,
@@ -217,13 +215,7 @@ def find(hidden: Hidden) -> str:
     commands = [(ALONE, BY_PYTHON), (WITH_OPENSSL, BY_OPENSSL), (THEN, f"debvote {OWN}")]
     commands.append((THEN_BY_PYTHON, f"python3 -I recount.py {OWN}"))
     blocks = [command_block(*command) for command in commands]
-    return part(FIND, FORM, paragraph(ABSTAINED), paragraph(ALIAS), *blocks, *absent, *carried(hidden))
-
-
-def carried(hidden: Hidden) -> list[str]:
-    """The two files, for the script: it counts them, and trusts nothing else of the page. Without script nobody sees them."""
-    files = {"poll-file": hidden.poll, "ballots-file": hidden.ballots}
-    return [f'<pre id="{name}" hidden>{escape(data.decode("utf-8"))}</pre>' for name, data in files.items()]
+    return part(FIND, FORM, paragraph(ABSTAINED), paragraph(ALIAS), *blocks, *absent)
 
 
 def remains() -> str:
