@@ -19,6 +19,7 @@ from collections.abc import Iterable
 from debvote_tools import called, journal, poll_file
 from debvote_tools.ballots import in_normal_form
 from debvote_tools.faults import Fault, Status
+from debvote_tools.files import TABLE_LIMIT
 
 # the folder of what is secret, in that of the election, and its files
 PRIVATE = "private"
@@ -38,9 +39,6 @@ DIGITS = re.compile(r"[0-9a-f]{32}")
 
 # what a spreadsheet would take for a number, and write in another way
 NUMBER = re.compile(r"\d*e?\d*")
-
-# in bytes; ten thousand electors, each with a long address, are shorter
-LIMIT = 33_554_432
 
 # the keys of a poll that is published under aliases; the lines that a poll gets after its call are left out, and so are comments
 KEYS = ("title", "options", "ratios", "default", "quorum", "roll", "wording", "deadline", "deadline_words", "address", "secret")
@@ -181,8 +179,8 @@ def private_bytes(file: pathlib.Path) -> bytes:
         raise Fault(file, error.strerror, "put the file of codes that was made for this vote there", Status.DOUBT) from None
     with open(handle, "rb") as source:
         demand_private(file, FILE_MODE, os.fstat(handle))
-        data = source.read(LIMIT + 1)
-    if len(data) > LIMIT:
+        data = source.read(TABLE_LIMIT + 1)
+    if len(data) > TABLE_LIMIT:
         raise damaged(file, "it is too long for a file of codes")
     return data
 

@@ -61,7 +61,10 @@ async function run(job) {
 SAME = "The same, line for line: this count comes to the published sheet, in all its {} lines."
 OTHER_PAGE = "This page shows something else than its files come to: {}. Tell it to the other electors."
 NO_SECRET_VOTE = "This is no secret vote as it is published: {}. Tell it to the other electors."
-NO_SUM = "None of these is the sum that you typed. If you typed it right, your letter speaks of other files: ask for them."
+NO_SUM = (
+    "None of these is the sum that you typed. If it is that of the poll or of the ballots, and typed right, your letter speaks of other "
+    "files: ask for them. A page cannot make the sum of itself."
+)
 
 
 class CountHere(Binding):

@@ -5,12 +5,13 @@ import os
 import pathlib
 import re
 
+from debvote_tools.called import FOLDER, LETTER
 from debvote_tools.faults import Doubt
 from debvote_tools.files import read_at_most, sum_of
 from debvote_tools.poll_file import COMPARE, as_announced
 
 # the letter of the call has the sum on a line of its own
-LETTER = pathlib.Path("call", "call.txt")
+COPY = pathlib.Path(FOLDER, LETTER)
 SUM = re.compile(rb"(?m)^  ([0-9a-f]{64})$")
 LETTER_LIMIT = 1_048_576
 
@@ -61,7 +62,7 @@ def announced_sum(poll: str) -> str | None:
     """The sum that the call for votes in the folder of the poll announced; none where there is no call."""
     for folder in folders_of(poll):
         try:
-            letter = read_at_most(folder / LETTER, LETTER_LIMIT)
+            letter = read_at_most(folder / COPY, LETTER_LIMIT)
         except OSError:
             continue
         found: list[bytes] = SUM.findall(letter)

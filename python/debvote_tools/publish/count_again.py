@@ -31,7 +31,7 @@ NO_SCRIPT = "This browser runs no script here, so there is no button. Nothing el
 TOO_LARGE = "The files are too large to be carried by this page: download them, and choose them here."
 
 BUTTON = "Count again here"
-LETTER = "A sum from your letter of the call or of the result, to have it compared; it may be left out"
+LETTER = "The sum of the poll or of the ballots in a letter that came to you, to have it compared; it may be left out"
 FROM_DISK = "Count files from your own disk"
 FILES = f"{POLL}, {BALLOTS} and {SHEET}, as you got them from here or from another elector; without a sheet, that of this page is compared"
 BUTTON_FILES = "Count these files"
@@ -58,22 +58,17 @@ SENTENCES = {
     "sum_named": "This page names it too.",
     "sum_not_named": "This page does not name it: the files are others than those from which it was made.",
     "letter_same": "Yours is the same.",
-    "letter_other": "None of these is the sum that you typed. If you typed it right, your letter speaks of other files: ask for them.",
+    "letter_other": (
+        "None of these is the sum that you typed. If it is that of the poll or of the ballots, and typed right, your letter speaks of "
+        "other files: ask for them. A page cannot make the sum of itself."
+    ),
     "no_sums": "This browser makes no sums of a page that did not come by https. Compare them by the commands below.",
     "second": "This was a second opinion, from the same web site as the page.",
     "whole_sheet": "The whole sheet by this count",
     "choose": f"Choose at least {POLL} and {BALLOTS}, by these names.",
 }
 
-STYLE = """.field { margin: 0.75rem 0; }
-#Again-answer p { margin: 0.5rem 0; }
-#Again-progress { width: 100%; max-width: 40rem; height: 1rem; }
-.found, .differs { padding: 0.6rem 0.8rem; background: var(--shade); border-left: 0.4rem solid var(--link); }
-.differs { border: 2px solid currentColor; border-left-width: 0.4rem; font-weight: 600; }
-#Again summary { padding: 0.7rem 0; cursor: pointer; }
-#Again-no-script { font-style: italic; }
-@media print { #Again, #Again-no-script { display: none; } }
-"""
+STYLE = pages.resource(PACKAGE, "count_again.css")
 
 
 def count_again(files: dict[str, bytes]) -> str:
@@ -119,4 +114,4 @@ def as_block(name: str, data: bytes) -> str:
 def script() -> str:
     """The script: the count, its sentences, and what the buttons do."""
     words = json.dumps(SENTENCES, indent=1).replace("<", "\\u003c")
-    return f"{pages.script_of(PACKAGE, SCRIPT)}const WORDS = {words};\n{pages.script_of(PACKAGE, 'count_again.js')}"
+    return f"{pages.resource(PACKAGE, SCRIPT)}const WORDS = {words};\n{pages.resource(PACKAGE, 'count_again.js')}"

@@ -9,7 +9,7 @@ import re
 import subprocess
 from collections.abc import Iterable
 
-ROOT = pathlib.Path(__file__).resolve().parent.parent
+ROOT = pathlib.Path(__file__).resolve().parent.parent.parent
 
 COUNT = re.compile(r"(\d+) passed, (\d+) failed")
 SKIPPED = re.compile(r"skipped: (.*)")
