@@ -253,7 +253,7 @@ class OpenPage(CountHere):
         found = self.press({})[0]
         self.assert_same(found)
         self.assertGreaterEqual(found["shares"], 1)
-        self.publish_again(poll, lines * 9 + "x" * 200 + "\n" + ("y" * 4_000 + "\n") * 1_000)
+        self.publish_again(OPEN_POLL, OPEN_BALLOTS + ("y" * 1_000_000 + "\n") * 4)
         page = self.page()
         self.assertNotIn('id="Again-button"', page)
         self.assertIn("download them, and choose them here", page)

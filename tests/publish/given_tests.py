@@ -178,7 +178,10 @@ def try_honest_words(expect, scratch):
     text = verify.text()
     for said in ["Ask your secretary where to get it", "It is better taken from elsewhere", "/usr/share/doc/debvote/reference.py"]:
         expect(f"how to verify: {said}", said in text, True)
-    expect("how to verify: it promises no count in the browser", "browser" in text, False)
+    again = next(section for section in pages.tree_of(page).all("section") if "Count again here" in section.text())
+    for said in ["Your browser can count the ballots anew", "a second opinion from the same web site", "Nothing is sent."]:
+        expect(f"count again here: {said}", said in again.text(), True)
+    expect("count again here: it promises no proof", re.search("(?i)prove|verified|certain", again.text()), None)
     whole = pages.tree_of(page).text()
     expect("ballots in the order of what?", ("in the order in which they were entered" in whole, "they came" in whole), (True, False))
     expect("nothing is said to be announced", "announced" in whole, False)

@@ -5,7 +5,7 @@
 (() => {
   // milliseconds after which the page gets its turn
   const SLICE = 12;
-  // the lines that a poll may get after the call; the announced sum is that of the others
+  // the lines that a poll may get after the call, whose sum is that of the others
   const LATER = /^(last_envelope = [0-9]+|extended_to = "[0-9T:+ -]*")\s?$/;
 
   const byId = (id) => document.getElementById(id);
@@ -131,8 +131,8 @@
     return [...digest].map((byte) => byte.toString(16).padStart(2, "0")).join("");
   }
 
-  // The poll as the call announced it: that of a secret vote has no line that came later.
-  function announced(poll, bytes) {
+  // The poll as it was called: that of a secret vote has no line that came later.
+  function asCalled(poll, bytes) {
     if (poll.isSecret) return bytes;
     const lines = textOf(bytes).replace(/\n$/, "").split("\n");
     const kept = lines.filter((line) => !LATER.test(line)).map((line) => line + "\n").join("");
@@ -142,7 +142,7 @@
   // The sums of both files, beside those that the page names and the one that was typed.
   async function aboutSums(poll, files) {
     if (!globalThis.crypto || !crypto.subtle) return [paragraph("no_sums")];
-    const sums = [["called_sum", announced(poll, files.poll)], ["ballots_sum", files.ballots]];
+    const sums = [["called_sum", asCalled(poll, files.poll)], ["ballots_sum", files.ballots]];
     if (!poll.isSecret && poll.last !== null) sums.splice(1, 0, ["poll_sum", files.poll]);
     const named = byId("How-to-verify").closest("section").textContent;
     const typed = byId("Again-letter").value.replace(/\s/g, "").toLowerCase();
