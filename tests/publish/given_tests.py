@@ -219,7 +219,7 @@ def try_bad_who(expect, scratch):
     roll = re.findall(r'"([a-z0-9.-]+)"', (room / "poll.toml").read_text().partition("roll")[2])
     whole = "name,who,mail\n" + "".join(f"{name},Member {name},\n" for name in roll)
     missing = f"{roll[0]} of the roll has no row there; nothing was published: give the list of members of this vote with --who"
-    turned = r"`\x202EMember` has the sign U+202E, which steers a terminal or turns the direction of a text; take it out"
+    turned = r"`\u202EMember` has the sign U+202E, which steers a terminal or turns the direction of a text; take it out"
     for name, text, wanted, status in [
         ("a row is missing", whole.replace(f"{roll[0]},Member {roll[0]},\n", ""), f"m.csv: {missing}", 9),
         ("a sign that turns", whole.replace(f"Member {roll[1]}", "\u202eMember"), f"m.csv:3: {turned}", 9),
