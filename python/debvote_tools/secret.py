@@ -16,7 +16,7 @@ import secrets
 import stat
 from collections.abc import Iterable
 
-from debvote_tools import called, journal, poll_file
+from debvote_tools import announced, called, journal, poll_file
 from debvote_tools.ballots import in_normal_form
 from debvote_tools.faults import Doubt, Fault, Status
 from debvote_tools.files import TABLE_LIMIT
@@ -42,7 +42,7 @@ DIGITS = re.compile(r"[0-9a-f]{32}")
 NUMBER = re.compile(r"\d*e?\d*")
 
 # the keys of a poll that is published under aliases; the lines that a poll gets after its call are left out, and so are comments
-KEYS = ("title", "options", "ratios", "default", "quorum", "roll", "wording", "deadline", "deadline_words", "address", "secret")
+KEYS = (*poll_file.REQUIRED, poll_file.WORDING, *(key for key in announced.KEYS if key != announced.EXTENDED))
 
 # the line by which a poll is known to be that of a secret vote, wherever it lies; it is looked for in polls that can't be read, too
 SAYS_SECRET = re.compile(rb"(?m)^(?:\xef\xbb\xbf)?[ \t]*[\"']?secret[\"']?[ \t]*=[ \t]*true\b")

@@ -1,9 +1,15 @@
-"""Large elections, and the largest: the bytes of their pages, their pictures, and what a browser says of them."""
+"""Large elections, and the largest: the bytes of their pages, their pictures, and what a browser says of them.
 
+DEBVOTE_LARGEST_ELECTORS says how many electors the largest has; 10000 if it is not given.
+"""
+
+import os
 import random
 
 import browser
 import support
+
+ELECTORS = int(os.environ.get("DEBVOTE_LARGEST_ELECTORS", "10000"))
 
 
 def large_poll(options, electors):
@@ -74,7 +80,7 @@ class LargestTest(support.PublishTest):
     def setUpClass(cls):
         super().setUpClass()
         cls.facts = []
-        cls.folder = publish_large(lambda *fact: cls.facts.append(fact), cls.scratch, 32, 10_000)
+        cls.folder = publish_large(lambda *fact: cls.facts.append(fact), cls.scratch, 32, ELECTORS)
 
     def test_files(self):
         for fact in self.facts:

@@ -22,8 +22,14 @@ COMMANDS = ("new", "roll", "check", "codes", "call", "add", "desk", "status", "c
 QUIET = ("check", "status", "count")
 
 
-def parser() -> argparse.ArgumentParser:
-    """The command line: each command with its options."""
+def modules_for(words: Sequence[str]) -> set[str]:
+    """The commands whose modules these words need: each takes a while to be read, and most runs need one of them."""
+    named = {name for name in COMMANDS if name in words}
+    return named if named and not {"-h", "--help"} & set(words) else set(COMMANDS)
+
+
+def parser(words: Sequence[str] = COMMANDS) -> argparse.ArgumentParser:
+    """The command line: each command, and its options if it may be the one that these words ask for."""
     # --folder may stand before the command and behind it
     folder = argparse.ArgumentParser(add_help=False)
     folder.add_argument(
@@ -36,7 +42,11 @@ def parser() -> argparse.ArgumentParser:
         description="Holds an election in one folder, from the list of members to the published result, by debvote.",
     )
     commands = top.add_subparsers(dest="command", metavar="COMMAND", required=True)
+    needed = modules_for(words)
     for name in COMMANDS:
+        if name not in needed:
+            commands.add_parser(name)
+            continue
         module = importlib.import_module(f"debvote_tools.election.commands.{name}")
         command = commands.add_parser(name, help=module.HELP, description=f"{module.HELP}.", allow_abbrev=False, parents=[folder])
         module.options(command)
@@ -51,7 +61,8 @@ def main(beside: pathlib.Path, words: Sequence[str] | None = None) -> int:
     if not console.has_output():
         return console.failed(PROGRAM, "standard output is closed; nothing was changed", Status.BAD_OUTPUT)
     console.prepare()
-    asked = parser().parse_args(words)
+    words = sys.argv[1:] if words is None else words
+    asked = parser(words).parse_args(words)
     signal.signal(signal.SIGINT, signal.default_int_handler)
     try:
         election = Election(pathlib.Path(getattr(asked, "folder", ".")), beside)
