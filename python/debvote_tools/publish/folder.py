@@ -23,6 +23,7 @@ from debvote_tools.publish.picture import picture_of
 from debvote_tools.publish.published import File, Further, Published, Times
 from debvote_tools.publish.texts import reason_in, text_in
 from debvote_tools.publish.times import times_of
+from debvote_tools.secret import copy_is_gone
 from debvote_tools.sheet import Sheet, sheet_in
 
 PAGE, SUMS = "index.html", "SHA256SUMS"
@@ -144,6 +145,7 @@ def fill_secret(
         hidden = secret.hidden_of(codes, poll, standing_in(private.standing()))
         found += about_casting(asked, given, sheet_in(text), hidden.poll)
         found += about_announced(asked.poll, poll_sums_of(hidden.poll, None, given.announced, is_secret=True))
+        found += filter(None, [copy_is_gone(codes, poll)])
         settle(found, asked)
         totals = findings_in(private.explain()).totals
     write_public(folder / POLL, hidden.poll)
