@@ -48,14 +48,14 @@ class Came:
 @dataclasses.dataclass(frozen=True)
 class Changes:
     """What differs from what came: lines that are not there, lines that are there and did not come, each with its number; whether
-    the lines that came stand in another order, or were changed together with what is kept of them; and how many late ones are gone
-    of which nothing is kept.
+    the lines that came stand in another order, or are others by the journal alone, as where what is kept was changed with them; and
+    how many late ones are gone of which nothing is kept.
     """
 
     missing: list[Came]
     added: list[tuple[int, bytes]]
     is_reordered: bool = False
-    is_kept_changed: bool = False
+    is_other: bool = False
     fewer: int = 0
     # whether it was done after the close alone
     is_late: bool = False
@@ -63,7 +63,7 @@ class Changes:
     @property
     def is_loss(self) -> bool:
         """Whether something that came does not count as it came, or, where it came late, does not stand there."""
-        return bool(self.missing) or self.is_reordered or self.is_kept_changed or self.fewer > 0
+        return bool(self.missing) or self.is_reordered or self.is_other or self.fewer > 0
 
     def lines(self) -> list[str]:
         """A sentence for each line that differs, of many the first ones."""
@@ -72,7 +72,7 @@ class Changes:
         found += [f"line {number}, `{shown_line(line)}`, is not among what came" for number, line in self.added[:MOST]]
         found += more(len(self.added) - MOST, "not among what came")
         found += ["the lines stand in another order than that in which they came"] if self.is_reordered else []
-        found += [f"the journal has other lines than the ballots and {RECEIVED} have now"] if self.is_kept_changed else []
+        found += ["the lines are not those that were added, by their sums in the journal"] if self.is_other else []
         if self.fewer:
             found.append(
                 f"{self.fewer} {'line' if self.fewer == 1 else 'lines'} came after the close and {is_or_are(self.fewer)} gone"
@@ -112,8 +112,8 @@ def changes_in(folder: pathlib.Path, acts: Sequence[Entry], ballots: bytes) -> C
     added = not_come(came, before)
     if missing or stand_as_cast(until, first, before, {number for number, _ in added}):
         return Changes(missing, added)
-    is_order_kept = stand_as_came(before, came)
-    return Changes(missing, added, is_reordered=not is_order_kept, is_kept_changed=is_order_kept)
+    is_same_order = stand_as_came(before, came)
+    return Changes(missing, added, is_reordered=not is_same_order, is_other=is_same_order)
 
 
 def parted(folder: pathlib.Path, acts: Sequence[Entry], ballots: bytes) -> tuple[list[bytes], list[bytes]]:
@@ -224,8 +224,8 @@ def doubts_about(changes: Changes, ballots: str) -> list[Doubt]:
             if changes.is_late
             else f"{lines} {was} changed or taken out by hand {when}"
         )
-    elif changes.is_kept_changed:
-        reason = f"the ballots were changed by hand {when}, and what is kept of them with them"
+    elif changes.is_other:
+        reason = f"the ballots were changed by hand {when}"
     else:
         reason = f"the order of lines that came was changed by hand {when}"
     cure = "look who did it, and why; what came is kept in received"

@@ -23,24 +23,22 @@ PAGE, LETTER, POLL, SUMS = NAMES = ("index.html", "call.txt", "poll.toml", "SHA2
 # the acts of the journal by which a call is made, taken back before any ballot has come, and extended to a later time
 MADE, TAKEN_BACK, LATER = "call", "taken-back", "extend"
 
-# the line of one of these acts, unless the next one notes that it was not done: its time, the act, and the sum of the poll. The
-# first two change no file, so one that is not ended yet is done too
+# the line of one of these acts, unless the next one notes that it was not done: its time, the act, the sum of the poll, and its
+# end. The first two change no file, so one that is not ended yet is done too
 LINE = re.compile(
-    rb"(?m)^([^\t\n]{20})\t(%b|%b|%b)\t[^\t\n]+\t(-|[0-9a-f]{64})\t(?:-|[0-9a-f]{64})(?:\n(?![^\t\n]{20}\t%b\t)|\Z)"
+    rb"(?m)^([^\t\n]{20})\t(%b|%b|%b)\t[^\t\n]+\t(-|[0-9a-f]{64})\t(?:-|[0-9a-f]{64})(\n(?![^\t\n]{20}\t%b\t)|\Z)"
     % (MADE.encode(), TAKEN_BACK.encode(), LATER.encode(), journal.UNDONE.encode())
 )
 
 
 @dataclasses.dataclass(frozen=True)
 class Called:
-    """The call that holds: when it was made last, the sums of the polls of this call, those of them that have its latest time, and
-    the poll itself.
+    """The call that holds: when it was made last, the sums of its polls that have the latest time, and the poll itself.
 
     There is no time and no sum where the journal is lost, and no poll where its copy is lost, or is another one.
     """
 
     time: str | None
-    sums: frozenset[str]
     latest: frozenset[str]
     poll: bytes | None
 
@@ -91,10 +89,12 @@ def call_of(folder: pathlib.Path) -> Called | None:
     if not acts and kept is None:
         return None
     ours = acts[max((at for at, act in enumerate(acts, start=1) if act[1] == TAKEN_BACK), default=0) :]
-    latest = ours[max((at for at, act in enumerate(ours) if act[1] == LATER), default=0) :]
+    # of an extension that is not ended yet either poll may be there
+    latest = ours[max((at for at, act in enumerate(ours) if act[1] == LATER and act[3]), default=0) :]
     sums, of_latest = (frozenset(act[2] for act in some) for some in (ours, latest))
     is_called = not sums or (kept is not None and not sums.isdisjoint((sum_of(kept), sum_of(poll_file.as_announced(kept)))))
-    return Called(ours[-1][0] if ours else None, sums, of_latest, kept if is_called else None)
+    time = next((act[0] for act in reversed(ours) if act[1] == MADE), None)
+    return Called(time, of_latest, kept if is_called else None)
 
 
 def journal_of(folder: pathlib.Path) -> bytes:

@@ -7,7 +7,9 @@ import tomllib
 
 from debvote_tools.faults import Fault, Status
 
-LAST_ENVELOPE = "last_envelope"
+# the keys that a poll must have, in the order in which a new one has them, and those that the count reads beside them
+REQUIRED = ("title", "options", "ratios", "default", "quorum", "roll")
+LAST_ENVELOPE, WORDING = "last_envelope", "wording"
 
 # the lines that a poll may get after it was announced, each as a whole: the last envelope, and a later deadline. The second has no
 # sign that ends a text or goes on with it, so neither line changes what the others mean. A line of Windows has a sign more.

@@ -110,7 +110,7 @@ class Lost(ByHandTest):
 class KeptToo(ByHandTest):
     """What is kept of the ballots is changed with them: the journal has the sum of the lines of each act."""
 
-    FORGED = "the journal has other lines than the ballots and received have now"
+    FORGED = "the lines are not those that were added, by their sums in the journal"
 
     def setUp(self) -> None:
         super().setUp()
@@ -131,7 +131,7 @@ class KeptToo(ByHandTest):
     def test_a_ballot_behind_an_edit(self) -> None:
         self.forge("ballots", "received/0003-standard-input")
         self.assert_stops(self.FORGED)
-        self.assertIn("The ballots were changed by hand before the close, and what is kept of them with them:", self.page())
+        self.assertIn("The ballots were changed by hand before the close: ", self.page())
 
     def test_a_ballot_before_it(self) -> None:
         for file in ("ballots", "received/0001-monday.txt"):

@@ -334,6 +334,8 @@ class Extended(TimeTest):
             run = killing.run(self.folder, ["call", "--until", LATER], b"", step, self.clock)
             with self.subTest(step=step):
                 self.assertIn(self.read("poll.toml"), (self.called, self.called + EXTENDED.encode()))
+                between = killing.run(self.folder, ["status"], b"", None, self.clock)
+                self.assertEqual((between.status, between.faults), (0, ""))
                 following = killing.run(self.folder, ["call", "--until", LATER], b"", None, self.clock)
                 self.assertEqual((following.status, following.faults), (0, ""))
                 self.assertEqual(self.read("poll.toml"), self.called + EXTENDED.encode())

@@ -13,6 +13,7 @@ use Rattle.vote_poll.specs.PollValues.{is_integer_within, last_envelope_in, quor
 use Rattle.vote_poll.specs.declared.TheConstants.{MAX_OPTIONS, MAX_ELECTORS, MAX_RATIO}
 
 -- ---- one fault
+
 -- the faults of a value, where there is one
 abbrev pub where_found : {X : Type 0} → Option X → (X → List PollFault) → List PollFault
 where_found None faults = []
@@ -23,6 +24,7 @@ abbrev pub bad_places : (List ℕ → Bool) → List (List ℕ) → List ℕ
 bad_places has_shape names = filter (is_bad_at has_shape names) (range_with_len 0 (length names))
 
 -- ---- what the keys say
+
 unfoldable pub of_title : FoundKeys → List PollFault
 of_title f = where_found f.title (λ title. fault_unless (is_title title) fault.Title)
 
@@ -55,6 +57,7 @@ unfoldable pub of_wording : FoundKeys → List PollFault
 of_wording f = where_found f.wording (λ wording. fault_unless (is_some (wording_in wording)) fault.Wording)
 
 -- ---- the file
+
 unfoldable pub of_contents : FoundKeys → List PollFault
 of_contents f =
     of_title f

@@ -45,6 +45,7 @@ abbrev pub GivesPollOrFirst : FoundKeys → List PollFault → Result PollConten
 GivesPollOrFirst keys faults result = (table : Members) → IsJudged table keys faults → Gives (λ poll. poll) result (poll_in_table table)
 
 -- ---- the law
+
 abbrev pub fault_told : Result PollContent PollFault → Option PollFault
 fault_told (Ok poll) = None
 fault_told (Err e) = Some e

@@ -12,6 +12,7 @@ use Rattle.vote_poll_keys.specs.declared.fault.PollFault.{PollFault}
 use Rattle.vote_poll_keys.specs.declared.fault.PollFault.TheVariants as fault
 
 -- ---- the keys
+
 abbrev pub items_list : Items → List Data
 items_list no_items = []
 items_list (item value values) = value ∷ items_list values
@@ -56,11 +57,13 @@ abbrev pub ◌>>=◌ : {A B : Type 0} → Result A PollFault → (A → Result B
 (Err e) >>= f = Err e
 
 -- ---- the file
+
 -- the table of a text
 unfoldable pub document : List ℕ → Result Members PollFault
 document text = ok_or (if is_utf8 text then parse_document text else None) fault.Syntax
 
 -- ---- what a call gives
+
 abbrev pub Fails : {Y : Type 0} → PollFault → Result Y PollFault → Type 0
 Fails fault.Memory meaning = Unit {0}
 Fails e meaning = meaning ≡ Err e

@@ -13,7 +13,7 @@ from debvote_tools.sheet import Sheet, sheet_in
 from debvote_tools.signs import written
 
 # the lines of a poll, in the order in which a new one has them
-LINES = ("title", "options", "ratios", "default", "quorum", "roll", "last_envelope", "wording")
+LINES = (*poll_file.REQUIRED, poll_file.LAST_ENVELOPE, poll_file.WORDING)
 
 # how a finding begins that does not name its line, and the line that it is about
 ABOUT = {

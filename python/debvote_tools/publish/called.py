@@ -20,7 +20,7 @@ WHOLE = "sha256sum poll.toml"
 
 
 @dataclasses.dataclass(frozen=True)
-class Called:
+class PollSums:
     """The sum of the published poll as it was announced, and that of the file as it is; the last envelope; and what was announced.
 
     In a secret vote both sums are that of the file: it has no line that came later. The last envelope is none where the poll has
@@ -47,10 +47,10 @@ class Called:
         return f"{self.whole_sum}  poll.toml" if self.is_secret else f"{self.poll_sum}  -"
 
 
-def called_of(poll: bytes, last_envelope: int | None, announced: str | None, *, is_secret: bool = False) -> Called:
+def poll_sums_of(poll: bytes, last_envelope: int | None, announced: str | None, *, is_secret: bool = False) -> PollSums:
     """What is said of the call, for the bytes of the published poll."""
     whole = sum_of(poll)
-    return Called(whole if is_secret else sum_of(as_announced(poll)), whole, last_envelope, announced, is_secret)
+    return PollSums(whole if is_secret else sum_of(as_announced(poll)), whole, last_envelope, announced, is_secret)
 
 
 def folders_of(file: str) -> list[pathlib.Path]:
@@ -71,7 +71,7 @@ def announced_sum(poll: str) -> str | None:
     return None
 
 
-def about_call(poll: str, called: Called) -> list[Doubt]:
+def about_announced(poll: str, called: PollSums) -> list[Doubt]:
     """That the poll is not the one that was called."""
     if called.announced in (None, called.poll_sum):
         return []

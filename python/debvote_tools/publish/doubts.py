@@ -15,7 +15,7 @@ from debvote_tools.console import tell_aside
 from debvote_tools.faults import Doubt, Fault, Status, Told, other_format
 from debvote_tools.files import sum_of
 from debvote_tools.journal import Sums
-from debvote_tools.poll_file import as_announced
+from debvote_tools.poll_file import REQUIRED, as_announced
 from debvote_tools.program import Debvote, Findings, Totals, findings_in
 from debvote_tools.publish.called import announced_sum, folders_of
 from debvote_tools.publish.calls import BALLOTS, POLL, Calls
@@ -37,9 +37,6 @@ MOSTLY_REFUSED = "More than half of the lines that came are refused."
 
 # what the page of a secret vote says where lines were put in or taken out, or the last envelope was changed
 NOT_AS_CLOSED = "The ballots that are in time are not those of the close: since then some were put in, taken out or changed."
-
-# how many keys a poll must have
-REQUIRED_KEYS = 6
 
 
 def tell_lines(lines: list[str]) -> None:
@@ -91,7 +88,7 @@ def reads_as_poll(debvote: Debvote, file: str) -> bool:
     lines = debvote.ask("explain", "--poll", file).text.splitlines()
     is_toml = bool(lines) and not any(re.match(r"poll:\d+:\d+: ", line) for line in lines[:2])
     missing = [line for line in lines if re.fullmatch(r"poll: key \w+: it is missing", line)]
-    return is_toml and len(missing) < REQUIRED_KEYS
+    return is_toml and len(missing) < len(REQUIRED)
 
 
 def reads_as_ballots(debvote: Debvote, file: str) -> bool:

@@ -14,7 +14,7 @@ from debvote_tools.poll_file import BadPoll, roll_of
 from debvote_tools.program import findings_in, standing_in
 from debvote_tools.publish import casting, doubts, letter, recounting, roll, second_count, secret
 from debvote_tools.publish.asked import Asked
-from debvote_tools.publish.called import about_call, announced_sum, called_of, folders_of
+from debvote_tools.publish.called import about_announced, announced_sum, folders_of, poll_sums_of
 from debvote_tools.publish.calls import BALLOTS, POLL, SHEET, Calls, calls_in
 from debvote_tools.publish.data import result_json, votes_csv
 from debvote_tools.publish.labels import labels_in, labels_of, told
@@ -23,6 +23,7 @@ from debvote_tools.publish.picture import picture_of
 from debvote_tools.publish.published import File, Further, Published, Times
 from debvote_tools.publish.texts import reason_in, text_in
 from debvote_tools.publish.times import times_of
+from debvote_tools.secret import copy_is_gone
 from debvote_tools.sheet import Sheet, sheet_in
 
 PAGE, SUMS = "index.html", "SHA256SUMS"
@@ -124,7 +125,7 @@ def fill(folder: pathlib.Path, asked: Asked, given: Given, beside: pathlib.Path 
     text, status = count(calls, asked)
     found = doubts.found_in(calls, asked.poll, asked.ballots, sheet_in(text))
     found += about_casting(asked, given, sheet_in(text), poll)
-    found += about_call(asked.poll, called_of(poll, sheet_in(text).last_envelope, given.announced))
+    found += about_announced(asked.poll, poll_sums_of(poll, sheet_in(text).last_envelope, given.announced))
     settle(found, asked)
     times = times_of(doubts.election_of(asked.poll), poll, ballots, sheet_in(text).last_envelope)
     return make(calls, text, given, found, Further(), times), status
@@ -143,7 +144,8 @@ def fill_secret(
         found = doubts.found_in(private, asked.poll, asked.ballots, sheet_in(text))
         hidden = secret.hidden_of(codes, poll, standing_in(private.standing()))
         found += about_casting(asked, given, sheet_in(text), hidden.poll)
-        found += about_call(asked.poll, called_of(hidden.poll, None, given.announced, is_secret=True))
+        found += about_announced(asked.poll, poll_sums_of(hidden.poll, None, given.announced, is_secret=True))
+        found += filter(None, [copy_is_gone(codes, poll)])
         settle(found, asked)
         totals = findings_in(private.explain()).totals
     write_public(folder / POLL, hidden.poll)
@@ -202,7 +204,7 @@ def make(calls: Calls, text: str, given: Given, found: list[Doubt], further: Fur
     write_public(folder / SHEET, text.encode())
     verified, picture = calls.verify(), picture_of(calls.picture(), len(sheet.names))
     poll, ballots = ((folder / name).read_bytes() for name in (POLL, BALLOTS))
-    called = called_of(poll, sheet.last_envelope, given.announced, is_secret=further.unlisted is not None)
+    called = poll_sums_of(poll, sheet.last_envelope, given.announced, is_secret=further.unlisted is not None)
     lines = lines_of(ballots)
     published = Published(
         sheet, standing, refused, lines, picture, calls.casting, verified.rstrip("\n"), version, found, called, labels,
@@ -220,9 +222,9 @@ def write_files(folder: pathlib.Path, found: Published, poll: bytes, ballots: by
     for file in made:
         write_public(folder / file.name, file.data)
     there = [
-        File(POLL, "the poll: title, options, quorum and roll", b""),
-        File(BALLOTS, "the ballots, a line each, in the order in which they were entered", b""),
-        File(SHEET, "the result sheet, from which this page is made", b""),
+        File(POLL, "the poll: title, options, quorum and roll", poll),
+        File(BALLOTS, "the ballots, a line each, in the order in which they were entered", ballots),
+        File(SHEET, "the result sheet, from which this page is made", (folder / SHEET).read_bytes()),
         *made,
         File(letter.NAME, letter.WHAT, b""),
         *found.further.files,
@@ -242,6 +244,7 @@ def made_of(found: Published) -> list[File]:
         File("result.json", "what the sheet says, for programs", result_json(found.sheet, found.labels, found.version).encode()),
         File("votes.csv", "the table of votes, for spreadsheets", votes_csv(found.sheet).encode()),
         File(recounting.NAME, "a second count, in Python", recounting.recount_program()),
+        File(recounting.SCRIPT, "a third count, in JavaScript", recounting.recount_script()),
         File(recounting.GUIDE, "how to read the sheet, what to check, and what a doubt is", recounting.guide()),
     ]
     if found.picture is not None:

@@ -185,6 +185,9 @@ def letter_words(election: Election) -> str:
 
 def called_sum(election: Election) -> list[str]:
     """The sum of the poll under aliases that was called. What hinders to read it does not hinder the close."""
+    gone = secret.copy_is_gone(election.codes, election.poll.read_bytes())
+    if gone is not None:
+        return [f"Note: {gone.line()}"]
     try:
         found = sum_of(secret.private_bytes(election.called_aliases))
     except Fault as fault:

@@ -6,7 +6,7 @@ import itertools
 import re
 import textwrap
 
-from debvote_tools import announced, called, journal, poll_file
+from debvote_tools import announced, called, journal, poll_file, secret
 from debvote_tools.announced import announced_in, in_words
 from debvote_tools.console import shows, tell
 from debvote_tools.election.asking import call_command, command, files_of, quorum_words, refused
@@ -123,6 +123,9 @@ def tell_secrecy(election: Election, files: Files) -> None:
     if not election.is_secret():
         return
     tell("The vote is secret: ballots are published under aliases. What this command tells is for you alone.")
+    gone = secret.copy_is_gone(election.codes, files.poll)
+    if gone is not None:
+        tell(f"Note: {gone.line()}")
     try:
         demand_own_folder(election)
         aliases_now(election, files.poll)
