@@ -30,8 +30,10 @@ BALLOT = re.compile(rb"[^\s,;]+ (?:-|\d{1,2})(?:,(?:-|\d{1,2}))*")
 # so many lines of each kind are told, each with its text
 MOST = 5
 
-# the acts that cast lines
-CASTING = ("add", "cast")
+# how the name ends under which lines are kept that an act has taken back, and a file of which the first lines came before: the lines
+# behind them are kept as those of a table are
+TAKEN_BACK = ".taken-back"
+IN_PART = ".in-part"
 
 
 @dataclasses.dataclass(frozen=True)
@@ -87,7 +89,7 @@ def changes_in(folder: pathlib.Path, acts: Sequence[Entry], ballots: bytes) -> C
     if first is None:
         return NOTHING
     came = came_in(folder)
-    there = collections.Counter(before + late)
+    there = collections.Counter(before + late + taken_back_in(folder, acts))
     missing = [line for line in came if not taken(there, line)]
     added = not_come(came, before)
     is_reordered = not missing and not stand_as_cast(until[:first], before, {number for number, _ in added})
@@ -126,12 +128,19 @@ def came_in(folder: pathlib.Path) -> list[Came]:
     """The lines of ballots that came, of all files that are kept."""
     place = folder / RECEIVED
     names = sorted(file.name for file in place.iterdir() if re.match(r"\d+-", file.name)) if place.is_dir() else []
+    names = [name for name in names if not name.endswith((TAKEN_BACK, IN_PART))]
     found = []
     for name in names:
         if (place / name).is_file():
             lines = lines_in((place / name).read_bytes(), f"{RECEIVED}/{name}")
             found += [Came(line.where, line.changed, line.kept) for line in lines if BALLOT.fullmatch(line.changed)]
     return found
+
+
+def taken_back_in(folder: pathlib.Path, acts: Sequence[Entry]) -> list[bytes]:
+    """The lines that acts have taken back: they came, and are not among the ballots."""
+    files = [folder / RECEIVED / f"{entry.record}{TAKEN_BACK}" for entry in acts if entry.act == journal.UNDO and entry.record]
+    return [line for file in files if file.is_file() for line in lines_of(file.read_bytes())]
 
 
 def taken(there: collections.Counter[bytes], line: Came) -> bool:
@@ -150,11 +159,11 @@ def not_come(came: list[Came], lines: list[bytes]) -> list[tuple[int, bytes]]:
 
 def stand_as_cast(acts: Sequence[Entry], lines: list[bytes], left_out: set[int]) -> bool:
     """Whether the lines, but for these, begin with what the last of the acts that cast lines has left."""
-    last = next((entry for entry in reversed(acts) if entry.act in CASTING), None)
+    last = next((entry for entry in reversed(acts) if entry.lines is not None), None)
     if last is None:
         return True
     own = [line for number, line in enumerate(lines, start=1) if number not in left_out]
-    count = int(last.envelopes.rpartition("-")[2])
+    count = last.lines
     found = hashlib.sha256(b"".join(line + b"\n" for line in own[:count]))
     return found.hexdigest() == last.sums.ballots
 

@@ -60,7 +60,14 @@ class Election(Record):
 
     # ------------------------------------------------------------ the acts
     def act(
-        self, name: str, files: Files, envelopes: str = journal.NONE, *, poll: bytes | None = None, ballots: bytes | None = None
+        self,
+        name: str,
+        files: Files,
+        envelopes: str = journal.NONE,
+        *,
+        poll: bytes | None = None,
+        ballots: bytes | None = None,
+        record: str = "",
     ) -> Files:
         """Notes that an act begins, writes the new poll or the new ballots, whole, notes that it is done, and returns the files
         as they are after it.
@@ -70,7 +77,7 @@ class Election(Record):
         """
         after = Files(files.poll if poll is None else poll, files.ballots if ballots is None else ballots)
         self.note_found(files)
-        journal.begin(self.journal, name, envelopes, after.sums)
+        journal.begin(self.journal, name, envelopes, after.sums, record)
         try:
             if poll is not None:
                 write_whole(self.poll, poll)
