@@ -9,11 +9,12 @@ from collections.abc import Callable
 from debvote_tools.election.casting import Ballot, ballot_words
 from debvote_tools.election.folder import Election
 from debvote_tools.election.record import Files
-from debvote_tools.election.telling import tell
+from debvote_tools.console import tell
 from debvote_tools.faults import Fault, Status
 from debvote_tools.files import BALLOTS_LIMIT, LINES_LIMIT
-from debvote_tools.lines import BLANKS, MARK, PART, Line, lines_in, shown
+from debvote_tools.lines import BLANKS, MARK, PART, Line, lines_in
 from debvote_tools.members import COLUMNS
+from debvote_tools.signs import shown_line
 
 EVEN_SO = "add it all the same with --even-so"
 
@@ -72,7 +73,7 @@ def cure_of(part: Part, wrong: Ballot, is_form: bool) -> str:
         return "it looks like a table, which is added with --csv --name COLUMN --ranks COLUMN,COLUMN,.."
     why = "" if wrong.finding is None else f" ({wrong.finding.word}: {wrong.finding.hint})"
     first = "whose first line is" if wrong is part.ballots[0] else "which has the line"
-    return f"look at the file, {first} `{shown(wrong.text)}`{why}"
+    return f"look at the file, {first} `{shown_line(wrong.text)}`{why}"
 
 
 def is_list_of_members(data: bytes) -> bool:

@@ -26,6 +26,7 @@ COMPARE_SUM = (
     "the call:"
 )
 BALLOTS_SUM = "The ballots have the sum that stands in the letter of the result:"
+PAGE_SUM = "And so has this page, as it was downloaded:"
 
 OWN = (
     '<b>Your own ballot.</b> It stands under <a href="#Ballots">Ballots</a> as you sent it. If you did not vote, you stand under '
@@ -37,8 +38,8 @@ OWN_IN_SECRET = (
 )
 LETTER = "<b>The sum in your letter.</b> The letter of the call that came to you must have this sum, the poll's: <code>{}</code>."
 RESULT_LETTER = (
-    "<b>The letter of the result.</b> It came to you by another way than this page, and must name the same winner. If none came, ask "
-    "the secretary for it."
+    "<b>The letter of the result.</b> It came to you by another way than this page, and must name the same winner. It has the sum of "
+    "this page, too, which shows whether anybody has changed what stands here. If none came, ask the secretary for it."
 )
 TOGETHER = (
     "Where every elector does so on the same files, those with the sums of the letter of the result, no ballot was left out or "
@@ -166,6 +167,7 @@ def whole_commands(found: Published) -> list[Command]:
         words = COMPARE_WHOLE_SUM if found.called.is_secret else COMPARE_SUM
         commands.append((words, found.called.command, found.called.answer))
     commands.append((BALLOTS_SUM, f"sha256sum {BALLOTS}", f"{found.ballots_sum}  {BALLOTS}"))
+    commands.append((PAGE_SUM, "sha256sum index.html", None))
     return commands + times.commands(found.times)
 
 

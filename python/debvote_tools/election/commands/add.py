@@ -10,6 +10,7 @@ import sys
 from collections.abc import Callable
 
 from debvote_tools.by_hand import IN_PART, OF_TABLE
+from debvote_tools.console import is_terminal, is_yes, tell
 from debvote_tools.election.asking import command
 from debvote_tools.election.casting import Batch, cast, judged, report, sheet_of, summary
 from debvote_tools.election.doubts import (
@@ -24,11 +25,11 @@ from debvote_tools.election.doubts import (
 from debvote_tools.election.folder import Election
 from debvote_tools.election.forms import columns_of, lines_of_form
 from debvote_tools.election.letters import sources
-from debvote_tools.election.letters.adding import add_letters, came_of, is_yes
+from debvote_tools.election.letters.adding import HOW, add_letters, came_of
 from debvote_tools.election.letters.message import Raw
 from debvote_tools.election.record import Files
 from debvote_tools.election.secrecy import demand_own_folder
-from debvote_tools.election.telling import count_of, tell, tell_edits, tell_time
+from debvote_tools.election.telling import count_of, tell_edits, tell_time
 from debvote_tools.faults import Fault, Status
 from debvote_tools.files import BALLOTS_LIMIT, in_memory, read_at_most, write_new
 from debvote_tools.lines import Line, lines_in
@@ -120,7 +121,7 @@ def run(election: Election, words: argparse.Namespace) -> int:
         demand_letters_alone(boxes, inputs, is_form=asked.csv)
         raws = [raw for box in boxes for raw in box.letters]
         others = [name for box in boxes for name in box.others]
-        return add_letters(election, came_of(boxes[0].kept_as, raws, others), is_look=asked.look, is_yes=asked.yes)
+        return add_letters(election, came_of(boxes[0].kept_as, raws, others), is_look=asked.look, has_yes=asked.yes)
     if asked.look:
         return look_at(election, inputs, table)
     try:
@@ -344,7 +345,7 @@ def ask_about_rest(election: Election, inputs: list[Input], before: list[Before 
         tell(f"{name}: its first {count_of(one.lines, 'line')} came before, in this order, with {one.earlier}.")
     name, first = known[0]
     words = f"its first {count_of(first.lines, 'line')} came before, in this order, with {first.earlier}"
-    if not sys.stdin.isatty() or not sys.stdout.isatty() or not is_yes(f"{name}: {words}. Add the lines behind them alone?"):
+    if not is_terminal() or not is_yes(f"{name}: {words}. Add the lines behind them alone?", HOW):
         cure = "add the lines behind them alone with --yes, or all of them once more with --even-so"
         raise Fault(name, words, cure, Status.DOUBT, "nothing was added")
 

@@ -16,7 +16,8 @@ from debvote_tools.election.letters.quoting import own_words
 from debvote_tools.election.letters.reading import LONGEST_LINE
 from debvote_tools.election.record import Files
 from debvote_tools.election.secrecy import demand_own_folder
-from debvote_tools.election.telling import tell, tell_edits, tell_time
+from debvote_tools.console import tell
+from debvote_tools.election.telling import tell_edits, tell_time
 from debvote_tools.faults import Fault, Status
 from debvote_tools.files import uninterrupted, write_new
 from debvote_tools.lines import Line, changed

@@ -14,7 +14,8 @@ from debvote_tools.election.letters import mail, plan, store, texts
 from debvote_tools.election.letters.mail import Mail
 from debvote_tools.election.record import Files
 from debvote_tools.election.secrecy import demand_own_folder
-from debvote_tools.election.telling import count_of, tell, tell_edits
+from debvote_tools.console import tell
+from debvote_tools.election.telling import count_of, tell_edits
 from debvote_tools.faults import Fault, Status
 from debvote_tools.files import uninterrupted
 from debvote_tools.members import Member, members_in

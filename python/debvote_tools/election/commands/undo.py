@@ -12,7 +12,8 @@ from debvote_tools.election.folder import Election
 from debvote_tools.election.letters import store
 from debvote_tools.election.record import Files
 from debvote_tools.election.secrecy import demand_own_folder
-from debvote_tools.election.telling import count_of, tell, tell_edits, tell_what_is_gone, time_of
+from debvote_tools.console import tell
+from debvote_tools.election.telling import count_of, tell_edits, tell_what_is_gone, time_of
 from debvote_tools.faults import Fault, Status
 from debvote_tools.files import in_memory, uninterrupted, write_new
 from debvote_tools.journal import Entry

@@ -2,7 +2,6 @@
 
 import dataclasses
 import pathlib
-import sys
 
 from debvote_tools.announced import announced_in, in_words as time_in_words
 from debvote_tools import announced, journal
@@ -17,12 +16,17 @@ from debvote_tools.election.letters.plan import LATE, Decided, Plan, plan_of
 from debvote_tools.election.letters.reading import Near
 from debvote_tools.election.record import Files
 from debvote_tools.election.secrecy import demand_own_folder
-from debvote_tools.election.telling import count_of, tell, tell_edits, tell_time, tell_what_is_gone
+from debvote_tools.console import is_terminal, is_yes, tell
+from debvote_tools.election.telling import count_of, tell_edits, tell_time, tell_what_is_gone
 from debvote_tools.faults import Fault, Status
 from debvote_tools.files import in_memory, uninterrupted, write_new
-from debvote_tools.lines import differences, shown
+from debvote_tools.lines import differences
+from debvote_tools.signs import shown_line
 
 WAITS = "waits"
+
+# what is said where a question is answered otherwise
+HOW = "Type y for yes, or n for no."
 
 
 @dataclasses.dataclass(frozen=True)
@@ -40,10 +44,10 @@ def came_of(kept_as: str, raws: list[Raw], others: list[str]) -> Came:
 
 
 # ---------------------------------------------------------------- look, ask, add
-def add_letters(election: Election, came: Came, *, is_look: bool, is_yes: bool) -> int:
+def add_letters(election: Election, came: Came, *, is_look: bool, has_yes: bool) -> int:
     """Adds letters, and returns the exit status. Without a yes it asks at a terminal, and otherwise changes nothing."""
     seen: Plan | None = None
-    if is_look or not is_yes:
+    if is_look or not has_yes:
         with election.reading() as files:
             demand_own_folder(election)
             seen = plan_of(election, files, came.letters)
@@ -71,28 +75,15 @@ def add_letters(election: Election, came: Came, *, is_look: bool, is_yes: bool) 
 def demand_yes(election: Election, plan: Plan) -> None:
     """Asks at a terminal; elsewhere it stops."""
     what = f"Enter {count_of(len(plan.entering), 'ballot')}" if plan.entering else f"Keep {count_of(len(plan.held), 'letter')}"
-    if not sys.stdin.isatty() or not sys.stdout.isatty():
+    if not is_terminal():
         cure = f"look at what stands above, then repeat the command with --yes: {command(election, 'add', '--yes', 'FILE')}"
         raise Fault(
             "add", "letters are added when somebody has looked at what becomes of each", cure, Status.DOUBT, "nothing was added"
         )
-    if not is_yes(f"{what}?"):
+    if not is_yes(f"{what}?", HOW):
         raise Fault(
             "add", "you did not say yes", "run the command again when you want to add them", Status.DOUBT, "nothing was added"
         )
-
-
-def is_yes(question: str) -> bool:
-    """Asks at a terminal; the end of the input is a no."""
-    while True:
-        tell(f"{question} [y/n] ", end="")
-        answer = sys.stdin.readline()
-        if not answer:
-            tell("")
-        word = answer.strip().lower()
-        if word in ("y", "yes", "n", "no") or not answer:
-            return word in ("y", "yes")
-        tell("Type y for yes, or n for no.")
 
 
 def tell_stage(election: Election, files: Files) -> None:
@@ -126,7 +117,7 @@ def tell_source(came: Came, plan: Plan) -> None:
 
 def tell_others(came: Came) -> None:
     if came.others:
-        which = ", ".join(shown(name.encode("utf-8", "surrogateescape")) for name in came.others[:5])
+        which = ", ".join(shown_line(name.encode("utf-8", "surrogateescape")) for name in came.others[:5])
         more = f" and {len(came.others) - 5} more" if len(came.others) > 5 else ""
         tell(
             f"Note: {count_of(len(came.others), 'file')} of the folder {'is' if len(came.others) == 1 else 'are'} no letter: {which}{more}"
@@ -162,14 +153,16 @@ def plan_lines(one: Decided, names: list[str]) -> list[str]:
     voter, _, ranks = one.ballot.text.decode("ascii").partition(" ")
     before, after = one.ballot.came, one.ballot.text
     changes = (
-        [] if before == after else [f"  `{shown(before)}` is read as `{shown(after)}` ({', '.join(differences(before, after))})"]
+        []
+        if before == after
+        else [f"  `{shown_line(before)}` is read as `{shown_line(after)}` ({', '.join(differences(before, after))})"]
     )
     return [*changes, f"  goes in: {voter}: {in_words(ranks, names)}"]
 
 
 def near_lines(near: list[Near]) -> list[str]:
     """The lines of a letter that come near to a ballot."""
-    return [f"  line {line.number}, `{shown(line.text.encode())}`: {line.why}" for line in near]
+    return [f"  line {line.number}, `{shown_line(line.text.encode())}`: {line.why}" for line in near]
 
 
 # ---------------------------------------------------------------- what is entered
