@@ -39,3 +39,4 @@ complete -c debvote-election -n "__fish_seen_subcommand_from publish" -l labels 
 complete -c debvote-election -n "__fish_seen_subcommand_from publish" -l about -r -F -d "A text for the page"
 complete -c debvote-election -n "__fish_seen_subcommand_from publish" -l who -r -F -d "The list of members, with real names"
 complete -c debvote-election -n "__fish_seen_subcommand_from publish" -l because -x -d "Why the doubts are none"
+complete -c debvote-election -n "__fish_seen_subcommand_from publish" -l texts-read -d "In a secret vote: everybody may read the texts for the page"

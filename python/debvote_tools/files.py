@@ -17,6 +17,9 @@ from debvote_tools.faults import Fault, Status
 # in bytes; one more is read of a longer file, so that debvote says that it is too long
 POLL_LIMIT, BALLOTS_LIMIT = 1_048_576, 33_554_432
 
+# in bytes; ten thousand members or electors, with a letter about each, are shorter
+TABLE_LIMIT = 33_554_432
+
 # in lines
 LINES_LIMIT = 100_000
 
@@ -79,11 +82,31 @@ def write_whole(file: pathlib.Path, data: bytes, mode: int = 0o644) -> None:
         raise Written(error.errno, error.strerror, str(file)) from None
 
 
-def take_away_temporaries(folder: pathlib.Path) -> None:
-    """Removes the temporaries that runs that were killed have left in a folder, and no other file."""
-    for file in folder.glob(f"{TEMPORARY}*"):
-        if stat.S_ISREG(file.lstat().st_mode):
-            file.unlink()
+def temporary_folder(place: pathlib.Path) -> pathlib.Path:
+    """Makes a folder for what is moved to its place once it is whole, or was moved away from there. Raises OSError."""
+    return pathlib.Path(tempfile.mkdtemp(prefix=TEMPORARY, dir=place))
+
+
+def take_away_temporaries(folder: pathlib.Path, names: tuple[str, ...] = ()) -> None:
+    """Removes the temporaries that runs that were killed have left in a folder, and no other file.
+
+    One that is a folder may have files of these names. The caller holds the lock alone, so that no run is at work on one.
+    """
+    for left in folder.glob(f"{TEMPORARY}*"):
+        mode = left.lstat().st_mode
+        if stat.S_ISREG(mode):
+            left.unlink()
+        elif stat.S_ISDIR(mode) and names:
+            take_away_temporaries(left)
+            take_away_folder(left, names)
+
+
+def take_away_folder(folder: pathlib.Path, names: tuple[str, ...]) -> None:
+    """Removes the files of these names, and their folder where nothing else is in it."""
+    with contextlib.suppress(OSError):
+        for name in names:
+            (folder / name).unlink(missing_ok=True)
+        folder.rmdir()
 
 
 def write_public(file: pathlib.Path, data: bytes) -> None:

@@ -2,8 +2,8 @@
 
     2026-11-25T18:04:11Z  add  13-15  <sum of poll.toml>  <sum of ballots>
 
-Its parts have a tab between them, and `-` stands for what there is not. A line is written before the act is done, and gets its
-line feed after that. So where a run is killed between the two, the next act finds a line that is not ended: either the files have
+Its parts have a tab between them, and `-` stands for what there is not. An act that casts lines has the sum of these lines as a
+sixth part. A line is written before the act is done, and gets its line feed after that. So where a run is killed between the two, the next act finds a line that is not ended: either the files have
 its sums, and it is ended, or the act was not done, and this is noted.
 """
 
@@ -28,7 +28,7 @@ NONE = "-"
 TIME = r"\d{4}-\d\d-\d\dT\d\d:\d\d:\d\dZ"
 
 # an entry to its last byte; a line that was cut off within it does not fit
-WHOLE = re.compile(rb"[^\t\n]+\t[^\t\n]+\t[^\t\n]+\t(?:-|[0-9a-f]{64})\t(?:-|[0-9a-f]{64})")
+WHOLE = re.compile(rb"[^\t\n]+\t[^\t\n]+\t[^\t\n]+\t(?:-|[0-9a-f]{64})\t(?:-|[0-9a-f]{64})(?:\t[0-9a-f]{64})?")
 
 
 @dataclasses.dataclass(frozen=True)
@@ -45,15 +45,24 @@ class Sums:
 
 @dataclasses.dataclass(frozen=True)
 class Entry:
-    """A line of the journal: the time in UTC, the act, the envelopes as `13-15`, and the sums after the act."""
+    """A line of the journal: the time in UTC, the act, the envelopes as `13-15`, the sums after the act, and the sum of the lines
+    that it cast, each with its line feed; other acts, and those of earlier versions, have none.
+    """
 
     time: str
     act: str
     envelopes: str
     sums: Sums
+    cast: str | None = None
 
     def line(self) -> str:
-        return "\t".join((self.time, self.act, self.envelopes, self.sums.poll, self.sums.ballots)) + "\n"
+        cast = () if self.cast is None else (self.cast,)
+        return "\t".join((self.time, self.act, self.envelopes, self.sums.poll, self.sums.ballots, *cast)) + "\n"
+
+    def number(self) -> int:
+        """How many envelopes it has; none where it is no entry of an act that casts."""
+        found = re.fullmatch(r"(\d{1,9})(?:-(\d{1,9}))?", self.envelopes)
+        return 0 if found is None else int(found[2] or found[1]) - int(found[1]) + 1
 
 
 def entries_in(file: pathlib.Path, most: int | None = None) -> list[Entry]:
@@ -74,7 +83,9 @@ def entries_in(file: pathlib.Path, most: int | None = None) -> list[Entry]:
 def entry_of(line: str) -> Entry | None:
     """The entry of a line."""
     row = line.split("\t")
-    return Entry(row[0], row[1], row[2], Sums(row[3], row[4])) if len(row) == 5 and re.fullmatch(TIME, row[0]) else None
+    return (
+        Entry(row[0], row[1], row[2], Sums(row[3], row[4]), *row[5:]) if len(row) in (5, 6) and re.fullmatch(TIME, row[0]) else None
+    )
 
 
 def last_entries(file: pathlib.Path) -> list[Entry]:
@@ -126,9 +137,9 @@ def note(file: pathlib.Path, act: str, envelopes: str, sums: Sums) -> None:
     append_whole(file, line_now(act, envelopes, sums) + b"\n", has_lines=True)
 
 
-def begin(file: pathlib.Path, act: str, envelopes: str, sums: Sums) -> None:
+def begin(file: pathlib.Path, act: str, envelopes: str, sums: Sums, cast: str | None = None) -> None:
     """Notes that an act begins. Raises OSError, and then nothing is noted."""
-    append_whole(file, line_now(act, envelopes, sums), has_lines=True)
+    append_whole(file, line_now(act, envelopes, sums, cast), has_lines=True)
 
 
 def end(file: pathlib.Path) -> None:
@@ -141,7 +152,7 @@ def end_undone(file: pathlib.Path, sums: Sums) -> None:
     append_whole(file, b"\n" + line_now(UNDONE, NONE, sums) + b"\n")
 
 
-def line_now(act: str, envelopes: str, sums: Sums) -> bytes:
+def line_now(act: str, envelopes: str, sums: Sums, cast: str | None = None) -> bytes:
     """The line of an act at this time, without its line feed."""
     time = datetime.datetime.now(datetime.UTC).strftime("%Y-%m-%dT%H:%M:%SZ")
-    return Entry(time, act, envelopes, sums).line().removesuffix("\n").encode("ascii")
+    return Entry(time, act, envelopes, sums, cast).line().removesuffix("\n").encode("ascii")

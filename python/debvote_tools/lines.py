@@ -15,9 +15,6 @@ BLANKS = b" \t"
 # a line and its end; a carriage return alone ends a line too
 PART = re.compile(rb"([^\r\n]*)(\r\n|\n|\r|\Z)")
 
-# so much of a line is shown
-SHOWN = 100
-
 # what is taken out, by its name
 SIGNS = {"byte-order mark": MARK, "carriage return": b"\r", "line feeds": b"\n", "tabs": b"\t", "spaces": b" "}
 CAPITALS = re.compile(rb"[A-Z]")
@@ -80,11 +77,3 @@ def differences(before: bytes, after: bytes) -> list[str]:
     if len(CAPITALS.findall(before)) > len(CAPITALS.findall(after)):
         found.append("capital letters")
     return found
-
-
-def shown(line: bytes) -> str:
-    """A line as it can be shown: no signs that steer a terminal, and of a long one the beginning."""
-    text = line.decode("utf-8", "backslashreplace")
-    cut = text if len(text) <= SHOWN else text[:SHOWN] + ".."
-    known = {"\r": "\\r", "\n": "\\n", "\t": "\\t"}
-    return "".join(known.get(sign) or (sign if sign.isprintable() else f"\\u{ord(sign):04X}") for sign in cut)

@@ -7,8 +7,9 @@ import support
 
 sys.path.insert(0, str(support.ROOT / "python"))
 
-from debvote_tools.lines import changed, differences, lines_in, shown  # noqa: E402
+from debvote_tools.lines import changed, differences, lines_in  # noqa: E402
 from debvote_tools.shapes import plain_words  # noqa: E402
+from debvote_tools.signs import shown_line  # noqa: E402
 
 
 class Changes(unittest.TestCase):
@@ -88,11 +89,11 @@ class Ends(unittest.TestCase):
 
 class Shown(unittest.TestCase):
     def test_nothing_steers_the_terminal(self) -> None:
-        self.assertEqual(shown(b"a\x1b[2Jb\t\r\n\x00\xff"), "a\\u001B[2Jb\\t\\r\\n\\u0000\\xff")
-        self.assertEqual(shown("“ada” \u00a0\u202e".encode()), "“ada” \\u00A0\\u202E")
+        self.assertEqual(shown_line(b"a\x1b[2Jb\t\r\n\x00\xff"), "a\\u001B[2Jb\\t\\r\\n\\u0000\\xff")
+        self.assertEqual(shown_line("“ada” \u00a0\u202e".encode()), "“ada” \\u00A0\\u202E")
 
     def test_a_long_line_is_cut(self) -> None:
-        self.assertEqual(shown(b"x" * 1000), "x" * 100 + "..")
+        self.assertEqual(shown_line(b"x" * 1000), "x" * 100 + "..")
 
 
 class PlainWords(unittest.TestCase):

@@ -11,7 +11,8 @@ use Rattle.vote_poll.specs.declared.Reading.{Reading}
 use Rattle.vote_poll.specs.declared.Reading.TheVariants.{Bad, Ballot}
 use Rattle.vote_count.specs.Ballots.{entry_prefers}
 use Rattle.vote_count.specs.Votes.{votes}
-use Rattle.vote_steps.specs.Recasts.{last_ballot, last_ballots, ranks_read}
+use Rattle.vote_steps.specs.History.{ranks_read}
+use Rattle.vote_steps.specs.Recasts.{last_ballot, last_ballots}
 use Rattle.vote_sheet.specs.ElectorLaws.{AreSameOrNoBallots, IsBallotFrom, IsWithinOne, OneBallotMovesEachCountByOne, OnlyTheLastBallotCounts, RefusedLinesAreOnlyCounted, RefusedLinesHaveNoInfluence}
 use Rattle.vote_sheet.specs.LastBallots.{last_valid_ballots, readings_in_time, voter_count, votes_for}
 use Rattle.vote_sheet.specs.Sheet.{Text}

@@ -10,8 +10,9 @@ from debvote_tools.election.folder import Election
 from debvote_tools.election.record import Files
 from debvote_tools.faults import Fault, Status
 from debvote_tools.files import BALLOTS_LIMIT, LINES_LIMIT
-from debvote_tools.lines import MARK, Line, lines_in, shown
+from debvote_tools.lines import MARK, Line, lines_in
 from debvote_tools.members import COLUMNS
+from debvote_tools.signs import shown_line
 
 EVEN_SO = "add it all the same with --even-so"
 
@@ -59,7 +60,7 @@ def cure_of(part: Part, is_form: bool) -> str:
         return "it looks like a table, which is added with --csv --name COLUMN --ranks COLUMN,COLUMN,.."
     first = part.ballots[0]
     why = "" if first.finding is None else f" ({first.finding.word}: {first.finding.hint})"
-    return f"look at the file, whose first line is `{shown(first.text)}`{why}"
+    return f"look at the file, whose first line is `{shown_line(first.text)}`{why}"
 
 
 def is_list_of_members(data: bytes) -> bool:

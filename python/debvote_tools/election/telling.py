@@ -4,20 +4,12 @@ import contextlib
 
 from debvote_tools import announced, journal
 from debvote_tools.announced import announced_in, in_words
+from debvote_tools.console import tell
 from debvote_tools.election.folder import Election
 from debvote_tools.election.record import Files
-from debvote_tools.faults import Fault, Status
+from debvote_tools.faults import Fault
 from debvote_tools.files import sum_of
 from debvote_tools.journal import Entry
-from debvote_tools.signs import written
-
-
-def tell(*lines: str, end: str = "\n") -> None:
-    """Writes lines to standard output, at once. Where that fails, the fault says that what was told before is done."""
-    try:
-        print(*map(written, lines), sep="\n", end=end, flush=True)
-    except OSError:
-        raise Fault(None, "the output failed", "ask debvote-election status", Status.BAD_OUTPUT, "what was told is done") from None
 
 
 def count_of(number: int, what: str) -> str:

@@ -9,6 +9,7 @@ import re
 import sys
 
 from debvote_tools.by_hand import OF_TABLE
+from debvote_tools.console import tell
 from debvote_tools.election.asking import command
 from debvote_tools.election.casting import Batch, cast, sheet_of, summary
 from debvote_tools.election.doubts import Part, stop_at_added_before, stop_at_no_ballot, stop_at_too_much
@@ -16,7 +17,7 @@ from debvote_tools.election.folder import Election
 from debvote_tools.election.forms import columns_of, lines_of_form
 from debvote_tools.election.record import Files
 from debvote_tools.election.secrecy import demand_own_folder
-from debvote_tools.election.telling import tell, tell_edits, tell_time
+from debvote_tools.election.telling import tell_edits, tell_time
 from debvote_tools.faults import Fault, Status
 from debvote_tools.files import BALLOTS_LIMIT, in_memory, read_at_most, write_new
 from debvote_tools.lines import Line, lines_in

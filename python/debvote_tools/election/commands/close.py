@@ -6,13 +6,14 @@ import re
 
 from debvote_tools import announced, closed, journal, poll_file, secret
 from debvote_tools.announced import announced_in, in_words, minute_of
+from debvote_tools.console import tell
 from debvote_tools.election import closing_letter
 from debvote_tools.election.asking import NO_BALLOTS, command, refused
 from debvote_tools.election.edited import EVEN_SO, stop_at_changes
 from debvote_tools.election.folder import Election
 from debvote_tools.election.record import Files
 from debvote_tools.election.secrecy import demand_own_folder
-from debvote_tools.election.telling import count_of, tell, tell_edits, tell_what_is_gone, time_of
+from debvote_tools.election.telling import count_of, tell_edits, tell_what_is_gone, time_of
 from debvote_tools.faults import Fault, Status
 from debvote_tools.files import in_memory, sum_of, uninterrupted
 from debvote_tools.journal import Entry
@@ -184,6 +185,9 @@ def letter_words(election: Election) -> str:
 
 def called_sum(election: Election) -> list[str]:
     """The sum of the poll under aliases that was called. What hinders to read it does not hinder the close."""
+    gone = secret.copy_is_gone(election.codes, election.poll.read_bytes())
+    if gone is not None:
+        return [f"Note: {gone.line()}"]
     try:
         found = sum_of(secret.private_bytes(election.called_aliases))
     except Fault as fault:

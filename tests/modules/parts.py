@@ -1,15 +1,16 @@
 """Parts of the tests: each is a program whose last line is 'N passed, M failed'. They run side by side, and their sum is told.
 
-A line of a part that begins with 'skipped: ' says what it has left out, and why.
+A line of a part that begins with 'skipped: ' says what it has left out, and why: 'skipped: TEST: WHY', or 'skipped: WHY'.
 """
 
+import collections
 import dataclasses
 import pathlib
 import re
 import subprocess
 from collections.abc import Iterable
 
-ROOT = pathlib.Path(__file__).resolve().parent.parent
+ROOT = pathlib.Path(__file__).resolve().parent.parent.parent
 
 COUNT = re.compile(r"(\d+) passed, (\d+) failed")
 SKIPPED = re.compile(r"skipped: (.*)")
@@ -19,13 +20,19 @@ COUNT_OF_TRY = re.compile(r"test result: \w+\. (\d+) passed; (\d+) failed;.*")
 
 @dataclasses.dataclass(frozen=True)
 class Count:
-    """How many tests passed, and how many failed."""
+    """How many tests passed, how many failed, and why others were skipped."""
 
     passed: int
     failed: int
+    skipped: tuple[str, ...] = ()
+
+    def __add__(self, other: "Count") -> "Count":
+        return Count(self.passed + other.passed, self.failed + other.failed, self.skipped + other.skipped)
 
     def __str__(self) -> str:
-        return f"{self.passed} passed, {self.failed} failed"
+        said = f"{self.passed} passed, {self.failed} failed"
+        reasons = [f"{why} ({number})" for why, number in collections.Counter(self.skipped).most_common()]
+        return f"{said}; {len(self.skipped)} skipped: {', '.join(reasons)}" if reasons else said
 
 
 class Part:
@@ -68,6 +75,12 @@ def with_status(counts: list[Count], status: int) -> Count:
     return Count(sum(count.passed for count in counts), failed or int(status != 0 or not counts))
 
 
+def reason(skipped: str) -> str:
+    """Why something was skipped, without the name of the test; names of tests have no spaces."""
+    name, _, why = skipped.partition(": ")
+    return why if why and " " not in name else skipped
+
+
 def tell(parts: Iterable[Part]) -> Count:
     """Waits for the parts, tells what each said, how long it took and what was skipped, and returns their sum."""
     parts = list(parts)
@@ -80,4 +93,4 @@ def tell(parts: Iterable[Part]) -> Count:
         print(part.seconds.read_text().rstrip("\n") if part.seconds.exists() else f"{part.name}: it was killed", flush=True)
     skipped = [line for part in parts for line in part.skipped()]
     print(f"{len(skipped)} skipped{':' if skipped else ''}", *skipped, sep="\n  ", flush=True)
-    return Count(sum(count.passed for count in counts), sum(count.failed for count in counts))
+    return sum(counts, Count(0, 0, tuple(map(reason, skipped))))

@@ -26,11 +26,16 @@ MOST = 5
 
 
 class Tally(unittest.TextTestResult):
-    """What became of each test, by its name."""
+    """What became of each test, by its name, and how many facts with names of their own the tests asked for."""
 
     def __init__(self, *words: object, **how: object) -> None:
         super().__init__(*words, **how)
         self.passed: list[str] = []
+        self.facts = 0
+
+    def addSubTest(self, test: unittest.TestCase, subtest: unittest.TestCase, err: object) -> None:
+        super().addSubTest(test, subtest, err)
+        self.facts += 1
 
     def addSuccess(self, test: unittest.TestCase) -> None:
         super().addSuccess(test)
@@ -44,6 +49,7 @@ class Told:
     passed: list[str] = field(default_factory=list)
     skipped: dict[str, str] = field(default_factory=dict)
     printed: str = ""
+    facts: int = 0
     seconds: float = 0  # of processor, with those of the programs that it started
 
 
@@ -63,7 +69,8 @@ class Running:
         told = Told(printed=printed.read_text(encoding="utf-8", errors="replace") if printed.exists() else "")
         if self.file.exists():
             found = json.loads(self.file.read_text(encoding="utf-8"))
-            told.passed, told.skipped, told.seconds = found["passed"], found["skipped"], found["seconds"]
+            told.passed, told.skipped = found["passed"], found["skipped"]
+            told.facts, told.seconds = found["facts"], found["seconds"]
         else:
             told.printed += f"{self.name}: it ended before its end, with status {self.process.exitcode}\n"
         return told
@@ -83,7 +90,7 @@ def run_here(tests: list[unittest.TestCase], file: pathlib.Path) -> None:
     sys.stdout.flush()
     sys.stderr.flush()
     whole = file.with_suffix(".whole")
-    told = {"passed": found.passed, "skipped": skipped_in(found), "seconds": sum(os.times()[:4])}
+    told = {"passed": found.passed, "skipped": skipped_in(found), "facts": found.facts, "seconds": sum(os.times()[:4])}
     whole.write_text(json.dumps(told), encoding="utf-8")
     whole.rename(file)
 
@@ -139,7 +146,7 @@ def run_modules(modules: list[str], at_once: int | None = None) -> int:
     """Runs the tests of these modules, tells what they came to, and returns the exit status."""
     demand_utf_8()
     classes = classes_of(modules)
-    passed, lost, skipped = 0, [], {}
+    passed, facts, lost, skipped = 0, 0, [], {}
     seconds: dict[str, float] = {}
     with tempfile.TemporaryDirectory(prefix="debvote-side-") as room:
         for one, told in run_all(classes, at_once or len(os.sched_getaffinity(0)), pathlib.Path(room)):
@@ -147,11 +154,13 @@ def run_modules(modules: list[str], at_once: int | None = None) -> int:
             names.subtract(told.passed)
             left = [name for name in names.elements() if name not in told.skipped]
             passed += len(told.passed)
+            facts += told.facts
             lost += left
             skipped |= told.skipped
             seconds[one.name] = told.seconds
             print(told.printed, end="", flush=True)
             print(*(f"FAILED {name}\n" for name in left), sep="", end="", flush=True)
+    print(f"{facts:8} facts of those tests that name more than one")
     print(f"{sum(seconds.values()):8.0f} seconds of processor, of which these took most:")
     for name in sorted(seconds, key=seconds.__getitem__, reverse=True)[:MOST]:
         print(f"{seconds[name]:8.0f} {name}")

@@ -1,8 +1,8 @@
-"""What is given to debvote-publish beside poll and ballots, and what it makes where an election is large.
+"""What is given to debvote-publish beside poll and ballots.
 
 Labels and the text of `--about` stand on the page as text, whatever they have in them; bad ones are told in a line and leave no
-folder. The sum of the call is taken from the folder `call` beside the poll. The files can be read by all whatever the umask. The
-largest page is made, and of a folder each command of the page is typed.
+folder. The sum of the call is taken from the folder `call` beside the poll. The files can be read by all whatever the umask. Of a
+folder each command of the page is typed.
 """
 
 import hashlib
@@ -10,30 +10,18 @@ import html
 import json
 import os
 import pathlib
-import random
 import re
 import shutil
 import subprocess
 import sys
 
-import publish_data
-import publish_page
-import publish_slips
-
-ROOT = pathlib.Path(__file__).resolve().parent.parent
-PROGRAM = ROOT / "crates" / "debvote" / "out" / "debvote"
-PUBLISH = ROOT / "bin" / "debvote-publish"
-PATH = os.pathsep.join([str(PROGRAM.parent), os.environ["PATH"]])
-EXAMPLES = ROOT / "examples"
-
-# what a run says where Graphviz is not installed, and so of this machine
-HAS_PICTURES = shutil.which("dot") is not None
-NO_PICTURE = "debvote-publish: no picture: Graphviz (its program dot) is not installed\n"
-
-SECONDS = 300
-
-# what the page of the largest election comes to at most, in bytes
-LARGEST_PAGE = 6_000_000
+import browser
+import data
+import elections
+import page as pages
+import slips
+import support
+from support import CAST, EXAMPLES, FILES, HAS_PICTURES, PATH, PROGRAM, PUBLISH, ROOT, SECONDS, publish, room_with
 
 WHOSE = "In the words of those who publish this page. The program has not checked them:"
 
@@ -70,25 +58,6 @@ BAD_ABOUTS = [
 ]
 
 
-def publish(room, *words, **how):
-    """What a run says, but for a picture that can't be drawn on this machine, and its status."""
-    words = [sys.executable, PUBLISH, *map(str, words)]
-    given = {"cwd": room, "env": {**os.environ, "PATH": PATH}, "capture_output": True, "text": True, "timeout": SECONDS}
-    ended = subprocess.run(words, **{**given, **how})
-    return ended.stdout, ended.stderr if HAS_PICTURES else ended.stderr.removesuffix(NO_PICTURE), ended.returncode
-
-
-def room_with(folder, example):
-    """A folder with the two files of an example."""
-    folder.mkdir(parents=True)
-    for name in ("poll.toml", "ballots"):
-        (folder / name).write_bytes((EXAMPLES / example / name).read_bytes())
-    return folder
-
-
-FILES = ["--poll", "poll.toml", "--ballots", "ballots"]
-
-
 # ---------------------------------------------------------------- labels and about
 def try_labels(expect, scratch):
     """Labels stand where names stood, with the names beside them; what looks like HTML is text. Returns the folder."""
@@ -118,7 +87,7 @@ def try_labels(expect, scratch):
         ("about, further", '<p class="about"><bdi>Über alles: \u200f&amp;amp;</bdi></p>'),
     ]:
         expect(f"labels: {name}", wanted in page, True)
-    expect("labels: nothing runs", ("<script" in page, "<img" in page), (False, False))
+    expect("labels: nothing runs", (page.count("<script"), "<script>alert" in page, "<img" in page), (1, False, False))
     expect("labels: the sheet has none", "Satzung" in (room / "result" / "sheet.txt").read_text(), False)
     for option, wanted in [("labels", BAD_LABELS), ("about", BAD_ABOUTS)]:
         for name, data, line in wanted:
@@ -161,16 +130,16 @@ def try_bad(expect, room, option, name, data, wanted):
     (room / option).write_bytes(before)
 
 
-def try_hostile_labels(expect, scratch, poll, ballots):
+def try_hostile_labels(expect, scratch):
     """A name that looks like markup is text beside its label too, wherever both stand."""
     room = scratch / "hostile-labels"
     room.mkdir()
-    (room / "poll.toml").write_text(poll)
-    (room / "ballots").write_text(ballots)
+    (room / "poll.toml").write_text(elections.HOSTILE_POLL)
+    (room / "ballots").write_text(elections.HOSTILE_BALLOTS)
     labels = {0: HOSTILE, 1: "<i>1</i>", 2: "&amp; & &#60;", 7: "</li></ul>"}
     (room / "labels").write_text("".join(f"{number}\t{text}\n" for number, text in labels.items()))
     expect("hostile labels: what is said", publish(room, *FILES, "--labels", "labels", "result")[1:], ("", 0))
-    met = publish_data.try_made_of(room / "result", labels)
+    met = data.try_made_of(room / "result", labels)
     expect("hostile labels: each part of the page", met, None)
 
 
@@ -180,7 +149,7 @@ def try_honest_words(expect, scratch):
     room = room_with(scratch / "honest", "supermajority_and_recasts")
     expect("honest words: the status", publish(room, *FILES, "result")[2], 0)
     page = (room / "result" / "index.html").read_text()
-    sections = publish_page.sections_of(page)
+    sections = pages.sections_of(page)
     said = "This is the count of the files in this folder. Whether they are what the electors sent, no count shows: "
     expect("honest words: below the result", said in sections["Result"].text(), True)
     unseen = sections["What-nobody-can-see-from-here"]
@@ -209,8 +178,11 @@ def try_honest_words(expect, scratch):
     text = verify.text()
     for said in ["Ask your secretary where to get it", "It is better taken from elsewhere", "/usr/share/doc/debvote/reference.py"]:
         expect(f"how to verify: {said}", said in text, True)
-    expect("how to verify: it promises no count in the browser", "browser" in text, False)
-    whole = publish_page.tree_of(page).text()
+    again = next(section for section in pages.tree_of(page).all("section") if "Count again here" in section.text())
+    for said in ["Your browser can count the ballots anew", "a second opinion from the same web site", "Nothing is sent."]:
+        expect(f"count again here: {said}", said in again.text(), True)
+    expect("count again here: it promises no proof", re.search("(?i)prove|verified|certain", again.text()), None)
+    whole = pages.tree_of(page).text()
     expect("ballots in the order of what?", ("in the order in which they were entered" in whole, "they came" in whole), (True, False))
     expect("nothing is said to be announced", "announced" in whole, False)
 
@@ -226,7 +198,7 @@ def try_who(expect, scratch):
     (room / "members.csv").write_text(rows, encoding="utf-8")
     (room / "ballots").write_text("".join(f"{line}\n" for line in (room / "ballots").read_text().splitlines()[:-1]))
     expect("who: what is said", publish(room, *FILES, "--who", "members.csv", "result")[1], "")
-    section = publish_page.sections_of((room / "result" / "index.html").read_text())["Who-voted"]
+    section = pages.sections_of((room / "result" / "index.html").read_text())["Who-voted"]
     found = {entry.text() for entry in section.all("li")}
     known = {"ada": "ada Ada <b>Lovelace</b> & Co", "ben": "ben Zoë \u05d3\u05d9\u05d5\u05df", "cleo": "cleo"}
     wanted = {known.get(name, f"{name} Member {name}") for name in roll}
@@ -247,7 +219,7 @@ def try_bad_who(expect, scratch):
     roll = re.findall(r'"([a-z0-9.-]+)"', (room / "poll.toml").read_text().partition("roll")[2])
     whole = "name,who,mail\n" + "".join(f"{name},Member {name},\n" for name in roll)
     missing = f"{roll[0]} of the roll has no row there; nothing was published: give the list of members of this vote with --who"
-    turned = r"`\x202EMember` has the sign U+202E, which steers a terminal or turns the direction of a text; take it out"
+    turned = r"`\u202EMember` has the sign U+202E, which steers a terminal or turns the direction of a text; take it out"
     for name, text, wanted, status in [
         ("a row is missing", whole.replace(f"{roll[0]},Member {roll[0]},\n", ""), f"m.csv: {missing}", 9),
         ("a sign that turns", whole.replace(f"Member {roll[1]}", "\u202eMember"), f"m.csv:3: {turned}", 9),
@@ -262,7 +234,7 @@ def try_bad_who(expect, scratch):
 def try_because(expect, scratch):
     """The reason of the secretary stands below the doubts, and as theirs. Without a doubt there is nothing to give one for."""
     room = scratch / "because"
-    publish_slips.Slip("because").write(room)
+    slips.Slip("because").write(room)
     (room / "ballots").write_text((room / "ballots").read_text().removesuffix("\n"))
     reason = "The editor took it <b>away</b>.\n\nI have looked."
     bad = [
@@ -274,7 +246,7 @@ def try_because(expect, scratch):
     for words, wanted in bad:
         expect(f"because {words[-1][:9]}", publish(room, *FILES, *words, "bad"), ("", f"debvote-publish: {wanted}\n", 2))
     expect("because: what is said", publish(room, *FILES, "--even-so", "--because", reason, "result")[1:], ("", 0))
-    result = publish_page.sections_of((room / "result" / "index.html").read_text())["Result"]
+    result = pages.sections_of((room / "result" / "index.html").read_text())["Result"]
     (box,) = result.all("div", "given")
     texts = [text.text() for text in box.all("p")]
     whose = "Why this is published even so, in the words of those who publish this page. The program has not checked them:"
@@ -292,23 +264,23 @@ def try_because(expect, scratch):
 def try_refused_texts(expect, scratch):
     """Each refused line stands there with its text, escaped and cut, and with the words that belong to it."""
     room = scratch / "refused-texts"
-    publish_slips.Slip("refused").write(room)
+    slips.Slip("refused").write(room)
     long = "x" * 180 + ">" + "y" * 200
     lines = ["ada;1,2,3", "<b>ada</b> 1,2,3", "", "ben 1.,2,3", "zoe 1,2,3", "zoe 1,2,3", long, "ada 1,2", "caf\u00e9\u202e 1,2,3", "cleo 1,\t2,3"]
     (room / "ballots").write_text((room / "ballots").read_text() + "".join(f"{line}\n" for line in lines))
     expect("refused texts: the status", publish(room, *FILES, "--even-so", "result")[2], 0)
     page = (room / "result" / "index.html").read_text()
-    found = [entry.text() for entry in publish_page.sections_of(page)["Refused-lines"].all("li")]
+    found = [entry.text() for entry in pages.sections_of(page)["Refused-lines"].all("li")]
     expect("refused texts", found, REFUSED_TEXTS)
     (room / "ballots").write_text((room / "ballots").read_text() + "".join(f"y{place}{'z' * 150}\n" for place in range(8_000)))
     expect("many refused texts: the status", publish(room, *FILES, "--even-so", "many")[2], 0)
     page = (room / "many" / "index.html").read_text()
-    part = publish_page.sections_of(page)["Refused-lines"]
+    part = pages.sections_of(page)["Refused-lines"]
     (told,) = re.findall(r"The texts from line (\d+) on are too many for this page: see ballots.txt.", part.text())
     last = [entry.text() for entry in part.all("li")][-1]
     cause = 'bad shape: column 33: "z" (it is one word; a ballot has a name, a space and the ranks)'
     expect("many refused texts: the last ones", last, f"lines {told} to 8013: {cause}")
-    expect("many refused texts: so many are shown", (int(told) > 5_000, len(page) < LARGEST_PAGE), (True, True))
+    expect("many refused texts: so many are shown", (int(told) > 5_000, len(page) < support.LARGEST_PAGE), (True, True))
 
 
 REFUSED_TEXTS = [
@@ -349,7 +321,7 @@ def note_call(room, called, has_close):
 def try_call(expect, scratch):
     """The sum of the call is taken from the letter beside the poll; where the poll has another one the run stops."""
     room = scratch / "call"
-    publish_slips.Slip("call").write(room)
+    slips.Slip("call").write(room)
     poll = (room / "poll.toml").read_bytes()
     called = hashlib.sha256(poll).hexdigest()
     (room / "call").mkdir()
@@ -373,7 +345,7 @@ def try_call(expect, scratch):
     output, faults, status = publish(room, *FILES, "other")
     wanted = (
         f"debvote-publish: poll.toml: it is not the poll that was called: the copy of the call has the sum {called}, and this one has the "
-        f"sum {other}; find out who changed it, and publish the poll that was called{publish_slips.EVEN_SO}\n"
+        f"sum {other}; find out who changed it, and publish the poll that was called{slips.EVEN_SO}\n"
     )
     expect("a poll that was not called", (output, faults, status), ("", wanted, 9))
     expect("a poll that was not called, even so", publish(room, *FILES, "--even-so", "other")[1:], ("", 0))
@@ -407,10 +379,10 @@ def try_commands(expect, scratch):
     before = {file.name: file.read_bytes() for file in folder.iterdir()}
     page = (folder / "index.html").read_text().partition('<h2 id="How-to-verify">')[2]
     found = re.findall(r"<pre><code>(.*?)</code></pre>\n(?:<p>It answers:</p>\n<pre><code>(.*?)</code></pre>)?", page, re.DOTALL)
-    expect("commands: how many", len({command for command, _ in found}), 15)
+    expect("commands: how many", len({command for command, _ in found}), 18)
     answers = {}
     for command, wanted in found:
-        if "| dot " in command and not HAS_PICTURES:
+        if ("| dot " in command and not HAS_PICTURES) or (command.startswith("nodejs") and shutil.which("nodejs") is None):
             continue
         environment = {**os.environ, "PATH": PATH, "PYTHONDONTWRITEBYTECODE": "1"}
         how = {"cwd": folder, "env": environment, "capture_output": True, "text": True, "timeout": SECONDS}
@@ -427,38 +399,61 @@ def try_commands(expect, scratch):
     expect("commands: the folder is as it was, its picture too", after, before)
 
 
-# ---------------------------------------------------------------- large elections
-def large_poll(options, electors):
-    """A poll with names of the greatest length, and ballots that make a cycle."""
-    rng = random.Random(1)
-    names = [f"{number} {'WMwm' * 10}"[:40] for number in range(1, options + 1)]
-    roll = [f"elector-{number}-".ljust(32, "m") for number in range(electors)]
-    *others, default = names
-    listed = [", ".join(f'"{name}"' for name in texts) for texts in (others, roll)]
-    poll = f'title = "{"W" * 80}"\noptions = [{listed[0]}]\nratios = [{", ".join("1" for _ in others)}]\n'
-    poll += f'default = "{default}"\nquorum = 1\nroll = [{listed[1]}]\n'
-    ballots = ""
-    for name in roll:
-        turn, ranks = rng.choice([0, options // 3, 2 * options // 3]), list(range(1, options))
-        ballots += f"{name} {','.join(map(str, [*ranks[turn:], *ranks[:turn], options]))}\n"
-    return poll, ballots
+class GivenTest(support.PublishTest):
+    """What stands on a page beside the count; the pages are read in a browser too."""
+
+    @classmethod
+    def setUpClass(cls):
+        super().setUpClass()
+        cls.facts = []
+        cls.folders = [try_it(lambda *fact: cls.facts.append(fact), cls.scratch) for try_it in (try_labels, try_who, try_because)]
+
+    def test_labels_real_names_and_a_reason(self):
+        for fact in self.facts:
+            self.expect(*fact)
+
+    @browser.NEEDS_TIDY
+    def test_tidy(self):
+        browser.try_tidy(self.expect, self.folders)
+
+    @browser.NEEDS_BROWSER
+    def test_browser(self):
+        browser.try_pages(self.expect, self.folders, self.scratch)
+
+    @browser.NEEDS_BROWSER
+    @browser.NEEDS_PICTURES
+    def test_pictures(self):
+        browser.try_pictures(self.expect, self.folders, self.scratch, {True, False})
 
 
-def publish_large(expect, scratch, options, electors):
-    """Publishes a large election, and says how many bytes it has. Returns the folder."""
-    name = f"{options}-options-{electors}-electors"
-    room = scratch / name
-    room.mkdir()
-    poll, ballots = large_poll(options, electors)
-    (room / "poll.toml").write_text(poll)
-    (room / "ballots").write_text(ballots)
-    # whether it is a tie does not matter here
-    expect(f"{name}: its status", publish(room, *FILES, name)[2] in (0, 1), True)
-    sizes = {file.name: file.stat().st_size for file in (room / name).iterdir()}
-    print(f"{name}: index.html {sizes['index.html']} bytes, the folder {sum(sizes.values())} bytes", flush=True)
-    expect(f"{name}: its bytes", sizes["index.html"] < LARGEST_PAGE, True)
-    page = (room / name / "index.html").read_text()
-    has_picture = ('<div class="picture">\n<svg' in page, 'href="picture.svg"' in page, "scrolls sideways by itself" in page)
-    if "picture.svg" in sizes:
-        expect(f"{name}: its picture", has_picture, (True, True, True) if options <= 12 else (False, True, False))
-    return room / name
+class TextsTest(support.PublishTest):
+    def test_label_of_the_winner(self):
+        try_label_of_the_winner(self.expect, self.scratch)
+
+    def test_hostile_labels(self):
+        try_hostile_labels(self.expect, self.scratch)
+
+    def test_honest_words(self):
+        try_honest_words(self.expect, self.scratch)
+
+    def test_a_list_of_members_that_is_bad(self):
+        try_bad_who(self.expect, self.scratch)
+
+    def test_a_name_with_words_of_the_sheet(self):
+        try_a_name_with_words_of_the_sheet(self.expect, self.scratch)
+
+
+class RefusedTextsTest(support.PublishTest):
+    def test_refused_texts(self):
+        try_refused_texts(self.expect, self.scratch)
+
+
+class CallTest(support.PublishTest):
+    def test_call(self):
+        try_call(self.expect, self.scratch)
+
+    def test_modes(self):
+        try_modes(self.expect, self.scratch)
+
+    def test_commands(self):
+        try_commands(self.expect, self.scratch)

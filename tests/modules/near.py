@@ -1,7 +1,7 @@
 #!/usr/bin/env python3
 """Names that are not there: which there are that are near, or how to list them.
 
-    tests/near.py crate NAME    ends with 0 where crates.txt has the crate, else says what is near, and ends with 1
+    tests/modules/near.py crate NAME    ends with 0 where crates.txt has the crate, else says what is near, and ends with 1
 """
 
 import difflib
@@ -9,7 +9,7 @@ import pathlib
 import sys
 from collections.abc import Iterable
 
-ROOT = pathlib.Path(__file__).resolve().parent.parent
+ROOT = pathlib.Path(__file__).resolve().parent.parent.parent
 
 
 def crates() -> list[str]:
