@@ -32,8 +32,10 @@ BALLOT = re.compile(rb"[^\s,;]+ (?:-|\d{1,2})(?:,(?:-|\d{1,2}))*")
 # so many lines of each kind are told, each with its text
 MOST = 5
 
-# the acts that cast lines
-CASTING = ("add", "cast")
+# how the name ends under which lines are kept that an act has taken back, and a file of which the first lines came before: the lines
+# behind them are kept as those of a table are
+TAKEN_BACK = ".taken-back"
+IN_PART = ".in-part"
 
 
 @dataclasses.dataclass(frozen=True)
@@ -95,23 +97,27 @@ def more(number: int, what: str) -> list[str]:
 def changes_in(folder: pathlib.Path, acts: Sequence[Entry], ballots: bytes) -> Changes:
     """What was done by hand to the ballots of the election in this folder: before the close, or else to those that came late.
 
-    The acts are those that were done. Where the journal says that nobody has edited the ballots, nothing more is read.
+    The acts are those that were done. Where the journal says that nobody has edited the ballots, and its acts make them what they
+    are, nothing more is read.
     """
     before, late = parted(folder, acts, ballots)
     until = acts_until_close(acts)
     now = {sum_of(b"".join(line + b"\n" for line in before)), sum_of(ballots), *([] if ballots else [journal.NONE])}
-    first = first_edit(until, now)
-    if first is None and not is_edited_since(acts[len(until) - 1 :], ballots):
-        return NOTHING
-    came = came_in(folder)
-    there = collections.Counter(before + late)
-    missing = [line for line in came if not taken(there, line)]
+    first, is_late = first_edit(until, now), False
     if first is None:
-        fewer = sum(entry.number() for entry in acts[len(until) :] if entry.act in CASTING) - len(late)
+        is_late = is_edited_since(acts[len(until) - 1 :], ballots)
+        if not is_late and stand_as_cast(until, len(until), before, set()):
+            return NOTHING
+    came = came_in(folder)
+    there = collections.Counter(before + late + taken_back_in(folder, acts))
+    missing = [line for line in came if not taken(there, line)]
+    if is_late:
+        fewer = sum(entry.number() for entry in acts[len(until) :] if entry.act in journal.CASTING) - len(late)
         return Changes(missing, [], fewer=0 if missing else max(0, fewer), is_late=True)
     added = not_come(came, before)
-    if missing or stand_as_cast(until, first, before, {number for number, _ in added}):
-        return Changes(missing, added)
+    if missing or stand_as_cast(until, len(until) if first is None else first, before, {number for number, _ in added}):
+        # lines that were there before the first act are no edit
+        return NOTHING if first is None and not missing else Changes(missing, added)
     is_same_order = stand_as_came(before, came)
     return Changes(missing, added, is_reordered=not is_same_order, is_other=is_same_order)
 
@@ -157,12 +163,19 @@ def came_in(folder: pathlib.Path) -> list[Came]:
     """The lines of ballots that came, of all files that are kept."""
     place = folder / RECEIVED
     names = sorted(file.name for file in place.iterdir() if re.match(r"\d+-", file.name)) if place.is_dir() else []
+    names = [name for name in names if not name.endswith((TAKEN_BACK, IN_PART))]
     found = []
     for name in names:
         if (place / name).is_file():
             lines = lines_in((place / name).read_bytes(), f"{RECEIVED}/{name}")
             found += [Came(line.where, line.changed, line.kept) for line in lines if BALLOT.fullmatch(line.changed)]
     return found
+
+
+def taken_back_in(folder: pathlib.Path, acts: Sequence[Entry]) -> list[bytes]:
+    """The lines that acts have taken back: they came, and are not among the ballots."""
+    files = [folder / RECEIVED / f"{entry.record}{TAKEN_BACK}" for entry in acts if entry.act == journal.UNDO and entry.record]
+    return [line for file in files if file.is_file() for line in lines_of(file.read_bytes())]
 
 
 def taken(there: collections.Counter[bytes], line: Came) -> bool:
@@ -185,17 +198,27 @@ def stand_as_cast(acts: Sequence[Entry], first: int, lines: list[bytes], left_ou
     Where an act has no sum of its own lines, they have to begin with what stood there before the first edit.
     """
     own = [line for number, line in enumerate(lines, start=1) if number not in left_out]
-    casts = [entry for entry in acts if entry.act in CASTING]
+    casts = journal.cast_and_not_undone(acts)
+    # lines that were there before the first act, or before a journal that was lost, may be left out or not
+    there = casts[0].first() - 1 if casts else 0
+    starts = {0, max(0, there), max(0, there - sum(number <= there for number in left_out))}
+    if not any(follow(casts, own[start:]) for start in starts):
+        return False
+    last = next(reversed(journal.cast_and_not_undone(acts[:first])), None)
+    if last is None or all(entry.cast is not None for entry in casts):
+        return True
+    return sum_of_lines(own[: last.last()]) == last.sums.ballots
+
+
+def follow(casts: list[Entry], lines: list[bytes]) -> bool:
+    """Whether the lines begin with those that the acts have cast, as far as these have a sum of them."""
     place = 0
     for entry in casts:
         end = place + entry.number()
-        if entry.cast is not None and entry.cast != sum_of_lines(own[place:end]):
+        if entry.cast is not None and entry.cast != sum_of_lines(lines[place:end]):
             return False
         place = end
-    last = next((entry for entry in reversed(acts[:first]) if entry.act in CASTING), None)
-    if last is None or all(entry.cast is not None for entry in casts):
-        return True
-    return sum_of_lines(own[: int(last.envelopes.rpartition("-")[2])]) == last.sums.ballots
+    return True
 
 
 def stand_as_came(lines: list[bytes], came: list[Came]) -> bool:

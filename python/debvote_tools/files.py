@@ -10,7 +10,7 @@ import re
 import signal
 import stat
 import tempfile
-from collections.abc import Iterator
+from collections.abc import Iterable, Iterator
 
 from debvote_tools.faults import Fault, Status
 
@@ -54,7 +54,7 @@ def sync_folder(folder: pathlib.Path) -> None:
         os.close(handle)
 
 
-def write_whole(file: pathlib.Path, data: bytes, mode: int = 0o644) -> None:
+def write_whole(file: pathlib.Path, data: bytes | Iterable[bytes | memoryview], mode: int = 0o644) -> None:
     """Writes a file whole or not at all: a temporary beside it is brought to the disk, and takes its place.
 
     A file that was there keeps its mode; a new one gets this mode, less what the umask takes. Raises OSError, and then the file
@@ -64,7 +64,7 @@ def write_whole(file: pathlib.Path, data: bytes, mode: int = 0o644) -> None:
     handle, name = tempfile.mkstemp(prefix=TEMPORARY, dir=file.parent)
     try:
         with os.fdopen(handle, "wb") as target:
-            target.write(data)
+            target.writelines([data] if isinstance(data, bytes) else data)
             target.flush()
             os.fchmod(target.fileno(), mode)
             os.fsync(target.fileno())

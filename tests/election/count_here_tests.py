@@ -234,6 +234,8 @@ class OpenPage(CountHere):
             {**files, "ballots.txt": b"ada 1,2,3\n"},
             {"poll.toml": files["poll.toml"]},
             {**files, "poll.toml": b"title ="},
+            {**files, "poll-2.toml": files["poll.toml"]},
+            {**files, "poll.toml": files["poll.toml"] + b"#" * 1_048_576},
         ]
         found = self.press(*({"files": job} for job in jobs))
         for answer in (found[0], found[1], found[3]):
@@ -241,7 +243,9 @@ class OpenPage(CountHere):
         self.assertTrue(found[2]["rows"][0].startswith("Not the same: line 24 differs."), found[2])
         self.assertTrue(found[4]["rows"][0].startswith("Not the same: line 4 differs."), found[4])
         self.assertIn("This page does not name it: the files are others than those from which it was made.", "".join(found[4]["rows"]))
-        self.assertEqual(found[5]["rows"], ["Choose at least poll.toml and ballots.txt, by these names."])
+        choose = ["Choose poll.toml and ballots.txt, by these names and one of each; sheet.txt may be with them."]
+        self.assertEqual([found[at]["rows"] for at in (5, 7)], [choose, choose])
+        self.assertEqual(found[8]["rows"], ["These files cannot be counted: poll too long."])
         self.assertEqual(found[6]["rows"], ["These files cannot be counted: poll refused: syntax."])
 
     def test_a_large_election(self) -> None:

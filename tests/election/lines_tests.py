@@ -22,22 +22,47 @@ class Changes(unittest.TestCase):
             b"ada \t 1,2": b"ada 1,2",
             b"Ada.B-9 1,2": b"ada.b-9 1,2",
             b"ADA -,1": b"ada -,1",
+            # what can mean one thing only
+            b"ada\xc2\xa01,2": b"ada 1,2",
+            b"ada\xe2\x80\xaf1,2": b"ada 1,2",
+            b"ada 1,2.": b"ada 1,2",
+            b"ada:1,2": b"ada 1,2",
+            b"Ada : 1,2": b"ada 1,2",
+            b"ada 1;2": b"ada 1,2",
+            b"ada 1; 2;3": b"ada 1,2,3",
+            b'"ada 1,2"': b"ada 1,2",
+            b"'ada 1,2.'": b"ada 1,2",
+            b'"ada 1,2".': b"ada 1,2",
+            "\u201cada 1,2\u201d".encode(): b"ada 1,2",
+            "\u201eAda: 1; \u2013; 2.\u201c".encode(): b"ada 1,-,2",
+            "\u00bbada 1,2\u00ab".encode(): b"ada 1,2",
+            "ada 1,\u2014,\u2212".encode(): b"ada 1,-,-",
+            b"**ada 1,2**": b"ada 1,2",
+            b"*ada* 1,2": b"ada 1,2",
+            b"ada *1,2*": b"ada 1,2",
+            b"ada 1,*2*,3": b"ada 1,2,3",
         }
         for came, wanted in cases.items():
             self.assertEqual(changed(came), wanted)
 
     def test_what_is_not_changed(self) -> None:
-        # a no-break space, a line tabulator, quotation marks, a point, a capital that is no rank, letters not in ASCII, ..
+        # a line tabulator, quotation marks within the line, points, a capital that is no rank, letters not in ASCII, ..
         for came in (
-            b"ada\xc2\xa01,2",
             b"ada 1,2\x0b",
             b'"ada" 1,2',
-            b"ada 1,2.",
+            b'"ada 1,2',
+            b"ada 1,2..",
+            b"ada 1.,2",
+            b"ada 1*2*3",
+            b"ada *1,2",
             b"ada 1,X",
             "Ädä 1,2".encode(),
+            "anna\u2013maria 1,2".encode(),
+            "ada 1\u20132".encode(),
             b"ada 1 2,3",
             b"A>B>C",
-            b"ada:1,2",
+            b"ada:b",
+            b"ada 1:2",
             b"\xff 1,2",
             b"ada 1,2,",
             b"ada 1,,2",

@@ -379,7 +379,7 @@ def try_commands(expect, scratch):
     before = {file.name: file.read_bytes() for file in folder.iterdir()}
     page = (folder / "index.html").read_text().partition('<h2 id="How-to-verify">')[2]
     found = re.findall(r"<pre><code>(.*?)</code></pre>\n(?:<p>It answers:</p>\n<pre><code>(.*?)</code></pre>)?", page, re.DOTALL)
-    expect("commands: how many", len({command for command, _ in found}), 18)
+    expect("commands: how many", len({command for command, _ in found}), 17)
     answers = {}
     for command, wanted in found:
         if ("| dot " in command and not HAS_PICTURES) or (command.startswith("nodejs") and shutil.which("nodejs") is None):

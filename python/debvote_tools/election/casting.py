@@ -147,12 +147,13 @@ def cast(
     act: str,
     files: Files,
     lines: list[Line],
-    keep: Callable[[], None],
+    keep: Callable[[], str | None],
     look: Callable[[Batch], None] = lambda batch: None,
 ) -> Batch:
     """Casts lines, none of them empty, and tells what became of each. The caller holds the lock alone.
 
-    First `look` may stop at what debvote says of the batch. Then `keep` keeps what came, also where debvote refuses the whole.
+    First `look` may stop at what debvote says of the batch. Then `keep` keeps what came, also where debvote refuses the whole, and
+    returns the name of the record of the act, if it has one.
     Nothing is told before it is done, and what is done is told: an interrupt waits.
     """
     try:
@@ -165,12 +166,12 @@ def cast(
     look(batch)
     with uninterrupted():
         election.begin_journal()
-        keep()
+        record = keep() or ""
     first, last = batch.ballots[0].envelope, batch.ballots[-1].envelope
     envelopes = str(first) if first == last else f"{first}-{last}"
     with uninterrupted():
         own = b"".join(ballot.text + b"\n" for ballot in batch.ballots)
-        election.act(act, files, envelopes, ballots=batch.new, cast=own)
+        election.act(act, files, envelopes, ballots=batch.new, cast=own, record=record)
         try:
             tell(*report(election, batch))
         except OutputFailed as fault:

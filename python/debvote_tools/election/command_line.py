@@ -15,7 +15,22 @@ from debvote_tools.files import Written
 PROGRAM = "debvote-election"
 
 # the modules of the commands, in the order in which an election needs them; each has `NAME`, `HELP`, `options` and `run`
-COMMANDS = ("new", "roll", "check", "codes", "call", "add", "desk", "status", "close", "count", "publish")
+COMMANDS = (
+    "new",
+    "roll",
+    "check",
+    "codes",
+    "call",
+    "add",
+    "held",
+    "undo",
+    "letters",
+    "desk",
+    "status",
+    "close",
+    "count",
+    "publish",
+)
 
 
 # the commands that change nothing

@@ -68,6 +68,7 @@ class Election(Record):
         poll: bytes | None = None,
         ballots: bytes | None = None,
         cast: bytes | None = None,
+        record: str = "",
     ) -> Files:
         """Notes that an act begins, writes the new poll or the new ballots, whole, notes that it is done, and returns the files
         as they are after it.
@@ -77,7 +78,7 @@ class Election(Record):
         """
         after = Files(files.poll if poll is None else poll, files.ballots if ballots is None else ballots)
         self.note_found(files)
-        journal.begin(self.journal, name, envelopes, after.sums, None if cast is None else sum_of(cast))
+        journal.begin(self.journal, name, envelopes, after.sums, None if cast is None else sum_of(cast), record)
         try:
             if poll is not None:
                 write_whole(self.poll, poll)

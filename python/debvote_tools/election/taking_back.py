@@ -5,7 +5,6 @@ import os
 import re
 
 from debvote_tools import called, journal
-from debvote_tools.by_hand import CASTING
 from debvote_tools.console import tell
 from debvote_tools.election.asking import command, given_already
 from debvote_tools.election.folder import Election
@@ -65,7 +64,7 @@ def given_before(election: Election, files: Files) -> str | None:
     """That ballots were given for the poll of the call, and are not there any more; none where the journal has none."""
     acts = journal.acts_done(election.journal, files.sums)
     call = next((at for at, entry in enumerate(acts) if entry.act == called.MADE and not is_taken_back(acts[at:])), len(acts))
-    came = next((entry for entry in acts[call:] if entry.act in CASTING), None)
+    came = next((entry for entry in acts[call:] if entry.act in journal.CASTING), None)
     if came is None:
         return None
     gone = f"ballots were given for its poll at {time_of(came)}, and {election.ballots} has none now"

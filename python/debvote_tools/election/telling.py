@@ -59,7 +59,7 @@ def tell_edits(election: Election, files: Files) -> None:
     undone = election.cut_off
     if undone is not None:
         many = "envelopes" if "-" in undone.envelopes else "envelope"
-        what = f"{many} {undone.envelopes}, " if undone.act in ("add", "cast") else ""
+        what = f"{many} {undone.envelopes}, " if undone.act in journal.CASTING else ""
         kept = f"; what came is kept in {election.received}" if what else ""
         tell(f"Note: the last act ({undone.act}, {what}{time_of(undone)}) was cut off, and is not done{kept}.")
     for file in election.edited(files):
@@ -87,8 +87,7 @@ def what_differs(ballots: bytes, acts: list[Entry]) -> str:
 def lines_noted(acts: list[Entry]) -> int | None:
     """How many lines the ballots had at the last act, as far as the acts tell it."""
     same = (entry for entry in reversed(acts) if entry.sums.ballots == acts[-1].sums.ballots)
-    found = next((entry for entry in same if entry.act in ("add", "cast")), None)
-    return int(found.envelopes.rpartition("-")[2]) if found else None
+    return next((entry.lines for entry in same if entry.lines is not None), None)
 
 
 def beginning(ballots: bytes, lines: int) -> bytes:

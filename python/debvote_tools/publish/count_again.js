@@ -158,24 +158,33 @@
     return isFound ? nodes : [...nodes, element("p", sentence("letter_other"), "differs")];
   }
 
-  // The files that were chosen; the sheet is the page's where none is among them.
+  // The files that were chosen, by what they are; the sheet is the page's where none is among them. Null where one is missing, or
+  // two are of a kind. Of a file that is too long no more is read than shows it.
   async function chosen() {
-    const files = { poll: null, ballots: null, sheet: carried("Sheet-file") };
+    const found = new Map();
     for (const file of byId("Again-files").files) {
-      const kind = Object.keys(files).find((start) => file.name.toLowerCase().startsWith(start));
-      if (kind) files[kind] = new Uint8Array(await file.arrayBuffer());
+      const kind = ["poll", "ballots", "sheet"].find((start) => file.name.toLowerCase().startsWith(start));
+      if (found.has(kind)) return null;
+      if (kind) found.set(kind, new Uint8Array(await file.slice(0, MOST_BALLOT_BYTES + 1).arrayBuffer()));
     }
-    return files;
+    const files = { sheet: carried("Sheet-file"), ...Object.fromEntries(found) };
+    return files.poll && files.ballots ? files : null;
   }
 
   async function countChosen() {
-    const files = await chosen();
     answer.scrollIntoView({ block: "nearest" });
-    if (files.poll !== null && files.ballots !== null) return countAgain(files, false);
+    let files = null;
+    let key = "choose";
+    try {
+      files = await chosen();
+    } catch (error) {
+      key = "unreadable";
+    }
+    if (files !== null) return countAgain(files, false);
     asked += 1;
     progress.hidden = true;
     more.replaceChildren();
-    return answer.replaceChildren(paragraph("choose"));
+    return answer.replaceChildren(paragraph(key));
   }
 
   const ofPage = () => ({ poll: carried("Poll-file"), ballots: carried("Ballots-file"), sheet: carried("Sheet-file") });

@@ -65,7 +65,8 @@ SENTENCES = {
     "no_sums": "This browser makes no sums of a page that did not come by https. Compare them by the commands below.",
     "second": "This was a second opinion, from the same web site as the page.",
     "whole_sheet": "The whole sheet by this count",
-    "choose": f"Choose at least {POLL} and {BALLOTS}, by these names.",
+    "choose": f"Choose {POLL} and {BALLOTS}, by these names and one of each; {SHEET} may be with them.",
+    "unreadable": "A file that you chose cannot be read.",
 }
 
 STYLE = pages.resource(PACKAGE, "count_again.css")

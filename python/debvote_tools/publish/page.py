@@ -41,6 +41,10 @@ RESULT_LETTER = (
     "<b>The letter of the result.</b> It came to you by another way than this page, and must name the same winner. It has the sum of "
     "this page, too, which shows whether anybody has changed what stands here. If none came, ask the secretary for it."
 )
+COUNT_HERE = (
+    '<b>The count.</b> <a href="#Count-again-here">Count again here</a> counts the ballots of this page anew in your browser, and '
+    "compares a sum of your letter."
+)
 TOGETHER = (
     "Where every elector does so on the same files, those with the sums of the letter of the result, no ballot was left out or "
     "changed unseen, and nobody has changed what was voted on. Anybody can count these files again; one who does is enough for all "
@@ -166,7 +170,7 @@ def check(found: Published, files: list[File]) -> str:
 def enough(found: Published) -> list[str]:
     """What an elector looks at who does not count again."""
     is_secret = found.further.unlisted is not None
-    entries = [OWN_IN_SECRET if is_secret else OWN, LETTER.format(found.called.poll_sum), RESULT_LETTER]
+    entries = [OWN_IN_SECRET if is_secret else OWN, LETTER.format(found.called.poll_sum), RESULT_LETTER, COUNT_HERE]
     guide = f'<a href="{GUIDE}">{GUIDE}</a> says how, and how to read all that is here.'
     return [listed("ul", entries), paragraph(TOGETHER), paragraph(guide)]
 

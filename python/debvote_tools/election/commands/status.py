@@ -12,8 +12,10 @@ from debvote_tools.console import shows, tell
 from debvote_tools.election.asking import call_command, command, files_of, quorum_words, refused
 from debvote_tools.election.edited import changes_of
 from debvote_tools.election.folder import Election
+from debvote_tools.election.letters import store
 from debvote_tools.election.record import Files
 from debvote_tools.election.secrecy import aliases_now, demand_own_folder, publish_words
+from debvote_tools.console import tell
 from debvote_tools.election.telling import time_of
 from debvote_tools.faults import Fault, Status
 from debvote_tools.journal import Entry
@@ -57,6 +59,7 @@ def options(parser: argparse.ArgumentParser) -> None:
 def run(election: Election, asked: argparse.Namespace) -> int:
     with election.reading() as files:
         acts = acts_of(election, files)
+        waiting = store.state_of(election, files).waiting
         tell_edited(election, files, acts)
         state = state_of(election, files)
         gone = election.what_is_gone(files)
@@ -71,6 +74,7 @@ def run(election: Election, asked: argparse.Namespace) -> int:
     tell_lines(state)
     tell_electors(state)
     tell_refused(state)
+    tell_waiting(election, waiting)
     tell(f"Next: {what_next(election, acts, state)}")
     return Status.DECIDED
 
@@ -167,6 +171,12 @@ def what_next(election: Election, acts: list[Entry], state: State) -> str:
     if journal.last(acts, "close") is None:
         return f"add the ballots as they come: {add}; when the vote is over: {command(election, 'close')}"
     return f"{command(election, 'count')}, then {command(election, *publish_words(election))}"
+
+
+def tell_waiting(election: Election, waiting: list[store.Kept]) -> None:
+    """Says how many letters wait."""
+    if waiting:
+        tell(f"Letters that wait until you have looked: {len(waiting)} ({command(election, 'held')} lists them)")
 
 
 # ---------------------------------------------------------------- lines and electors
