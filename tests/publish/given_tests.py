@@ -293,7 +293,7 @@ REFUSED_TEXTS = [
     f'line 10: {"x" * 100} (the first 100 of 381 characters): bad shape: column 33: "x" '
     "(it has 381 bytes, and no ballot has more than 200)",
     "line 11: ada 1,2: bad rank count: 2 ranks, the poll has 3 options",
-    "line 12: café\\u202E 1,2,3: bad shape: column 4: byte 0xC3",
+    "line 12: café\\u202E 1,2,3: bad shape: column 4: letter e with acute (U+00E9); a voter's name has a to z, 0 to 9, . and -",
     "line 13: cleo 1,\\u00092,3: bad shape: column 8: tab (a tab; write a comma)",
 ]
 

@@ -24,7 +24,7 @@ const FINDINGS: &str = "poll: key title: an integer, and a text is wanted\n\
 
 /// The findings of a text, and its fault if it is no poll.
 fn explained(alloc: Global, text: &[u8]) -> Result<(String, Option<PollFault>), AllocError> {
-    let explained = explain_poll(alloc, text)?;
+    let explained = explain_poll(alloc, text, None)?;
     Ok((explained.findings, explained.outcome.err()))
 }
 

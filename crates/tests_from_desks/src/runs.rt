@@ -313,6 +313,7 @@ fn memory_of_perform_on_explain(rt: HostRuntime) -> Result<(), Fail> {
         poll: CYCLE.as_bytes(),
         ballots: Some(b"v0 1,2\nv1 1,2,3,4\r\n"),
         file: Some("my ballots"),
+        poll_file: None,
     };
     let findings =
         "ballots:1: bad rank count: 2 ranks, the poll has 4 options\nballots:2: bad shape: column 11: carriage return\na ballot line of this poll: v0 1,2,3,4\nlines of bad shape end with a carriage return: the file comes from Windows; take it out with tr -d '\\r' < 'my ballots' > 'my ballots'.new\n2 lines: 0 valid, 2 refused, 0 of them late; 0 of 9 electors have a ballot\n";

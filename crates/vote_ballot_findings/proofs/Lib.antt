@@ -1,4 +1,5 @@
 pub mod Texts
+pub mod FirstLetters
 pub mod LastBytes
 pub mod Distances
 pub mod NearNames

@@ -6,7 +6,8 @@ use Rattle.std.proofs.lemmas.List.Elements.{All-cons, All-head, All-tail}
 use Rattle.std.proofs.lemmas.List.{take_more, take-take, length-append}
 use Rattle.vote_poll.specs.BallotLine.{IsRank, rank_text}
 use Rattle.vote_poll_text.specs.Names.{is_voter_byte, is_within}
-use Rattle.vote_ballot_findings.specs.Column.{IsBallotText, IsColumn, IsLinePrefix}
+use Rattle.vote_poll.specs.BallotLine.{IsBallotText}
+use Rattle.vote_ballot_findings.specs.Column.{IsColumn, IsLinePrefix}
 use Rattle.vote_ballot_findings.specs.Prefixes.{AreRanks, Completes, IsIn, IsNext, IsNextState, IsReached, IsState, Part, Name, Rank, Digit, Comma, more_text}
 use Rattle.vote_ballot_findings.proofs.RankTexts.{within_bounds, within_from}
 use Rattle.vote_ballot_findings.proofs.Parts.{more_ends, ranks_from_hyphen, ranks_have_byte, named_from_space, named_from_byte}

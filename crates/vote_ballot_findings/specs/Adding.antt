@@ -9,7 +9,7 @@ use Rattle.vote_steps.specs.declared.Reply.{Reply}
 use Rattle.vote_sheet.specs.LastBallots.{refused_count, valid_count, voter_count}
 use Rattle.vote_sheet.specs.Texts.{Text}
 use Rattle.vote_steps.specs.declared.ballot_box.Totals.{Totals}
-use Rattle.vote_ballot_findings.specs.FileSigns.{example_text, has_return, is_bad_row, is_bad_shape, is_marked_shape, lacks_return, returns_text, returns_within, table_text}
+use Rattle.vote_ballot_findings.specs.FileSigns.{example_text, has_return, is_bad_row, is_bad_shape, is_marked_shape, lacks_return, mending_lines, returns_within, table_text}
 use Rattle.vote_ballot_findings.specs.Column.{IsColumnHint}
 use Rattle.vote_ballot_findings.specs.Hints.{AreFindings, IsHint, IsStrangerHint, left_after}
 use Rattle.vote_ballot_findings.specs.Refusals.{Refusal}
@@ -72,7 +72,7 @@ pub record AddsSigns (unended : ℕ) (refusals : List Refusal) (before after : F
 abbrev pub advice_of : PollContent → Bool → FileSigns → Option Text → Text
 advice_of poll is_mac signs file =
     example_text signs.has_bad_shape poll ++ table_text signs.has_row
-    ++ returns_text is_mac signs.has_return_within (signs.has_return && not signs.lacks_return) signs.is_marked file
+    ++ mending_lines is_mac signs.has_return_within (signs.has_return && not signs.lacks_return) signs.is_marked file
 
 -- ---- the whole
 -- nothing is said yet, and all searches are left

@@ -1,17 +1,14 @@
 -- Where a line leaves the grammar of ballot lines, and what stands there.
-use Rattle.std.specs.Prelude.{◌≡◌, ℕ, ◌+◌, ◌-◌, ◌/◌, ◌%◌, ◌<◌, ◌≤◌, ◌==◌, if◌then◌else◌, List, [], ◌∷◌, ◌++◌, length, take, drop, Option, unwrap_or, codes, decimal}
+use Rattle.std.specs.Prelude.{◌≡◌, ℕ, ◌+◌, ◌-◌, ◌/◌, ◌%◌, ◌<◌, ◌≤◌, ◌==◌, if◌then◌else◌, List, [], ◌∷◌, ◌++◌, length, take, drop, Option, Some, None, unwrap_or, codes, decimal}
 use Rattle.std.specs.List.{concat}
 use Rattle.std.specs.Str.{byte}
-use Rattle.vote_poll.specs.BallotLine.{IsBallotLine}
+use Rattle.vote_poll.specs.BallotLine.{IsBallotText}
 use Rattle.vote_poll.specs.PollContent.{PollContent}
 use Rattle.vote_poll_text.specs.Names.{is_printable, is_within}
+use Rattle.vote_poll_text.specs.Letters.{letter_place, letter_words}
 use Rattle.vote_poll_text.specs.Shown.{hex_digit}
 use Rattle.vote_ballot_findings.specs.Characters.{character_name}
 use Rattle.vote_ballot_findings.specs.Remarks.{column_remark}
-
--- the text is a ballot line that is not too long, of some voter and with some ranks
-abbrev pub IsBallotText : List ℕ → Type 0
-IsBallotText text = (voter : List ℕ) × (ranks : List (Option ℕ)) × IsBallotLine text voter ranks
 
 -- a ballot line begins so: some text after it makes it one
 abbrev pub IsLinePrefix : List ℕ → Type 0
@@ -45,10 +42,15 @@ byte_words b =
     else if is_printable b then quoted_words b
     else number_words b
 
--- with what the rest of a line begins: a character that has a name, or else a byte
+-- a letter with a mark, or else a byte
+abbrev pub letter_or_byte : Option ℕ → ℕ → List ℕ
+letter_or_byte (Some place) b = letter_words place
+letter_or_byte None b = byte_words b
+
+-- with what the rest of a line begins: a character that has a name, or else a letter with a mark or a byte
 unfoldable pub first_words : List ℕ → List ℕ
 first_words [] = codes "end of line"
-first_words (b ∷ rest) = unwrap_or (character_name (b ∷ rest)) (byte_words b)
+first_words (b ∷ rest) = unwrap_or (character_name (b ∷ rest)) (letter_or_byte (letter_place (b ∷ rest)) b)
 
 -- a column of a line, what stands there, and a remark
 unfoldable pub column_words : PollContent → List ℕ → ℕ → List ℕ

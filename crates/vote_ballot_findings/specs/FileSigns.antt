@@ -13,9 +13,9 @@ use Rattle.vote_poll_text.specs.Names.{is_within}
 use Rattle.vote_sheet.specs.LastBallots.{refused_count, valid_count, voter_count}
 use Rattle.vote_sheet.specs.Texts.{Text, line}
 use Rattle.vote_ballot_findings.specs.Characters.{byte_order_mark}
-use Rattle.vote_ballot_findings.specs.Commands.{mending_text}
+use Rattle.vote_poll_text.specs.Commands.{mending_text}
 use Rattle.vote_ballot_findings.specs.Refusals.{Refusal, late_count, refusals}
-use Rattle.vote_ballot_findings.specs.declared.file_signs.TheConstants.{OLD_MAC, WINDOWS, WITHIN}
+use Rattle.vote_ballot_findings.specs.declared.file_signs.TheConstants.{MARKED, OLD_MAC, UNMARKED, WINDOWS, WITHIN}
 
 -- ---- the files may be exchanged
 -- the line begins as the first key of a poll file does
@@ -135,12 +135,25 @@ goes_on_after_return text = list_any is_space (drop (position_or_len is_return t
 abbrev pub is_of_old_mac : List Text → Bool → Bool
 is_of_old_mac lines all_ended = length lines == 1 && not all_ended && goes_on_after_return (first_line lines)
 
+-- how the ends of lines are mended: by this command, or behind the one that takes a byte-order mark out
+unfoldable pub ends_text : Text → Text → Text → Bool → Option Text → Text
+ends_text cure command next true file = mending_text cure UNMARKED.now next file ++ codes "\n"
+ends_text cure command next false file = mending_text cure command [] file ++ codes "\n"
+
 -- what the carriage returns are, the first that holds: the ends of lines of an old Mac, or within lines, or those of Windows
 unfoldable pub returns_text : Bool → Bool → Bool → Bool → Option Text → Text
-returns_text true within windows marked file = mending_text OLD_MAC.now (codes "'\\r' '\\n'") marked file
+returns_text true within windows marked file = ends_text OLD_MAC.now (codes "tr '\\r' '\\n'") (codes " | tr '\\r' '\\n'") marked file
 returns_text false true windows marked file = WITHIN.now
-returns_text false false true marked file = mending_text WINDOWS.now (codes "-d '\\r'") marked file
+returns_text false false true marked file = ends_text WINDOWS.now (codes "tr -d '\\r'") (codes " | tr -d '\\r'") marked file
 returns_text false false false marked file = []
+
+-- the file has a byte-order mark, and no command for carriage returns takes it out
+abbrev pub is_mark_left : Bool → Bool → Bool → Bool → Bool
+is_mark_left mac within windows marked = marked && (not mac && (within || not windows))
+
+unfoldable pub mark_text : Bool → Option Text → Text
+mark_text true file = mending_text MARKED.now UNMARKED.now [] file ++ codes "\n"
+mark_text false file = []
 
 -- ---- a table
 -- neither a blank nor a byte that can't be printed
@@ -166,11 +179,15 @@ table_text true = line (
     codes "in a cell a hyphen stands for no rank" ∷ [])
 table_text false = []
 
--- what is advised: a ballot line that is one, how a table is brought in, and how carriage returns are mended
+-- what is told of the ends of lines and of a byte-order mark
+abbrev pub mending_lines : Bool → Bool → Bool → Bool → Option Text → Text
+mending_lines mac within windows marked file = returns_text mac within windows marked file ++ mark_text (is_mark_left mac within windows marked) file
+
+-- what is advised: a ballot line that is one, how a table is brought in, and how carriage returns and a byte-order mark are mended
 abbrev pub advice_text : PollContent → List Text → Bool → Option Text → List Refusal → Text
 advice_text poll lines all_ended file refusals =
     example_text (list_any is_bad_shape refusals) poll ++ table_text (list_any is_bad_row refusals)
-    ++ returns_text (is_of_old_mac lines all_ended) (list_any (returns_within (unended_line lines all_ended)) refusals) (is_from_windows (unended_line lines all_ended) refusals)
+    ++ mending_lines (is_of_old_mac lines all_ended) (list_any (returns_within (unended_line lines all_ended)) refusals) (is_from_windows (unended_line lines all_ended) refusals)
     (list_any is_marked_shape refusals) file
 
 -- ---- the totals

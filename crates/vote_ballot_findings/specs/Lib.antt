@@ -6,7 +6,6 @@ pub mod Column
 pub mod Nearest
 pub mod Refusals
 pub mod Hints
-pub mod Commands
 pub mod FileSigns
 pub mod Explained
 pub mod Replies

@@ -2,11 +2,11 @@
 use Rattle.std.specs.Prelude.{◌≡◌, ℕ, ◌+◌, ◌-◌, ◌≤◌, ◌⊎◌, ◌↔◌, List, ◌∷◌, ◌++◌, length, take, Option, Some, None, IsTrue, codes}
 use Rattle.std.specs.List.{All, flat_map, list_all}
 use Rattle.std.specs.Str.{byte}
-use Rattle.vote_poll.specs.BallotLine.{IsRank, rank_text}
+use Rattle.vote_poll.specs.BallotLine.{IsBallotText, IsRank, rank_text}
 use Rattle.vote_poll_text.specs.Names.{is_voter_byte, is_within}
 use Rattle.vote_poll.specs.declared.TheConstants.{MAX_LINE}
 use Rattle.vote_poll_text.specs.declared.TheConstants.{MAX_VOTER_NAME}
-use Rattle.vote_ballot_findings.specs.Column.{IsBallotText, IsLinePrefix}
+use Rattle.vote_ballot_findings.specs.Column.{IsLinePrefix}
 use Rattle.vote_ballot_findings.specs.declared.prefixes.TheConstants.{RANK, DIGIT, COMMA, NOWHERE}
 
 -- the part of a ballot line in which a prefix of it ends

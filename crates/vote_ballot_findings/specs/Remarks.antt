@@ -6,6 +6,7 @@ use Rattle.vote_poll.specs.Names.{place_of}
 use Rattle.vote_poll.specs.PollContent.{PollContent}
 use Rattle.vote_poll.specs.Readings.{is_ballot, is_space, reading}
 use Rattle.vote_poll.specs.declared.TheConstants.{MAX_LINE}
+use Rattle.vote_poll_text.specs.Letters.{letter_place}
 use Rattle.vote_poll_text.specs.Names.{is_voter_byte, is_within}
 use Rattle.vote_ballot_findings.specs.declared.TheConstants.{LOOK_AHEAD}
 use Rattle.vote_ballot_findings.specs.declared.remarks.TheConstants.{TWO_FILES}
@@ -26,7 +27,7 @@ ends_after_comma before rest = length rest == 0 && ends_with nat_eq before (code
 
 -- the ranks of the line have begun before the column: a space stands there, and not last
 abbrev pub has_ranks : List ℕ → Bool
-has_ranks before = list_any is_space before && not (ends_with nat_eq before (codes " "))
+has_ranks before = not (ends_with nat_eq before (codes " ")) && list_any is_space before
 
 -- the text before the first space of a line
 abbrev pub name_of : List ℕ → List ℕ
@@ -91,6 +92,10 @@ is_zero_rank before rest = is_zero rest && (ends_with nat_eq before (codes ",") 
 abbrev pub is_return_within : List ℕ → Bool
 is_return_within rest = nat_lt 1 (length rest) && starts_with nat_eq rest (0x0D ∷ [])
 
+-- where the voter's name goes on stands a letter with a mark
+abbrev pub is_letter_in_name : List ℕ → List ℕ → Bool
+is_letter_in_name before rest = is_some (letter_place rest) && not (list_any is_space before)
+
 -- a rank follows a hyphen at once
 abbrev pub is_behind_hyphen : List ℕ → List ℕ → Bool
 is_behind_hyphen before rest = is_rank_byte (slice_index rest 0) && ends_with nat_eq before (codes "-") && has_ranks before
@@ -113,6 +118,7 @@ plain_remark poll line before rest =
     else if is_blank_between before rest then Some (blank_words poll before)
     else if is_zero_rank before rest then Some (codes "; 0 is no rank: ranks begin at 1, and who does not rank an option writes a hyphen")
     else if is_return_within rest then Some (codes " within the line")
+    else if is_letter_in_name before rest then Some (codes "; a voter's name has a to z, 0 to 9, . and -")
     else None
 
 -- it, or that of a hyphen, on a column of a line

@@ -4,15 +4,15 @@ ghost use Rattle.std.specs.Prelude.{◌≡◌, ℕ, ◌≤◌, ◌&&◌, ◌==�
 ghost use Rattle.std.specs.List.{before_first, list_all, list_any, position, position_or_len};
 ghost use Rattle.vote_poll_text.specs.Adding.{Adds};
 ghost use Rattle.vote_ballot_findings.specs.Adding.{AddsSigns, AreSigns, advice_of};
-ghost use Rattle.vote_ballot_findings.specs.FileSigns.{ExamplesAreBallots, example_ranks, example_text, exchanged_text, file_kind, first_elector, first_line, goes_on_after_return, has_cells, has_return_within, is_cell_byte, is_of_old_mac, is_of_shape, is_return, is_row, kind_text, look_like_poll, opening_text, ranks_text, returns_text, table_text, unended_line};
+ghost use Rattle.vote_ballot_findings.specs.FileSigns.{ExamplesAreBallots, ends_text, example_ranks, example_text, exchanged_text, file_kind, first_elector, first_line, goes_on_after_return, has_cells, has_return_within, is_cell_byte, is_mark_left, is_of_old_mac, is_of_shape, is_return, is_row, kind_text, look_like_poll, mark_text, opening_text, ranks_text, returns_text, table_text, unended_line};
 ghost use Rattle.vote_ballot_findings.specs.Replies.{refusal};
 
 use crate::MOST_SHOWN;
 use crate::characters::BYTE_ORDER_MARK;
-use crate::commands::push_mending;
 use crate::remarks::has_space;
 use std::alloc::AllocError;
 use vote_poll::{LineFault, Lines, Poll, push_shown};
+use vote_poll_text::push_mending;
 use vote_steps::Reply;
 
 /// What is said of a file from an old Mac.
@@ -26,6 +26,12 @@ const WITHIN: &str =
 /// What is said of a file from Windows.
 const WINDOWS: &str =
     "lines of bad shape end with a carriage return: the file comes from Windows; take it out";
+
+/// What is said of a byte-order mark that no other command takes out.
+const MARKED: &str = "the file begins with a byte-order mark; take it out";
+
+/// The command that takes a byte-order mark out.
+const UNMARKED: &str = "tail -c +4";
 
 /// What the lines of bad shape tell.
 #[derive(Clone, Copy)]
@@ -336,6 +342,26 @@ fn goes_on_after_return(text: &[u8]) -> bool
     has_space(from_return(text))
 }
 
+/// Adds how the ends of lines are mended: by this command alone, or behind another one that takes a byte-order mark out.
+#[tactic(auto, unfolding(crate::specs::FileSigns::ends_text))]
+fn push_ends(
+    text: &mut String,
+    cure: &str,
+    command: &str,
+    next: &str,
+    is_marked: bool,
+    file: Option<&str>,
+) -> Result<(), AllocError>
+    ensures { Adds result text.old (ends_text cure.now command.now next.now is_marked (option_copied file.entry)) text.new }
+{
+    if is_marked {
+        push_mending(text, cure, UNMARKED, next, file)?;
+    } else {
+        push_mending(text, cure, command, "", file)?;
+    }
+    text.push_str("\n")
+}
+
 /// Adds what the carriage returns of the file are, and how it is mended.
 #[tactic(auto, unfolding(crate::specs::FileSigns::returns_text))]
 fn push_returns(
@@ -347,18 +373,53 @@ fn push_returns(
     ensures { Adds result text.old (returns_text is_of_old_mac signs.now.has_return_within (signs.now.has_return && not signs.now.lacks_return) signs.now.is_marked (option_copied file.entry)) text.new }
 {
     if is_of_old_mac {
-        return push_mending(text, OLD_MAC, "'\\r' '\\n'", signs.is_marked, file);
+        return push_ends(
+            text,
+            OLD_MAC,
+            "tr '\\r' '\\n'",
+            " | tr '\\r' '\\n'",
+            signs.is_marked,
+            file,
+        );
     }
     if signs.has_return_within {
         return text.push_str(WITHIN);
     }
     if signs.has_return && !signs.lacks_return {
-        return push_mending(text, WINDOWS, "-d '\\r'", signs.is_marked, file);
+        return push_ends(
+            text,
+            WINDOWS,
+            "tr -d '\\r'",
+            " | tr -d '\\r'",
+            signs.is_marked,
+            file,
+        );
     }
     Ok(())
 }
 
-/// Adds a ballot line as an example, how a table is brought in, and what carriage returns are, each if the lines tell so.
+/// Whether the file has a byte-order mark that no command for its carriage returns takes out.
+fn is_mark_left(signs: &FileSigns, is_of_old_mac: bool) -> bool
+    ensures { result ≡ is_mark_left is_of_old_mac signs.now.has_return_within (signs.now.has_return && not signs.now.lacks_return) signs.now.is_marked }
+{
+    let is_of_windows = signs.has_return && !signs.lacks_return;
+    signs.is_marked && !is_of_old_mac && (signs.has_return_within || !is_of_windows)
+}
+
+/// Adds how a byte-order mark is taken out, if one is left.
+#[tactic(auto, unfolding(crate::specs::FileSigns::mark_text))]
+fn push_mark(text: &mut String, is_left: bool, file: Option<&str>) -> Result<(), AllocError>
+    ensures { Adds result text.old (mark_text is_left (option_copied file.entry)) text.new }
+{
+    if !is_left {
+        return Ok(());
+    }
+    push_mending(text, MARKED, UNMARKED, "", file)?;
+    text.push_str("\n")
+}
+
+/// Adds a ballot line as an example, how a table is brought in, what carriage returns are, and that the file has a byte-order mark,
+/// each if the lines tell so.
 pub(crate) fn push_advice(
     text: &mut String,
     poll: &Poll,
@@ -371,7 +432,9 @@ pub(crate) fn push_advice(
 {
     push_example(text, poll, signs.has_bad_shape)?;
     push_table(text, signs.has_row)?;
-    push_returns(text, signs, is_of_old_mac(lines, all_ended), file)
+    let is_of_old_mac = is_of_old_mac(lines, all_ended);
+    push_returns(text, signs, is_of_old_mac, file)?;
+    push_mark(text, is_mark_left(signs, is_of_old_mac), file)
 }
 
 /// A law: the ballot line that stands as an example is read by its poll as a ballot of the first elector.

@@ -27,14 +27,13 @@
 //!
 //! The modules: `explain` has the text, `findings` the lines of it, `hints` what is said of a line with a wrong number of ranks or
 //! of a late one, `prefixes` the column, `words` what stands in it, `remarks` what may be meant there, `characters` those that
-//! have a name, `nearest` the near names, `edits` the test that passes over the names that are not near, `file_signs` what is said
-//! of the whole file, and `commands` the command that mends it.
+//! have a name, `nearest` the near names, `edits` the test that passes over the names that are not near and `file_signs` what is
+//! said of the whole file.
 #![tactic(auto)]
 
 ghost use Rattle.vote_ballot_findings.specs.Limits.{LimitsAreAsWritten};
 
 mod characters;
-mod commands;
 mod edits;
 mod explain;
 mod file_signs;

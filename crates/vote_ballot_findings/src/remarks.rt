@@ -6,13 +6,14 @@ ghost use Rattle.std.specs.List.{list_any};
 ghost use Rattle.vote_poll.specs.Readings.{is_ballot, is_space, reading};
 ghost use Rattle.vote_poll_text.specs.Adding.{Adds};
 ghost use Rattle.vote_poll_text.specs.Names.{is_voter_byte};
-ghost use Rattle.vote_ballot_findings.specs.Remarks.{begins_with_blank_rank, begins_with_elector, behind_name, column_remark, ends_after_comma, from_first_name, has_blanks, has_ranks, hyphen_remark, hyphen_words, is_behind_hyphen, is_blank_between, is_comma, is_letter, is_numbered, is_rank_byte, is_return_within, is_zero, is_zero_rank, may_hold_two, plain_remark};
+ghost use Rattle.vote_ballot_findings.specs.Remarks.{begins_with_blank_rank, begins_with_elector, behind_name, column_remark, ends_after_comma, from_first_name, has_blanks, has_ranks, hyphen_remark, hyphen_words, is_behind_hyphen, is_blank_between, is_comma, is_letter, is_letter_in_name, is_numbered, is_rank_byte, is_return_within, is_zero, is_zero_rank, may_hold_two, plain_remark};
 
 use crate::LOOK_AHEAD;
 use crate::hints::{end_of_name, first_space, name_of};
 use crate::words::{from_column, push_decimal};
 use std::alloc::AllocError;
 use vote_poll::{MAX_LINE, Poll, Reading, is_voter_byte, read_line};
+use vote_poll_text::letter_place;
 
 /// What is remarked where a ballot may go on at once with another one.
 const TWO_FILES: &str =
@@ -91,7 +92,7 @@ fn first_bytes(text: &[u8], most: usize) -> &[u8]
 fn has_ranks(before: &[u8]) -> bool
     ensures { result ≡ has_ranks before.now }
 {
-    has_space(before) && !before.ends_with(b" ")
+    !before.ends_with(b" ") && has_space(before)
 }
 
 /// Whether ranks stand before a column, and the first name from there on is one of the roll.
@@ -161,10 +162,22 @@ fn is_ballot(poll: &Poll, text: &[u8]) -> bool
     }
 }
 
-/// Whether a number or a bullet stands before a ballot: a text without a letter that is no name of the roll.
+/// Whether a text begins with a letter.
+fn begins_with_letter(text: &[u8]) -> bool
+    ensures { result ≡ is_letter (slice_index text.now 0) }
+{
+    matches!(text, [b'a'..=b'z' | b'A'..=b'Z', ..])
+}
+
+/// Whether a number or a bullet stands before a ballot: a text without a letter that is no name of the roll. Most lines begin with a
+/// letter, and are let through first.
+#[tactic(auto, using(crate::proofs::FirstLetters::letter_is_no_number))]
 fn is_numbered(poll: &Poll, line: &[u8]) -> bool
     ensures { result ≡ is_numbered poll.now line.now }
 {
+    if begins_with_letter(line) {
+        return false;
+    }
     if line.len() > MAX_LINE {
         return false;
     }
@@ -203,6 +216,13 @@ fn is_behind_hyphen(before: &[u8], rest: &[u8]) -> bool
     begins_with_rank(rest) && before.ends_with(b"-") && has_ranks(before)
 }
 
+/// Whether the voter's name of a line goes on with a letter with a mark between these texts.
+fn is_letter_in_name(before: &[u8], rest: &[u8]) -> bool
+    ensures { result ≡ is_letter_in_name before.now rest.now }
+{
+    letter_place(rest).is_some() && !has_space(before)
+}
+
 /// What is remarked on a line that leaves the grammar between these texts, where the words are the same for each such line.
 #[tactic(auto, unfolding(crate::specs::Remarks::plain_remark))]
 fn plain_remark(poll: &Poll, line: &[u8], before: &[u8], rest: &[u8]) -> Option<&'static str>
@@ -238,6 +258,9 @@ fn plain_remark(poll: &Poll, line: &[u8], before: &[u8], rest: &[u8]) -> Option<
     }
     if is_return_within(rest) {
         return Some(" within the line");
+    }
+    if is_letter_in_name(before, rest) {
+        return Some("; a voter's name has a to z, 0 to 9, . and -");
     }
     None
 }

@@ -11,6 +11,7 @@ use crate::remarks::push_remark;
 use itoa::Buffer;
 use std::alloc::AllocError;
 use vote_poll::{Poll, hex_digit};
+use vote_poll_text::{letter_place, push_letter};
 
 /// Adds a byte by its number, as `byte 0x0B`.
 fn push_number(text: &mut String, byte: u8) -> Result<(), AllocError>
@@ -54,6 +55,9 @@ fn push_first(text: &mut String, rest: &[u8]) -> Result<(), AllocError>
 {
     if let Some(name) = character_name(rest) {
         return text.push_str(name);
+    }
+    if let Some(place) = letter_place(rest) {
+        return push_letter(text, place);
     }
     match rest {
         [byte, ..] => push_byte(text, *byte),

@@ -64,8 +64,9 @@ IsJobOf (task.Count poll_name ballots_name asked named) files (job.Count poll ba
     (poll.now ≡ files.poll) × (ballots.now ≡ files.ballots) × (desks ≡ asked) × (option_copied casting ≡ option_copied named)
 IsJobOf (task.Steps poll_name ballots_name) files (job.Steps poll ballots) = (poll.now ≡ files.poll) × (ballots.now ≡ files.ballots)
 IsJobOf (task.Check poll_name) files (job.Check poll) = poll.now ≡ files.poll
-IsJobOf (task.Explain poll_name named) files (job.Explain poll ballots file) =
+IsJobOf (task.Explain poll_name named) files (job.Explain poll ballots file poll_file) =
     (poll.now ≡ files.poll) × (option_copied ballots ≡ option_map (λ name. files.ballots) named) × (option_copied file ≡ option_and_then told_name (option_copied named))
+    × (option_copied poll_file ≡ told_name poll_name.now)
 IsJobOf (task.Standing poll_name ballots_name) files (job.Standing poll ballots) = (poll.now ≡ files.poll) × (ballots.now ≡ files.ballots)
 IsJobOf (task.Verify poll_name ballots_name sheet_name asked) files (job.Verify poll ballots sheet desks) =
     (poll.now ≡ files.poll) × (ballots.now ≡ files.ballots) × (sheet.now ≡ files.sheet) × (desks ≡ asked)

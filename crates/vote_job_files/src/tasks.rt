@@ -92,18 +92,23 @@ pub fn job_of<'a>(task: &Task<'a>, inputs: &'a Inputs) -> Job<'a>
         },
         Task::Steps { .. } => Job::Steps { poll, ballots },
         Task::Check { .. } => Job::Check { poll },
-        Task::Explain { ballots: None, .. } => Job::Explain {
+        Task::Explain {
+            poll: name,
+            ballots: None,
+        } => Job::Explain {
             poll,
             ballots: None,
             file: None,
+            poll_file: told_name(name),
         },
         Task::Explain {
+            poll: poll_name,
             ballots: Some(name),
-            ..
         } => Job::Explain {
             poll,
             ballots: Some(ballots),
             file: told_name(name),
+            poll_file: told_name(poll_name),
         },
         Task::Standing { .. } => Job::Standing { poll, ballots },
         Task::Verify { desks, .. } => Job::Verify {

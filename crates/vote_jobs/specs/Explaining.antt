@@ -47,7 +47,7 @@ IsSaidAfter (Ok poll) ballots file findings told = IsSaid poll ballots file find
 -- all that is wrong with a poll file, and with its ballots where they are given, in a file that may have a name
 abbrev pub IsExplanation : Text → Option Text → Option Text → Told → Type 0
 IsExplanation poll_text ballots file told =
-    (findings : Text) × AreFindingsOf (document poll_text) findings × IsSaidAfter (poll_in poll_text) ballots file findings told
+    (findings : Text) × AreFindingsOf poll_text (document poll_text) findings × IsSaidAfter (poll_in poll_text) ballots file findings told
 
 -- the lines that are read: those of the ballots, where they are given and the poll is in order
 abbrev pub lines_read : Result PollContent PollFault → Option Text → List Text

@@ -31,7 +31,7 @@ HasDesks (Standing poll ballots) = Unit {0}
 HasDesks (Check poll) = Unit {0}
 HasDesks (Joined input) = Unit {0}
 HasDesks (Verify poll ballots sheet desks) = AreDesks desks
-HasDesks (Explain poll ballots file) = Unit {0}
+HasDesks (Explain poll ballots file poll_file) = Unit {0}
 HasDesks (Picture poll ballots desks casting) = AreDesks desks
 
 -- what the count of these inputs is made for is written, and the run ends by it; the box that it was counted in is told
@@ -87,4 +87,4 @@ Performs bars (Joined input) old new performed = ListsJoined input.now old new (
 Performs bars (Picture poll ballots desks casting) old new performed = Counts bars purpose.Picture (inputs_at poll ballots desks casting) old new performed
 Performs bars (Verify poll ballots sheet desks) old new performed =
     Counts bars (purpose.Verification sheet) (inputs_at poll ballots desks None) old new performed
-Performs bars (Explain poll ballots file) old new performed = Explains poll.now (option_copied ballots) (option_copied file) old new performed.end
+Performs bars (Explain poll ballots file poll_file) old new performed = Explains poll.now (option_copied ballots) (option_copied file) old new performed.end

@@ -94,12 +94,13 @@ fn explanation(
     poll_text: &[u8],
     ballots: Option<&[u8]>,
     file: Option<&str>,
+    poll_file: Option<&str>,
 ) -> Result<RunText, RunFault>
     ensures told { IfOk result (IsExplanation poll_text.now (option_copied ballots.entry) (option_copied file.entry)) }
     ensures lines { AnswersGiven (poll_in poll_text.now) (option_copied ballots.entry) result }
     ensures fault { IfErr result IsExplainFault }
 {
-    let ExplainedPoll { findings, outcome } = match explain_poll(alloc, poll_text) {
+    let ExplainedPoll { findings, outcome } = match explain_poll(alloc, poll_text, poll_file) {
         Ok(explained) => explained,
         Err(AllocError) => return Err(RunFault::Poll(PollFault::Memory)),
     };
@@ -112,20 +113,21 @@ fn explanation(
     }
 }
 
-/// Writes all that is wrong with a poll file, and if it is in order with its ballots too, where they are given. `file` is the name
-/// of the ballot file for a command that mends it, where it has one. Nothing is written before all of it is there.
+/// Writes all that is wrong with a poll file, and if it is in order with its ballots too, where they are given. `file` and
+/// `poll_file` are the names of the ballot file and of the poll file for a command that mends it, where they have one. Nothing is written before all of it is there.
 pub fn explain<W: Sink>(
     alloc: Global,
     poll_text: &[u8],
     ballots: Option<&[u8]>,
     file: Option<&str>,
+    poll_file: Option<&str>,
     sink: &mut W,
 ) -> Result<Ended, RunFault>
     ensures explains { ExplainsTo poll_text.now ballots.entry file.entry W.contents sink.old sink.new result }
     ensures output { IsErrOf result RunFault.Output ↔ (W.faults sink.old < W.faults sink.new) }
     ensures flushed { OnOk result (W.flushed sink.new ≡ true) }
 {
-    let RunText { text, ended } = match explanation(alloc, poll_text, ballots, file) {
+    let RunText { text, ended } = match explanation(alloc, poll_text, ballots, file, poll_file) {
         Ok(explained) => explained,
         Err(fault) => return Err(fault),
     };

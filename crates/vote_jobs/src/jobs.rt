@@ -73,6 +73,8 @@ pub enum Job<'a> {
         ballots: Option<&'a [u8]>,
         /// The name of the ballot file, for a command that mends it.
         file: Option<&'a str>,
+        /// The name of the poll file, for the same.
+        poll_file: Option<&'a str>,
     },
 }
 
@@ -149,7 +151,8 @@ pub fn perform<G: Gate + Sync, W: Sink, R: Threads + Wait + Sync>(
             poll,
             ballots,
             file,
-        } => unaudited(explain(alloc, poll, *ballots, *file, sink)),
+            poll_file,
+        } => unaudited(explain(alloc, poll, *ballots, *file, *poll_file, sink)),
     }
 }
 

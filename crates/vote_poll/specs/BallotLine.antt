@@ -25,3 +25,7 @@ pub record IsBallotLine (line voter : List ℕ) (ranks : List (Option ℕ)) : Ty
   pub are_ranks : All IsRank ranks
   pub has_rank : 1 ≤ length ranks
   pub is_short : length line ≤ MAX_LINE
+
+-- the text is a ballot line that is not too long, of some voter and with some ranks
+abbrev pub IsBallotText : List ℕ → Type 0
+IsBallotText text = (voter : List ℕ) × (ranks : List (Option ℕ)) × IsBallotLine text voter ranks

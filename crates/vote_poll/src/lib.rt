@@ -9,7 +9,7 @@
 //!   faults were found: those of its keys by `vote_poll_keys`, the others by [`push_faults`].
 //! - [`Ranks`]: what one ballot says of the options, and which option it prefers to which.
 //! - [`Reading`]: what a poll reads in a line, by [`read_line`]: a ballot of an elector, or a [`LineFault`].
-//!   [`is_reading`] says whether a reading is that of a line.
+//!   [`is_reading`] says whether a reading is that of a line, and [`is_ballot_line`] whether the line is one of some poll.
 //! - [`Lines`], [`is_voter_name`] and the other calls of `vote_poll_text`: what the texts of both files are by themselves, whatever the
 //!   poll.
 //!
@@ -49,7 +49,8 @@ pub use poll::Poll;
 pub use poll_file::first_fault_is_told;
 pub use ranks::Ranks;
 pub use reading::{
-    LineFault, Reading, each_line_is_read, is_reading, read_line, readings_are_unique,
+    LineFault, Reading, each_line_is_read, is_ballot_line, is_reading, read_line,
+    readings_are_unique,
 };
 pub use vote_poll_keys::{PollFault, PollKey};
 pub use vote_poll_text::{

@@ -2,6 +2,7 @@
 ghost use Rattle.std.specs.Prelude.{◌≡◌, ◌==◌, ◌<◌, ◌≤◌, ◌↔◌, ℕ, List, length, option_map, IfSome, IsTrue, IfNone, Some, None, [], ◌∷◌, ◌++◌};
 ghost use Rattle.std.specs.List.{before_first, after_first};
 ghost use Rattle.std.specs.Str.{byte};
+ghost use Rattle.vote_poll.specs.BallotLine.{IsBallotText};
 ghost use Rattle.vote_poll.specs.Comparisons.{is_same_reading};
 ghost use Rattle.vote_poll_text.specs.Names.{is_voter_name};
 ghost use Rattle.vote_poll.specs.Parsing.{kept_and_count, voter_kept_and_count, parts_in, reading_from};
@@ -177,6 +178,16 @@ pub fn read_line(poll: &Poll, line: &[u8]) -> Reading
     match ballot(poll, line) {
         Ok((voter, ranks)) => Reading::Ballot { voter, ranks },
         Err(fault) => Reading::Bad(fault),
+    }
+}
+
+/// Whether a line is a ballot line of some poll: a voter's name and ranks, however many.
+pub fn is_ballot_line(line: &[u8]) -> bool
+    ensures { IsTrue result ↔ IsBallotText line.now }
+{
+    match parse(line) {
+        Some(parts) => is_voter_name(parts.voter),
+        None => false,
     }
 }
 

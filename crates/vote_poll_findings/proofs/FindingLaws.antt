@@ -1,7 +1,7 @@
 -- Texts of findings, one after another.
 use Rattle.std.proofs.Common.{◌≡◌, ◌≢◌, ◌+◌, ◌/◌, ◌%◌, ◌∷◌, ◌++◌, [], ℕ, List, Bool, true, false, map, take, length, Ok, Err, Result, refl, ap, sym, subst, ◌∙◌, arith, append_assoc, append-nil, nat_lt, codes, OnOk, inl, inr, Option, Some, None, option_map, unwrap_or, get_or, ◌<◌}
 use Rattle.std.specs.List.{flat_map}
-use Rattle.std.specs.Prelude.{if◌then◌else◌}
+use Rattle.std.specs.Prelude.{if◌then◌else◌, is_none, ◌||◌}
 use Rattle.std.specs.Result.{is_ok}
 use Rattle.std.proofs.lemmas.Bool.{cases_Bool}
 use Rattle.std.proofs.lemmas.Bool.Decides.{nat_tests}
@@ -15,8 +15,8 @@ use Rattle.vote_poll_text.specs.Lines.{IsUnbroken, line_feed}
 use Rattle.vote_poll_text.specs.Names.{is_printable}
 use Rattle.vote_poll_text.specs.Shown.{hex_digit, shown, shown_byte}
 use Rattle.vote_poll.specs.PollFaults.{faults_in}
-use Rattle.vote_poll_findings.specs.Findings.{AddsLines, AddsFindings, AddsKeyLine, AddsKeyLines, AreFindings, AreFindingsOf, AreKeyLines, EndsFinding, IsKeyLine, finding}
-use Rattle.vote_poll_findings.specs.UnreadKeys.{IsRemark, IsRemarkWhere, Place, inside_words, lacks, path_behind, path_of, unread_keys}
+use Rattle.vote_poll_findings.specs.Findings.{AddsLines, AddsFindings, AddsKeyLine, AddsKeyLines, AreFindings, AreFindingsOfTable, AreKeyLines, EndsFinding, IsKeyLine, finding}
+use Rattle.vote_poll_findings.specs.UnreadKeys.{IsRemark, IsRemarkBelow, IsRemarkWhere, Line, Place, inside_words, lacks, line_above, line_above_place, path_behind, path_of, unread_keys}
 use Rattle.vote_poll_findings.specs.UnreadView.{cut, place_of}
 use Rattle.vote_poll_findings.specs.declared.path.UnreadKey.{UnreadKey}
 use Rattle.vote_poll_findings.specs.declared.TheConstants.{MAX_SHOWN}
@@ -157,10 +157,24 @@ remark_uncut : (b : Bool) (file : Members) (place : Place) (words : List ℕ) �
 remark_uncut true file place words is = is ∙ inside_cut place.table
 remark_uncut false file place words is = is
 
+is_none_cut : (table : Option (List ℕ)) → is_none (option_map (take MAX_SHOWN) table) ≡ is_none table
+is_none_cut None = refl
+is_none_cut (Some table) = refl
+
+below_uncut : (above : Option Line) (file : Members) (place : Place) (words : List ℕ) → IsRemarkBelow above file (cut place) words → IsRemarkBelow above file place words
+below_uncut (Some line) file place words is = is
+below_uncut None file place words is = remark_uncut (lacks file (key_named place.name)) file place words is
+
+-- what is remarked of a place does not stand on how long its path is
+any_uncut : (file : Members) (place : Place) (words : List ℕ) → IsRemark file (cut place) words → IsRemark file place words
+any_uncut file place words is =
+    below_uncut (line_above_place file place) file place words
+    (subst (λ none. IsRemarkBelow (if lacks file (key_named place.name) || none then line_above file else None) file (cut place) words) (is_none_cut place.table) is)
+
 line_uncut : (file : Members) (place : Place) (line : List ℕ) → IsKeyLine file (cut place) line → IsKeyLine file place line
 line_uncut file place line is = record {
   remark = is.remark;
-  is_remark = remark_uncut (lacks file (key_named place.name)) file place is.remark is.is_remark;
+  is_remark = any_uncut file place is.remark is.is_remark;
   is_text = is.is_text ∙ ap (λ t. codes "poll: key " ++ t ++ codes " is not read" ++ is.remark ++ line_feed) (shown_path place.table place.name);
 }
 
@@ -169,7 +183,7 @@ lines_uncut file [] lines are = are
 lines_uncut file (place ∷ places) lines are = (are.0, are.1, line_uncut file place are.0 are.2, lines_uncut file places are.1 are.3, are.4)
 
 -- ---- all findings
-pub all_findings : (table : Members) (faults : List PollFault) (after : List ℕ) → faults ≡ faults_in (Ok table) → AddsLines faults table (unread_keys table) [] after → AreFindingsOf (Ok table) after
+pub all_findings : (table : Members) (faults : List PollFault) (after : List ℕ) → faults ≡ faults_in (Ok table) → AddsLines faults table (unread_keys table) [] after → AreFindingsOfTable table after
 all_findings table faults after all added =
     (added.1.0, subst (λ (es : List PollFault). AreFindings es added.1.0) all added.1.1, subst (λ (t : List ℕ). AddsKeyLines table (unread_keys table) t after) added.1.2 added.2)
 

@@ -6,7 +6,7 @@ use Rattle.toml.specs.Data.{Members}
 use Rattle.vote_poll_keys.specs.Keys.{all_keys, key_named}
 use Rattle.vote_poll_keys.specs.declared.fault.PollKey.{PollKey}
 use Rattle.vote_poll_findings.specs.Findings.{AreKeyLines, IsKeyLine, key_line}
-use Rattle.vote_poll_findings.specs.UnreadKeys.{IsMeant, IsNearest, IsRemarkWhere, Place, lacks, meant_words, path_of}
+use Rattle.vote_poll_findings.specs.UnreadKeys.{IsMeant, IsNearest, IsRemarkBelow, IsRemarkWhere, Line, Place, lacks, line_above_place, meant_words, path_of}
 
 not_before : (file : Members) (name : List ℕ) (p q : ℕ) (near other : PollKey) → IsNearest file name p near → IsNearest file name q other → p < q → ⊥
 not_before file name p q near other one two before =
@@ -37,9 +37,13 @@ remark_is_one : (inside : Bool) (file : Members) (place : Place) (a b : List ℕ
 remark_is_one true file place a b one two = one ∙ sym two
 remark_is_one false file place a b (near, is, words) (near', is', words') = words ∙ ap meant_words (meant_is_one file place.name near near' is is') ∙ sym words'
 
+below_is_one : (above : Option Line) (file : Members) (place : Place) (a b : List ℕ) → IsRemarkBelow above file place a → IsRemarkBelow above file place b → a ≡ b
+below_is_one (Some line) file place a b one two = one ∙ sym two
+below_is_one None file place a b one two = remark_is_one (lacks file (key_named place.name)) file place a b one two
+
 line_is_one : (file : Members) (place : Place) (a b : List ℕ) → IsKeyLine file place a → IsKeyLine file place b → a ≡ b
 line_is_one file place a b one two =
-    one.is_text ∙ ap (key_line (path_of place)) (remark_is_one (lacks file (key_named place.name)) file place one.remark two.remark one.is_remark two.is_remark) ∙ sym two.is_text
+    one.is_text ∙ ap (key_line (path_of place)) (below_is_one (line_above_place file place) file place one.remark two.remark one.is_remark two.is_remark) ∙ sym two.is_text
 
 pub lines_are_one : (file : Members) (places : List Place) (text other : List ℕ) → AreKeyLines file places text → AreKeyLines file places other → text ≡ other
 lines_are_one file [] text other one two = one ∙ sym two

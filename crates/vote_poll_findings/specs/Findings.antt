@@ -1,15 +1,14 @@
 -- The text of all that is wrong with a poll file: a line for each fault, and then one for each key that is not read. What the hint
 -- on a fault says is open; but it does not break the line.
-use Rattle.std.specs.Prelude.{◌≡◌, ℕ, Bool, true, false, List, [], ◌∷◌, ◌++◌, Result, Ok, Err, String, OnOk, codes, length, string_bytes}
+use Rattle.std.specs.Prelude.{◌≡◌, ℕ, List, [], ◌∷◌, ◌++◌, Result, Ok, Err, String, OnOk, codes, length, string_bytes}
 use Rattle.std.specs.declared.alloc.Global.{Global}
-use Rattle.std.specs.Fmt.{decimal}
-use Rattle.std.specs.List.{All}
 use Rattle.toml.specs.Data.{Members}
-use Rattle.vote_poll_text.specs.Lines.{IsUnbroken, line_feed, text_of_lines}
+use Rattle.vote_poll_text.specs.Lines.{IsUnbroken, line_feed}
 use Rattle.vote_poll_text.specs.Shown.{shown}
 use Rattle.vote_poll.specs.PollFaults.{faults_in}
 use Rattle.vote_poll_keys.specs.FaultWords.{fault_words}
 use Rattle.vote_poll_keys.specs.declared.fault.PollFault.{PollFault}
+use Rattle.vote_poll_findings.specs.Syntax.{IsSyntaxFinding}
 use Rattle.vote_poll_findings.specs.UnreadKeys.{IsRemark, Place, path_of, unread_keys}
 use Rattle.vote_poll_findings.specs.declared.TheConstants.{MAX_SHOWN}
 
@@ -41,27 +40,6 @@ abbrev pub KeyLinesAreDetermined : Type 0
 KeyLinesAreDetermined =
     (file : Members) (places : List Place) (text other : List ℕ) → AreKeyLines file places text → AreKeyLines file places other → text ≡ other
 
--- whether the files may be exchanged
-unfoldable pub exchanged_text : Bool → List ℕ
-exchanged_text true = codes "the poll file looks like ballots: are the files exchanged?\n"
-exchanged_text false = []
-
--- What is said of a text that is no TOML: whether the files may be exchanged, the line of the finding, and lines that show the place.
-pub record IsSyntaxFinding (text : List ℕ) : Type 0 where
-  pub exchanged : Bool
-  pub line : ℕ
-  pub column : ℕ
-  pub message : List ℕ
-  pub unbroken : IsUnbroken message
-  pub shown_lines : List (List ℕ)
-  pub shown_unbroken : All IsUnbroken shown_lines
-  pub is_text : text ≡ exchanged_text exchanged ++ codes "poll:" ++ decimal line ++ codes ":" ++ decimal column ++ codes ": " ++ message
-      ++ line_feed ++ text_of_lines shown_lines
-
--- lines were added to a text
-abbrev pub AddsShownLines : List ℕ → List ℕ → Type 0
-AddsShownLines before after = (lines : List (List ℕ)) × All IsUnbroken lines × (after ≡ before ++ text_of_lines lines)
-
 -- the findings of these faults were added to a text
 abbrev pub AddsFindings : List PollFault → List ℕ → List ℕ → Type 0
 AddsFindings faults before after = (lines : List ℕ) × AreFindings faults lines × (after ≡ before ++ lines)
@@ -82,14 +60,22 @@ AddsKeyLines file places before after = (lines : List ℕ) × AreKeyLines file p
 abbrev pub AddsLines : List PollFault → Members → List Place → List ℕ → List ℕ → Type 0
 AddsLines faults file places before after = (between : List ℕ) × AddsFindings faults before between × AddsKeyLines file places between after
 
--- the findings of a text whose table, or whose only fault, is this
-abbrev pub AreFindingsOf : Result Members PollFault → List ℕ → Type 0
-AreFindingsOf (Ok table) text = (faults : List ℕ) × AreFindings (faults_in (Ok table)) faults × AddsKeyLines table (unread_keys table) faults text
-AreFindingsOf (Err e) text = IsSyntaxFinding text
+-- the findings of a table
+abbrev pub AreFindingsOfTable : Members → List ℕ → Type 0
+AreFindingsOfTable table text = (faults : List ℕ) × AreFindings (faults_in (Ok table)) faults × AddsKeyLines table (unread_keys table) faults text
+
+-- the findings of a poll file whose table, or whose only fault, is this
+abbrev pub AreFindingsOf : List ℕ → Result Members PollFault → List ℕ → Type 0
+AreFindingsOf poll (Ok table) text = AreFindingsOfTable table text
+AreFindingsOf poll (Err e) text = IsSyntaxFinding poll text
 
 -- the text lists all findings of what was read
-abbrev pub ListsAll : Result Members PollFault → String Global → Type 0
-ListsAll read text = AreFindingsOf read (string_bytes text)
+abbrev pub ListsAll : List ℕ → Result Members PollFault → String Global → Type 0
+ListsAll poll read text = AreFindingsOf poll read (string_bytes text)
+
+-- and those of a table
+abbrev pub ListsTable : Members → String Global → Type 0
+ListsTable table text = AreFindingsOfTable table (string_bytes text)
 
 -- the text has a line for each of these faults, and for each key of the file that is not read
 abbrev pub HasLines : List PollFault → Members → String Global → Type 0

@@ -7,10 +7,11 @@ use Rattle.toml.specs.View.{table_view}
 use Rattle.vote_poll_keys.specs.declared.fault.PollKey.{PollKey}
 use Rattle.vote_poll_keys.specs.declared.fault.PollFault.{PollFault}
 use Rattle.vote_poll_findings.specs.Findings.{AddsLines}
-use Rattle.vote_poll_findings.specs.UnreadKeys.{IsRemark, Place, edits, holds_name, is_key_name, is_missing, unread_at, unread_in, unread_keys}
+use Rattle.vote_poll_findings.specs.UnreadKeys.{IsRemark, Line, Place, edits, holds_name, is_key_name, is_missing, unread_at, unread_in, unread_keys}
 use Rattle.vote_poll_findings.specs.declared.TheConstants.{MAX_EDITS, MAX_SHOWN}
 use Rattle.vote_poll_findings.specs.declared.path.Path.{Path}
 use Rattle.vote_poll_findings.specs.declared.path.UnreadKey.{UnreadKey}
+use Rattle.vote_poll_findings.specs.declared.unread.LineAbove.{LineAbove}
 use Rattle.vote_poll_findings.specs.declared.unread.UnreadKeys.{UnreadKeys}
 
 abbrev pub path_bytes : Path → List ℕ
@@ -22,6 +23,9 @@ place_of key = record { table = option_map path_bytes key.table; name = key.name
 -- a place whose path is cut
 abbrev pub cut : Place → Place
 cut place = record { table = option_map (take MAX_SHOWN) place.table; name = place.name }
+
+abbrev pub line_of : LineAbove → Line
+line_of above = record { name = above.name.now; is_list = above.is_list }
 
 -- the number of edits to a missing key where they are few, or else a number above them
 abbrev pub AreFewEdits : Members → List ℕ → PollKey → ℕ → Type 0

@@ -6,7 +6,8 @@ ghost use Rattle.vote_poll_keys.specs.FoundView.{found_view};
 ghost use Rattle.vote_poll_keys.specs.Keys.{document};
 ghost use Rattle.vote_poll.specs.PollFaults.{IsJudged};
 ghost use Rattle.vote_poll.specs.PollFile.{IsPollOrFirst, poll_in, poll_in_table};
-ghost use Rattle.vote_poll_findings.specs.Findings.{HasLines, IsSyntaxFinding, KeyLinesAreDetermined, ListsAll};
+ghost use Rattle.vote_poll_findings.specs.Findings.{HasLines, KeyLinesAreDetermined, ListsAll, ListsTable};
+ghost use Rattle.vote_poll_findings.specs.Syntax.{IsSyntaxFinding};
 ghost use Rattle.vote_poll_findings.specs.UnreadView.{TellsAll};
 ghost use Rattle.vote_poll_keys.specs.declared.fault.PollFault.TheVariants.{Memory, Syntax};
 
@@ -83,7 +84,7 @@ fn explain_judged(
     faults: &[PollFault],
 ) -> Result<ExplainedPoll, AllocError>
     requires { IsJudged (table_view table.now) (found_view keys.now) faults.now }
-    ensures findings { IfOk result (λ told. ListsAll (Ok (table_view table.now)) told.findings) }
+    ensures findings { IfOk result (λ told. ListsTable (table_view table.now) told.findings) }
     ensures outcome { IfOk result (λ told. told.outcome ≡ poll_in_table (table_view table.now)) }
     ensures known { IfOk result (λ told. told.outcome ≢ Err Memory) }
 {
@@ -95,7 +96,7 @@ fn explain_judged(
 
 /// What the table of a poll file says, and all that is wrong with it: it is judged as [`Poll::from_text`] judges it.
 fn explain_table(alloc: Global, table: &Table) -> Result<ExplainedPoll, AllocError>
-    ensures findings { IfOk result (λ told. ListsAll (Ok (table_view table.now)) told.findings) }
+    ensures findings { IfOk result (λ told. ListsTable (table_view table.now) told.findings) }
     ensures outcome { IfOk result (λ told. told.outcome ≡ poll_in_table (table_view table.now)) }
     ensures known { IfOk result (λ told. told.outcome ≢ Err Memory) }
 {
@@ -110,24 +111,29 @@ fn explain_syntax(
     alloc: Global,
     text: &[u8],
     error: &toml::de::Error,
+    file: Option<&str>,
 ) -> Result<ExplainedPoll, AllocError>
-    ensures findings { IfOk result (λ told. IsSyntaxFinding (string_bytes told.findings)) }
+    ensures findings { IfOk result (λ told. IsSyntaxFinding text.now (string_bytes told.findings)) }
     ensures outcome { IfOk result (λ told. told.outcome ≡ Err Syntax) }
 {
     Ok(ExplainedPoll {
-        findings: syntax_finding(alloc, text, error)?,
+        findings: syntax_finding(alloc, text, error, file)?,
         outcome: Err(PollFault::Syntax),
     })
 }
 
 /// Reads a poll file as [`Poll::from_text`] does, and says all that is wrong with it: each fault, judged by itself, with what was
-/// found; and each key that is not read.
+/// found; and each key that is not read. `file` is the name of the file for a command that mends it, where it has one.
 ///
 /// # Errors
 ///
 /// Memory ran out.
-pub fn explain_poll(alloc: Global, text: &[u8]) -> Result<ExplainedPoll, AllocError>
-    ensures findings { IfOk result (λ told. ListsAll (document text.now) told.findings) }
+pub fn explain_poll(
+    alloc: Global,
+    text: &[u8],
+    file: Option<&str>,
+) -> Result<ExplainedPoll, AllocError>
+    ensures findings { IfOk result (λ told. ListsAll text.now (document text.now) told.findings) }
     ensures outcome { IfOk result (λ told. told.outcome ≡ poll_in text.now) }
     ensures known { IfOk result (λ told. told.outcome ≢ Err Memory) }
 {
@@ -137,7 +143,7 @@ pub fn explain_poll(alloc: Global, text: &[u8]) -> Result<ExplainedPoll, AllocEr
             if error.is_memory() {
                 return Err(AllocError);
             }
-            explain_syntax(alloc, text, &error)
+            explain_syntax(alloc, text, &error, file)
         }
     }
 }

@@ -1,11 +1,12 @@
 //! What was found where a poll file has a fault, in words. No contract says what a hint says; whoever adds one to a line takes
 //! care that it does not break the line.
+ghost use Rattle.std.specs.Prelude.{◌≡◌};
 ghost use Rattle.vote_poll_text.specs.Adding.{Adds};
-ghost use Rattle.vote_poll_findings.specs.UnreadKeys.{inside_words};
+ghost use Rattle.vote_poll_findings.specs.UnreadKeys.{above_words, closing, inside_words, line_words, opening};
+ghost use Rattle.vote_poll_findings.specs.UnreadView.{line_of};
 
 use crate::MAX_SHOWN;
-use crate::letters::push_letter;
-use crate::unread::UnreadKeys;
+use crate::unread::{LineAbove, UnreadKeys};
 use indexmap::IndexMap;
 use std::alloc::{AllocError, Global};
 use toml::Value;
@@ -13,7 +14,7 @@ use vote_poll::{MAX_ELECTORS, MAX_OPTIONS, MAX_QUORUM_MULTIPLE, MAX_RATIO, parse
 use vote_poll_keys::{FoundKeys, PollFault, PollKey};
 use vote_poll_text::{
     MAX_LINES, MAX_OPTION_NAME, MAX_TITLE, MAX_VOTER_NAME, hex_digit, is_option_name, is_printable,
-    is_title, is_voter_byte, is_voter_name, push_shown,
+    is_title, is_voter_byte, is_voter_name, letter_place, push_letter, push_shown,
 };
 
 /// What is said behind a position of the roll.
@@ -75,10 +76,36 @@ fn bad_character(named: Named, name: &str) -> Option<char> {
     None
 }
 
+/// Adds the number of a character, as `U+4E2D`.
+fn push_number(words: &mut String, character: char) -> Result<(), AllocError> {
+    words.push_str("U+")?;
+    let number = character as u32;
+    if number > 0xFFFF {
+        words.push(hex_digit((number >> 20 & 15) as u8) as char)?;
+        words.push(hex_digit((number >> 16 & 15) as u8) as char)?;
+    }
+    words.push(hex_digit((number >> 12 & 15) as u8) as char)?;
+    words.push(hex_digit((number >> 8 & 15) as u8) as char)?;
+    words.push(hex_digit((number >> 4 & 15) as u8) as char)?;
+    words.push(hex_digit((number & 15) as u8) as char)
+}
+
+/// Adds that a name has a character outside ASCII, by its name if it is a letter with a mark.
+fn push_character(words: &mut String, character: char) -> Result<(), AllocError> {
+    let mut bytes = [0; 4];
+    if let Some(place) = letter_place(character.encode_utf8(&mut bytes).as_bytes()) {
+        words.push_str(" has the ")?;
+        return push_letter(words, place);
+    }
+    words.push_str(" has a character outside ASCII (")?;
+    push_number(words, character)?;
+    words.push_str(")")
+}
+
 /// Adds that a name has a character that it may not have.
 fn push_bad_character(words: &mut String, named: Named, bad: char) -> Result<(), AllocError> {
     if !bad.is_ascii() {
-        push_letter(words, bad)?;
+        push_character(words, bad)?;
         return words.push_str(match named {
             Named::Voter => "; a voter's name has a to z, 0 to 9, . and -",
             Named::Poll | Named::Option => {
@@ -305,12 +332,38 @@ fn push_missing(words: &mut String, table: Option<&[u8]>) -> Result<(), AllocErr
     }
 }
 
-/// Adds that a key is missing, as all keys stand below the line of one table, or of a list of tables.
-fn push_line_above_all(words: &mut String, name: &str, is_list: bool) -> Result<(), AllocError> {
-    let (open, shut) = if is_list { ("[[", "]]") } else { ("[", "]") };
-    write!(words, "it is missing; all keys stand below {open}")?;
+/// What stands before the name in the line of a table, or of a list of tables.
+fn opening(is_list: bool) -> &'static str
+    ensures { result.now ≡ opening is_list }
+{
+    if is_list { "[[" } else { "[" }
+}
+
+/// What stands behind it.
+fn closing(is_list: bool) -> &'static str
+    ensures { result.now ≡ closing is_list }
+{
+    if is_list { "]]" } else { "]" }
+}
+
+/// Adds the line of a table, or of a list of tables.
+#[tactic(auto, unfolding(crate::specs::UnreadKeys::line_words))]
+fn push_line_above(words: &mut String, name: &str, is_list: bool) -> Result<(), AllocError>
+    ensures { Adds result words.old (line_words name.now is_list) words.new }
+{
+    words.push_str(opening(is_list))?;
     push_shown(words, name.as_bytes(), MAX_SHOWN)?;
-    write!(words, "{shut}: take that line out")
+    words.push_str(closing(is_list))
+}
+
+/// Adds that all keys stand below the line of one table, or of a list of tables.
+#[tactic(auto, unfolding(crate::specs::UnreadKeys::above_words))]
+pub(crate) fn push_above(words: &mut String, above: &LineAbove<'_>) -> Result<(), AllocError>
+    ensures { Adds result words.old (above_words (line_of above.now)) words.new }
+{
+    words.push_str("; all keys stand below ")?;
+    push_line_above(words, above.name, above.is_list)?;
+    words.push_str(": take that line out")
 }
 
 /// Adds that a key is inside a table, while it is read before all tables.
@@ -423,7 +476,10 @@ impl<'f> Hints<'f> {
                 words.push_str(wanted_words(key, matches!(value, Value::Array(_))))
             }
             None => match self.unread.line_above_all() {
-                Some((name, is_list)) => push_line_above_all(words, name, is_list),
+                Some(above) => {
+                    words.push_str("it is missing")?;
+                    push_above(words, &above)
+                }
                 None => push_missing(words, self.unread.table_with(key.name())),
             },
         }

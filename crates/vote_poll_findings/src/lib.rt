@@ -15,12 +15,13 @@
 //!   ([`first_fault_is_told`](vote_poll::first_fault_is_told)), and if none has one there is a poll.
 //! - After the faults each key that is not read has a line, in the order of the tables (`specs/UnreadKeys.antt`), with its path, as far
 //!   as it is shown, and what is remarked of it. The file leaves no choice in these lines ([`key_lines_are_determined`]).
-//! - What a line says after the words of its fault is open. Of a text that is no TOML the line, the column and the message are open,
-//!   whether the files may be exchanged, and what is shown of a long line; but no line breaks, whatever is in the file.
+//! - What a line says after the words of its fault is open; but it does not break the line, whatever is in the file.
+//! - Of a text that is no TOML the place of the error, which `toml` tells, and the message are open. The place says the line, the
+//!   column and what is shown of a long line, and the first line whether the files may be exchanged (`specs/Syntax.antt`).
 //!
 //! The modules: `explain` has the call, `findings` the lines of faults and keys, `hints` what a line says after the words of its
-//! fault, `letters` the names of letters with a mark, `syntax` what is said of a text that is no TOML, `unread` the keys that are not read, and `path` where they stand. Nothing is judged here: vote_poll_keys and vote_poll
-//! find the faults.
+//! fault, `syntax` what is said of a text that is no TOML, `unread` the keys that are not read, and `path` where they stand. Nothing
+//! is judged here: vote_poll_keys and vote_poll find the faults.
 #![tactic(auto)]
 
 ghost use Rattle.vote_poll_findings.specs.Limits.{LimitsAreAsWritten};
@@ -28,7 +29,6 @@ ghost use Rattle.vote_poll_findings.specs.Limits.{LimitsAreAsWritten};
 mod explain;
 mod findings;
 mod hints;
-mod letters;
 mod path;
 mod syntax;
 mod unread;

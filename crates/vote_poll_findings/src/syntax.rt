@@ -1,39 +1,73 @@
-//! What is said of a poll file that is no TOML: where, in the words of `toml`, and what may be the reason. No contract says what is
-//! remarked; each line of it is one line.
-ghost use Rattle.std.specs.Prelude.{◌≡◌, ◌++◌, [], IfOk, OnOk, codes, decimal, string_bytes};
+//! What is said of a poll file that is no TOML: where, in the words of `toml`, and what may be the reason. No contract says at which
+//! place `toml` finds the error, and what is remarked of it; all else is said by the text and this place.
+ghost use Rattle.std.specs.Prelude.{◌≡◌, ◌≤◌, ◌++◌, [], IfOk, OnOk, codes, decimal, length, option_copied, string_bytes};
+ghost use Rattle.std.specs.Str.{is_utf8};
 ghost use Rattle.vote_poll_text.specs.Adding.{Adds};
-ghost use Rattle.vote_poll_findings.specs.Findings.{AddsShownLines, IsSyntaxFinding, exchanged_text};
+ghost use Rattle.vote_poll_text.specs.Lines.{line_feed};
+ghost use Rattle.vote_poll_text.specs.Shown.{shown};
+ghost use Rattle.vote_poll_findings.specs.declared.TheConstants.{MAX_SHOWN};
+ghost use Rattle.vote_poll_findings.specs.Syntax.{IsSyntaxFinding, begins_character, column_number, exchanged_text, file_remark, first_line, last_line, line_number, line_shown, mark_text, part_before, part_begin, part_text, shown_width};
 
 use crate::MAX_SHOWN;
 use crate::findings::push_hint;
 use std::alloc::{AllocError, Global};
-use vote_poll::MAX_LINE;
-use vote_poll_text::{is_printable, is_voter_name, push_shown};
+use vote_poll::is_ballot_line;
+use vote_poll_text::{is_printable, is_voter_name, push_mending, push_shown, split_at_feed};
 
-/// The line and the column after a text, both from 1. Columns count characters.
-fn line_and_column(before: &[u8]) -> (usize, usize) {
-    let (mut line, mut column) = (1usize, 1usize);
-    for byte in before {
-        if *byte == b'\n' {
-            (line, column) = (line.saturating_add(1), 1);
-        } else if *byte & 0xC0 != 0x80 {
-            column = column.saturating_add(1);
-        }
-    }
-    (line, column)
-}
-
-/// The part of a text before an error.
-fn text_before<'t>(text: &'t [u8], error: &toml::de::Error) -> &'t [u8] {
+/// How many bytes of a text stand before an error.
+fn place_of(text: &[u8], error: &toml::de::Error) -> usize
+    ensures { result ≤ length text.now }
+{
     match error.span() {
-        Some(span) => text.get(..span.start).unwrap_or(text),
-        None => b"",
+        Some(span) => span.start.min(text.len()),
+        None => 0,
     }
 }
 
-/// The part of a text after another one with which it begins.
-fn text_after<'t>(text: &'t [u8], before: &[u8]) -> &'t [u8] {
-    text.get(before.len()..).unwrap_or(b"")
+/// The first line of a text, without its line feed.
+fn first_line(text: &[u8]) -> &[u8]
+    ensures { result.now ≡ first_line text.now }
+{
+    match split_at_feed(text) {
+        Some((line, _)) => line,
+        None => text,
+    }
+}
+
+/// What stands in a text after its last line feed.
+fn last_line(text: &[u8]) -> &[u8]
+    ensures { result.now ≡ last_line text.now }
+{
+    let mut line = text;
+    while let Some((_, after)) = split_at_feed(line) {
+        line = after;
+    }
+    line
+}
+
+/// The number of the line that goes on after a text, from 1.
+fn line_number(before: &[u8]) -> usize
+    ensures { result ≡ line_number before.now }
+{
+    before.iter().filter(|byte| **byte == b'\n').count() + 1
+}
+
+/// The column after the beginning of a line, from 1. Columns count characters.
+fn column_number(before: &[u8]) -> usize
+    ensures { result ≡ column_number before.now }
+{
+    before
+        .iter()
+        .filter(|byte| begins_character(**byte))
+        .count()
+        + 1
+}
+
+/// Whether a byte of UTF-8 is the first one of a character.
+fn begins_character(byte: u8) -> bool
+    ensures { result ≡ begins_character byte }
+{
+    !matches!(byte, 0x80..=0xBF)
 }
 
 /// What stands before the first byte of this value, or all of a text.
@@ -44,40 +78,6 @@ fn until(text: &[u8], end: u8) -> &[u8] {
         }
     }
     text
-}
-
-/// The last line of a text, which may not be ended.
-fn last_line(text: &[u8]) -> &[u8] {
-    for (place, byte) in text.iter().enumerate().rev() {
-        if *byte == b'\n' {
-            return text.get(place.saturating_add(1)..).unwrap_or(text);
-        }
-    }
-    text
-}
-
-/// Whether a text is a rank of a ballot: a hyphen, or a number from 1 to 99.
-fn is_rank(text: &[u8]) -> bool {
-    matches!(text, b"-" | [b'1'..=b'9'] | [b'1'..=b'9', b'0'..=b'9'])
-}
-
-/// Whether each part of a text between commas is a rank.
-fn are_ranks(text: &[u8]) -> bool {
-    for part in text.split(|byte| *byte == b',') {
-        if !is_rank(part) {
-            return false;
-        }
-    }
-    true
-}
-
-/// Whether a line is a ballot line of some poll.
-fn is_ballot_line(line: &[u8]) -> bool {
-    let name = until(line, b' ');
-    line.len() <= MAX_LINE
-        && name.len() < line.len()
-        && is_voter_name(name)
-        && are_ranks(line.get(name.len().saturating_add(1)..).unwrap_or(b""))
 }
 
 /// Whether a text begins with this character, or ends with it.
@@ -93,17 +93,38 @@ fn touches_curly_quote(before: &[u8], after: &[u8]) -> bool {
 }
 
 /// What a file was saved as, by its first bytes.
-fn file_remark(text: &[u8]) -> &'static str {
-    match text {
-        [0xFF, 0xFE, ..] | [0xFE, 0xFF, ..] => ": saved as UTF-16; save it as UTF-8",
-        [b'P', b'K', 0x03, 0x04, ..] => {
-            ": a ZIP file, as word processors save; save it as plain text"
-        }
-        [0xD0, 0xCF, 0x11, 0xE0, ..] => ": an old Word or Excel file; save it as plain text",
-        [b'{', b'\\', b'r', b't', b'f', ..] => ": an RTF file; save it as plain text",
-        [b'%', b'P', b'D', b'F', ..] => ": a PDF file; save it as plain text",
-        [b'{', ..] => ": JSON; write a line for each key, as title = \"A title\"",
-        _ => "",
+#[tactic(auto, unfolding(crate::specs::Syntax::file_remark))]
+fn file_remark(text: &[u8]) -> Option<&'static str>
+    ensures { option_copied result ≡ file_remark text.now }
+{
+    if text.starts_with(b"\xFF\xFE") || text.starts_with(b"\xFE\xFF") {
+        return Some(": saved as UTF-16; save it as UTF-8");
+    }
+    if text.starts_with(b"PK\x03\x04") {
+        return Some(": a ZIP file, as word processors save; save it as plain text");
+    }
+    if text.starts_with(b"\xD0\xCF\x11\xE0") {
+        return Some(": an old Word or Excel file; save it as plain text");
+    }
+    if text.starts_with(b"{\\rtf") {
+        return Some(": an RTF file; save it as plain text");
+    }
+    if text.starts_with(b"%PDF") {
+        return Some(": a PDF file; save it as plain text");
+    }
+    if text.starts_with(b"{") {
+        return Some(": JSON; write a line for each key, as title = \"A title\"");
+    }
+    None
+}
+
+/// Whether a text is in UTF-8.
+fn is_utf8(text: &[u8]) -> bool
+    ensures { result ≡ is_utf8 text.now }
+{
+    match std::str::from_utf8(text) {
+        Ok(_) => true,
+        Err(_) => false,
     }
 }
 
@@ -167,13 +188,16 @@ fn push_lost_mark(hint: &mut String, before: &[u8], after: &[u8]) -> Result<(), 
     push_shown(hint, name, MAX_SHOWN)
 }
 
+/// What is said of a file from an old Mac.
+const OLD_MAC: &str =
+    ": carriage returns end the lines, as old Macs write; make line feeds of them";
+
 /// What is remarked on an error between these parts of a text.
 fn remark(text: &[u8], before: &[u8], after: &[u8]) -> &'static str {
-    let of_file = file_remark(text);
-    if !of_file.is_empty() {
-        return of_file;
+    if let Some(words) = file_remark(text) {
+        return words;
     }
-    if std::str::from_utf8(text).is_err() {
+    if !is_utf8(text) {
         return ": save it as UTF-8";
     }
     if touches_curly_quote(before, after) {
@@ -183,13 +207,31 @@ fn remark(text: &[u8], before: &[u8], after: &[u8]) -> &'static str {
         return ": no-break space";
     }
     if is_of_old_mac(text) {
-        return ": carriage returns end the lines, as old Macs write; make line feeds of them";
+        return OLD_MAC;
     }
     ""
 }
 
+/// Adds what is remarked on an error between these parts of a text, in a file that may have a name.
+fn push_remark(
+    hint: &mut String,
+    text: &[u8],
+    before: &[u8],
+    after: &[u8],
+    file: Option<&str>,
+) -> Result<(), AllocError> {
+    let remark = remark(text, before, after);
+    if remark.is_empty() {
+        return push_lost_mark(hint, before, after);
+    }
+    if remark == OLD_MAC {
+        return push_mending(hint, OLD_MAC, "tr '\\r' '\\n'", "", file);
+    }
+    hint.push_str(remark)
+}
+
 /// Adds the question whether the files are exchanged, if the first line is a ballot line.
-#[tactic(auto, unfolding(crate::specs::Findings::exchanged_text))]
+#[tactic(auto, unfolding(crate::specs::Syntax::exchanged_text))]
 fn push_exchanged(text: &mut String, is_exchanged: bool) -> Result<(), AllocError>
     ensures { Adds result text.old (exchanged_text is_exchanged) text.new }
 {
@@ -206,21 +248,21 @@ fn push_place(text: &mut String, line: usize, column: usize) -> Result<(), Alloc
     write!(text, "poll:{line}:{column}")
 }
 
-/// How many characters show these bytes.
-fn shown_width(bytes: &[u8]) -> usize {
-    let mut width = 0usize;
-    for byte in bytes {
-        width = width.saturating_add(if is_printable(*byte) { 1 } else { 4 });
-    }
-    width
+/// How many characters show these bytes: four show one that can't be printed.
+fn shown_width(bytes: &[u8]) -> usize
+    requires { length bytes.now ≤ MAX_SHOWN }
+    ensures { result ≡ shown_width bytes.now }
+{
+    let others = bytes.iter().filter(|byte| !is_printable(**byte)).count();
+    bytes.len() + 3 * others
 }
 
-/// As many spaces as can stand before a mark: each byte that is shown takes four characters at most.
+/// As many spaces as can stand before a mark.
 const SPACES: [u8; 4 * MAX_SHOWN] = [b' '; 4 * MAX_SHOWN];
 
 /// Adds so many spaces, and a mark.
 fn push_mark(text: &mut String, width: usize) -> Result<(), AllocError>
-    ensures { OnOk result (AddsShownLines (string_bytes text.old) (string_bytes text.new)) }
+    ensures { Adds result text.old (mark_text width) text.new }
 {
     push_shown(text, &SPACES, width)?;
     text.push_str("^\n")
@@ -228,52 +270,64 @@ fn push_mark(text: &mut String, width: usize) -> Result<(), AllocError>
 
 /// Adds the first bytes of a text as they are shown, and ends the line.
 fn push_line(text: &mut String, bytes: &[u8]) -> Result<(), AllocError>
-    ensures { OnOk result (AddsShownLines (string_bytes text.old) (string_bytes text.new)) }
+    ensures { Adds result text.old (shown MAX_SHOWN bytes.now ++ line_feed) text.new }
 {
     push_shown(text, bytes, MAX_SHOWN)?;
     text.push_str("\n")
 }
 
-/// Adds the part of a line around a place, and a mark under the place.
-fn push_part(text: &mut String, line: &[u8], place: usize) -> Result<(), AllocError>
-    ensures { OnOk result (AddsShownLines (string_bytes text.old) (string_bytes text.new)) }
+/// From which byte on the part of a long line around a place is shown.
+fn part_begin(line: &[u8], at: usize) -> usize
+    ensures { result ≡ part_begin line.now at }
 {
-    let last = line.len().saturating_sub(MAX_SHOWN);
-    let begin = place.saturating_sub(MAX_SHOWN / 2).min(last);
-    push_line(text, line.get(begin..).unwrap_or(b""))?;
-    push_mark(text, shown_width(line.get(begin..place).unwrap_or(b"")))
+    at.saturating_sub(MAX_SHOWN / 2)
+        .min(line.len().saturating_sub(MAX_SHOWN))
 }
 
-/// Adds the part of a line around a place, if the line is too long for the place to be found by eye.
-fn push_excerpt(text: &mut String, line: &[u8], place: usize) -> Result<(), AllocError>
-    ensures { OnOk result (AddsShownLines (string_bytes text.old) (string_bytes text.new)) }
+/// The bytes that are shown before a place of a long line.
+fn part_before(line: &[u8], at: usize) -> &[u8]
+    ensures before { result.now ≡ part_before line.now at }
+    ensures few { length result.now ≤ MAX_SHOWN }
+{
+    &line[part_begin(line, at)..at.min(line.len())]
+}
+
+/// Adds the part of a line around a place, and a mark under the place, if the line is too long for the place to be found by eye.
+fn push_excerpt(text: &mut String, line: &[u8], at: usize) -> Result<(), AllocError>
+    ensures { Adds result text.old (part_text line.now at) text.new }
 {
     if line.len() <= MAX_SHOWN {
         return Ok(());
     }
-    push_part(text, line, place)
+    push_line(text, &line[part_begin(line, at)..])?;
+    push_mark(text, shown_width(part_before(line, at)))
 }
 
-/// The line of a text in which an error stands after another one with which the text begins; nothing of what is no text.
-fn line_around<'t>(text: &'t [u8], before: &[u8]) -> &'t [u8] {
-    if !file_remark(text).is_empty() || std::str::from_utf8(text).is_err() {
+/// The line of a text in which a place stands; nothing of what is no text.
+fn line_shown(text: &[u8], place: usize) -> &[u8]
+    requires { place ≤ length text.now }
+    ensures { result.now ≡ line_shown text.now place }
+{
+    if file_remark(text).is_some() || !is_utf8(text) {
         return b"";
     }
-    let begin = before.len().saturating_sub(last_line(before).len());
-    until(text.get(begin..).unwrap_or(b""), b'\n')
+    let begin = place.saturating_sub(last_line(&text[..place]).len());
+    first_line(&text[begin..])
 }
 
 /// The words of `toml`, and what is remarked on them.
-fn hint_of(alloc: Global, text: &[u8], error: &toml::de::Error) -> Result<String, AllocError> {
-    let before = text_before(text, error);
+fn hint_of(
+    alloc: Global,
+    text: &[u8],
+    place: usize,
+    error: &toml::de::Error,
+    file: Option<&str>,
+) -> Result<String, AllocError>
+    requires { place ≤ length text.now }
+{
     let mut hint = String::new(alloc);
-    let after = text_after(text, before);
     hint.push_str(error.message())?;
-    let remark = remark(text, before, after);
-    hint.push_str(remark)?;
-    if remark.is_empty() {
-        push_lost_mark(&mut hint, before, after)?;
-    }
+    push_remark(&mut hint, text, &text[..place], &text[place..], file)?;
     Ok(hint)
 }
 
@@ -281,29 +335,34 @@ fn hint_of(alloc: Global, text: &[u8], error: &toml::de::Error) -> Result<String
 fn push_syntax(
     finding: &mut String,
     text: &[u8],
-    before: &[u8],
+    place: usize,
     hint: &str,
 ) -> Result<(), AllocError>
-    requires { string_bytes finding.old ≡ [] }
-    ensures { OnOk result (IsSyntaxFinding (string_bytes finding.new)) }
+    requires empty { string_bytes finding.old ≡ [] }
+    requires within { place ≤ length text.now }
+    ensures { OnOk result (IsSyntaxFinding text.now (string_bytes finding.new)) }
 {
-    let (line, column) = line_and_column(before);
-    push_exchanged(finding, is_ballot_line(until(text, b'\n')))?;
-    push_place(finding, line, column)?;
+    let before = &text[..place];
+    let line = last_line(before);
+    push_exchanged(finding, is_ballot_line(first_line(text)))?;
+    push_place(finding, line_number(before), column_number(line))?;
     push_hint(finding, hint)?;
-    push_excerpt(finding, line_around(text, before), last_line(before).len())
+    push_excerpt(finding, line_shown(text, place), line.len())
 }
 
-/// The findings on a text that is no TOML, in the words of `toml`.
+/// The findings on a text that is no TOML, in the words of `toml`. `file` is the name of its file for a command that mends it, where
+/// it has one.
 pub(crate) fn syntax_finding(
     alloc: Global,
     text: &[u8],
     error: &toml::de::Error,
+    file: Option<&str>,
 ) -> Result<String, AllocError>
-    ensures { IfOk result (λ finding. IsSyntaxFinding (string_bytes finding)) }
+    ensures { IfOk result (λ finding. IsSyntaxFinding text.now (string_bytes finding)) }
 {
-    let hint = hint_of(alloc, text, error)?;
+    let place = place_of(text, error);
+    let hint = hint_of(alloc, text, place, error, file)?;
     let mut finding = String::new(alloc);
-    push_syntax(&mut finding, text, text_before(text, error), &hint)?;
+    push_syntax(&mut finding, text, place, &hint)?;
     Ok(finding)
 }

@@ -4,4 +4,6 @@ pub mod Limits
 pub mod Lines
 pub mod FaultWords
 pub mod Names
+pub mod Letters
+pub mod Commands
 pub mod Shown

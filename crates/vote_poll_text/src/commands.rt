@@ -1,12 +1,12 @@
-//! The command that mends the ends of a file's lines.
+//! A command that mends a file, for a shell.
 
 ghost use Rattle.std.specs.Prelude.{◌≡◌, not, option_copied};
 ghost use Rattle.std.specs.List.{list_any};
 ghost use Rattle.vote_poll_text.specs.Adding.{Adds};
-ghost use Rattle.vote_ballot_findings.specs.Commands.{command_text, is_plain, is_tellable, mending_text, shell_word};
+ghost use Rattle.vote_poll_text.specs.Commands.{command_text, is_plain, is_tellable, mending_text, shell_word};
 
+use crate::names::is_printable;
 use std::alloc::AllocError;
-use vote_poll::is_printable;
 
 /// Whether a byte means itself in a shell.
 fn is_plain(byte: u8) -> bool
@@ -49,50 +49,37 @@ fn push_shell_word(text: &mut String, name: &str) -> Result<(), AllocError>
     text.push_str("'")
 }
 
-/// Adds a command that changes a file's bytes by `tr`, without its byte-order mark if it has one, into another file.
+/// Adds a command that changes a file's bytes by one program, or by two, into another file.
 #[tactic(auto, unfolding(crate::specs::Commands::command_text))]
-fn push_command(
-    text: &mut String,
-    change: &str,
-    is_marked: bool,
-    name: &str,
-) -> Result<(), AllocError>
-    ensures { Adds result text.old (command_text change.now is_marked name.now) text.new }
+fn push_command(text: &mut String, first: &str, next: &str, name: &str) -> Result<(), AllocError>
+    ensures { Adds result text.old (command_text first.now next.now name.now) text.new }
 {
-    if is_marked {
-        text.push_str("tail -c +4 ")?;
-        text.push_str("< ")?;
-        push_shell_word(text, name)?;
-        text.push_str(" | tr ")?;
-        text.push_str(change)?;
-    } else {
-        text.push_str("tr ")?;
-        text.push_str(change)?;
-        text.push_str(" < ")?;
-        push_shell_word(text, name)?;
-    }
+    text.push_str(first)?;
+    text.push_str(" < ")?;
+    push_shell_word(text, name)?;
+    text.push_str(next)?;
     text.push_str(" > ")?;
     push_shell_word(text, name)?;
-    text.push_str(".new\n")
+    text.push_str(".new")
 }
 
 /// Adds how a file is mended, with the command if the file has a name that can be told.
 #[tactic(auto, unfolding(crate::specs::Commands::mending_text))]
-pub(crate) fn push_mending(
+pub fn push_mending(
     text: &mut String,
     cure: &str,
-    change: &str,
-    is_marked: bool,
+    first: &str,
+    next: &str,
     file: Option<&str>,
 ) -> Result<(), AllocError>
-    ensures { Adds result text.old (mending_text cure.now change.now is_marked (option_copied file.entry)) text.new }
+    ensures { Adds result text.old (mending_text cure.now first.now next.now (option_copied file.entry)) text.new }
 {
     text.push_str(cure)?;
     match file {
         Some(name) if !is_untold(name.as_bytes()) => {
             text.push_str(" with ")?;
-            push_command(text, change, is_marked, name)
+            push_command(text, first, next, name)
         }
-        _ => text.push_str("\n"),
+        _ => Ok(()),
     }
 }
