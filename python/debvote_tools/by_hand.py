@@ -108,6 +108,9 @@ def changes_in(folder: pathlib.Path, acts: Sequence[Entry], ballots: bytes) -> C
         is_late = is_edited_since(acts[len(until) - 1 :], ballots)
         if not is_late and stand_as_cast(until, len(until), before, set()):
             return NOTHING
+        # without its copy nobody knows which lines were in time at the close; that is told where they are compared
+        if is_late and not (folder / KEPT).is_file() and now.isdisjoint({until[-1].sums.ballots}):
+            return NOTHING
     came = came_in(folder)
     there = collections.Counter(before + late + taken_back_in(folder, acts))
     missing = [line for line in came if not taken(there, line)]

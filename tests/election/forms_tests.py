@@ -72,7 +72,7 @@ class Rows(FormTest):
         self.assertIn("3 bad shape   1,2,3,4: column 1: space (the name is missing before the ranks)\n", output)
         self.assertEqual(self.read("ballots"), b"fay 1,-,2,3\nada 1,2,-,-\n 1,2,3,4\n")
         ended = self.election("add", "--blank-is-unranked", "form.csv")
-        self.assert_fault(ended, 2, "--blank-is-unranked: it is about the cells of a table; nothing was added: write --csv with it")
+        self.assert_fault(ended, 2, "--blank-is-unranked: it is about the cells of a table; write --csv with it")
 
     def test_a_form_that_is_exported_again(self) -> None:
         first = "n,a,b,c,d\nada,1,2,3,4\nben,2,1,3,4\n"

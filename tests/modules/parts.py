@@ -30,9 +30,12 @@ class Count:
         return Count(self.passed + other.passed, self.failed + other.failed, self.skipped + other.skipped)
 
     def __str__(self) -> str:
-        said = f"{self.passed} passed, {self.failed} failed"
+        return "\n".join([*self.left_out(), f"{self.passed} passed, {self.failed} failed"])
+
+    def left_out(self) -> list[str]:
+        """How many tests were skipped, and why, in a line; no line where none was."""
         reasons = [f"{why} ({number})" for why, number in collections.Counter(self.skipped).most_common()]
-        return f"{said}; {len(self.skipped)} skipped: {', '.join(reasons)}" if reasons else said
+        return [f"{len(self.skipped)} skipped: {', '.join(reasons)}"] if reasons else []
 
 
 class Part:

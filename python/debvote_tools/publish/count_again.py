@@ -15,7 +15,8 @@ from debvote_tools.publish.recounting import PACKAGE, SCRIPT
 
 HEADING = "Count again here"
 
-# in bytes; larger files are not carried by the page, and the reader chooses them
+# in bytes; larger files are not carried by the page, and the reader chooses them. Those of a secret vote, which the finding of
+# one's own ballot needs too, never come to more: a poll has at most 1,048,576 bytes, and each of 10,000 ballots at most 129
 CARRIED_LIMIT = 4_000_000
 
 SAID = (

@@ -60,7 +60,7 @@ def run(election: Election, words: argparse.Namespace) -> int:
         raise Fault("--at", reason, cure, Status.BAD_WORDS, "nothing was written")
     if asked.kind == RECEIPTS:
         return write_receipts(election, asked)
-    with election.reading() as files:
+    with election.changing() as files:
         demand_own_folder(election)
         sender = sender_of(files.poll, asked)
         known = addresses_of(election)

@@ -14,7 +14,7 @@ from email.headerregistry import Address
 from debvote_tools import announced
 from debvote_tools.election.folder import Election
 from debvote_tools.election.letters.message import ADDRESS
-from debvote_tools.files import TEMPORARY, sync_folder, umask, write_whole
+from debvote_tools.files import TEMPORARY, sync_folder, take_away_temporaries, umask, write_whole
 from debvote_tools.secret import FILE_MODE, FOLDER_MODE
 
 FOLDER = "letters"
@@ -82,10 +82,11 @@ def place_of(election: Election, kind: str) -> pathlib.Path:
 
 
 def write(election: Election, kind: str, mails: list[Mail], sender: str, *, is_mbox: bool) -> pathlib.Path:
-    """Writes letters into a new folder, all or none, or into one file; returns where."""
+    """Writes letters into a new folder, all or none, or into one file; returns where. The caller holds the lock alone."""
     place = place_of(election, kind)
     is_secret = election.is_secret()
     place.parent.mkdir(mode=FOLDER_MODE if is_secret else 0o777, exist_ok=True)
+    take_away_leftovers(place.parent)
     mode = FILE_MODE if is_secret else 0o644
     if is_mbox:
         file = place.with_name(f"{place.name}.mbox")
@@ -105,6 +106,13 @@ def write(election: Election, kind: str, mails: list[Mail], sender: str, *, is_m
         raise
     sync_folder(place.parent)
     return place
+
+
+def take_away_leftovers(folder: pathlib.Path) -> None:
+    """Removes what runs that were killed have left half written."""
+    take_away_temporaries(folder)
+    for left in folder.glob(f"{TEMPORARY}*"):
+        shutil.rmtree(left, ignore_errors=True)
 
 
 def mbox_part(data: bytes) -> bytes:
