@@ -97,23 +97,27 @@ def more(number: int, what: str) -> list[str]:
 def changes_in(folder: pathlib.Path, acts: Sequence[Entry], ballots: bytes) -> Changes:
     """What was done by hand to the ballots of the election in this folder: before the close, or else to those that came late.
 
-    The acts are those that were done. Where the journal says that nobody has edited the ballots, nothing more is read.
+    The acts are those that were done. Where the journal says that nobody has edited the ballots, and its acts make them what they
+    are, nothing more is read.
     """
     before, late = parted(folder, acts, ballots)
     until = acts_until_close(acts)
     now = {sum_of(b"".join(line + b"\n" for line in before)), sum_of(ballots), *([] if ballots else [journal.NONE])}
-    first = first_edit(until, now)
-    if first is None and not is_edited_since(acts[len(until) - 1 :], ballots):
-        return NOTHING
+    first, is_late = first_edit(until, now), False
+    if first is None:
+        is_late = is_edited_since(acts[len(until) - 1 :], ballots)
+        if not is_late and stand_as_cast(until, len(until), before, set()):
+            return NOTHING
     came = not_taken_back(came_in(folder), taken_back_in(folder, acts))
     there = collections.Counter(before + late)
     missing = [line for line in came if not taken(there, line)]
-    if first is None:
+    if is_late:
         fewer = sum(entry.number() for entry in acts[len(until) :] if entry.act in journal.CASTING) - len(late)
         return Changes(missing, [], fewer=0 if missing else max(0, fewer), is_late=True)
     added = not_come(came, before)
-    if missing or stand_as_cast(until, first, before, {number for number, _ in added}):
-        return Changes(missing, added)
+    if missing or stand_as_cast(until, len(until) if first is None else first, before, {number for number, _ in added}):
+        # lines that were there before the first act are no edit
+        return NOTHING if first is None and not missing else Changes(missing, added)
     is_same_order = stand_as_came(before, came)
     return Changes(missing, added, is_reordered=not is_same_order, is_other=is_same_order)
 
@@ -202,16 +206,26 @@ def stand_as_cast(acts: Sequence[Entry], first: int, lines: list[bytes], left_ou
     """
     own = [line for number, line in enumerate(lines, start=1) if number not in left_out]
     casts = journal.cast_and_not_undone(acts)
-    place = 0
-    for entry in casts:
-        end = place + entry.number()
-        if entry.cast is not None and entry.cast != sum_of_lines(own[place:end]):
-            return False
-        place = end
+    # lines that were there before the first act, or before a journal that was lost, may be left out or not
+    there = casts[0].first() - 1 if casts else 0
+    starts = {0, max(0, there), max(0, there - sum(number <= there for number in left_out))}
+    if not any(follow(casts, own[start:]) for start in starts):
+        return False
     last = next(reversed(journal.cast_and_not_undone(acts[:first])), None)
     if last is None or all(entry.cast is not None for entry in casts):
         return True
-    return sum_of_lines(own[: int(last.envelopes.rpartition("-")[2])]) == last.sums.ballots
+    return sum_of_lines(own[: last.last()]) == last.sums.ballots
+
+
+def follow(casts: list[Entry], lines: list[bytes]) -> bool:
+    """Whether the lines begin with those that the acts have cast, as far as these have a sum of them."""
+    place = 0
+    for entry in casts:
+        end = place + entry.number()
+        if entry.cast is not None and entry.cast != sum_of_lines(lines[place:end]):
+            return False
+        place = end
+    return True
 
 
 def stand_as_came(lines: list[bytes], came: list[Came]) -> bool:

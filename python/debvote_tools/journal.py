@@ -69,10 +69,23 @@ class Entry:
         what = f"{self.envelopes} {self.record}".rstrip()
         return "\t".join((self.time, self.act, what, self.sums.poll, self.sums.ballots, *cast)) + "\n"
 
+    def first(self) -> int:
+        """The first of its envelopes; 0 where it has none."""
+        return self.ends()[0]
+
+    def last(self) -> int:
+        """The last of its envelopes; 0 where it has none."""
+        return self.ends()[1]
+
     def number(self) -> int:
-        """How many envelopes it has; none where it is no entry of an act that casts."""
+        """How many envelopes it has."""
+        first, last = self.ends()
+        return last - first + 1 if last else 0
+
+    def ends(self) -> tuple[int, int]:
+        """Both; 0 where it has none."""
         found = re.fullmatch(r"(\d{1,9})(?:-(\d{1,9}))?", self.envelopes)
-        return 0 if found is None else int(found[2] or found[1]) - int(found[1]) + 1
+        return (0, 0) if found is None else (int(found[1]), int(found[2] or found[1]))
 
     @property
     def lines(self) -> int | None:

@@ -187,7 +187,7 @@ class SecretFolder(Binding):
         wrong = "This is no secret vote as it is published: "
         changed = {
             "as it is": (page, f"This ballot counts for {name}:{line}: "),
-            "a last envelope": (page.replace("</pre>\n<pre id=\"ballots", 'last_envelope = 2\n</pre>\n<pre id="ballots'), f"{wrong}the poll has last_envelope."),
+            "a last envelope": (page.replace("</pre>\n<pre id=\"Ballots", 'last_envelope = 2\n</pre>\n<pre id="Ballots'), f"{wrong}the poll has last_envelope."),
             "a line twice": (page.replace(f"{line}\n</pre>", f"{line}\n{line}\n</pre>"), f"{wrong}line 6 of the ballots does not count."),
             "another ballot": (page.replace(f"{line}\n</pre>", f"{other}\n</pre>"), f"{wrong}this page shows other ballots than its files have."),
         }

@@ -158,6 +158,14 @@ class KeptToo(ByHandTest):
         self.done("close")
         self.done("publish")
 
+    def test_the_note_of_the_edit_is_taken_out_of_the_journal(self) -> None:
+        self.forge("ballots")
+        self.done("add", given="hal 1,2,3,4\n")
+        lines = self.read("journal").decode().splitlines(keepends=True)
+        self.assertEqual(lines[-2].split("\t")[1], "found")
+        self.write("journal", "".join([*lines[:-2], lines[-1]]))
+        self.assert_stops("`gus 1,2,3,4` came (received/0003-standard-input:2), and is not among the ballots")
+
     def test_acts_of_an_earlier_version(self) -> None:
         """They have no sum of their lines: what stood there before the first edit has to be there."""
         lines = [line.split("\t")[:5] for line in self.read("journal").decode().splitlines()]
@@ -222,6 +230,27 @@ class NothingLost(ByHandTest):
         self.done("add", given="fay 1,2,3,4\n")
         self.assertIn("Note: line 5, `eve 1,2,3,4`, is not among what came.\n", self.done("close"))
         self.done("publish")
+
+    def test_ballots_that_were_there_before_the_first_act(self) -> None:
+        (self.folder / "journal").unlink()
+        shutil.rmtree(self.folder / "received")
+        shutil.rmtree(self.folder / "backup")
+        shutil.rmtree(self.folder / "call")
+        self.done("add", given="eve 1,2,3,4\n")
+        self.assertNotIn("not among what came", self.done("status"))
+        self.assertNotIn("not among what came", self.done("close"))
+        self.done("publish")
+
+    def test_a_journal_that_was_lost_is_no_edit(self) -> None:
+        (self.folder / "journal").unlink()
+        self.done("add", given="eve 1,2,3,4\n")
+        self.done("add", given="fay 1,2,3,4\n")
+        status = self.done("status")
+        self.assertIn("the journal was lost before", status)
+        self.assertFalse("by their sums" in status or "among" in status or "another order" in status, status)
+        self.write("ballots", self.read("ballots").replace(b"eve 1,2,3,4", b"eve 4,3,2,1"))
+        self.write("received/0003-standard-input", "eve 4,3,2,1\n")
+        self.assertIn("by their sums in the journal", self.done("status"))
 
     def test_ballots_that_are_kept_with_an_editor_alone(self) -> None:
         (self.folder / "journal").unlink()

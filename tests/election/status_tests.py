@@ -74,7 +74,7 @@ Refused lines of electors without a ballot (4):
     bad rank count: 3 ranks, the poll has 4 options
   line 10: \uFEFFgus 1,2,4,3
     bad shape: column 1: byte-order mark
-  line 11: "ida";1;2;3;4
+  line 11:  "ida";1;2;3;4
     bad shape: column 1: space (it has quotation marks; a ballot has none)
 Refused lines of which no elector can be told (4):
   line 7: gsu 1,2,4,3

@@ -1,8 +1,9 @@
 """Tables of cases: a file of TOML, in which each table is a case, so that cases of one subject stand side by side.
 
+    command = "explain"     what each case runs
     poll = "title = .."     the poll of each case that has none of its own
 
-    [explain-NAME]
+    [NAME]
     about = "What the case shows."
     poll = ".."
     ballots = ".."
@@ -10,8 +11,8 @@
     stderr = ".."
     status = 9
 
-What `about` says is the first line of the poll file too, behind `# `. A case runs `explain` on the files poll.toml and ballots, or on
-poll.toml alone where it has no ballots. A text that is missing is empty, and a missing status is 0.
+What `about` says is the first line of the poll file too, behind `# `. The command is run on the files poll.toml and ballots, or on
+poll.toml alone where a case has no ballots. A text that is missing is empty, and a missing status is 0.
 """
 
 import pathlib
@@ -25,6 +26,7 @@ POLL, BALLOTS = "poll.toml", "ballots"
 class Row:
     """A case of a table: its files, and what the program is to answer."""
 
+    command: str
     about: str | None
     poll: str
     ballots: str | None
@@ -34,7 +36,7 @@ class Row:
 
     def words(self) -> list[str]:
         """The words of the command line."""
-        return ["explain", "--poll", POLL, *([] if self.ballots is None else ["--ballots", BALLOTS])]
+        return [self.command, "--poll", POLL, *([] if self.ballots is None else ["--ballots", BALLOTS])]
 
     def files(self) -> dict[str, bytes]:
         """The files that the program reads, by their names."""
@@ -46,8 +48,8 @@ class Row:
 def read_table(file: pathlib.Path) -> dict[str, Row]:
     """The cases of a table, by their names."""
     table = tomllib.loads(file.read_bytes().decode())
-    poll = table.pop("poll", "")
-    return {name: Row(**{"about": None, "poll": poll, "ballots": None} | row) for name, row in table.items()}
+    given = {"command": table.pop("command"), "about": None, "poll": table.pop("poll", ""), "ballots": None}
+    return {name: Row(**given | row) for name, row in table.items()}
 
 
 def written(text: str) -> str:
@@ -77,11 +79,12 @@ def rewrite(file: pathlib.Path, name: str, stdout: str, stderr: str, status: int
 
 
 def write_table(file: pathlib.Path, rows: dict[str, Row], comment: str = "") -> None:
-    """Writes a table; the poll that most cases have stands once, at its top."""
+    """Writes a table of one command; the poll that most cases have stands once, at its top."""
+    (command,) = {row.command for row in rows.values()}
     polls = [row.poll for row in rows.values()]
     most = max(polls, key=polls.count)
     shared = most if polls.count(most) > 1 else None
-    parts = [comment, "" if shared is None else f"poll = {written(shared)}\n"]
+    parts = [comment, f"command = {written(command)}\n" + ("" if shared is None else f"poll = {written(shared)}\n")]
     for name, row in rows.items():
         lines = [f"[{name}]"]
         lines += [] if row.about is None else [f"about = {written(row.about)}"]

@@ -15,7 +15,7 @@ import support
 
 # the files of a folder, but for picture and sums
 FILES = {"poll.toml", "ballots.txt", "sheet.txt", "standing.txt", "result.json", "votes.csv", "recount.py", "index.html"}
-FILES |= {"READING-A-SHEET.md", "letter.txt"}
+FILES |= {"READING-A-SHEET.md", "letter.txt", "recount.js"}
 
 
 def try_folder(expect, name, poll, ballots, more, folder):

@@ -87,7 +87,7 @@ def try_labels(expect, scratch):
         ("about, further", '<p class="about"><bdi>Über alles: \u200f&amp;amp;</bdi></p>'),
     ]:
         expect(f"labels: {name}", wanted in page, True)
-    expect("labels: nothing runs", ("<script" in page, "<img" in page), (False, False))
+    expect("labels: nothing runs", (page.count("<script"), "<script>alert" in page, "<img" in page), (1, False, False))
     expect("labels: the sheet has none", "Satzung" in (room / "result" / "sheet.txt").read_text(), False)
     for option, wanted in [("labels", BAD_LABELS), ("about", BAD_ABOUTS)]:
         for name, data, line in wanted:
@@ -178,7 +178,10 @@ def try_honest_words(expect, scratch):
     text = verify.text()
     for said in ["Ask your secretary where to get it", "It is better taken from elsewhere", "/usr/share/doc/debvote/reference.py"]:
         expect(f"how to verify: {said}", said in text, True)
-    expect("how to verify: it promises no count in the browser", "browser" in text, False)
+    again = next(section for section in pages.tree_of(page).all("section") if "Count again here" in section.text())
+    for said in ["Your browser can count the ballots anew", "a second opinion from the same web site", "Nothing is sent."]:
+        expect(f"count again here: {said}", said in again.text(), True)
+    expect("count again here: it promises no proof", re.search("(?i)prove|verified|certain", again.text()), None)
     whole = pages.tree_of(page).text()
     expect("ballots in the order of what?", ("in the order in which they were entered" in whole, "they came" in whole), (True, False))
     expect("nothing is said to be announced", "announced" in whole, False)
@@ -376,10 +379,10 @@ def try_commands(expect, scratch):
     before = {file.name: file.read_bytes() for file in folder.iterdir()}
     page = (folder / "index.html").read_text().partition('<h2 id="How-to-verify">')[2]
     found = re.findall(r"<pre><code>(.*?)</code></pre>\n(?:<p>It answers:</p>\n<pre><code>(.*?)</code></pre>)?", page, re.DOTALL)
-    expect("commands: how many", len({command for command, _ in found}), 16)
+    expect("commands: how many", len({command for command, _ in found}), 17)
     answers = {}
     for command, wanted in found:
-        if "| dot " in command and not HAS_PICTURES:
+        if ("| dot " in command and not HAS_PICTURES) or (command.startswith("nodejs") and shutil.which("nodejs") is None):
             continue
         environment = {**os.environ, "PATH": PATH, "PYTHONDONTWRITEBYTECODE": "1"}
         how = {"cwd": folder, "env": environment, "capture_output": True, "text": True, "timeout": SECONDS}

@@ -8,7 +8,7 @@ import decimal
 import html.parser
 import re
 
-EMPTY_TAGS = {"meta", "br", "hr", "rect", "path"}
+EMPTY_TAGS = {"meta", "br", "hr", "input", "rect", "path"}
 
 
 class Wrong(Exception):

@@ -1,6 +1,6 @@
 """What stands on a page of debvote-publish, beside the sheet and the ballots of its folder.
 
-All tags must be closed, nothing may be loaded or run, each link must lead to a file of the folder or a place of the page, each
+All tags must be closed, nothing may be loaded, nothing but its own script may be run, each link must lead to a file of the folder or a place of the page, each
 ballot must have its place, and the table of votes must be that of the sheet.
 """
 
@@ -10,8 +10,9 @@ import re
 
 import support
 
-UNWANTED_TAGS = {"script", "link", "iframe", "img", "object", "embed", "form", "base", "audio", "video", "image", "use"}
-EMPTY_TAGS = {"meta", "br", "hr"}  # in HTML; those of a picture end themselves
+# of scripts a page has its own alone
+UNWANTED_TAGS = {"link", "iframe", "img", "object", "embed", "form", "base", "audio", "video", "image", "use"}
+EMPTY_TAGS = {"meta", "br", "hr", "input"}  # in HTML; those of a picture end themselves
 
 
 
@@ -21,7 +22,7 @@ class Reader(html.parser.HTMLParser):
     def __init__(self, text):
         super().__init__()
         self.ids, self.links, self.unwanted, self.open, self.rows, self.faults = [], [], [], [], [], []
-        self.texts = []
+        self.texts, self.scripts, self.is_hidden = [], 0, False
         self.feed(text)
         self.faults += self.open
 
@@ -31,6 +32,9 @@ class Reader(html.parser.HTMLParser):
         self.links += [named["href"]] if "href" in named else []
         is_active = any(name.startswith("on") or name in ("src", "style", "xlink:href") for name in named)
         self.unwanted += [tag] if tag in UNWANTED_TAGS or is_active else []
+        self.scripts += tag == "script"
+        # the files that the page carries
+        self.is_hidden = self.is_hidden or (tag == "pre" and "hidden" in named)
         self.rows += [[]] if tag == "tr" else []
         if tag not in EMPTY_TAGS:
             self.open.append(tag)
@@ -44,9 +48,10 @@ class Reader(html.parser.HTMLParser):
             return
         if not self.open or self.open.pop() != tag:
             self.faults.append(f"/{tag}")
+        self.is_hidden = self.is_hidden and tag != "pre"
 
     def handle_data(self, data):
-        if "style" not in self.open:
+        if not {"style", "script"} & set(self.open) and not self.is_hidden:
             self.texts.append(data)
         if self.open[-1:] == ["td"]:
             self.rows[-1].append(data)
@@ -57,7 +62,7 @@ def try_page(expect, name, folder):
     page = Reader((folder / "index.html").read_text())
     sheet = (folder / "sheet.txt").read_text()
     voters = [line.split()[0] for line in (folder / "standing.txt").read_text().splitlines()]
-    expect(f"{name}: its tags", (page.faults, page.unwanted), ([], []))
+    expect(f"{name}: its tags", (page.faults, page.unwanted, page.scripts), ([], [], 1))
     expect(f"{name}: its places", len(set(page.ids)), len(page.ids))
     expect(f"{name}: a place for each ballot", [voter for voter in voters if voter not in page.ids], [])
     files = {file.name for file in folder.iterdir()}

@@ -31,21 +31,21 @@ class TablesTest(unittest.TestCase):
         self.file = self.room / "some.toml"
 
     def test_what_is_written_is_read_again(self) -> None:
-        rows = {f"explain-{place}": Row(None, text, text, text, text, place) for place, text in enumerate(TEXTS)}
-        rows |= {f"explain-without-{place}": Row("It shows this.", "title = 1\n", None, text) for place, text in enumerate(TEXTS)}
+        rows = {f"explain-{place}": Row("steps", None, text, text, text, text, place) for place, text in enumerate(TEXTS)}
+        rows |= {f"explain-without-{place}": Row("steps", "It shows this.", "title = 1\n", None, text) for place, text in enumerate(TEXTS)}
         case_tables.write_table(self.file, rows, "# One.\n# Two.\n")
         self.assertEqual(case_tables.read_table(self.file), rows)
         self.assertEqual(self.file.read_text().count("title = 1"), 1)
 
     def test_the_files_and_the_words_of_a_case(self) -> None:
-        row = Row("It shows this.", POLL, "ada 1,2\r\n")
+        row = Row("explain", "It shows this.", POLL, "ada 1,2\r\n")
         self.assertEqual(row.files(), {"poll.toml": f"# It shows this.\n{POLL}".encode(), "ballots": b"ada 1,2\r\n"})
         self.assertEqual(row.words(), ["explain", "--poll", "poll.toml", "--ballots", "ballots"])
-        alone = Row(None, POLL, None)
-        self.assertEqual((alone.files(), alone.words()), ({"poll.toml": POLL.encode()}, ["explain", "--poll", "poll.toml"]))
+        alone = Row("check", None, POLL, None)
+        self.assertEqual((alone.files(), alone.words()), ({"poll.toml": POLL.encode()}, ["check", "--poll", "poll.toml"]))
 
     def test_a_key_that_is_none_is_told(self) -> None:
-        self.file.write_text("[explain-a]\nbalots = 'ada'\n")
+        self.file.write_text("command = 'explain'\n[explain-a]\nbalots = 'ada'\n")
         self.assertRaises(TypeError, case_tables.read_table, self.file)
 
     def test_a_case_that_is_not_answered_fails_until_it_is_accepted(self) -> None:
@@ -54,7 +54,8 @@ class TablesTest(unittest.TestCase):
         cases.mkdir()
         (self.room / "examples").mkdir()
         shutil.copy(ROOT / "tests" / "cases" / "run", cases / "run")
-        rows = {"explain-a": Row("One.", POLL, "ada 1\r\n", "x\n"), "explain-b": Row(None, POLL, None, POLL, "explain --poll poll.toml\n", 9)}
+        rows = {"explain-a": Row("explain", "One.", POLL, "ada 1\r\n", "x\n")}
+        rows["explain-b"] = Row("explain", None, POLL, None, POLL, "explain --poll poll.toml\n", 9)
         case_tables.write_table(cases / "explain.toml", rows, "# Some.\n")
         (self.room / "debvote").write_text(STAND_IN)
         (self.room / "debvote").chmod(0o755)
@@ -65,7 +66,7 @@ class TablesTest(unittest.TestCase):
         rows["explain-a"].stdout, rows["explain-a"].status = f"# One.\n{POLL}ada 1\r\n", 9
         rows["explain-a"].stderr = "explain --poll poll.toml --ballots ballots\n"
         self.assertEqual(case_tables.read_table(cases / "explain.toml"), rows)
-        self.assertTrue((cases / "explain.toml").read_text().startswith("# Some.\n\npoll = "))
+        self.assertTrue((cases / "explain.toml").read_text().startswith('# Some.\n\ncommand = "explain"\npoll = '))
 
     def run_cases(self, *words: str) -> list[str]:
         """What tests/cases/run prints of the cases of the room."""

@@ -132,15 +132,7 @@ refused_line_after poll lines line casting s refused is =
     let valid = valid_after poll line n lines refused in
     let last = same_last (readings_in_time poll (lines ++ line ∷ [])) (readings_in_time poll lines) (elector_count poll) (last_after poll line n lines refused) in
     record {
-      title = is.title;
-      electors = is.electors;
-      names = is.names;
-      ratios = is.ratios;
-      quorum_multiple = is.quorum_multiple;
-      wording = is.wording;
-      last_envelope = is.last_envelope;
       quorum = is.quorum;
-      line_count = omega (arith, is.line_count, long);
       valid = is.valid ∙ sym valid;
       refused = omega (arith, is.refused, valid, long, valid-refused poll lines, valid-refused poll (lines ++ line ∷ []));
       voters = is.voters ∙ ap (count_by is_some) (sym last);

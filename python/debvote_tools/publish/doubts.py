@@ -205,7 +205,8 @@ def about_call(folder: pathlib.Path, poll: str, data: bytes) -> list[Doubt]:
         return []
     announced = announced_sum(poll)
     found = [] if announced is not None else [no_folder(folder, call)]
-    if not call.is_of(data) and (announced in (None, sum_of(as_announced(data))) or call.has_other_time(data)):
+    is_untold = announced in (None, sum_of(as_announced(data))) or (call.poll is not None and call.has_other_time(data))
+    if not call.is_of(data) and is_untold:
         change = f"it was changed after the call for votes: {call.change_in(data)}"
         cure = "find out who changed it, and publish the poll that was called"
         sentence = "The poll is not the one that was called."

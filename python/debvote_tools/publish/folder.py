@@ -222,9 +222,9 @@ def write_files(folder: pathlib.Path, found: Published, poll: bytes, ballots: by
     for file in made:
         write_public(folder / file.name, file.data)
     there = [
-        File(POLL, "the poll: title, options, quorum and roll", b""),
-        File(BALLOTS, "the ballots, a line each, in the order in which they were entered", b""),
-        File(SHEET, "the result sheet, from which this page is made", b""),
+        File(POLL, "the poll: title, options, quorum and roll", poll),
+        File(BALLOTS, "the ballots, a line each, in the order in which they were entered", ballots),
+        File(SHEET, "the result sheet, from which this page is made", (folder / SHEET).read_bytes()),
         *made,
         File(letter.NAME, letter.WHAT, b""),
         *found.further.files,
@@ -244,6 +244,7 @@ def made_of(found: Published) -> list[File]:
         File("result.json", "what the sheet says, for programs", result_json(found.sheet, found.labels, found.version).encode()),
         File("votes.csv", "the table of votes, for spreadsheets", votes_csv(found.sheet).encode()),
         File(recounting.NAME, "a second count, in Python", recounting.recount_program()),
+        File(recounting.SCRIPT, "a third count, in JavaScript", recounting.recount_script()),
         File(recounting.GUIDE, "how to read the sheet, what to check, and what a doubt is", recounting.guide()),
     ]
     if found.picture is not None:

@@ -198,7 +198,7 @@ def further_of(hidden: Hidden, totals: Totals, *, with_voters: bool) -> Further:
         voters=hidden.voters if with_voters else None,
         about_ballots=said,
         parts=[find(hidden), remains()],
-        style=pages.FIELDS_STYLE + STYLE,
+        style=STYLE,
         script=pages.resource("debvote_tools.publish", "find.js"),
         files=files,
         described=described,
@@ -216,13 +216,7 @@ def find(hidden: Hidden) -> str:
     commands = [(ALONE, BY_PYTHON), (WITH_OPENSSL, BY_OPENSSL), (THEN, f"debvote {OWN}")]
     commands.append((THEN_BY_PYTHON, f"python3 -I recount.py {OWN}"))
     blocks = [command_block(*command) for command in commands]
-    return part(FIND, FORM, paragraph(ABSTAINED), paragraph(ALIAS), *blocks, *absent, *carried(hidden))
-
-
-def carried(hidden: Hidden) -> list[str]:
-    """The two files, for the script: it counts them, and trusts nothing else of the page. Without script nobody sees them."""
-    files = {"poll-file": hidden.poll, "ballots-file": hidden.ballots}
-    return [f'<pre id="{name}" hidden>{escape(data.decode("utf-8"))}</pre>' for name, data in files.items()]
+    return part(FIND, FORM, paragraph(ABSTAINED), paragraph(ALIAS), *blocks, *absent)
 
 
 def remains() -> str:

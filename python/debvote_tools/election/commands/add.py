@@ -33,6 +33,7 @@ from debvote_tools.election.telling import count_of, tell_edits, tell_time
 from debvote_tools.faults import Fault, Status
 from debvote_tools.files import BALLOTS_LIMIT, in_memory, read_at_most, write_new
 from debvote_tools.lines import Line, lines_in
+from debvote_tools.poll_file import REQUIRED
 from debvote_tools.tables import Kind, kind_of
 from debvote_tools.words import taken
 
@@ -48,7 +49,7 @@ CURES: dict[Kind | None, str] = {
     Kind.PDF: "save it as plain text in UTF-8; where it shows letters, save the letters themselves (.eml, or a folder of them)",
 }
 
-POLL_KEY = re.compile(rb"(?m)^[ \t]*(title|options|ratios|default|quorum|roll)[ \t]*=")
+POLL_KEY = re.compile(rb"(?m)^[ \t]*(%b)[ \t]*=" % "|".join(REQUIRED).encode())
 
 
 @dataclasses.dataclass(frozen=True)
