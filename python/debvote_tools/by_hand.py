@@ -111,8 +111,8 @@ def changes_in(folder: pathlib.Path, acts: Sequence[Entry], ballots: bytes) -> C
         # without its copy nobody knows which lines were in time at the close; that is told where they are compared
         if is_late and not (folder / KEPT).is_file() and now.isdisjoint({until[-1].sums.ballots}):
             return NOTHING
-    came = came_in(folder)
-    there = collections.Counter(before + late + taken_back_in(folder, acts))
+    came = not_taken_back(came_in(folder), taken_back_in(folder, acts))
+    there = collections.Counter(before + late)
     missing = [line for line in came if not taken(there, line)]
     if is_late:
         fewer = sum(entry.number() for entry in acts[len(until) :] if entry.act in journal.CASTING) - len(late)
@@ -179,6 +179,13 @@ def taken_back_in(folder: pathlib.Path, acts: Sequence[Entry]) -> list[bytes]:
     """The lines that acts have taken back: they came, and are not among the ballots."""
     files = [folder / RECEIVED / f"{entry.record}{TAKEN_BACK}" for entry in acts if entry.act == journal.UNDO and entry.record]
     return [line for file in files if file.is_file() for line in lines_of(file.read_bytes())]
+
+
+def not_taken_back(came: list[Came], back: list[bytes]) -> list[Came]:
+    """The lines that came but for those that acts have taken back; of equal ones these are the last."""
+    left = collections.Counter(back)
+    found = [line for line in reversed(came) if not taken(left, line)]
+    return found[::-1]
 
 
 def taken(there: collections.Counter[bytes], line: Came) -> bool:
