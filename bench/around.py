@@ -22,7 +22,7 @@ import elections
 
 ROOT = pathlib.Path(__file__).resolve().parent.parent
 PROGRAM = ROOT / "crates" / "debvote" / "out" / "debvote"
-ELECTION, PUBLISH = ROOT / "election" / "debvote-election", ROOT / "publish" / "debvote-publish"
+ELECTION, PUBLISH = ROOT / "bin" / "debvote-election", ROOT / "bin" / "debvote-publish"
 
 # the large election of the other benchmark
 OPTIONS, LINES = 16, 100_000

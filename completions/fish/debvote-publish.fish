@@ -13,4 +13,5 @@ complete -c debvote-publish -l labels -r -F -d "What title and options are calle
 complete -c debvote-publish -l about -r -F -d "A text for the page"
 complete -c debvote-publish -l who -r -F -d "The list of members, with real names"
 complete -c debvote-publish -l because -x -d "Why the doubts are none"
+complete -c debvote-publish -l texts-read -d "In a secret vote: everybody may read the texts for the page"
 complete -c debvote-publish -l help -d "Print help"

@@ -8,7 +8,7 @@ import dataclasses
 import datetime
 
 from debvote_tools import poll_file
-from debvote_tools.faults import Fault, Status
+from debvote_tools.faults import Fault
 
 DEADLINE, WORDS, ADDRESS, SECRET, EXTENDED = "deadline", "deadline_words", "address", "secret", "extended_to"
 KEYS = (DEADLINE, WORDS, ADDRESS, SECRET, EXTENDED)
@@ -74,12 +74,7 @@ def time_at(key: str, text: str | None) -> datetime.datetime | None:
 
 
 def wrong(key: str, why: str) -> Fault:
-    return Fault(
-        "poll.toml",
-        f"its line `{key}` can't be read: {why}",
-        f"put it right with an editor, then run: {poll_file.CHECK}",
-        Status.BAD_POLL,
-    )
+    return poll_file.BadPoll(f"its line `{key}` can't be read: {why}", "put it right with an editor")
 
 
 def now() -> datetime.datetime:

@@ -1,12 +1,13 @@
-"""What was done by hand to the ballots before the close: lines that came, and were taken out, changed, or put in another order.
+"""What was done by hand to the ballots: lines that came, and were taken out, changed, or put in another order.
 
 The journal has the sum of the ballots after each act, so it tells whether anybody has edited them; received/ has what came, so it
-tells which lines. Lines that were put in by hand are told too: like those of a desk they are typed by the secretary.
+tells which lines, and the sum of the lines of each act tells where received/ was changed with them. Lines that were put in by hand
+are told too: like those of a desk they are typed by the secretary. Of the lines that were in time at the close its copy tells what
+was done to them since.
 """
 
 import collections
 import dataclasses
-import hashlib
 import pathlib
 import re
 from collections.abc import Sequence
@@ -16,7 +17,8 @@ from debvote_tools.closed import KEPT, beyond, lines_of, number_of
 from debvote_tools.faults import Doubt
 from debvote_tools.files import sum_of
 from debvote_tools.journal import Entry
-from debvote_tools.lines import lines_in, shown
+from debvote_tools.lines import lines_in
+from debvote_tools.signs import shown_line
 
 # what came, in the folder of the election
 RECEIVED = "received"
@@ -30,8 +32,10 @@ BALLOT = re.compile(rb"[^\s,;]+ (?:-|\d{1,2})(?:,(?:-|\d{1,2}))*")
 # so many lines of each kind are told, each with its text
 MOST = 5
 
-# the acts that cast lines
-CASTING = ("add", "cast")
+# how the name ends under which lines are kept that an act has taken back, and a file of which the first lines came before: the lines
+# behind them are kept as those of a table are
+TAKEN_BACK = ".taken-back"
+IN_PART = ".in-part"
 
 
 @dataclasses.dataclass(frozen=True)
@@ -45,29 +49,44 @@ class Came:
 
 @dataclasses.dataclass(frozen=True)
 class Changes:
-    """What differs from what came: lines that are not there, lines that are there and did not come, each with its number, and
-    whether the lines that came stand in another order.
+    """What differs from what came: lines that are not there, lines that are there and did not come, each with its number; whether
+    the lines that came stand in another order, or are others by the journal alone, as where what is kept was changed with them; and
+    how many late ones are gone of which nothing is kept.
     """
 
     missing: list[Came]
     added: list[tuple[int, bytes]]
-    is_reordered: bool
+    is_reordered: bool = False
+    is_other: bool = False
+    fewer: int = 0
+    # whether it was done after the close alone
+    is_late: bool = False
 
     @property
     def is_loss(self) -> bool:
-        """Whether something that came does not count as it came."""
-        return bool(self.missing) or self.is_reordered
+        """Whether something that came does not count as it came, or, where it came late, does not stand there."""
+        return bool(self.missing) or self.is_reordered or self.is_other or self.fewer > 0
 
     def lines(self) -> list[str]:
         """A sentence for each line that differs, of many the first ones."""
-        found = [f"`{shown(came.text)}` came ({came.where}), and is not among the ballots" for came in self.missing[:MOST]]
+        found = [f"`{shown_line(came.text)}` came ({came.where}), and is not among the ballots" for came in self.missing[:MOST]]
         found += more(len(self.missing) - MOST, "came, and not among the ballots")
-        found += [f"line {number}, `{shown(line)}`, is not among what came" for number, line in self.added[:MOST]]
+        found += [f"line {number}, `{shown_line(line)}`, is not among what came" for number, line in self.added[:MOST]]
         found += more(len(self.added) - MOST, "not among what came")
-        return found + (["the lines stand in another order than that in which they came"] if self.is_reordered else [])
+        found += ["the lines stand in another order than that in which they came"] if self.is_reordered else []
+        found += ["the lines are not those that were added, by their sums in the journal"] if self.is_other else []
+        if self.fewer:
+            found.append(
+                f"{self.fewer} {'line' if self.fewer == 1 else 'lines'} came after the close and {is_or_are(self.fewer)} gone"
+            )
+        return found
 
 
-NOTHING = Changes([], [], False)
+NOTHING = Changes([], [])
+
+
+def is_or_are(number: int) -> str:
+    return "is" if number == 1 else "are"
 
 
 def more(number: int, what: str) -> list[str]:
@@ -76,26 +95,35 @@ def more(number: int, what: str) -> list[str]:
 
 # ---------------------------------------------------------------- what was changed
 def changes_in(folder: pathlib.Path, acts: Sequence[Entry], ballots: bytes) -> Changes:
-    """What was done by hand before the close to the ballots of the election in this folder, or up to now where it is open.
+    """What was done by hand to the ballots of the election in this folder: before the close, or else to those that came late.
 
-    The acts are those that were done. Where the journal says that nobody has edited the ballots, nothing more is read.
+    The acts are those that were done. Where the journal says that nobody has edited the ballots, and its acts make them what they
+    are, nothing more is read.
     """
     before, late = parted(folder, acts, ballots)
     until = acts_until_close(acts)
     now = {sum_of(b"".join(line + b"\n" for line in before)), sum_of(ballots), *([] if ballots else [journal.NONE])}
-    first = first_edit(until, now)
+    first, is_late = first_edit(until, now), False
     if first is None:
-        return NOTHING
+        is_late = is_edited_since(acts[len(until) - 1 :], ballots)
+        if not is_late and stand_as_cast(until, len(until), before, set()):
+            return NOTHING
     came = came_in(folder)
-    there = collections.Counter(before + late)
+    there = collections.Counter(before + late + taken_back_in(folder, acts))
     missing = [line for line in came if not taken(there, line)]
+    if is_late:
+        fewer = sum(entry.number() for entry in acts[len(until) :] if entry.act in journal.CASTING) - len(late)
+        return Changes(missing, [], fewer=0 if missing else max(0, fewer), is_late=True)
     added = not_come(came, before)
-    is_reordered = not missing and not stand_as_cast(until[:first], before, {number for number, _ in added})
-    return Changes(missing, added, is_reordered)
+    if missing or stand_as_cast(until, len(until) if first is None else first, before, {number for number, _ in added}):
+        # lines that were there before the first act are no edit
+        return NOTHING if first is None and not missing else Changes(missing, added)
+    is_same_order = stand_as_came(before, came)
+    return Changes(missing, added, is_reordered=not is_same_order, is_other=is_same_order)
 
 
 def parted(folder: pathlib.Path, acts: Sequence[Entry], ballots: bytes) -> tuple[list[bytes], list[bytes]]:
-    """The lines at the close, as their copy has them, and those behind it; all of them where the election is open."""
+    """The lines at the close, as their copy has them, and the others; all of them where the election is open."""
     close = journal.last(list(acts), "close")
     lines = lines_of(ballots)
     number = None if close is None else number_of(close)
@@ -103,7 +131,7 @@ def parted(folder: pathlib.Path, acts: Sequence[Entry], ballots: bytes) -> tuple
         return lines, []
     kept = folder / KEPT
     before = lines_of(kept.read_bytes()) if kept.is_file() else lines[:number]
-    return before, lines[number:]
+    return before, [line for _, line in beyond(lines, before)]
 
 
 def acts_until_close(acts: Sequence[Entry]) -> list[Entry]:
@@ -122,16 +150,32 @@ def first_edit(acts: Sequence[Entry], now: set[str]) -> int | None:
     return None if not acts or is_closed or acts[-1].sums.ballots in now else len(acts)
 
 
+def is_edited_since(acts: Sequence[Entry], ballots: bytes) -> bool:
+    """Whether somebody has edited the ballots since the first of these acts, which is a close; not where it is none."""
+    if not acts or acts[0].act != "close":
+        return False
+    sums = [entry.sums.ballots for entry in acts]
+    is_found = any(entry.act == journal.FOUND and entry.sums.ballots != sums[at] for at, entry in enumerate(acts[1:]))
+    return is_found or sums[-1] not in {sum_of(ballots), *([] if ballots else [journal.NONE])}
+
+
 def came_in(folder: pathlib.Path) -> list[Came]:
     """The lines of ballots that came, of all files that are kept."""
     place = folder / RECEIVED
     names = sorted(file.name for file in place.iterdir() if re.match(r"\d+-", file.name)) if place.is_dir() else []
+    names = [name for name in names if not name.endswith((TAKEN_BACK, IN_PART))]
     found = []
     for name in names:
         if (place / name).is_file():
             lines = lines_in((place / name).read_bytes(), f"{RECEIVED}/{name}")
             found += [Came(line.where, line.changed, line.kept) for line in lines if BALLOT.fullmatch(line.changed)]
     return found
+
+
+def taken_back_in(folder: pathlib.Path, acts: Sequence[Entry]) -> list[bytes]:
+    """The lines that acts have taken back: they came, and are not among the ballots."""
+    files = [folder / RECEIVED / f"{entry.record}{TAKEN_BACK}" for entry in acts if entry.act == journal.UNDO and entry.record]
+    return [line for file in files if file.is_file() for line in lines_of(file.read_bytes())]
 
 
 def taken(there: collections.Counter[bytes], line: Came) -> bool:
@@ -148,15 +192,44 @@ def not_come(came: list[Came], lines: list[bytes]) -> list[tuple[int, bytes]]:
     return [(number, line) for number, line in beyond(lines, texts) if BALLOT.fullmatch(line)]
 
 
-def stand_as_cast(acts: Sequence[Entry], lines: list[bytes], left_out: set[int]) -> bool:
-    """Whether the lines, but for these, begin with what the last of the acts that cast lines has left."""
-    last = next((entry for entry in reversed(acts) if entry.act in CASTING), None)
-    if last is None:
-        return True
+def stand_as_cast(acts: Sequence[Entry], first: int, lines: list[bytes], left_out: set[int]) -> bool:
+    """Whether the lines, but for these, are those that the acts have cast, in their order.
+
+    Where an act has no sum of its own lines, they have to begin with what stood there before the first edit.
+    """
     own = [line for number, line in enumerate(lines, start=1) if number not in left_out]
-    count = int(last.envelopes.rpartition("-")[2])
-    found = hashlib.sha256(b"".join(line + b"\n" for line in own[:count]))
-    return found.hexdigest() == last.sums.ballots
+    casts = journal.cast_and_not_undone(acts)
+    # lines that were there before the first act, or before a journal that was lost, may be left out or not
+    there = casts[0].first() - 1 if casts else 0
+    starts = {0, max(0, there), max(0, there - sum(number <= there for number in left_out))}
+    if not any(follow(casts, own[start:]) for start in starts):
+        return False
+    last = next(reversed(journal.cast_and_not_undone(acts[:first])), None)
+    if last is None or all(entry.cast is not None for entry in casts):
+        return True
+    return sum_of_lines(own[: last.last()]) == last.sums.ballots
+
+
+def follow(casts: list[Entry], lines: list[bytes]) -> bool:
+    """Whether the lines begin with those that the acts have cast, as far as these have a sum of them."""
+    place = 0
+    for entry in casts:
+        end = place + entry.number()
+        if entry.cast is not None and entry.cast != sum_of_lines(lines[place:end]):
+            return False
+        place = end
+    return True
+
+
+def stand_as_came(lines: list[bytes], came: list[Came]) -> bool:
+    """Whether the lines that came stand in the order in which they are kept."""
+    texts = {text for line in came for text in (line.text, line.kept)}
+    there = [line for line in lines if line in texts]
+    return len(there) == len(came) and all(line in (kept.text, kept.kept) for line, kept in zip(there, came))
+
+
+def sum_of_lines(lines: list[bytes]) -> str:
+    return sum_of(b"".join(line + b"\n" for line in lines))
 
 
 # ---------------------------------------------------------------- the publication
@@ -164,12 +237,20 @@ def doubts_about(changes: Changes, ballots: str) -> list[Doubt]:
     """That lines which came do not count as they came: in an open vote which."""
     if not changes.is_loss:
         return []
-    many = len(changes.missing)
-    what = f"{many} {'line' if many == 1 else 'lines'} that came" if many else "the order of lines that came"
-    was = "was" if many == 1 or not many else "were"
-    reason = (
-        f"{what} {was} changed or taken out by hand before the close" if many else f"{what} was changed by hand before the close"
-    )
+    many = len(changes.missing) or changes.fewer
+    was = "was" if many <= 1 else "were"
+    when = "after the close" if changes.is_late else "before the close"
+    if many:
+        lines = f"{many} {'line' if many == 1 else 'lines'} that came"
+        reason = (
+            f"{lines} {when} {was} changed or taken out by hand"
+            if changes.is_late
+            else f"{lines} {was} changed or taken out by hand {when}"
+        )
+    elif changes.is_other:
+        reason = f"the ballots were changed by hand {when}"
+    else:
+        reason = f"the order of lines that came was changed by hand {when}"
     cure = "look who did it, and why; what came is kept in received"
     said = f"{reason[0].upper()}{reason[1:]}."
     which = "; ".join(changes.lines())

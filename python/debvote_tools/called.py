@@ -16,51 +16,68 @@ from debvote_tools.files import POLL_LIMIT, read_at_most, sum_of
 KEPT = pathlib.Path("backup", "poll.toml.called")
 
 FOLDER = "call"
-LETTER = "call.txt"
 
-# the acts of the journal by which a call is made, and taken back before any ballot has come
-MADE, TAKEN_BACK = "call", "taken-back"
+# the files in it
+PAGE, LETTER, POLL, SUMS = NAMES = ("index.html", "call.txt", "poll.toml", "SHA256SUMS")
 
-# the line of either act, unless the next one notes that it was not done: its time, the act, and the sum of the poll. Neither
-# changes a file, so one that is not ended yet is done too
+# the acts of the journal by which a call is made, taken back before any ballot has come, and extended to a later time
+MADE, TAKEN_BACK, LATER = "call", "taken-back", "extend"
+
+# the line of one of these acts, unless the next one notes that it was not done: its time, the act, the sum of the poll, and its
+# end. The first two change no file, so one that is not ended yet is done too
 LINE = re.compile(
-    rb"(?m)^([^\t\n]{20})\t(%b|%b)\t[^\t\n]+\t(-|[0-9a-f]{64})\t(?:-|[0-9a-f]{64})(?:\n(?![^\t\n]{20}\t%b\t)|\Z)"
-    % (MADE.encode(), TAKEN_BACK.encode(), journal.UNDONE.encode())
+    rb"(?m)^([^\t\n]{20})\t(%b|%b|%b)\t[^\t\n]+\t(-|[0-9a-f]{64})\t(?:-|[0-9a-f]{64})(\n(?![^\t\n]{20}\t%b\t)|\Z)"
+    % (MADE.encode(), TAKEN_BACK.encode(), LATER.encode(), journal.UNDONE.encode())
 )
 
 
 @dataclasses.dataclass(frozen=True)
 class Called:
-    """The call that holds: when it was made last, the sums of the polls of this call, and the poll itself.
+    """The call that holds: when it was made last, the sums of its polls that have the latest time, and the poll itself.
 
     There is no time and no sum where the journal is lost, and no poll where its copy is lost, or is another one.
     """
 
     time: str | None
-    sums: frozenset[str]
+    latest: frozenset[str]
     poll: bytes | None
 
     def is_of(self, poll: bytes) -> bool:
         """Whether this is the poll that was called, but for the lines that it may get later."""
-        bare = poll_file.as_announced(poll)
         if self.poll is None:
-            return not self.sums.isdisjoint((sum_of(poll), sum_of(bare)))
-        return poll_file.as_announced(self.poll) == bare and not self.is_shortened(poll)
+            return self.is_latest(poll)
+        return poll_file.as_announced(self.poll) == poll_file.as_announced(poll) and not self.has_other_time(poll)
 
-    def is_shortened(self, poll: bytes) -> bool:
-        """Whether the poll lacks the later time to which this call has extended the vote, or says an earlier one."""
-        then, now = (announced_in(data).extended_to for data in (self.poll or poll, poll))
-        return then is not None and (now is None or now < then)
+    def is_latest(self, poll: bytes) -> bool:
+        """Whether the journal has this poll, its last envelope aside, with the latest time that was called."""
+        return not self.latest.isdisjoint((sum_of(poll), sum_of(poll_file.without_last_envelope(poll))))
+
+    def has_other_time(self, poll: bytes) -> bool:
+        """Whether the poll says another later time than this call, or none: the sum of the call leaves that line out.
+
+        The copy may be another one than that of the latest call: of a call that was killed the journal alone has the time.
+        """
+        kept = self.poll or poll
+        is_same = announced_in(kept).extended_to == announced_in(poll).extended_to
+        return not (is_same and (not self.latest or self.is_latest(kept))) and not self.is_latest(poll)
 
     def change_in(self, poll: bytes) -> str:
         """How a poll that is another one differs from the one that was called."""
         if self.poll is None:
             return f"the journal has another sum of the poll that was called, and no copy of that one is in {KEPT}"
         before, now = poll_file.as_announced(self.poll), poll_file.as_announced(poll)
-        extended_to = announced_in(self.poll).extended_to
-        if before == now and extended_to is not None:
-            return f"the vote was extended until {in_words(extended_to)}, and the poll does not say so any more"
-        return difference(before, now)
+        return difference(before, now) if before != now else times_that_differ(self.poll, poll)
+
+
+def times_that_differ(called: bytes, poll: bytes) -> str:
+    """What a poll says of a later time, and what the poll that was called says of it."""
+    then, now = (announced_in(data).extended_to for data in (called, poll))
+    if then is not None and (now is None or now < then):
+        return f"the vote was extended until {in_words(then)}, and the poll does not say so any more"
+    if now is None or now == then:
+        return f"what it says of a later time is not what the journal has, and the copy {KEPT} is another one, too"
+    said = "no call has extended the vote" if then is None else f"the vote was extended until {in_words(then)}"
+    return f"{said}, and the poll says that one can vote until {in_words(now)}"
 
 
 def call_of(folder: pathlib.Path) -> Called | None:
@@ -71,10 +88,13 @@ def call_of(folder: pathlib.Path) -> Called | None:
     kept = read_at_most(folder / KEPT, POLL_LIMIT) if (folder / KEPT).is_file() else None
     if not acts and kept is None:
         return None
-    last = max((at for at, act in enumerate(acts, start=1) if act[1] == TAKEN_BACK), default=0)
-    sums = frozenset(act[2] for act in acts[last:])
-    found = Called(acts[-1][0] if acts else None, sums, None)
-    return dataclasses.replace(found, poll=kept) if kept is not None and (not sums or found.is_of(kept)) else found
+    ours = acts[max((at for at, act in enumerate(acts, start=1) if act[1] == TAKEN_BACK), default=0) :]
+    # of an extension that is not ended yet either poll may be there
+    latest = ours[max((at for at, act in enumerate(ours) if act[1] == LATER and act[3]), default=0) :]
+    sums, of_latest = (frozenset(act[2] for act in some) for some in (ours, latest))
+    is_called = not sums or (kept is not None and not sums.isdisjoint((sum_of(kept), sum_of(poll_file.as_announced(kept)))))
+    time = next((act[0] for act in reversed(ours) if act[1] == MADE), None)
+    return Called(time, of_latest, kept if is_called else None)
 
 
 def journal_of(folder: pathlib.Path) -> bytes:

@@ -12,11 +12,14 @@ import re
 from debvote_tools.faults import Doubt
 from debvote_tools.files import sum_of
 from debvote_tools.journal import NONE, Entry
-from debvote_tools.lines import shown
 from debvote_tools.sheet import Sheet
+from debvote_tools.signs import shown_line
 
 # the ballots as they were closed, in the folder of the election
 KEPT = pathlib.Path("backup", "ballots.closed")
+
+# what answers the sum of the lines that were in time, typed in the published folder
+LINES_IN_TIME = "head -n {number} ballots.txt | sha256sum"
 
 # so many lines of each kind are told, each with its text
 MOST = 3
@@ -103,9 +106,9 @@ def is_new(number: int, line: bytes, counted: Counted) -> Doubt:
     words = "was not among the lines at the close, and counts now"
     return Doubt(
         f"{counted.ballots}:{number}",
-        f"`{shown(line)}` {words}",
+        f"`{shown_line(line)}` {words}",
         "look whether it came in time",
-        f"Line {number} of the ballot file, `{shown(line)}`, {words}.",
+        f"Line {number} of the ballot file, `{shown_line(line)}`, {words}.",
     )
 
 
@@ -121,9 +124,9 @@ def is_missing(number: int, line: bytes, kept: pathlib.Path, counted: Counted) -
     words = "is not among the lines that are in time now"
     return Doubt(
         counted.ballots,
-        f"`{shown(line)}`, which was line {number} at the close, {words}",
+        f"`{shown_line(line)}`, which was line {number} at the close, {words}",
         f"look who took it out, and put it back (the lines of the close are in {kept})",
-        f"Line {number} of the ballot file at the close, `{shown(line)}`, {words}.",
+        f"Line {number} of the ballot file at the close, `{shown_line(line)}`, {words}.",
     )
 
 

@@ -10,12 +10,15 @@ import re
 import signal
 import stat
 import tempfile
-from collections.abc import Iterator
+from collections.abc import Iterable, Iterator
 
 from debvote_tools.faults import Fault, Status
 
 # in bytes; one more is read of a longer file, so that debvote says that it is too long
 POLL_LIMIT, BALLOTS_LIMIT = 1_048_576, 33_554_432
+
+# in bytes; ten thousand members or electors, with a letter about each, are shorter
+TABLE_LIMIT = 33_554_432
 
 # in lines
 LINES_LIMIT = 100_000
@@ -51,7 +54,7 @@ def sync_folder(folder: pathlib.Path) -> None:
         os.close(handle)
 
 
-def write_whole(file: pathlib.Path, data: bytes, mode: int = 0o644) -> None:
+def write_whole(file: pathlib.Path, data: bytes | Iterable[bytes | memoryview], mode: int = 0o644) -> None:
     """Writes a file whole or not at all: a temporary beside it is brought to the disk, and takes its place.
 
     A file that was there keeps its mode; a new one gets this mode, less what the umask takes. Raises OSError, and then the file
@@ -61,7 +64,7 @@ def write_whole(file: pathlib.Path, data: bytes, mode: int = 0o644) -> None:
     handle, name = tempfile.mkstemp(prefix=TEMPORARY, dir=file.parent)
     try:
         with os.fdopen(handle, "wb") as target:
-            target.write(data)
+            target.writelines([data] if isinstance(data, bytes) else data)
             target.flush()
             os.fchmod(target.fileno(), mode)
             os.fsync(target.fileno())
@@ -79,11 +82,31 @@ def write_whole(file: pathlib.Path, data: bytes, mode: int = 0o644) -> None:
         raise Written(error.errno, error.strerror, str(file)) from None
 
 
-def take_away_temporaries(folder: pathlib.Path) -> None:
-    """Removes the temporaries that runs that were killed have left in a folder, and no other file."""
-    for file in folder.glob(f"{TEMPORARY}*"):
-        if stat.S_ISREG(file.lstat().st_mode):
-            file.unlink()
+def temporary_folder(place: pathlib.Path) -> pathlib.Path:
+    """Makes a folder for what is moved to its place once it is whole, or was moved away from there. Raises OSError."""
+    return pathlib.Path(tempfile.mkdtemp(prefix=TEMPORARY, dir=place))
+
+
+def take_away_temporaries(folder: pathlib.Path, names: tuple[str, ...] = ()) -> None:
+    """Removes the temporaries that runs that were killed have left in a folder, and no other file.
+
+    One that is a folder may have files of these names. The caller holds the lock alone, so that no run is at work on one.
+    """
+    for left in folder.glob(f"{TEMPORARY}*"):
+        mode = left.lstat().st_mode
+        if stat.S_ISREG(mode):
+            left.unlink()
+        elif stat.S_ISDIR(mode) and names:
+            take_away_temporaries(left)
+            take_away_folder(left, names)
+
+
+def take_away_folder(folder: pathlib.Path, names: tuple[str, ...]) -> None:
+    """Removes the files of these names, and their folder where nothing else is in it."""
+    with contextlib.suppress(OSError):
+        for name in names:
+            (folder / name).unlink(missing_ok=True)
+        folder.rmdir()
 
 
 def write_public(file: pathlib.Path, data: bytes) -> None:

@@ -2,8 +2,9 @@
 
     2026-11-25T18:04:11Z  add  13-15  <sum of poll.toml>  <sum of ballots>
 
-Its parts have a tab between them, and `-` stands for what there is not. A line is written before the act is done, and gets its
-line feed after that. So where a run is killed between the two, the next act finds a line that is not ended: either the files have
+Its parts have a tab between them, and `-` stands for what there is not. Behind the envelopes, and a space, stands the name of the
+record that an act has, as `13-15 0004`. An act that casts lines has the sum of these lines as a sixth part. A line is written before
+the act is done, and gets its line feed after that. So where a run is killed between the two, the next act finds a line that is not ended: either the files have
 its sums, and it is ended, or the act was not done, and this is noted.
 """
 
@@ -12,10 +13,15 @@ import datetime
 import os
 import pathlib
 import re
+from collections.abc import Sequence
 
 from debvote_tools.files import append_whole, sum_of
 
 NAME = "journal"
+
+# the acts that cast lines, and the one that takes back what the last of them has cast
+CASTING = ("add", "cast", "enter")
+UNDO = "undo"
 
 # the act by which the next run notes that the one before was cut off before it was done
 UNDONE = "undone"
@@ -28,7 +34,7 @@ NONE = "-"
 TIME = r"\d{4}-\d\d-\d\dT\d\d:\d\d:\d\dZ"
 
 # an entry to its last byte; a line that was cut off within it does not fit
-WHOLE = re.compile(rb"[^\t\n]+\t[^\t\n]+\t[^\t\n]+\t(?:-|[0-9a-f]{64})\t(?:-|[0-9a-f]{64})")
+WHOLE = re.compile(rb"[^\t\n]+\t[^\t\n]+\t[^\t\n]+\t(?:-|[0-9a-f]{64})\t(?:-|[0-9a-f]{64})(?:\t[0-9a-f]{64})?")
 
 
 @dataclasses.dataclass(frozen=True)
@@ -45,15 +51,48 @@ class Sums:
 
 @dataclasses.dataclass(frozen=True)
 class Entry:
-    """A line of the journal: the time in UTC, the act, the envelopes as `13-15`, and the sums after the act."""
+    """A line of the journal: the time in UTC, the act, the envelopes as `13-15`, the sums after the act, and the sum of the lines
+    that it cast, each with its line feed; other acts, and those of earlier versions, have none.
+
+    An act about letters, or one that takes lines back, has a record: the name by which the file begins that says which.
+    """
 
     time: str
     act: str
     envelopes: str
     sums: Sums
+    cast: str | None = None
+    record: str = ""
 
     def line(self) -> str:
-        return "\t".join((self.time, self.act, self.envelopes, self.sums.poll, self.sums.ballots)) + "\n"
+        cast = () if self.cast is None else (self.cast,)
+        what = f"{self.envelopes} {self.record}".rstrip()
+        return "\t".join((self.time, self.act, what, self.sums.poll, self.sums.ballots, *cast)) + "\n"
+
+    def first(self) -> int:
+        """The first of its envelopes; 0 where it has none."""
+        return self.ends()[0]
+
+    def last(self) -> int:
+        """The last of its envelopes; 0 where it has none."""
+        return self.ends()[1]
+
+    def number(self) -> int:
+        """How many envelopes it has."""
+        first, last = self.ends()
+        return last - first + 1 if last else 0
+
+    def ends(self) -> tuple[int, int]:
+        """Both; 0 where it has none."""
+        found = re.fullmatch(r"(\d{1,9})(?:-(\d{1,9}))?", self.envelopes)
+        return (0, 0) if found is None else (int(found[1]), int(found[2] or found[1]))
+
+    @property
+    def lines(self) -> int | None:
+        """How many lines the ballots have after an act that casts some, or takes some back; none of any other act."""
+        if self.act in CASTING:
+            return int(self.envelopes.rpartition("-")[2])
+        return int(self.envelopes.partition("-")[0]) - 1 if self.act == UNDO else None
 
 
 def entries_in(file: pathlib.Path, most: int | None = None) -> list[Entry]:
@@ -74,7 +113,10 @@ def entries_in(file: pathlib.Path, most: int | None = None) -> list[Entry]:
 def entry_of(line: str) -> Entry | None:
     """The entry of a line."""
     row = line.split("\t")
-    return Entry(row[0], row[1], row[2], Sums(row[3], row[4])) if len(row) == 5 and re.fullmatch(TIME, row[0]) else None
+    if len(row) not in (5, 6) or not re.fullmatch(TIME, row[0]):
+        return None
+    envelopes, _, record = row[2].partition(" ")
+    return Entry(row[0], row[1], envelopes, Sums(row[3], row[4]), row[5] if row[5:] else None, record)
 
 
 def last_entries(file: pathlib.Path) -> list[Entry]:
@@ -115,6 +157,17 @@ def last(entries: list[Entry], act: str) -> Entry | None:
     return next((entry for entry in reversed(done(entries)) if entry.act == act), None)
 
 
+def cast_and_not_undone(acts: Sequence[Entry]) -> list[Entry]:
+    """Of the acts that were done those that cast lines which no later act has taken back, first to last."""
+    found: list[Entry] = []
+    for entry in acts:
+        if entry.act in CASTING:
+            found.append(entry)
+        elif entry.act == UNDO:
+            del found[-1:]
+    return found
+
+
 def acts_done(file: pathlib.Path, now: Sums) -> list[Entry]:
     """The acts that were done, where the files have these sums: also one that is done, and was killed before it was ended."""
     last_begun = begun(file)
@@ -126,9 +179,9 @@ def note(file: pathlib.Path, act: str, envelopes: str, sums: Sums) -> None:
     append_whole(file, line_now(act, envelopes, sums) + b"\n", has_lines=True)
 
 
-def begin(file: pathlib.Path, act: str, envelopes: str, sums: Sums) -> None:
+def begin(file: pathlib.Path, act: str, envelopes: str, sums: Sums, cast: str | None = None, record: str = "") -> None:
     """Notes that an act begins. Raises OSError, and then nothing is noted."""
-    append_whole(file, line_now(act, envelopes, sums), has_lines=True)
+    append_whole(file, line_now(act, envelopes, sums, cast, record), has_lines=True)
 
 
 def end(file: pathlib.Path) -> None:
@@ -141,7 +194,7 @@ def end_undone(file: pathlib.Path, sums: Sums) -> None:
     append_whole(file, b"\n" + line_now(UNDONE, NONE, sums) + b"\n")
 
 
-def line_now(act: str, envelopes: str, sums: Sums) -> bytes:
+def line_now(act: str, envelopes: str, sums: Sums, cast: str | None = None, record: str = "") -> bytes:
     """The line of an act at this time, without its line feed."""
     time = datetime.datetime.now(datetime.UTC).strftime("%Y-%m-%dT%H:%M:%SZ")
-    return Entry(time, act, envelopes, sums).line().removesuffix("\n").encode("ascii")
+    return Entry(time, act, envelopes, sums, cast, record).line().removesuffix("\n").encode("ascii")

@@ -1,7 +1,9 @@
 """The lines that come, and what may be changed of one before it is cast.
 
-Changed are the byte-order mark at the start, carriage returns at line ends, spaces and tabs at either end, around commas and
-between name and ranks, and capital letters of the name. Nothing else is, and nothing is guessed.
+Changed is what can mean one thing only: the byte-order mark at the start, carriage returns at line ends, spaces and tabs at either
+end, around commas and between name and ranks, capital letters of the name; and what mail programs and word processors put there:
+quotation marks around the line, asterisks for bold letters, a full stop at its end, semicolons for commas, a colon behind the name,
+no-break spaces, and a dash for a hyphen. Nothing else is, and nothing is guessed: no rank, no name, no order.
 """
 
 import codecs
@@ -15,11 +17,46 @@ BLANKS = b" \t"
 # a line and its end; a carriage return alone ends a line too
 PART = re.compile(rb"([^\r\n]*)(\r\n|\n|\r|\Z)")
 
-# so much of a line is shown
-SHOWN = 100
+# in bytes; a longer line is no ballot, and nothing of it is repaired
+LONGEST = 1_000
+
+NO_BREAK = "\u00a0\u202f"
+DASHES = "\u2010\u2011\u2012\u2013\u2014\u2212"
+# what stands before a line and behind it
+QUOTES = (
+    *(chr(34) * 2, chr(39) * 2, "``"),
+    *(
+        "\u201c\u201d",
+        "\u201e\u201c",
+        "\u201e\u201d",
+        "\u201d\u201d",
+        "\u2018\u2019",
+        "\u201a\u2018",
+        "\u00ab\u00bb",
+        "\u00bb\u00ab",
+    ),
+)
+
+# what a mail program writes in place of bold letters: whole words between asterisks
+BOLD = re.compile(r"(?:^|(?<=[ ,;:]))(\*{1,3})(?=[^ *])([^*]*)(?<=[^ *])\1(?=[ ,;:.]|$)")
+COLON = re.compile(r"([A-Za-z0-9.-]+) *: *(?=[\d%s-])" % DASHES)
+FULL_STOP = re.compile(r"(?<=[\d%s-]) *\.$" % (DASHES + "".join(pair[1] for pair in QUOTES)))
 
 # what is taken out, by its name
-SIGNS = {"byte-order mark": MARK, "carriage return": b"\r", "line feeds": b"\n", "tabs": b"\t", "spaces": b" "}
+SIGNS = {
+    "byte-order mark": (MARK,),
+    "carriage return": (b"\r",),
+    "line feeds": (b"\n",),
+    "tabs": (b"\t",),
+    "spaces": (b" ",),
+    "no-break spaces": tuple(sign.encode() for sign in NO_BREAK),
+    "quotation marks": tuple(sign.encode() for sign in sorted(set("".join(QUOTES)))),
+    "asterisks": (b"*",),
+    "full stop": (b".",),
+    "semicolons": (b";",),
+    "colon": (b":",),
+    "dashes": tuple(sign.encode() for sign in DASHES),
+}
 CAPITALS = re.compile(rb"[A-Z]")
 
 
@@ -67,6 +104,17 @@ def lines_in(data: bytes, name: str, first: int = 1) -> list[Line]:
 
 def changed(line: bytes) -> bytes:
     """The line after the changes that are allowed."""
+    if len(line) > LONGEST or b"\r" in line or b"\n" in line:
+        return spaced(line)
+    try:
+        text = line.decode("utf-8")
+    except UnicodeDecodeError:
+        return spaced(line)
+    return spaced(repaired(text).encode("utf-8"))
+
+
+def spaced(line: bytes) -> bytes:
+    """The line with one space between name and ranks and none elsewhere, and without capital letters in the name."""
     joined = b",".join(part.strip(BLANKS) for part in line.split(b","))
     between = re.search(rb"[ \t]+", joined)
     if between is None:
@@ -74,17 +122,31 @@ def changed(line: bytes) -> bytes:
     return joined[: between.start()].lower() + b" " + joined[between.end() :]
 
 
+def repaired(text: str) -> str:
+    """A line without what mail programs and word processors put there."""
+    bare = text.translate({ord(sign): " " for sign in NO_BREAK}).strip(" \t")
+    # quotation marks may stand around a full stop, or before it
+    for _ in range(2):
+        bare = FULL_STOP.sub("", unquoted(BOLD.sub(r"\2", bare)))
+    bare = COLON.sub(r"\1 ", bare, count=1) if COLON.match(bare) else bare
+    name, blank, ranks = bare.partition(" ")
+    cells = [cell.strip(" \t") for cell in ranks.replace(";", ",").split(",")]
+    if not any(cell in DASHES for cell in cells if cell) and ";" not in ranks:
+        return bare
+    return name + blank + ",".join("-" if cell and cell in DASHES else cell for cell in cells)
+
+
+def unquoted(text: str) -> str:
+    """A line without the quotation marks that stand around the whole of it."""
+    is_quoted = len(text) > 2 and text[0] + text[-1] in QUOTES and not any(sign in text[1:-1] for sign in (text[0], text[-1]))
+    return text[1:-1].strip(" \t") if is_quoted else text
+
+
 def differences(before: bytes, after: bytes) -> list[str]:
     """What was changed, by its names."""
-    found = [name for name, sign in SIGNS.items() if before.count(sign) > after.count(sign)]
+    found = [name for name, signs in SIGNS.items() if any(before.count(sign) > after.count(sign) for sign in signs)]
+    if before.count(b"-") < after.count(b"-") and "dashes" not in found:
+        found.append("empty cells")
     if len(CAPITALS.findall(before)) > len(CAPITALS.findall(after)):
         found.append("capital letters")
     return found
-
-
-def shown(line: bytes) -> str:
-    """A line as it can be shown: no signs that steer a terminal, and of a long one the beginning."""
-    text = line.decode("utf-8", "backslashreplace")
-    cut = text if len(text) <= SHOWN else text[:SHOWN] + ".."
-    known = {"\r": "\\r", "\n": "\\n", "\t": "\\t"}
-    return "".join(known.get(sign) or (sign if sign.isprintable() else f"\\u{ord(sign):04X}") for sign in cut)

@@ -8,14 +8,11 @@ import unicodedata
 from collections.abc import Callable, Iterable
 
 from debvote_tools.faults import Fault, Status
-from debvote_tools.files import read_at_most
-from debvote_tools.signs import steering
+from debvote_tools.files import TABLE_LIMIT, read_at_most
+from debvote_tools.signs import shown_text, steering
 from debvote_tools.tables import DELIMITERS, MARKS, Kind, kind_of, mark_of
 
 COLUMNS = ("name", "who", "mail")
-
-# in bytes; ten thousand members, with a letter about each, are shorter
-LIMIT = 33_554_432
 
 # the longest name that a roll allows
 LONGEST_NAME = 32
@@ -130,10 +127,10 @@ def bytes_of(file: pathlib.Path) -> bytes:
         # a pipe can't be written again
         if file.exists() and not file.is_file():
             raise Fault(file, f"it is {'a folder' if file.is_dir() else 'no file'}", cure, Status.BAD_WORDS)
-        data = read_at_most(file, LIMIT)
+        data = read_at_most(file, TABLE_LIMIT)
     except OSError as error:
         raise Fault(file, error.strerror, cure, Status.BAD_WORDS) from None
-    if len(data) > LIMIT:
+    if len(data) > TABLE_LIMIT:
         raise doubt(file, "it is too long for a list of members", cure)
     if not data:
         raise doubt(file, "it is empty", f"write the head line name,who,mail and a line for each member, {AGAIN}")
@@ -153,7 +150,7 @@ def text_in(file: pathlib.Path, data: bytes, encoding: str) -> str:
         if encoding != "utf-8":
             raise doubt(file, "it begins as a text in UTF-16 and is none to its end", SAVE_AS) from None
         lines = data[: error.start].count(b"\n")
-        seen = shown(data.split(b"\n")[lines].decode("cp1252", "replace"))
+        seen = shown_text(data.split(b"\n")[lines].decode("cp1252", "replace"))
         raise doubt(file, f"it is not in UTF-8, but perhaps in Latin-1: {seen}", SAVE_AS, lines + 1) from None
 
 
@@ -183,7 +180,7 @@ def rows_in(file: pathlib.Path, text: str, delimiter: str) -> Iterable[Row]:
                 at = line + line_feeds(text[start:place])
                 raise doubt(
                     file,
-                    f"the quotation mark before {shown(found[2].strip()[1:])} has none that ends the cell",
+                    f"the quotation mark before {shown_text(found[2].strip()[1:])} has none that ends the cell",
                     f"put it right, {AGAIN}",
                     at,
                 )
@@ -208,7 +205,7 @@ def places_of(file: pathlib.Path, head: Row, delimiter: str) -> dict[str, int]:
     titles = [cell.value.casefold() for cell in head.cells]
     for column in COLUMNS:
         if column not in titles:
-            said = ", ".join(shown(cell.value) for cell in head.cells if cell.value)
+            said = ", ".join(shown_text(cell.value) for cell in head.cells if cell.value)
             raise doubt(
                 file,
                 f"the head line has no column `{column}`, it has: {said} (read with the {DELIMITERS[delimiter]} between); {BELONGS}",
@@ -228,7 +225,7 @@ def member_of(file: pathlib.Path, row: Row, head: Row, places: dict[str, int]) -
     if beyond is not None:
         raise doubt(
             file,
-            f"`{shown(beyond)}` stands behind the last column of the head line",
+            f"`{shown_text(beyond)}` stands behind the last column of the head line",
             f"put a cell that has the delimiter in it into quotation marks, {AGAIN}",
             row.line,
         )
@@ -241,7 +238,7 @@ def member_of(file: pathlib.Path, row: Row, head: Row, places: dict[str, int]) -
         if sign is not None:
             raise doubt(
                 file,
-                f"`{shown(text)}` has the sign {sign}, which steers a terminal or turns the direction of a text",
+                f"`{shown_text(text)}` has the sign {sign}, which steers a terminal or turns the direction of a text",
                 f"take it out, {AGAIN}",
                 row.line,
             )
@@ -298,10 +295,3 @@ def doubles(members: list[Member], key: Callable[[Member], str]) -> list[list[Me
     for member in members:
         groups[key(member)].append(member)
     return [group for text, group in groups.items() if text and len(group) > 1]
-
-
-def shown(text: str) -> str:
-    """A text as it can be shown in a line: spaces for line feeds, no signs that steer a terminal, at most 60 letters."""
-    line = " ".join(text.split())
-    line = line if len(line) <= 60 else line[:60] + ".."
-    return "".join(letter if letter.isprintable() else f"\\x{ord(letter):02X}" for letter in line)

@@ -7,11 +7,14 @@ import tomllib
 
 from debvote_tools.faults import Fault, Status
 
-LAST_ENVELOPE = "last_envelope"
+# the keys that a poll must have, in the order in which a new one has them, and those that the count reads beside them
+REQUIRED = ("title", "options", "ratios", "default", "quorum", "roll")
+LAST_ENVELOPE, WORDING = "last_envelope", "wording"
 
 # the lines that a poll may get after it was announced, each as a whole: the last envelope, and a later deadline. The second has no
 # sign that ends a text or goes on with it, so neither line changes what the others mean. A line of Windows has a sign more.
-LATER = r"""(last_envelope = [0-9]+|extended_to = "[0-9T:+ -]*")\s?"""
+LAST = r"last_envelope = [0-9]+"
+LATER = rf"""({LAST}|extended_to = "[0-9T:+ -]*")\s?"""
 # what leaves them out, as a reader types it; a letter has both lines whole
 AS_ANNOUNCED = f"grep -vxE '{LATER}' \\\n  poll.toml"
 COMPARE = f"{AS_ANNOUNCED} | sha256sum"
@@ -91,11 +94,21 @@ def texts_at(said: dict[str, object], key: str) -> list[str]:
     return [str(text) for text in found]
 
 
+class BadPoll(Fault):
+    """What is wrong with a poll. Here it is called poll.toml; who knows another name of the file says it with `of`."""
+
+    def __init__(self, reason: str, cure: str, file: str = "poll.toml", then: str = f"run: {CHECK}") -> None:
+        super().__init__(file, reason, f"{cure}, then {then}", Status.BAD_POLL)
+        self.reason, self.cure = reason, cure
+
+    def of(self, file: str, then: str) -> "BadPoll":
+        """The same of a file of this name; `then` is what comes behind the cure."""
+        return BadPoll(self.reason, self.cure, file, then)
+
+
 def unread(why: str) -> Fault:
     """The fault of a poll that can't be read."""
-    return Fault(
-        "poll.toml", f"it can't be read as TOML 1.0: {why}", f"put this right with an editor, then run: {CHECK}", Status.BAD_POLL
-    )
+    return BadPoll(f"it can't be read as TOML 1.0: {why}", "put this right with an editor")
 
 
 def text_of(data: bytes) -> str:
@@ -104,9 +117,7 @@ def text_of(data: bytes) -> str:
         return data.decode("utf-8")
     except UnicodeDecodeError as error:
         line = data.count(b"\n", 0, error.start) + 1
-        raise Fault(
-            "poll.toml", f"line {line} is not in UTF-8", f"save the file as plain text in UTF-8, then run: {CHECK}", Status.BAD_POLL
-        ) from None
+        raise BadPoll(f"line {line} is not in UTF-8", "save the file as plain text in UTF-8") from None
 
 
 def with_key(data: bytes, key: str, value: str) -> bytes:
@@ -168,9 +179,19 @@ def as_announced(data: bytes) -> bytes:
 
     As `grep` does, it ends a last line that has no line feed.
     """
+    return without_lines(data, LATER)
+
+
+def without_last_envelope(data: bytes) -> bytes:
+    """The poll as it was before its close: a later deadline stays."""
+    return without_lines(data, rf"{LAST}\s?")
+
+
+def without_lines(data: bytes, pattern: str) -> bytes:
+    """The poll without the lines that fit as a whole."""
     ended = data if data.endswith(b"\n") or not data else data + b"\n"
-    is_later = re.compile(LATER.encode()).fullmatch
-    return b"".join(line + b"\n" for line in ended.split(b"\n")[:-1] if not is_later(line))
+    is_left_out = re.compile(pattern.encode()).fullmatch
+    return b"".join(line + b"\n" for line in ended.split(b"\n")[:-1] if not is_left_out(line))
 
 
 def has_last_envelope(data: bytes) -> bool:

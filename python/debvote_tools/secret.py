@@ -16,9 +16,10 @@ import secrets
 import stat
 from collections.abc import Iterable
 
-from debvote_tools import called, journal, poll_file
+from debvote_tools import announced, called, journal, poll_file
 from debvote_tools.ballots import in_normal_form
-from debvote_tools.faults import Fault, Status
+from debvote_tools.faults import Doubt, Fault, Status
+from debvote_tools.files import TABLE_LIMIT
 
 # the folder of what is secret, in that of the election, and its files
 PRIVATE = "private"
@@ -26,6 +27,7 @@ CODES = "codes.csv"
 SLIPS = "slips.html"
 # the poll with the roll of aliases, as it was called
 CALLED = "poll.toml.called"
+POLL_OF_CALL = "call/poll.toml"
 
 # what the journal calls the act that makes codes
 ACT = "codes"
@@ -39,11 +41,8 @@ DIGITS = re.compile(r"[0-9a-f]{32}")
 # what a spreadsheet would take for a number, and write in another way
 NUMBER = re.compile(r"\d*e?\d*")
 
-# in bytes; ten thousand electors, each with a long address, are shorter
-LIMIT = 33_554_432
-
 # the keys of a poll that is published under aliases; the lines that a poll gets after its call are left out, and so are comments
-KEYS = ("title", "options", "ratios", "default", "quorum", "roll", "wording", "deadline", "deadline_words", "address", "secret")
+KEYS = (*poll_file.REQUIRED, poll_file.WORDING, *(key for key in announced.KEYS if key != announced.EXTENDED))
 
 # the line by which a poll is known to be that of a secret vote, wherever it lies; it is looked for in polls that can't be read, too
 SAYS_SECRET = re.compile(rb"(?m)^(?:\xef\xbb\xbf)?[ \t]*[\"']?secret[\"']?[ \t]*=[ \t]*true\b")
@@ -181,8 +180,8 @@ def private_bytes(file: pathlib.Path) -> bytes:
         raise Fault(file, error.strerror, "put the file of codes that was made for this vote there", Status.DOUBT) from None
     with open(handle, "rb") as source:
         demand_private(file, FILE_MODE, os.fstat(handle))
-        data = source.read(LIMIT + 1)
-    if len(data) > LIMIT:
+        data = source.read(TABLE_LIMIT + 1)
+    if len(data) > TABLE_LIMIT:
         raise damaged(file, "it is too long for a file of codes")
     return data
 
@@ -242,6 +241,19 @@ def ballots_of(standing: dict[str, str], aliases: dict[str, str]) -> bytes:
 def is_taken_back(codes: pathlib.Path) -> bool:
     """Whether the call that was made with these codes was taken back."""
     return (codes.parent / CALLED).exists() and called.call_of(codes.parent.parent) is None
+
+
+def copy_is_gone(codes: pathlib.Path, poll: bytes) -> Doubt | None:
+    """That the copy of the poll under aliases is gone, by which a code that was changed since the call is found. The poll is the
+    one with the names; one without the key `secret` was called by version 1.0.0, which kept no such copy.
+    """
+    kept, said = codes.parent / CALLED, poll_file.document(poll).get("secret")
+    if kept.exists() or said is not True or called.call_of(codes.parent.parent) is None:
+        return None
+    reason = "the poll under aliases that was called is gone, so whether a code was changed since the call is not known"
+    cure = f"put it back; it is the file {POLL_OF_CALL} of the call, as it was sent out"
+    sentence = "The copy of the poll that was called is gone, so whether an alias was changed since the call is not known."
+    return Doubt(str(kept), reason, cure, sentence, sentence)
 
 
 def demand_called(codes: pathlib.Path, poll: bytes, *, is_published: bool = False) -> None:

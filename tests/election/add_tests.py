@@ -49,6 +49,7 @@ class Good(AddTest):
                 f"1 counted  ada: {LAKE}",
                 f"2 counted  ben: {HALL}",
                 f"3 replaced  ada: {HALL}",
+                "Note: more.txt has 2 ballots of ada (1, 3); the last one counts.",
                 "Added 3 lines (2 counted, 1 replaced).",
                 "Next: debvote-election status; add what comes with debvote-election add FILE, and when the vote is over: "
                 "debvote-election close",
@@ -172,9 +173,37 @@ class NoBallots(AddTest):
 
     def test_one_line_alone_and_one_that_is_taken(self) -> None:
         self.assertIn("1 bad shape  x: ", self.election("add", given="x\n\n").output)
-        self.assertIn("Added 3 lines (1 counted, 2 bad shape).\n", self.election("add", given="ada 1,2,4,3\nx\ny\n").output)
+        self.assertIn("Added 2 lines (1 counted, 1 bad shape).\n", self.election("add", given="ada 1,2,4,3\nx\n").output)
         self.election("close")
         self.assertIn("Added 2 lines (2 late).\n", self.election("add", given="ben 1,2,4,3\nx\n").output)
+
+
+class FewBallots(AddTest):
+    def test_fewer_than_half(self) -> None:
+        self.write("monday", "Dear all,\nada 1,2,4,3\nGreetings\n")
+        before = self.contents()
+        ended = self.election("add", "monday")
+        said = "monday: debvote takes 1 alone of the 3 lines as a ballot; nothing was added: look at the file, whose first line is `Dear "
+        self.assert_refused_whole(ended, before, 9, said, "--even-so")
+        self.assertIn("monday:1: no ballot: Dear all,: ", ended.output)
+        self.assertIn("monday:3: no ballot: Greetings: ", ended.output)
+        self.assertNotIn("monday:2: ", ended.output)
+        self.assertEqual(self.election("add", "--even-so", "monday").status, 0)
+        self.assertEqual(self.read("ballots"), self.read("monday"))
+
+    def test_half_of_them(self) -> None:
+        self.assertEqual(self.election("add", given="ada 1,2,4,3\nx\n").status, 0)
+
+    def test_each_file_by_itself(self) -> None:
+        self.write("good", "ada 1,2,4,3\nben 1,2,4,3\ncleo 1,2,4,3\n")
+        self.write("bad", "dan 1,2,4,3\nx\ny\n")
+        before = self.contents()
+        self.assert_refused_whole(self.election("add", "good", "bad"), before, 9, "bad: debvote takes 1 alone of the 3 lines ")
+
+    def test_two_ballots_of_one_elector_are_told(self) -> None:
+        self.write("monday", "ada 1,2,4,3\nben 1,2,4,3\nAda 2,1,4,3\n\nada x\n")
+        ended = self.election("add", "monday")
+        self.assertIn("Note: monday has 2 ballots of ada (1, 3); the last one counts.\nAdded 4 lines", ended.output)
 
 
 class AddedBefore(AddTest):
@@ -217,8 +246,34 @@ class AddedBefore(AddTest):
         self.write("letter", "ada 1,2,4,3\n")
         self.assertIn("4 replaced  ada: ", self.election("add", "letter").output)
 
-    def test_more_than_came_before_is_no_copy(self) -> None:
+    def test_first_lines_that_came_before(self) -> None:
+        self.write("friday", self.MONDAY.lower() + "\ncleo 1,2,4,3\n")
+        before = self.contents()
+        ended = self.election("add", "friday")
+        said = "friday: its first 2 lines came before, in this order, with received/0001-monday; nothing was added: add the lines behind them"
+        self.assert_refused_whole(ended, before, 9, said, "--yes", "--even-so")
+        ended = self.election("add", "--look", "friday")
+        self.assertIn("friday: its first 2 lines came before, in this order, with received/0001-monday; 1 more line is new\n", ended.output)
+        self.assertEqual(self.contents(), before)
+        ended = self.election("add", "--yes", "friday")
+        self.assertEqual((ended.status, ended.faults), (0, ""))
+        self.assertEqual(self.read("ballots"), b"ada 1,2,4,3\nben 1,2,4,3\nada 2,1,4,3\ncleo 1,2,4,3\n")
+        kept = self.received()
+        self.assertEqual(kept["0003-friday.in-part"], self.read("friday"))
+        self.assertEqual(kept["0004-friday.lines"], b"cleo 1,2,4,3\n")
+        # what came twice, and went in once, is no line that somebody has taken out
+        self.write("ballots", self.read("ballots") + b"dan 1,2,4,3\n")
+        output = self.election("status").output
+        self.assertIn("line 5, `dan 1,2,4,3`, is not among what came", output)
+        self.assertNotIn("is not among the ballots", output)
+
+    def test_first_lines_that_came_before_all_the_same(self) -> None:
         self.write("friday", self.MONDAY + "cleo 1,2,4,3\n")
+        self.assertEqual(self.election("add", "--even-so", "friday").status, 0)
+        self.assertEqual(len(self.read("ballots").splitlines()), 6)
+
+    def test_first_lines_in_another_order_are_none(self) -> None:
+        self.write("friday", "cleo 1,2,4,3\n" + self.MONDAY)
         self.assertEqual(self.election("add", "friday").status, 0)
 
     def test_a_form(self) -> None:
@@ -267,7 +322,7 @@ class Changed(AddTest):
 
     def test_a_refused_line_goes_in_as_it_came(self) -> None:
         came = b"\xef\xbb\xbf Cleo 1,2,3 \r\nDan  1,2,4,3\r\nGsu 1,2,4,3\n"
-        output = self.election("add", given=came).output
+        output = self.election("add", "--even-so", given=came).output
         self.assertIn(
             "standard input: it begins with a mark that Windows writes (byte-order mark); it was taken off\n"
             "standard input: 2 lines end as Windows ends them (carriage return); that was taken off\n"
@@ -289,17 +344,17 @@ class Changed(AddTest):
         output = self.election("add", "--even-so", given=came).output
         for told in (
             '1 bad shape  “ada” 1,2,4,3: column 1: curly quote (it has quotation marks; a ballot has none)\n',
-            "2 bad shape  ben\\u00A01,2,4,3: column 4: no-break space (it has a no-break space; a plain space belongs there)\n",
-            "3 bad shape  cleo 1,2,–,3: column 10: en dash (a long dash stands where a hyphen belongs)\n",
+            "standard input:2: `ben\\u00A01,2,4,3` was changed to `ben 1,2,4,3` (no-break spaces)\n2 counted  ben: ",
+            "standard input:3: `cleo 1,2,–,3` was changed to `cleo 1,2,-,3` (dashes)\n3 counted  cleo: ",
             "4 bad shape  A>B>C: column 1: capital letter "
             "(it has the sign >; a ballot has numbers with commas between, a rank for each option)\n",
-            '5 bad shape  dan 1.: column 6: "." (a rank is a number alone, without a point or a bracket behind it)\n',
+            '5 bad shape  dan 1.: column 6: "."\n  it went in as it came; written as `dan 1` it is refused too: bad rank count: 1 ranks, the poll has 4 options\n',
             '6 bad shape  eve 1.,2,3,4: column 6: "." (a rank is a number alone, without a point or a bracket behind it)\n',
             "7 bad shape  1,2,3,4: column 2: comma (the name is missing before the ranks)\n",
         ):
             self.assertIn(told, output)
         self.assertEqual(output.count("A right line in this poll"), 1)
-        self.assertEqual(self.read("ballots").decode(), came)
+        self.assertEqual(self.read("ballots").decode(), came.replace("\u00a0", " ").replace("–", "-"))
 
     def test_bytes_that_are_no_text(self) -> None:
         came = b"ad\xff 1,2\x1b[2J\n\x00\n"

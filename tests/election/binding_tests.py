@@ -187,7 +187,7 @@ class SecretFolder(Binding):
         wrong = "This is no secret vote as it is published: "
         changed = {
             "as it is": (page, f"This ballot counts for {name}:{line}: "),
-            "a last envelope": (page.replace("</pre>\n<pre id=\"ballots", 'last_envelope = 2\n</pre>\n<pre id="ballots'), f"{wrong}the poll has last_envelope."),
+            "a last envelope": (page.replace("</pre>\n<pre id=\"Ballots", 'last_envelope = 2\n</pre>\n<pre id="Ballots'), f"{wrong}the poll has last_envelope."),
             "a line twice": (page.replace(f"{line}\n</pre>", f"{line}\n{line}\n</pre>"), f"{wrong}line 6 of the ballots does not count."),
             "another ballot": (page.replace(f"{line}\n</pre>", f"{other}\n</pre>"), f"{wrong}this page shows other ballots than its files have."),
         }
@@ -224,6 +224,29 @@ class OpenFolder(Binding):
         self.assertIn("The poll has the last envelope 3:", letter)
         for check in ("The sheet is that of the poll, with its last envelope, 3,", "It is the published one, with its last envelope, 3:", "The ballot of ada, among the first 3 lines:"):
             self.assertIn(check, page)
+
+    def test_the_letter_has_the_sum_of_the_page(self) -> None:
+        """Who keeps the web site can't take a doubt away, or change a time."""
+        self.assertEqual(self.publish(OPEN_POLL, OPEN_BALLOTS[:-1], "--even-so").status, 0)
+        letter = self.read("result/letter.txt").decode()
+        self.assertIn("\n  sha256sum poll.toml ballots.txt index.html\n", letter)
+        answers = self.typed("sha256sum poll.toml ballots.txt index.html", "result").output.split()[::2]
+        self.assertEqual(re.findall(r"(?m)^  ([0-9a-f]{64})$", letter), answers)
+        page = self.read("result/index.html")
+        self.assertIn(b"<strong>Doubt:</strong>", page)
+        self.write("result/index.html", re.sub(rb'(?s)<div class="doubts".*?</div>\n', b"", page))
+        self.make_anew("result")
+        command = self.command("result", "sha256sum index.html")
+        self.assertNotIn(self.typed(command, "result").output.split()[0], letter)
+
+    def test_the_fault_of_a_poll_names_its_file(self) -> None:
+        self.write("ballots", OPEN_BALLOTS)
+        self.write("other.toml", OPEN_POLL + "deadline = 5\n")
+        ended = self.run_program(sys.executable, support.PUBLISH, "--poll", "other.toml", "--ballots", "ballots", "result")
+        self.assert_fault(
+            ended, 3, "debvote-publish: other.toml: its line `deadline` can't be read: ", "with an editor, then publish again"
+        )
+        self.assertFalse((self.folder / "result").exists())
 
     def test_another_last_envelope_has_another_sum(self) -> None:
         self.assertEqual(self.publish(OPEN_POLL + "last_envelope = 3\n").status, 0)

@@ -107,6 +107,119 @@ class Lost(ByHandTest):
         self.done("publish")
 
 
+class KeptToo(ByHandTest):
+    """What is kept of the ballots is changed with them: the journal has the sum of the lines of each act."""
+
+    FORGED = "the lines are not those that were added, by their sums in the journal"
+
+    def setUp(self) -> None:
+        super().setUp()
+        # an edit that takes nothing away, and more ballots behind it
+        self.write("ballots", self.came + b"eve 1,2,3,4\n")
+        self.done("add", given="fay 1,2,3,4\ngus 1,2,3,4\n")
+
+    def forge(self, *files: str) -> None:
+        for file in files:
+            data = self.read(file)
+            self.assertIn(b"gus 1,2,3,4", data)
+            self.write(file, data.replace(b"gus 1,2,3,4", b"gus 4,3,2,1"))
+
+    def test_as_it_came(self) -> None:
+        self.assertIn("Note: line 7, `eve 1,2,3,4`, is not among what came.\n", self.done("close"))
+        self.done("publish")
+
+    def test_a_ballot_behind_an_edit(self) -> None:
+        self.forge("ballots", "received/0003-standard-input")
+        self.assert_stops(self.FORGED)
+        self.assertIn("The ballots were changed by hand before the close: ", self.page())
+
+    def test_a_ballot_before_it(self) -> None:
+        for file in ("ballots", "received/0001-monday.txt"):
+            self.write(file, self.read(file).replace(b"ben 1,3,4,2", b"ben 1,4,3,2"))
+        self.assert_stops(self.FORGED)
+
+    def test_what_is_kept_is_gone(self) -> None:
+        self.forge("ballots")
+        shutil.rmtree(self.folder / "received")
+        self.assert_stops(self.FORGED)
+
+    def test_another_order(self) -> None:
+        lines = self.read("ballots").splitlines(keepends=True)
+        self.write("ballots", b"".join([*lines[:-2], lines[-1], lines[-2]]))
+        self.assert_stops("the lines stand in another order than that in which they came")
+
+    def test_put_back_behind_an_edit(self) -> None:
+        """The line was gone while the next came, and is there again."""
+        whole = self.read("ballots")
+        self.write("ballots", whole.replace(b"ben 1,3,4,2\n", b""))
+        self.done("add", given="hal 1,2,3,4\n")
+        self.assert_fault(self.election("close"), 9, STOPS)
+        self.write("ballots", whole + b"hal 1,2,3,4\n")
+        self.done("close")
+        self.done("publish")
+
+    def test_the_note_of_the_edit_is_taken_out_of_the_journal(self) -> None:
+        self.forge("ballots")
+        self.done("add", given="hal 1,2,3,4\n")
+        lines = self.read("journal").decode().splitlines(keepends=True)
+        self.assertEqual(lines[-2].split("\t")[1], "found")
+        self.write("journal", "".join([*lines[:-2], lines[-1]]))
+        self.assert_stops("`gus 1,2,3,4` came (received/0003-standard-input:2), and is not among the ballots")
+
+    def test_acts_of_an_earlier_version(self) -> None:
+        """They have no sum of their lines: what stood there before the first edit has to be there."""
+        lines = [line.split("\t")[:5] for line in self.read("journal").decode().splitlines()]
+        self.write("journal", "".join("\t".join(line) + "\n" for line in lines))
+        self.done("status")
+        for file in ("ballots", "received/0001-monday.txt"):
+            self.write(file, self.read(file).replace(b"ben 1,3,4,2", b"ben 1,4,3,2"))
+        self.assert_stops(self.FORGED)
+
+
+class Late(ByHandTest):
+    """Lines that came after the close stand among the refused ones, where their electors look for them."""
+
+    def setUp(self) -> None:
+        super().setUp()
+        self.done("close")
+        self.closed_lines = self.read("ballots")
+        self.done("add", given="eve 1,2,3,4\nfay 1,2,3,4\n")
+
+    def assert_told(self, reason: str, *told: str) -> None:
+        status = self.done("status")
+        ended = self.election("publish")
+        self.assert_fault(ended, 9, f"ballots: {reason} after the close ")
+        for words in told:
+            self.assertIn(f"Note: {words}\n", status)
+            self.assertIn(words, ended.faults)
+        self.assertIn(f"Doubt: {reason} after the close ", self.page())
+
+    def test_taken_out(self) -> None:
+        self.write("ballots", self.closed_lines)
+        told = [
+            f"`{name} 1,2,3,4` came (received/0003-standard-input:{line}), and is not among the ballots"
+            for line, name in ((1, "eve"), (2, "fay"))
+        ]
+        self.assert_told("2 lines that came", *told)
+
+    def test_changed_before_the_next_came(self) -> None:
+        self.write("ballots", self.closed_lines + b"eve 1,2,3,4\n")
+        self.done("add", given="gus 1,2,3,4\n")
+        self.assert_told("1 line that came", "`fay 1,2,3,4` came (received/0003-standard-input:2), and is not among the ballots")
+
+    def test_taken_out_with_what_is_kept(self) -> None:
+        self.write("ballots", self.closed_lines)
+        shutil.rmtree(self.folder / "received")
+        self.assert_told("2 lines that came", "2 lines came after the close and are gone")
+
+    def test_put_back(self) -> None:
+        whole = self.read("ballots")
+        self.write("ballots", self.closed_lines)
+        self.assertEqual(self.election("publish").status, 9)
+        self.write("ballots", whole)
+        self.done("publish")
+
+
 class NothingLost(ByHandTest):
     def test_as_it_came(self) -> None:
         self.assertNotIn("Note: ", self.done("close"))
@@ -117,6 +230,27 @@ class NothingLost(ByHandTest):
         self.done("add", given="fay 1,2,3,4\n")
         self.assertIn("Note: line 5, `eve 1,2,3,4`, is not among what came.\n", self.done("close"))
         self.done("publish")
+
+    def test_ballots_that_were_there_before_the_first_act(self) -> None:
+        (self.folder / "journal").unlink()
+        shutil.rmtree(self.folder / "received")
+        shutil.rmtree(self.folder / "backup")
+        shutil.rmtree(self.folder / "call")
+        self.done("add", given="eve 1,2,3,4\n")
+        self.assertNotIn("not among what came", self.done("status"))
+        self.assertNotIn("not among what came", self.done("close"))
+        self.done("publish")
+
+    def test_a_journal_that_was_lost_is_no_edit(self) -> None:
+        (self.folder / "journal").unlink()
+        self.done("add", given="eve 1,2,3,4\n")
+        self.done("add", given="fay 1,2,3,4\n")
+        status = self.done("status")
+        self.assertIn("the journal was lost before", status)
+        self.assertFalse("by their sums" in status or "among" in status or "another order" in status, status)
+        self.write("ballots", self.read("ballots").replace(b"eve 1,2,3,4", b"eve 4,3,2,1"))
+        self.write("received/0003-standard-input", "eve 4,3,2,1\n")
+        self.assertIn("by their sums in the journal", self.done("status"))
 
     def test_ballots_that_are_kept_with_an_editor_alone(self) -> None:
         (self.folder / "journal").unlink()

@@ -183,6 +183,25 @@ class TakenBack(CalledTest):
         self.assert_fault(ended, 9, "call: the call can't be taken back any more", "1 line already", "debvote-election new FOLDER")
         self.assertEqual(self.contents(), before)
 
+    def test_it_is_refused_where_the_ballots_were_emptied(self) -> None:
+        """They came for the poll of the call, and another poll would get what comes now."""
+        self.done("add", given=BALLOT)
+        self.write("ballots", "")
+        shutil.rmtree(self.folder / "received")
+        before = self.contents()
+        ended = self.election("call", "--take-back")
+        self.assert_fault(
+            ended, 9, "call: the call can't be taken back any more: ballots were given for its poll at ", "ballots has none now"
+        )
+        self.assertEqual(self.contents(), before)
+
+    def test_ballots_that_were_taken_away_before_the_call_are_none(self) -> None:
+        self.done("call", "--take-back")
+        self.done("add", given=BALLOT)
+        self.write("ballots", "")
+        self.done("call")
+        self.assertIn("The call is taken back", self.done("call", "--take-back"))
+
     def test_after_a_close_without_ballots(self) -> None:
         self.done("close")
         self.assert_fault(self.election("call", "--take-back"), 9, "call: the election was closed at ")

@@ -7,10 +7,12 @@ RANKS = 'At the lake,In the town hall,"Sell it, and meet there",Further discussi
 
 
 class FormTest(support.ElectionTest):
-    def add(self, data: str | bytes, name: str = "Your name", ranks: str = RANKS, **how: object) -> support.Ended:
+    def add(
+        self, data: str | bytes, name: str = "Your name", ranks: str = RANKS, *words: str, **how: object
+    ) -> support.Ended:
         """Adds a form of these bytes."""
         self.write("form.csv", data)
-        return self.election("add", "--csv", "--name", name, "--ranks", ranks, "form.csv", **how)
+        return self.election("add", "--csv", "--name", name, "--ranks", ranks, *words, "form.csv", **how)
 
     def assert_refused(self, ended: support.Ended, status: int, *parts: str) -> None:
         """One fault, and no ballots."""
@@ -55,13 +57,44 @@ class Rows(FormTest):
         self.assertEqual(self.read("ballots"), b"ada 1,2,3,4\n" * 12)
 
     def test_an_empty_cell_is_not_guessed(self) -> None:
-        output = self.add("n,a,b,c,d\nfay,1,,2,3\nada,1,2\n,1,2,3,4\nada 1,,2,3,4\nben,1,2,3,4\n", "n", "a,b,c,d").output
+        output = self.add("n,a,b,c,d\nfay,1,,2,3\nada,1,2\n,1,2,3,4\nada 1,,2,3,4\nben,1,2,3,4\n", "n", "a,b,c,d", "--even-so").output
         hyphen = "; who does not want to rank an option writes a hyphen)\n"
         self.assertIn(f"1 bad shape  fay 1,,2,3: column 7: comma (the second rank is missing{hyphen}", output)
         self.assertIn(f"2 bad shape  ada 1,2,,: column 9: comma (the third and the fourth rank are missing{hyphen}", output)
         self.assertIn("3 bad shape   1,2,3,4: column 1: space (the name is missing before the ranks)\n", output)
         self.assertIn("4 bad shape  ada 1 ,2,3,4: column 6: space\n", output)
         self.assertIn("A right line in this poll: ada 1,2,3,4 ", output)
+
+    def test_an_empty_cell_that_is_told_to_be_a_hyphen(self) -> None:
+        words = ("n", "a,b,c,d", "--blank-is-unranked")
+        output = self.add("n,a,b,c,d\nfay,1,,2,3\nada,1,2\n,1,2,3,4\n", *words).output
+        self.assertIn("form.csv: row 2: `fay 1,,2,3` was changed to `fay 1,-,2,3` (empty cells)\n1 counted  fay: ", output)
+        self.assertIn("3 bad shape   1,2,3,4: column 1: space (the name is missing before the ranks)\n", output)
+        self.assertEqual(self.read("ballots"), b"fay 1,-,2,3\nada 1,2,-,-\n 1,2,3,4\n")
+        ended = self.election("add", "--blank-is-unranked", "form.csv")
+        self.assert_fault(ended, 2, "--blank-is-unranked: it is about the cells of a table; write --csv with it")
+
+    def test_a_form_that_is_exported_again(self) -> None:
+        first = "n,a,b,c,d\nada,1,2,3,4\nben,2,1,3,4\n"
+        self.assertEqual(self.add(first, "n", "a,b,c,d").status, 0)
+        self.assertEqual(self.election("add", given="ada 4,3,2,1\n").status, 0)
+        second = first + "cleo,1,2,3,4\n"
+        before = self.contents() | {"form.csv": second.encode()}
+        ended = self.add(second, "n", "a,b,c,d")
+        said = "form.csv: its first 2 lines came before, in this order, with received/0001-form.csv; nothing was added: "
+        self.assert_fault(ended, 9, said, "--yes", "--even-so")
+        self.assertEqual(self.contents(), before)
+        self.assertEqual(self.add(second, "n", "a,b,c,d", "--yes").status, 0)
+        self.assertEqual(self.read("ballots"), b"ada 1,2,3,4\nben 2,1,3,4\nada 4,3,2,1\ncleo 1,2,3,4\n")
+        third = second + "dan,1,2,3,4\n"
+        output = self.add(third, "n", "a,b,c,d", "--yes").output
+        self.assertIn("form.csv: its first 3 lines came before, in this order, with received/0004-form.csv; 1 more line is new\n", output)
+        self.assertEqual(self.read("ballots").splitlines()[4:], [b"dan 1,2,3,4"])
+        # what came twice, and went in once, is no line that somebody has taken out
+        self.write("ballots", self.read("ballots") + b"eve 1,2,3,4\n")
+        output = self.election("status").output
+        self.assertIn("line 6, `eve 1,2,3,4`, is not among what came", output)
+        self.assertNotIn("is not among the ballots", output)
 
     def test_an_empty_name_does_not_take_its_name_from_a_rank(self) -> None:
         output = self.add("n,a,b,c,d\n,ada 1,2,3,4\n", "n", "a,b,c,d").output

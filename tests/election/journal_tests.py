@@ -160,15 +160,19 @@ class Folder(support.ElectionTest):
         self.assertEqual(self.acts(), ["call"])
 
     def test_what_a_kill_has_left_half_written_is_taken_away(self) -> None:
-        for name in ("received", "backup"):
+        for name in ("received", "backup", ".debvote-call", ".debvote-own"):
             (self.folder / name).mkdir()
         left = [".debvote-abc", "received/.debvote-x_1", "backup/.debvote-q"]
+        left += [f".debvote-{folder}/{name}" for folder in ("call", "own") for name in (".debvote-q", "index.html", "SHA256SUMS")]
         others = [".gitignore", ".poll.toml.swp", "received/.0001-more.txt.abc", "received/.hidden", "received/0001-more.txt"]
+        # of a folder that is no temporary of this program nothing else goes
+        others += [".debvote-own/mine.txt"]
         for name in [*left, *others]:
             self.write(name, "x")
         with self.election_of.changing():
             pass
         self.assertEqual(sorted(self.contents()), sorted([*others, "poll.toml"]))
+        self.assertEqual((self.folder / ".debvote-call").exists(), False)
 
     def test_a_first_add_that_was_cut_off(self) -> None:
         with self.election_of.changing() as files:

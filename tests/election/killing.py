@@ -1,6 +1,5 @@
 """A run of debvote-election, or of another program, in a child that kills itself before its n-th step that changes something."""
 
-import builtins
 import os
 import pathlib
 import signal
@@ -15,9 +14,10 @@ sys.path.insert(0, str(support.ROOT / "tests" / "clock"))
 
 from clock import set_clock  # noqa: E402
 
+from debvote_tools import console  # noqa: E402
 from debvote_tools.election import command_line  # noqa: E402
 
-# what changes a file or a folder, or brings it to the disk; and `print`, which tells something
+# what changes a file or a folder, or brings it to the disk; and beside them what tells something
 STEPS = ("open", "write", "fsync", "rename", "mkdir", "unlink", "ftruncate", "fchmod")
 
 
@@ -101,4 +101,4 @@ def kill_at(number: int) -> None:
 
     for name in STEPS:
         setattr(os, name, counted(getattr(os, name)))
-    builtins.print = counted(print)
+    console.write = counted(console.write)

@@ -7,8 +7,9 @@ import support
 
 sys.path.insert(0, str(support.ROOT / "python"))
 
-from debvote_tools.lines import changed, differences, lines_in, shown  # noqa: E402
+from debvote_tools.lines import changed, differences, lines_in  # noqa: E402
 from debvote_tools.shapes import plain_words  # noqa: E402
+from debvote_tools.signs import shown_line  # noqa: E402
 
 
 class Changes(unittest.TestCase):
@@ -21,22 +22,47 @@ class Changes(unittest.TestCase):
             b"ada \t 1,2": b"ada 1,2",
             b"Ada.B-9 1,2": b"ada.b-9 1,2",
             b"ADA -,1": b"ada -,1",
+            # what can mean one thing only
+            b"ada\xc2\xa01,2": b"ada 1,2",
+            b"ada\xe2\x80\xaf1,2": b"ada 1,2",
+            b"ada 1,2.": b"ada 1,2",
+            b"ada:1,2": b"ada 1,2",
+            b"Ada : 1,2": b"ada 1,2",
+            b"ada 1;2": b"ada 1,2",
+            b"ada 1; 2;3": b"ada 1,2,3",
+            b'"ada 1,2"': b"ada 1,2",
+            b"'ada 1,2.'": b"ada 1,2",
+            b'"ada 1,2".': b"ada 1,2",
+            "\u201cada 1,2\u201d".encode(): b"ada 1,2",
+            "\u201eAda: 1; \u2013; 2.\u201c".encode(): b"ada 1,-,2",
+            "\u00bbada 1,2\u00ab".encode(): b"ada 1,2",
+            "ada 1,\u2014,\u2212".encode(): b"ada 1,-,-",
+            b"**ada 1,2**": b"ada 1,2",
+            b"*ada* 1,2": b"ada 1,2",
+            b"ada *1,2*": b"ada 1,2",
+            b"ada 1,*2*,3": b"ada 1,2,3",
         }
         for came, wanted in cases.items():
             self.assertEqual(changed(came), wanted)
 
     def test_what_is_not_changed(self) -> None:
-        # a no-break space, a line tabulator, quotation marks, a point, a capital that is no rank, letters not in ASCII, ..
+        # a line tabulator, quotation marks within the line, points, a capital that is no rank, letters not in ASCII, ..
         for came in (
-            b"ada\xc2\xa01,2",
             b"ada 1,2\x0b",
             b'"ada" 1,2',
-            b"ada 1,2.",
+            b'"ada 1,2',
+            b"ada 1,2..",
+            b"ada 1.,2",
+            b"ada 1*2*3",
+            b"ada *1,2",
             b"ada 1,X",
             "Ädä 1,2".encode(),
+            "anna\u2013maria 1,2".encode(),
+            "ada 1\u20132".encode(),
             b"ada 1 2,3",
             b"A>B>C",
-            b"ada:1,2",
+            b"ada:b",
+            b"ada 1:2",
             b"\xff 1,2",
             b"ada 1,2,",
             b"ada 1,,2",
@@ -88,11 +114,11 @@ class Ends(unittest.TestCase):
 
 class Shown(unittest.TestCase):
     def test_nothing_steers_the_terminal(self) -> None:
-        self.assertEqual(shown(b"a\x1b[2Jb\t\r\n\x00\xff"), "a\\u001B[2Jb\\t\\r\\n\\u0000\\xff")
-        self.assertEqual(shown("“ada” \u00a0\u202e".encode()), "“ada” \\u00A0\\u202E")
+        self.assertEqual(shown_line(b"a\x1b[2Jb\t\r\n\x00\xff"), "a\\u001B[2Jb\\t\\r\\n\\u0000\\xff")
+        self.assertEqual(shown_line("“ada” \u00a0\u202e".encode()), "“ada” \\u00A0\\u202E")
 
     def test_a_long_line_is_cut(self) -> None:
-        self.assertEqual(shown(b"x" * 1000), "x" * 100 + "..")
+        self.assertEqual(shown_line(b"x" * 1000), "x" * 100 + "..")
 
 
 class PlainWords(unittest.TestCase):

@@ -10,8 +10,9 @@ import support
 
 sys.path.insert(0, str(support.ROOT / "python"))
 
-from debvote_tools import members  # noqa: E402
+from debvote_tools import members, signs  # noqa: E402
 from debvote_tools.faults import Fault, Status  # noqa: E402
+from debvote_tools.files import TABLE_LIMIT  # noqa: E402
 
 
 class MembersTest(unittest.TestCase):
@@ -153,7 +154,7 @@ class Refused(MembersTest):
 
     def test_a_file_without_end(self) -> None:
         with open(self.file, "wb") as file:
-            file.truncate(members.LIMIT + 1)
+            file.truncate(TABLE_LIMIT + 1)
         with self.assertRaises(Fault) as caught:
             members.members_in(self.file)
         self.assertIn("too long", caught.exception.words)
@@ -233,5 +234,5 @@ class Doubles(MembersTest):
 
 class Shown(unittest.TestCase):
     def test_what_would_steer_a_terminal(self) -> None:
-        self.assertEqual(members.shown("a\n b\t\x1b[31mc\u202ed"), "a b \\x1B[31mc\\x202Ed")
-        self.assertEqual(members.shown("x" * 61), "x" * 60 + "..")
+        self.assertEqual(signs.shown_text("a\n b\t\x1b[31mc\u202ed"), "a b \\u001B[31mc\\u202Ed")
+        self.assertEqual(signs.shown_text("x" * 61), "x" * 60 + "..")

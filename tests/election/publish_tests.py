@@ -132,6 +132,7 @@ class Publish(PublishTest):
         self.assertNotIn("x.example", page)
         self.write("ballots", self.read("ballots") + b"dan 1,2,3,4")
         self.assert_fault(self.election("publish", "--because", "x", "other"), 2, "--because: it goes with --even-so")
+        self.assert_fault(self.election("publish", "--texts-read", "other"), 2, "--texts-read: it goes with --secret")
         self.assertEqual(self.election("publish", "--even-so", "--because", "Its end is <b>whole</b>.", "other").status, 0)
         page = self.read("other/index.html").decode()
         self.assertIn('<p class="about"><bdi>Its end is &lt;b&gt;whole&lt;/b&gt;.</bdi></p>', page)

@@ -6,6 +6,7 @@ import shutil
 import sys
 
 import support
+from desk_tests import Terminal
 from secret_votes import BALLOTS, MEMBERS, SecretTest
 
 
@@ -310,9 +311,6 @@ class TextsForThePage(SecretTest):
             (f"Your code is {spaced.upper()}.", "it has the code of an elector"),
             (self.read("private/slips.html").decode(), "it has the code of an elector"),
             (f"Ada is {elector['alias'].upper()}", "it has the alias of an elector"),
-            ("So voted:\nAda  2, 1,-,3\n", "it has a ballot with the name of its elector"),
-            (BALLOTS, "it has a ballot with the name of its elector"),
-            *((ballot, "it has a ballot with the name of its elector") for ballot in NAMED_BALLOTS),
             (f"Ada: {elector['alias'][:16]} {elector['alias'][16:]}", "it has the alias of an elector"),
             (f"Sum of ballots: {ballots_sum}", "it has the sum of a private file"),
             (f"Sum of poll.toml as it is now: {now}", "it has the sum of a private file"),
@@ -320,9 +318,65 @@ class TextsForThePage(SecretTest):
         ]:
             with self.subTest(text=text[:80]):
                 self.write("about.txt", text)
-                self.refused("--about", "about.txt", said=f"about.txt: {said}")
+                # no word goes over this
+                self.refused("--about", "about.txt", "--texts-read", said=f"about.txt: {said}")
         self.write("labels.txt", f"0\tOf ada: {elector['code']}\n")
-        self.refused("--labels", "labels.txt", said="labels.txt: it has the code of an elector")
+        self.refused("--labels", "labels.txt", "--texts-read", said="labels.txt: it has the code of an elector")
+
+    def test_nobody_has_read_it(self) -> None:
+        """Without a terminal nobody is asked, and it stops; where it looks as if a ballot stood there, it says so."""
+        unread = "everybody will read it, and nobody has said that it was read before"
+        looks = "it looks as if it has a ballot with the name of its elector (`"
+        ends = "nothing was published: read it, then publish with --texts-read"
+        for text in ["So voted:\nAda  2, 1,-,3\n", BALLOTS, *NAMED_BALLOTS]:
+            with self.subTest(text=text):
+                self.write("about.txt", text)
+                self.refused("--about", "about.txt", said=f"about.txt: {unread}; {looks}")
+        self.write("about.txt", "Certified by Anna.\n")
+        self.refused("--about", "about.txt", said=f"about.txt: {unread}; {ends}")
+        self.write("labels.txt", "1\tAm See\n")
+        self.refused("--labels", "labels.txt", said=f"labels.txt: {unread}; {ends}")
+        (self.folder / "ballots").write_bytes(self.read("ballots").removesuffix(b"\n"))
+        self.refused("--because", "Its end is whole.", said=f"--because: {unread}; {ends}")
+
+    def test_a_text_is_shown_at_the_terminal(self) -> None:
+        question = "Is this what everybody may read? [y/n] "
+        self.write("about.txt", "Certified by Anna.\nada 2,1,-,3\u2028\n")
+        self.write("labels.txt", "0\tWo wir uns treffen\n1\tAm See\n")
+        words = ["publish", "--secret", "--labels", "labels.txt", "--about", "about.txt"]
+        for answers in (["n\n"], ["y\n", "no\n"], ["y\n", "\x04"]):
+            with self.subTest(answers=answers):
+                asked = Terminal(self, *words)
+                for answer in answers:
+                    asked.until(question)
+                    asked.type(answer)
+                text, status = asked.end()
+                file = "about.txt" if len(answers) > 1 else "labels.txt"
+                said = f"{file}: it is not what everybody may read; nothing was published: change it, then publish again"
+                self.assertIn(said, text)
+                self.assertEqual((status, (self.folder / "result").exists()), (9, False))
+        asked = Terminal(self, *words)
+        shown = asked.until(question)
+        self.assertIn("This will stand on the page, from labels.txt:\n\n  Wo wir uns treffen\n  Am See\n\n", shown)
+        asked.type("perhaps\n")
+        self.assertIn("Type y where everybody may read it, or n to publish nothing.", asked.until(question))
+        asked.type("yes\n")
+        shown = asked.until(question)
+        self.assertIn("  Certified by Anna.\n  ada 2,1,-,3U+2028\n\n", shown)
+        self.assertIn("Note: it looks as if it has a ballot with the name of its elector (`ada 2,1,-,3`).\n", shown)
+        asked.type("y\n")
+        self.assertEqual(asked.end()[1], 0)
+        self.assertIn("Certified by Anna.", self.read("result/index.html").decode())
+
+    def test_texts_that_were_read_are_asked_about_nowhere(self) -> None:
+        self.write("about.txt", "Certified by Anna.\n")
+        words = ["publish", "--secret", "--about", "about.txt", "--texts-read"]
+        asked = Terminal(self, *words, "first")
+        text, status = asked.end()
+        self.assertEqual((status, "[y/n]" in text), (0, False))
+        again = self.election(*words, "first")
+        self.assert_fault(again, 2, "publish --secret --texts-read --about=about.txt first-2\n")
+        self.assertEqual(self.election("publish", "--secret").status, 0)
 
     def test_what_a_secretary_writes(self) -> None:
         announced = self.run_program("sha256sum", "call/poll.toml").output[:64]
@@ -330,4 +384,4 @@ class TextsForThePage(SecretTest):
         said += "Hal: further discussion is on 11 December. Ida, 12 votes; Gus 030 12 34 56 78.\n"
         self.write("about.txt", said)
         self.write("labels.txt", "0\tWo wir uns treffen\n1\tAm See\n")
-        self.done("publish", "--secret", "--about", "about.txt", "--labels", "labels.txt")
+        self.done("publish", "--secret", "--about", "about.txt", "--labels", "labels.txt", "--texts-read")

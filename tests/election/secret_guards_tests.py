@@ -17,6 +17,7 @@ from secret_votes import BALLOTS, SecretTest
 sys.path.insert(0, str(support.ROOT / "python"))
 
 from debvote_tools import secret  # noqa: E402
+from debvote_tools.files import sum_of  # noqa: E402
 from debvote_tools.publish import command_line  # noqa: E402
 from debvote_tools.sheet import sheet_in  # noqa: E402
 
@@ -99,6 +100,25 @@ class Guards(SecretTest):
         self.write("call/call.txt", letter.replace(announced, "0" * 64))
         ended = self.election("publish", "--secret")
         self.assert_stopped(ended, "it is not the poll that was called: the copy of the call has the sum 000000")
+
+    def test_a_code_that_was_changed_with_the_copy_of_the_call(self) -> None:
+        """Whose code is another one finds no ballot; the sum in the copy of the letter is made to fit."""
+        self.closed()
+        rows = self.rows()
+        rows[-1]["code"] = "0" * 31 + "a"
+        rows[-1]["alias"] = secret.alias_of(rows[-1]["name"], rows[-1]["code"])
+        table = [",".join(rows[0]), *(",".join(row.values()) for row in rows)]
+        self.write("private/codes.csv", "\n".join(table) + "\n")
+        (self.folder / "private" / "poll.toml.called").unlink()
+        poll = self.read("poll.toml")
+        hidden = secret.poll_of(poll, {row["name"]: row["alias"] for row in rows})
+        letter = re.sub(r"(?m)^  [0-9a-f]{64}$", f"  {sum_of(hidden)}", self.read("call/call.txt").decode())
+        self.write("call/call.txt", letter)
+        said = "private/poll.toml.called: the poll under aliases that was called is gone, so whether a code was changed since the call"
+        self.assertIn(f"Note: {said}", self.done("status"))
+        self.assert_stopped(self.election("publish", "--secret"), said)
+        self.assertEqual(self.election("publish", "--secret", "--even-so").status, 0)
+        self.assertIn("The copy of the poll that was called is gone, so whether an alias was changed", self.read("result/index.html").decode())
 
     def test_the_sum_of_ballots_as_they_were(self) -> None:
         """It stands in the journal alone, and with it one tries guesses of single ballots."""

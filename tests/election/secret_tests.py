@@ -577,7 +577,7 @@ class PublishTest(SecretTest):
         ended = self.election("publish", "--secret", "--voters", "tie")
         self.assertEqual(ended.status, 1)
         self.assertIn("debvote-election publish --secret --voters --casting=NAME --cast-by=WHO --cast-on=DATE\n", ended.output)
-        output = self.done("publish", "--secret", "--casting", "At the lake", "--cast-by", "Anna", "--cast-on", "2026-12-05")
+        output = self.done("publish", "--secret", "--casting", "At the lake", "--cast-by", "Anna", "--cast-on", "2026-12-05", "--texts-read")
         self.assertIn("Winner: 1 At the lake by casting vote\nverified, casting vote 1 At the lake\n", output)
         self.assertNotIn("other ballots", output)
         self.assert_fault(self.election("publish", "--secret"), 2, "debvote-election publish --secret result-2")

@@ -72,16 +72,16 @@ Refused lines of electors without a ballot (4):
     bad shape: column 1: capital letter
   line 4: dan 1,2,3
     bad rank count: 3 ranks, the poll has 4 options
-  line 10: \xFEFFgus 1,2,4,3
+  line 10: \uFEFFgus 1,2,4,3
     bad shape: column 1: byte-order mark
-  line 11: "ida";1;2;3;4
+  line 11:  "ida";1;2;3;4
     bad shape: column 1: space (it has quotation marks; a ballot has none)
 Refused lines of which no elector can be told (4):
   line 7: gsu 1,2,4,3
     bad not on roll: gsu is not on the roll
   line 12: (empty)
     bad shape: column 1: end of line
-  line 13: \xff\x1B[31m 1,2,3,4
+  line 13: \xff\u001B[31m 1,2,3,4
     bad shape: column 1: byte 0xFF
   line 14: dan_x 1,2,3,4
     bad shape: column 4: "_" (an underscore; write a space)
@@ -237,6 +237,30 @@ class Stops(StatusTest):
             )
         self.assertEqual((ended.returncode, ended.stderr.count("\n")), (7, 1))
         self.assertIn("debvote-election: the output failed", ended.stderr)
+
+
+    def test_an_output_that_is_full_says_what_is_done(self) -> None:
+        ended = self.run_program("sh", "-c", f"exec {sys.executable} {support.ELECTION} status >/dev/full")
+        self.assert_fault(ended, 7, "the output failed; what was told is done: ask debvote-election status")
+
+    def test_a_reader_who_has_seen_enough(self) -> None:
+        self.write("ballots", "ada 1,2,3,4\n")
+        for command in ("status", "check", "count"):
+            # the reader is gone before the first line is told
+            wait = "while ! [ -e gone ]; do sleep 0.05; done"
+            script = f"({wait}; exec {sys.executable} {support.ELECTION} {command}) 2>said | (exec <&-; : >gone)"
+            (self.folder / "gone").unlink(missing_ok=True)
+            ended = self.run_program("bash", "-o", "pipefail", "-c", script)
+            self.assertEqual((ended.status, ended.output, self.read("said")), (141, "", b""), command)
+
+    def test_standard_error_that_takes_nothing(self) -> None:
+        # the exit status says what there is to say, and nothing goes to standard output in its place
+        script = f"exec {sys.executable} {support.ELECTION}"
+        for where in ("2>/dev/full", "2>&-"):
+            counted = self.run_program("sh", "-c", f"{script} count {where}")
+            self.assertEqual((counted.status, counted.output), (0, self.election("count").output), where)
+            refused = self.run_program("sh", "-c", f"{script} status --folder none {where}")
+            self.assertEqual((refused.status, refused.output, refused.faults), (2, "", ""), where)
 
 
 class Large(StatusTest):

@@ -258,6 +258,53 @@ class Extended(TimeTest):
         self.done("call")
         self.assertEqual(self.read("backup/poll.toml.called"), called)
 
+    def test_a_later_time_by_hand_that_no_call_has_said(self) -> None:
+        """Who waits for more ballots can't say afterwards that the vote was extended."""
+        self.done("add", given=BALLOTS)
+        self.set_clock("2026-12-06T17:05:00+00:00")
+        self.write("poll.toml", self.called + EXTENDED.encode())
+        by_hand = f"no call has extended the vote, and the poll says that one can vote until {LATER_WORDS}"
+        self.assert_changed(by_hand)
+        # the copy of the call and its folder say the same as the poll, and the journal does not
+        self.write("backup/poll.toml.called", self.read("poll.toml"))
+        self.assert_changed("what it says of a later time is not what the journal has, and the copy backup/poll.toml.called")
+        (self.folder / "backup" / "poll.toml.called").unlink()
+        self.assert_changed("the journal has another sum of the poll that was called")
+
+    def test_a_still_later_time_by_hand(self) -> None:
+        self.done("add", given=BALLOTS)
+        self.done("call", "--until", LATER)
+        self.write("poll.toml", self.read("poll.toml").replace(b"12-06T", b"12-08T"))
+        self.assert_changed(f"the vote was extended until {LATER_WORDS}, and the poll says that one can vote until Tuesday, 8 ")
+
+    def test_an_extension_that_is_taken_out_of_the_copy_too(self) -> None:
+        self.done("add", given=BALLOTS)
+        kept = self.read("backup/poll.toml.called")
+        self.done("call", "--until", LATER)
+        self.write("poll.toml", self.called)
+        self.write("backup/poll.toml.called", kept)
+        self.assert_changed("what it says of a later time is not what the journal has")
+        (self.folder / "backup" / "poll.toml.called").unlink()
+        self.assert_changed("the journal has another sum of the poll that was called")
+
+    def test_the_copy_is_gone_and_the_poll_as_it_was_called(self) -> None:
+        self.done("add", given=BALLOTS)
+        self.done("call", "--until", LATER)
+        (self.folder / "backup" / "poll.toml.called").unlink()
+        self.done("status")
+        self.done("close", "--early")
+        self.done("publish")
+
+    def assert_changed(self, said: str) -> None:
+        """Each command stops at the poll, and so does the publication of its files."""
+        for words in (["status"], ["add"], ["close", "--early"], ["publish"]):
+            with self.subTest(words=words):
+                self.assert_fault(self.election(*words, given=BALLOTS), 9, f"it was changed after the call for votes: {said}")
+        ended = self.run_program(support.PUBLISH, "--poll", "poll.toml", "--ballots", "ballots", "result")
+        self.assertEqual(ended.status, 9)
+        self.assertIn(f"poll.toml: it was changed after the call for votes: {said}", ended.faults)
+        self.assertFalse((self.folder / "result").exists())
+
     def test_what_is_refused(self) -> None:
         said = "electors rely on that; nothing was changed: write a later time"
         self.assert_stops(["call", "--until", "2026-12-04 17:59 +01:00"], 9, FIRST_WORDS, said)
@@ -287,6 +334,8 @@ class Extended(TimeTest):
             run = killing.run(self.folder, ["call", "--until", LATER], b"", step, self.clock)
             with self.subTest(step=step):
                 self.assertIn(self.read("poll.toml"), (self.called, self.called + EXTENDED.encode()))
+                between = killing.run(self.folder, ["status"], b"", None, self.clock)
+                self.assertEqual((between.status, between.faults), (0, ""))
                 following = killing.run(self.folder, ["call", "--until", LATER], b"", None, self.clock)
                 self.assertEqual((following.status, following.faults), (0, ""))
                 self.assertEqual(self.read("poll.toml"), self.called + EXTENDED.encode())

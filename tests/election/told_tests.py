@@ -79,7 +79,7 @@ class CausesTest(support.ElectionTest):
 
     def test_what_stands_at_a_column(self) -> None:
         for line, words in (
-            ("ada: 1,2,3,4", 'column 4: ":" (a colon; write a space)'),
+            ("a:da 1,2,3,4", 'column 2: ":" (a colon; write a space)'),
             ("ada 1,2,3:4", 'column 10: ":" (a colon; write a comma)'),
             ("ada 1.2.3.4", 'column 6: "." (a point; write a comma)'),
             ("ada=1,2,3,4", 'column 4: "=" (an equals sign; write a space)'),

@@ -7,7 +7,7 @@ use Rattle.vote_poll.specs.declared.Reading.{Reading}
 use Rattle.vote_poll.specs.declared.Reading.TheVariants.{Ballot, Bad}
 use Rattle.vote_steps.specs.Boxes.{BoxState}
 use Rattle.vote_steps.specs.Casting.{AreCastInOrder, HoldsLines}
-use Rattle.vote_steps.specs.History.{is_close, is_closed, is_late, reply_beside, reply_in_time, reply_to, reply_while_open, standing}
+use Rattle.vote_steps.specs.History.{is_close, is_closed, is_late, reply_beside, reply_in_time, reply_to, standing}
 use Rattle.vote_steps.specs.declared.Received.{Received}
 use Rattle.vote_steps.specs.declared.Reply.TheVariants.{BoxClosed, Late}
 use Rattle.vote_steps.specs.declared.Step.{Step}
@@ -30,7 +30,7 @@ in_time_refuses : (last : ℕ) (before : List Step) (stamp : ℕ) (read : Readin
 in_time_refuses last before stamp (Bad fault) in_time = rw in_time
 in_time_refuses last before stamp (Ballot voter ranks) in_time = beside_refuses_none (standing last before voter) stamp ∙ rw in_time
 
-open_refuses : (last : ℕ) (before : List Step) (stamp : ℕ) (read : Reading) → if_refusing (reply_while_open last before stamp read) ≡ refusing_reply last stamp read
+open_refuses : (last : ℕ) (before : List Step) (stamp : ℕ) (read : Reading) → if_refusing (cond (is_late last stamp) Late (reply_in_time last before stamp read)) ≡ refusing_reply last stamp read
 open_refuses last before stamp read =
     elim (cases_Bool (is_late last stamp)) [
       | inl late ↦ rw late
@@ -38,7 +38,7 @@ open_refuses last before stamp read =
     ]
 
 refuses_as_read : (last : ℕ) (before : List Step) (stamp : ℕ) (read : Reading) → is_closed before ≡ false → if_refusing (reply_to last before stamp read) ≡ refusing_reply last stamp read
-refuses_as_read last before stamp read is_open = ap (λ b. if_refusing (cond b BoxClosed (reply_while_open last before stamp read))) is_open ∙ open_refuses last before stamp read
+refuses_as_read last before stamp read is_open = ap (λ b. if_refusing (cond b BoxClosed (cond (is_late last stamp) Late (reply_in_time last before stamp read)))) is_open ∙ open_refuses last before stamp read
 
 -- ---- the box is open before each cast
 open_by : (steps : List Step) (place : ℕ) → ((k : ℕ) → k < place → (step : Step) × (slice_get steps k ≡ Some step) × (is_close step ≡ false)) → is_closed (take place steps) ≡ false

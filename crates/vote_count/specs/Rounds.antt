@@ -82,9 +82,7 @@ cause_of outcome o = at_option outcome.causes o None
 pub record IsOutcome (poll : PollContent) (matrix : Votes) (outcome : VerdictState) : Type 0 where
   pub causes : (o : ℕ) → IsOption (option_count poll) o → HasCause poll matrix o (cause_of outcome o)
   pub defeats : (a b : ℕ) → Pairs outcome.defeats a b ↔ PairwiseDefeats (IsKept poll matrix) matrix a b
-  pub rounds :
-      let kept = IsKept poll matrix in
-      AreRounds kept matrix (PairwiseDefeats kept matrix) outcome.rounds
+  pub rounds : AreRounds (IsKept poll matrix) matrix (PairwiseDefeats (IsKept poll matrix) matrix) outcome.rounds
 
 -- An option that is alone in the final set wins, and else the casting vote decides.
 -- A.5.8: "If there is only one such option, it is the winner."

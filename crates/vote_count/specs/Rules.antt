@@ -66,14 +66,10 @@ EachDefeatsNext defeats (a ∷ b ∷ rest) = defeats a b × EachDefeatsNext defe
 abbrev pub TransitivelyDefeats : (ℕ → ℕ → Type 0) → ℕ → ℕ → Type 0
 TransitivelyDefeats defeats a c = (between : List ℕ) × EachDefeatsNext defeats (a ∷ between ++ c ∷ [])
 
--- for each option B of a set, A transitively defeats B, or B does not transitively defeat A
-abbrev pub IsUnbeaten : (ℕ → Type 0) → (ℕ → ℕ → Type 0) → ℕ → Type 0
-IsUnbeaten options transitively_defeats a = (b : ℕ) → options b → transitively_defeats a b ⊎ ¬ transitively_defeats b a
-
 -- A is in the Schwartz set.
 -- A.5.6: "An option A is in the Schwartz set if for all options B, either A transitively defeats B, or B does not transitively defeat A."
 abbrev pub InSchwartzSet : (ℕ → Type 0) → (ℕ → ℕ → Type 0) → ℕ → Type 0
-InSchwartzSet options transitively_defeats a = options a × IsUnbeaten options transitively_defeats a
+InSchwartzSet options transitively_defeats a = options a × ((b : ℕ) → options b → transitively_defeats a b ⊎ ¬ transitively_defeats b a)
 
 -- The defeat (A,X) is weaker than the defeat (B,Y).
 -- A.5.7: "A defeat (A,X) is weaker than a defeat (B,Y) if V(A,X) is less than V(B,Y). Also, (A,X) is weaker than (B,Y) if V(A,X) is equal to V(B,Y) and V(X,A) is greater than V(Y,B)."

@@ -2,7 +2,7 @@
 ghost use Rattle.std.specs.Prelude.{◌≡◌, ◌≢◌, ℕ, ◌^◌, ◌≤◌, ◌<◌, ◌↔◌, ◌⊎◌, IsTrue, IfSome};
 ghost use Rattle.vote_poll.specs.Options.{IsOption};
 ghost use Rattle.vote_poll.specs.PollContent.{option_count};
-ghost use Rattle.vote_count.specs.Rules.{MeetsQuorum, IsQuorum, MeetsMajority, IsKept, IsAhead, AreAhead, IsUnbeaten, InSchwartzSet, IsWeaker, AreWeakest, votes_for};
+ghost use Rattle.vote_count.specs.Rules.{MeetsQuorum, IsQuorum, MeetsMajority, IsKept, IsAhead, AreAhead, InSchwartzSet, IsWeaker, AreWeakest, votes_for};
 ghost use Rattle.vote_count.specs.Weakest.{IsWeakerOf, IsOneWeakest, IsNoStronger, AreOptions, AreBetween};
 ghost use Rattle.vote_count.specs.Sets.{In, Pairs};
 ghost use Rattle.vote_count.specs.Votes.{votes};
@@ -105,7 +105,7 @@ fn is_beaten_by(chains: &Chains, a: u8, b: u8) -> bool
 // Whether `a` transitively defeats each option of the set that transitively defeats it.
 fn is_unbeaten(set: &OptionSet, chains: &Chains, a: u8) -> bool
     requires { (o : ℕ) → In set.now o → IsOption MAX_OPTIONS o }
-    ensures { IsTrue result ↔ IsUnbeaten (In set.now) (Pairs chains.now) a }
+    ensures { IsTrue result ↔ ((b : ℕ) → In set.now b → Pairs chains.now a b ⊎ ¬ Pairs chains.now b a) }
 {
     for b in 1..set.last() + 1 {
         if set.has(b) && is_beaten_by(chains, a, b) {

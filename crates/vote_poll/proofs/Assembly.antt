@@ -1,6 +1,7 @@
--- What the poll has that a poll file means, and the limits that it keeps.
-use Rattle.std.proofs.Common.{◌≡◌, ◌+◌, ◌≤◌, ◌==◌, ◌&&◌, ◌∷◌, ◌++◌, [], ℕ, ℤ, List, Bool, true, false, cond, map, length, Option, Some, None, IfOk, IfSome, Ok, Err, Result, refl, ap, sym, ◌∙◌, subst, arith, nat_abs, length-append, pos, Bor, unwrap_or}
-use Rattle.std.specs.Option.{ok_or, option_and_then, option_copied, option_map}
+-- The limits that the poll keeps which keys give with which nothing is wrong.
+use Rattle.std.proofs.Common.{◌≡◌, ◌+◌, ◌≤◌, ◌==◌, ◌&&◌, ◌∷◌, ◌++◌, [], ℕ, ℤ, List, Bool, true, false, cond, map, length, Option, Some, None, IfSome, refl, ap, sym, ◌∙◌, arith, nat_abs, length-append, pos, Bor, unwrap_or, slice_get}
+use Rattle.std.specs.Prelude.{is_some}
+use Rattle.std.specs.Option.{option_and_then, option_copied}
 use Rattle.std.specs.List.{list_all}
 use Rattle.std.proofs.lemmas.Bool.{and_parts}
 use Rattle.std.proofs.lemmas.Bool.Decides.{nat_tests}
@@ -8,196 +9,181 @@ use Rattle.std.proofs.lemmas.Int.{ints}
 use Rattle.std.proofs.lemmas.List.{length-map}
 use Rattle.std.proofs.lemmas.List.Elements.{All-map, All-weaker}
 use Rattle.std.proofs.lemmas.List.Sums.{AllPass-from_list_all}
-use Rattle.toml.specs.Data.{Data, Members, as_str, as_integer}
+use Rattle.toml.specs.Data.{Members}
 use Rattle.vote_poll.specs.Names.{first_bad}
 use Rattle.vote_poll_text.specs.Names.{is_within, is_voter_name, is_option_name, is_title}
-use Rattle.vote_poll.specs.PollContent.{PollContent, IsPoll}
-use Rattle.vote_poll_keys.specs.KeyFaults.{FoundKeys, found_in, names_of_options}
-use Rattle.vote_poll_keys.specs.Keys.{Fields, ◌>>=◌, field, fields_of, list_of, of_kind_or_none, optional_field, value_at}
-use Rattle.vote_poll.specs.PollFaults.{IsPollOf}
-use Rattle.vote_poll.specs.PollFile.{err_or, is_integer_within, title_in, option_names_in, ratios_in, quorum_in, roll_in, last_envelope_in, wording_in, poll_of}
+use Rattle.vote_poll.specs.PollContent.{IsPoll, PollContent}
+use Rattle.vote_poll_keys.specs.KeyFaults.{FoundKeys, fault_unless, found_in, is_right, names_of_options, of_keys}
+use Rattle.vote_poll.specs.PollFaults.{IsJudged, bad_places, of_contents, of_last_envelope, of_option_count, of_option_names, of_quorum, of_ratios, of_roll_size, of_title, of_voter_names, of_wording, where_found}
+use Rattle.vote_poll.specs.PollFile.{poll_of}
+use Rattle.vote_poll.specs.PollValues.{is_integer_within, last_envelope_in, number_within, quorum_in}
 use Rattle.vote_poll.proofs.NamesLaws.{within_bounds}
+use Rattle.vote_poll.proofs.PollFaultsLaws.{first_bad_place}
 use Rattle.vote_poll.specs.declared.TheConstants.{MAX_OPTIONS, MAX_ELECTORS, MAX_RATIO, MAX_QUORUM_MULTIPLE}
 use Rattle.vote_poll_text.specs.declared.lines.TheConstants.{MAX_LINES}
-use Rattle.vote_poll_keys.specs.declared.fault.PollKey.{PollKey}
 use Rattle.vote_poll_keys.specs.declared.fault.PollKey.TheVariants as key
 use Rattle.vote_poll_keys.specs.declared.fault.PollFault.{PollFault}
 use Rattle.vote_poll_keys.specs.declared.fault.PollFault.TheVariants as fault
 
--- ---- one part after another
-same_ok : {X : Type 0} (x y : X) → ◌≡◌ {A = Result X PollFault} (Ok x) (Ok y) → x ≡ y
-same_ok x y h = cc
+-- ---- no fault in a list of parts
+nothing_in : {X : Type 0} (xs ys : List X) → xs ++ ys ≡ [] → (xs ≡ []) × (ys ≡ [])
+nothing_in [] ys none = (refl, none)
+nothing_in (x ∷ xs) ys none = cc
 
--- what comes to a value had a value before
-then_ok : {A B : Type 0} (m : Result A PollFault) (next : A → Result B PollFault) (y : B) → (m >>= next) ≡ Ok y → (x : A) × (m ≡ Ok x) × (next x ≡ Ok y)
-then_ok (Ok x) next y h = (x, refl, h)
-then_ok (Err e) next y h = cc
+right_if_none : (right : Bool) (e : PollFault) → fault_unless right e ≡ [] → right ≡ true
+right_if_none true e none = refl
+right_if_none false e none = cc
 
--- ---- the keys
-given : {X : Type 0} (o : Option X) (e : PollFault) (x : X) → ok_or o e ≡ Ok x → o ≡ Some x
-given None e x h = cc
-given (Some y) e x h = cc
+none_named : (naming : ℕ → PollFault) (places : List ℕ) → map naming places ≡ [] → places ≡ []
+none_named naming [] none = refl
+none_named naming (place ∷ places) none = cc
 
-kind_given : {X : Type 0} (k : Option X) (e : PollFault) (o : Option X) → ok_or (option_map Some k) e ≡ Ok o → k ≡ o
-kind_given None e o h = cc
-kind_given (Some x) e o h = same_ok (Some x) o h
+none_bad : (naming : ℕ → PollFault) (has_shape : List ℕ → Bool) (names : List (List ℕ)) → map naming (bad_places has_shape names) ≡ [] → first_bad has_shape names ≡ None
+none_bad naming has_shape names none =
+    sym (first_bad_place has_shape names) ∙ ap (λ places. slice_get places 0) (none_named naming (bad_places has_shape names) none)
 
-optional_given : {X : Type 0} (name : PollKey) (kind : Data → Option X) (value : Option Data) (o : Option X) → of_kind_or_none name kind value ≡ Ok o → option_and_then kind value ≡ o
-optional_given name kind None o h = same_ok None o h
-optional_given name kind (Some value) o h = kind_given (kind value) (fault.Key name) o h
+there : {X : Type 0} (o : Option X) → is_some o ≡ true → (x : X) × (o ≡ Some x)
+there None is = cc
+there (Some x) is = (x, refl)
 
--- each key was found
-pub record HasFields (f : FoundKeys) (g : Fields) : Type 0 where
-  pub title : f.title ≡ Some g.title
-  pub options : f.options ≡ Some g.options
-  pub ratios : f.ratios ≡ Some g.ratios
-  pub default_option : f.default_option ≡ Some g.default_option
-  pub quorum : f.quorum ≡ Some g.quorum
-  pub roll : f.roll ≡ Some g.roll
-  pub last_envelope : f.last_envelope ≡ g.last_envelope
-  pub wording : f.wording ≡ g.wording
-
-has_fields : (table : Members) (g : Fields) → fields_of table ≡ Ok g → HasFields (found_in table) g
-unfolding fields_of
-has_fields table g h =
-    let title = then_ok (field key.Title as_str table) _ g h in
-    let options = then_ok (field key.Options (list_of as_str) table) _ g title.2 in
-    let ratios = then_ok (field key.Ratios (list_of as_integer) table) _ g options.2 in
-    let default_option = then_ok (field key.DefaultOption as_str table) _ g ratios.2 in
-    let quorum = then_ok (field key.Quorum as_integer table) _ g default_option.2 in
-    let roll = then_ok (field key.Roll (list_of as_str) table) _ g quorum.2 in
-    let last = then_ok (optional_field key.LastEnvelope as_integer table) _ g roll.2 in
-    let wording = then_ok (optional_field key.Wording as_str table) _ g last.2 in
-    let same = same_ok _ g wording.2 in
-    record {
-      title = given _ _ _ title.1 ∙ ap (λ (g : Fields). Some g.title) same;
-      options = given _ _ _ options.1 ∙ ap (λ (g : Fields). Some g.options) same;
-      ratios = given _ _ _ ratios.1 ∙ ap (λ (g : Fields). Some g.ratios) same;
-      default_option = given _ _ _ default_option.1 ∙ ap (λ (g : Fields). Some g.default_option) same;
-      quorum = given _ _ _ quorum.1 ∙ ap (λ (g : Fields). Some g.quorum) same;
-      roll = given _ _ _ roll.1 ∙ ap (λ (g : Fields). Some g.roll) same;
-      last_envelope = optional_given key.LastEnvelope as_integer (value_at key.LastEnvelope table) _ last.1 ∙ ap (λ (g : Fields). g.last_envelope) same;
-      wording = optional_given key.Wording as_str (value_at key.Wording table) _ wording.1 ∙ ap (λ (g : Fields). g.wording) same;
-    }
-
--- ---- what they say
--- each part is read
-record Parsed (g : Fields) (p : PollContent) : Type 0 where
-  title : title_in g.title ≡ Ok p.title
-  options : option_names_in (g.options ++ g.default_option ∷ []) ≡ Ok p.options
-  ratios : ratios_in (length g.options) g.ratios ≡ Ok p.ratios
-  quorum : quorum_in g.quorum ≡ Ok p.quorum_multiple
-  roll : roll_in g.roll ≡ Ok p.roll
-  last_envelope : last_envelope_in g.last_envelope ≡ Ok p.last_envelope
-  wording : wording_in g.wording ≡ Ok p.wording
-
-parsed : (g : Fields) (p : PollContent) → poll_of g ≡ Ok p → Parsed g p
-unfolding poll_of
-parsed g p h =
-    let title = then_ok (title_in g.title) _ p h in
-    let options = then_ok (option_names_in (g.options ++ g.default_option ∷ [])) _ p title.2 in
-    let ratios = then_ok (ratios_in (length g.options) g.ratios) _ p options.2 in
-    let quorum = then_ok (quorum_in g.quorum) _ p ratios.2 in
-    let roll = then_ok (roll_in g.roll) _ p quorum.2 in
-    let last = then_ok (last_envelope_in g.last_envelope) _ p roll.2 in
-    let wording = then_ok (wording_in g.wording) _ p last.2 in
-    let same = same_ok _ p wording.2 in
-    record {
-      title = title.1 ∙ ap (λ (p : PollContent). Ok p.title) same;
-      options = options.1 ∙ ap (λ (p : PollContent). Ok p.options) same;
-      ratios = ratios.1 ∙ ap (λ (p : PollContent). Ok p.ratios) same;
-      quorum = quorum.1 ∙ ap (λ (p : PollContent). Ok p.quorum_multiple) same;
-      roll = roll.1 ∙ ap (λ (p : PollContent). Ok p.roll) same;
-      last_envelope = last.1 ∙ ap (λ (p : PollContent). Ok p.last_envelope) same;
-      wording = wording.1 ∙ ap (λ (p : PollContent). Ok p.wording) same;
-    }
-
--- ---- the poll has what they say, and keeps the limits
-chosen_ok : {X : Type 0} (b : Bool) (x : Result X PollFault) (y : X) (e : PollFault) → cond b x (Err e) ≡ Ok y → (b ≡ true) × (x ≡ Ok y)
-chosen_ok true x y e h = (refl, h)
-chosen_ok false x y e h = cc
-
-no_fault : {X Y : Type 0} (f : Y → PollFault) (o : Option Y) (x y : X) → err_or (option_map f o) x ≡ Ok y → (o ≡ None) × (x ≡ y)
-no_fault f None x y h = (refl, cc)
-no_fault f (Some e) x y h = cc
-
+-- ---- the numbers
 integer_bounds : (low high : ℕ) (z : ℤ) → is_integer_within low high z ≡ true → (low ≤ nat_abs z) × (nat_abs z ≤ high)
 integer_bounds low high (pos n) h = (grind (arith, ints, nat_tests), grind (arith, ints, nat_tests))
 integer_bounds low high z h = (grind (arith, ints, nat_tests), grind (arith, ints, nat_tests))
 
-last_within : (o : Option ℤ) (last : Option ℕ) → last_envelope_in o ≡ Ok last → IfSome last (λ n. n ≤ MAX_LINES)
-last_within None last h = subst (λ (l : Option ℕ). IfSome l (λ n. n ≤ MAX_LINES)) (same_ok None last h) tt
-last_within (Some z) last h =
-    let chosen = chosen_ok (is_integer_within 0 MAX_LINES z) (Ok (Some (nat_abs z))) last fault.LastEnvelope h in
-    subst (λ (l : Option ℕ). IfSome l (λ n. n ≤ MAX_LINES)) (same_ok (Some (nat_abs z)) last chosen.1) (integer_bounds 0 MAX_LINES z chosen.0).1
+number_at_most : (high : ℕ) (z : ℤ) (n : ℕ) → number_within 0 high z ≡ Some n → n ≤ high
+number_at_most high z n is = at_most (is_integer_within 0 high z) refl is
+  where
+    at_most : (test : Bool) → is_integer_within 0 high z ≡ test → cond test (Some (nat_abs z)) None ≡ Some n → n ≤ high
+    at_most true within same = let equal : nat_abs z ≡ n = cc in omega (arith, equal, (integer_bounds 0 high z within).1)
+    at_most false within same = cc
 
-pub record PollParts (f : FoundKeys) (p : PollContent) : Type 0 where
-  pub numbers : List ℤ
-  pub multiple : ℤ
-  pub title : f.title ≡ Some p.title
-  pub options : names_of_options f ≡ Some p.options
-  pub ratios : f.ratios ≡ Some numbers
-  pub ratio_range : list_all (is_integer_within 1 MAX_RATIO) numbers ≡ true
-  pub ratios_are : map nat_abs numbers ≡ p.ratios
-  pub quorum : f.quorum ≡ Some multiple
-  pub quorum_is : quorum_in multiple ≡ Ok p.quorum_multiple
-  pub roll : f.roll ≡ Some p.roll
-  pub voter_names : first_bad is_voter_name p.roll ≡ None
-  pub last_envelope : last_envelope_in f.last_envelope ≡ Ok p.last_envelope
-  pub wording : wording_in f.wording ≡ Ok p.wording
-  pub poll : IsPoll p
+quorum_at_most : (o : Option ℕ) → ((n : ℕ) → o ≡ Some n → n ≤ MAX_QUORUM_MULTIPLE) → unwrap_or o 0 ≤ MAX_QUORUM_MULTIPLE
+quorum_at_most None most = omega arith
+quorum_at_most (Some n) most = most n refl
 
-parts_of : (f : FoundKeys) (g : Fields) (p : PollContent) → HasFields f g → Parsed g p → PollParts f p
-parts_of f g p has h =
-    let names : List (List ℕ) = g.options ++ g.default_option ∷ [] in
-    let title = chosen_ok (is_title g.title) (Ok g.title) p.title fault.Title h.title in
-    let many = chosen_ok (is_within 2 MAX_OPTIONS (length names)) (err_or (option_map (λ place. fault.OptionName (place + 1)) (first_bad is_option_name names)) names) p.options fault.OptionCount h.options in
-    let options = no_fault (λ place. fault.OptionName (place + 1)) (first_bad is_option_name names) names p.options many.1 in
-    let ratios = chosen_ok ((length g.ratios == length g.options) && list_all (is_integer_within 1 MAX_RATIO) g.ratios) (Ok (map nat_abs g.ratios)) p.ratios fault.Ratio h.ratios in
-    let (counted, ranged) = and_parts (length g.ratios == length g.options) (list_all (is_integer_within 1 MAX_RATIO) g.ratios) ratios.0 in
-    let same_ratios : map nat_abs g.ratios ≡ p.ratios = same_ok _ _ ratios.1 in
-    let quorum = chosen_ok (is_integer_within 0 MAX_QUORUM_MULTIPLE g.quorum) (Ok (nat_abs g.quorum)) p.quorum_multiple fault.Quorum h.quorum in
-    let same_quorum : nat_abs g.quorum ≡ p.quorum_multiple = same_ok _ _ quorum.1 in
-    let electors = chosen_ok (is_within 1 MAX_ELECTORS (length g.roll)) (err_or (option_map fault.VoterName (first_bad is_voter_name g.roll)) g.roll) p.roll fault.RollSize h.roll in
-    let roll = no_fault fault.VoterName (first_bad is_voter_name g.roll) g.roll p.roll electors.1 in
-    let option_count = within_bounds 2 MAX_OPTIONS (length names) many.0 in
-    let roll_size = within_bounds 1 MAX_ELECTORS (length g.roll) electors.0 in
-    let same_title : g.title ≡ p.title = same_ok _ _ title.1 in
-    let voters : first_bad is_voter_name p.roll ≡ None = rw (← roll.1) roll.0 in
+if_some : (o : Option ℕ) (high : ℕ) → ((n : ℕ) → o ≡ Some n → n ≤ high) → IfSome o (λ n. n ≤ high)
+if_some None high most = tt
+if_some (Some n) high most = most n refl
+
+of_integer : (high : ℕ) (o : Option ℤ) (n : ℕ) → option_and_then (number_within 0 high) o ≡ Some n → n ≤ high
+of_integer high None n is = cc
+of_integer high (Some z) n is = number_at_most high z n is
+
+-- ---- the whole
+-- what the reader of the keys has to know of the poll that they give
+pub record IsWhole (f : FoundKeys) : Type 0 where
+  pub title : f.title ≡ Some (poll_of f).title
+  pub ratios : list_all (is_integer_within 1 MAX_RATIO) (unwrap_or f.ratios []) ≡ true
+  pub roll : first_bad is_voter_name (unwrap_or f.roll []) ≡ None
+  pub poll : IsPoll (poll_of f)
+
+-- the values of the keys that have to be there
+record AreThere (f : FoundKeys) : Type 0 where
+  title : List ℕ
+  options : List (List ℕ)
+  ratios : List ℤ
+  default_option : List ℕ
+  roll : List (List ℕ)
+  title_is : f.title ≡ Some title
+  options_are : f.options ≡ Some options
+  ratios_are : f.ratios ≡ Some ratios
+  default_is : f.default_option ≡ Some default_option
+  roll_is : f.roll ≡ Some roll
+
+are_there : (table : Members) (f : FoundKeys) → of_keys table f ≡ [] → AreThere f
+unfolding of_keys
+are_there table f none =
+    let title = nothing_in (fault_unless (is_right table f key.Title) (fault.Key key.Title)) _ none in
+    let options = nothing_in (fault_unless (is_right table f key.Options) (fault.Key key.Options)) _ title.1 in
+    let ratios = nothing_in (fault_unless (is_right table f key.Ratios) (fault.Key key.Ratios)) _ options.1 in
+    let default_option = nothing_in (fault_unless (is_right table f key.DefaultOption) (fault.Key key.DefaultOption)) _ ratios.1 in
+    let quorum = nothing_in (fault_unless (is_right table f key.Quorum) (fault.Key key.Quorum)) _ default_option.1 in
+    let roll = nothing_in (fault_unless (is_right table f key.Roll) (fault.Key key.Roll)) _ quorum.1 in
+    let has_title = there f.title (right_if_none _ _ title.0) in
+    let has_options = there f.options (right_if_none _ _ options.0) in
+    let has_ratios = there f.ratios (right_if_none _ _ ratios.0) in
+    let has_default = there f.default_option (right_if_none _ _ default_option.0) in
+    let has_roll = there f.roll (right_if_none _ _ roll.0) in
     record {
-      numbers = g.ratios;
-      multiple = g.quorum;
-      title = has.title ∙ ap Some same_title;
-      options = rw (has.options, has.default_option) (ap Some options.1);
-      ratios = has.ratios;
-      ratio_range = ranged;
-      ratios_are = same_ratios;
-      quorum = has.quorum;
-      quorum_is = h.quorum;
-      roll = has.roll ∙ ap Some roll.1;
-      voter_names = voters;
-      last_envelope = ap last_envelope_in has.last_envelope ∙ h.last_envelope;
-      wording = ap wording_in has.wording ∙ h.wording;
+      title = has_title.0;
+      options = has_options.0;
+      ratios = has_ratios.0;
+      default_option = has_default.0;
+      roll = has_roll.0;
+      title_is = has_title.1;
+      options_are = has_options.1;
+      ratios_are = has_ratios.1;
+      default_is = has_default.1;
+      roll_is = has_roll.1;
+    }
+
+is_whole : (f : FoundKeys) → AreThere f → of_contents f ≡ [] → IsWhole f
+unfolding of_contents of_title of_option_count of_option_names of_ratios of_roll_size of_voter_names
+is_whole f has none =
+    let names : List (List ℕ) = has.options ++ has.default_option ∷ [] in
+    let wording = nothing_in _ (of_wording f) none in
+    let last = nothing_in _ (of_last_envelope f) wording.0 in
+    let voters = nothing_in _ (of_voter_names f) last.0 in
+    let size = nothing_in _ (of_roll_size f) voters.0 in
+    let quorum = nothing_in _ (of_quorum f) size.0 in
+    let ratios = nothing_in _ (of_ratios f) quorum.0 in
+    let options = nothing_in _ (of_option_names f) ratios.0 in
+    let title_and_count = nothing_in (of_title f) (of_option_count f) options.0 in
+    let names_are : names_of_options f ≡ Some names = rw (has.options_are, has.default_is) refl in
+    let title_right : is_title has.title ≡ true =
+    right_if_none _ fault.Title (sym (ap (λ o. where_found o (λ title. fault_unless (is_title title) fault.Title)) has.title_is) ∙ title_and_count.0) in
+    let count_right : is_within 2 MAX_OPTIONS (length has.options + 1) ≡ true =
+    right_if_none _ fault.OptionCount
+    (sym (ap (λ o. where_found o (λ options. fault_unless (is_within 2 MAX_OPTIONS (length options + 1)) fault.OptionCount)) has.options_are) ∙ title_and_count.1) in
+    let option_names : first_bad is_option_name names ≡ None =
+    none_bad (λ place. fault.OptionName (place + 1)) is_option_name names
+    (sym (ap (λ o. where_found o (λ names. map (λ place. fault.OptionName (place + 1)) (bad_places is_option_name names))) names_are) ∙ options.1) in
+    let ratio_right : (length has.ratios == length has.options) && list_all (is_integer_within 1 MAX_RATIO) has.ratios ≡ true =
+    right_if_none _ fault.Ratio
+    (sym (ap (λ o. where_found o (λ options. where_found f.ratios (λ ratios. fault_unless ((length ratios == length options) && list_all (is_integer_within 1 MAX_RATIO) ratios) fault.Ratio))) has.options_are
+    ∙ ap (λ o. where_found o (λ ratios. fault_unless ((length ratios == length has.options) && list_all (is_integer_within 1 MAX_RATIO) ratios) fault.Ratio)) has.ratios_are) ∙ ratios.1) in
+    let size_right : is_within 1 MAX_ELECTORS (length has.roll) ≡ true =
+    right_if_none _ fault.RollSize
+    (sym (ap (λ o. where_found o (λ roll. fault_unless (is_within 1 MAX_ELECTORS (length roll)) fault.RollSize)) has.roll_is) ∙ size.1) in
+    let voter_names : first_bad is_voter_name has.roll ≡ None =
+    none_bad fault.VoterName is_voter_name has.roll
+    (sym (ap (λ o. where_found o (λ roll. map fault.VoterName (bad_places is_voter_name roll))) has.roll_is) ∙ voters.1) in
+    let (counted, ranged) = and_parts (length has.ratios == length has.options) (list_all (is_integer_within 1 MAX_RATIO) has.ratios) ratio_right in
+    let title : unwrap_or f.title [] ≡ has.title = ap (λ o. unwrap_or o []) has.title_is in
+    let whole : unwrap_or (names_of_options f) [] ≡ names = ap (λ o. unwrap_or o []) names_are in
+    let numbers : unwrap_or f.ratios [] ≡ has.ratios = ap (λ o. unwrap_or o []) has.ratios_are in
+    let roll : unwrap_or f.roll [] ≡ has.roll = ap (λ o. unwrap_or o []) has.roll_is in
+    let option_count = within_bounds 2 MAX_OPTIONS (length has.options + 1) count_right in
+    let roll_size = within_bounds 1 MAX_ELECTORS (length has.roll) size_right in
+    let long : length names ≡ length has.options + 1 = length-append has.options (has.default_option ∷ []) in
+    let whole_long : length (unwrap_or (names_of_options f) []) ≡ length names = ap length whole in
+    let roll_long : length (unwrap_or f.roll []) ≡ length has.roll = ap length roll in
+    record {
+      title = has.title_is ∙ ap Some (sym title);
+      ratios = ap (list_all (is_integer_within 1 MAX_RATIO)) numbers ∙ ranged;
+      roll = ap (first_bad is_voter_name) roll ∙ voter_names;
       poll = record {
-        title = rw (← same_title) title.0;
-        options_min = omega (arith, option_count.0, ap length options.1);
-        options_max = omega (arith, option_count.1, ap length options.1);
-        option_names = rw (← options.1) options.0;
-        ratio_count = let same : length g.ratios ≡ length g.options = grind (arith, nat_tests) in
-            omega (arith, same, ap length same_ratios, length-map g.ratios nat_abs, ap length options.1, length-append g.options (g.default_option ∷ []));
-        ratio_range = rw (← same_ratios) (All-map (λ r. (1 ≤ r) × (r ≤ MAX_RATIO)) nat_abs g.ratios (All-weaker (λ z. is_integer_within 1 MAX_RATIO z ≡ true) (λ z. (1 ≤ nat_abs z) × (nat_abs z ≤ MAX_RATIO)) (integer_bounds 1 MAX_RATIO) g.ratios (AllPass-from_list_all (is_integer_within 1 MAX_RATIO) g.ratios ranged)));
-        quorum_range = omega (arith, same_quorum, (integer_bounds 0 MAX_QUORUM_MULTIPLE g.quorum quorum.0).1);
-        electors_min = omega (arith, roll_size.0, ap length roll.1);
-        electors_max = omega (arith, roll_size.1, ap length roll.1);
-        voter_names = voters;
-        last_range = last_within g.last_envelope p.last_envelope h.last_envelope;
+        title = ap is_title title ∙ title_right;
+        options_min = omega (arith, option_count.0, long, whole_long);
+        options_max = omega (arith, option_count.1, long, whole_long);
+        option_names = ap (first_bad is_option_name) whole ∙ option_names;
+        ratio_count = let same : length has.ratios ≡ length has.options = grind (arith, nat_tests) in
+            omega (arith, same, ap length numbers, length-map (unwrap_or f.ratios []) nat_abs, long, whole_long);
+        ratio_range = rw numbers (All-map (λ r. (1 ≤ r) × (r ≤ MAX_RATIO)) nat_abs has.ratios (All-weaker (λ z. is_integer_within 1 MAX_RATIO z ≡ true) (λ z. (1 ≤ nat_abs z) × (nat_abs z ≤ MAX_RATIO)) (integer_bounds 1 MAX_RATIO) has.ratios (AllPass-from_list_all (is_integer_within 1 MAX_RATIO) has.ratios ranged)));
+        quorum_range = quorum_at_most (option_and_then quorum_in f.quorum) (of_integer MAX_QUORUM_MULTIPLE f.quorum);
+        electors_min = omega (arith, roll_size.0, roll_long);
+        electors_max = omega (arith, roll_size.1, roll_long);
+        voter_names = ap (first_bad is_voter_name) roll ∙ voter_names;
+        last_range = if_some (option_and_then last_envelope_in f.last_envelope) MAX_LINES (of_integer MAX_LINES f.last_envelope);
       };
     }
 
-pub poll_parts : (f : FoundKeys) (p : PollContent) → IsPollOf f p → PollParts f p
-poll_parts f p is =
-    let read = then_ok (fields_of is.table) poll_of p is.means in
-    parts_of f read.0 p (subst (λ (k : FoundKeys). HasFields k read.0) (sym is.found) (has_fields is.table read.0 read.1)) (parsed read.0 p read.2)
+pub whole_if_judged : (table : Members) (f : FoundKeys) → IsJudged table f [] → IsWhole f
+whole_if_judged table f judged =
+    let none : of_keys table f ++ of_contents f ≡ [] = ap (λ k. of_keys table k ++ of_contents k) judged.found ∙ sym judged.all in
+    let parts = nothing_in (of_keys table f) (of_contents f) none in
+    is_whole f (are_there table f parts.0) parts.1
 
 -- ---- two polls that have the same
 pub same_poll : (p q : PollContent) → p.title ≡ q.title → p.options ≡ q.options → p.ratios ≡ q.ratios → p.quorum_multiple ≡ q.quorum_multiple → p.roll ≡ q.roll → p.last_envelope ≡ q.last_envelope
@@ -212,16 +198,6 @@ same_poll p q title options ratios quorum roll last wording =
     ∙ ap (λ w. record { title = q.title; options = q.options; ratios = q.ratios; quorum_multiple = q.quorum_multiple; roll = q.roll; last_envelope = q.last_envelope; wording = w }) wording
 
 -- ---- what was found and read
-pub part_given : {X : Type 0} (m : Result X PollFault) (x y : X) → m ≡ Ok y → IfOk m (λ z. x ≡ z) → x ≡ y
-part_given (Ok z) x y is made = made ∙ same_ok z y is
-part_given (Err e) x y is made = cc
-
-pub quorum_given : (o : Option ℤ) (z : ℤ) (x y : ℕ) → o ≡ Some z → quorum_in z ≡ Ok y → IfSome o (λ n. IfOk (quorum_in n) (λ multiple. x ≡ multiple)) → x ≡ y
-quorum_given None z x y there read made = cc
-quorum_given (Some n) z x y there read made =
-    let same : n ≡ z = cc in
-    part_given (quorum_in n) x y (ap quorum_in same ∙ read) made
-
 pub text_given : (o : Option (Bor (List ℕ))) (d : Bor (List ℕ)) (t : List ℕ) → option_copied o ≡ Some t → (unwrap_or o d).now ≡ t
 text_given None d t h = cc
 text_given (Some x) d t h = cc

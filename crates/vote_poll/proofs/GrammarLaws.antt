@@ -22,7 +22,7 @@ use Rattle.vote_poll_text.specs.Names.{is_within, is_voter_byte, is_voter_name}
 use Rattle.vote_poll.proofs.NamesLaws.{voter_bytes, within_bounds}
 use Rattle.vote_poll.specs.BallotLine.{IsRank, rank_text, line_text, IsBallotLine}
 use Rattle.vote_poll_keys.specs.Lists.{all_some}
-use Rattle.vote_poll.specs.Readings.{rank_in, ranks_in, ballot_in, reading, reading_of, reading_at, IsReading, ReadingFits, is_space, named, NamedRanks}
+use Rattle.vote_poll.specs.Readings.{rank_in, ranks_in, ballot_in, reading, reading_of, reading_at, IsReading, ReadingFits, is_space}
 use Rattle.vote_poll.specs.declared.TheConstants.{MAX_LINE}
 
 -- ---- a rank
@@ -203,14 +203,14 @@ line_is_text line ranks h =
     ∙ ap (λ rest. before_first is_space line ++ 32 ∷ rest) spelled
     ∙ sym (append_assoc (before_first is_space line) (32 ∷ []) (join_with_byte 44 (map rank_text ranks)))
 
-abbrev IsBallotOf : List ℕ → NamedRanks → Type 0
+abbrev IsBallotOf : List ℕ → List ℕ × List (Option ℕ) → Type 0
 IsBallotOf line ballot = IsBallotLine line ballot.0 ballot.1
 
-named_is_ballot : (line : List ℕ) (o : Option (List (Option ℕ))) (ballot : NamedRanks) → nat_le (length line) MAX_LINE ≡ true → is_voter_name (before_first is_space line) ≡ true
-    → ranks_in (after_first is_space line) ≡ o → option_map (named (before_first is_space line)) o ≡ Some ballot → IsBallotOf line ballot
+named_is_ballot : (line : List ℕ) (o : Option (List (Option ℕ))) (ballot : List ℕ × List (Option ℕ)) → nat_le (length line) MAX_LINE ≡ true → is_voter_name (before_first is_space line) ≡ true
+    → ranks_in (after_first is_space line) ≡ o → option_map (λ rs. (before_first is_space line, rs)) o ≡ Some ballot → IsBallotOf line ballot
 named_is_ballot line None ballot short voter is h = cc
 named_is_ballot line (Some ranks) ballot short voter is h =
-    subst (IsBallotOf line) (same_Some (named (before_first is_space line) ranks) ballot h) (record {
+    subst (IsBallotOf line) (same_Some (before_first is_space line, ranks) ballot h) (record {
       is_text = line_is_text line ranks is;
       is_name = voter;
       are_ranks = (join-ranks_in (after_first is_space line) ranks is).0;
@@ -219,7 +219,7 @@ named_is_ballot line (Some ranks) ballot short voter is h =
     })
 
 -- what is read is in the grammar
-pub ballot_in-sound : (line : List ℕ) (ballot : NamedRanks) → ballot_in line ≡ Some ballot → IsBallotLine line ballot.0 ballot.1
+pub ballot_in-sound : (line : List ℕ) (ballot : List ℕ × List (Option ℕ)) → ballot_in line ≡ Some ballot → IsBallotLine line ballot.0 ballot.1
 ballot_in-sound line ballot h =
     elim (chosen (nat_le (length line) MAX_LINE && is_voter_name (before_first is_space line)) _ _ _ h) [
       | inl shaped ↦ let (short, voter) = and_parts (nat_le (length line) MAX_LINE) (is_voter_name (before_first is_space line)) shaped.0 in
@@ -244,7 +244,7 @@ first_space (b ∷ name) rest h =
     let here : is_space b ≡ false = All-head (λ x. is_space x ≡ false) b name h in
     rw here (omega arith)
 
-pub read_parts : (name rest : List ℕ) (ranks : List (Option ℕ)) → is_voter_name name ≡ true → ranks_in rest ≡ Some ranks → length (name ++ 32 ∷ rest) ≤ MAX_LINE → ballot_in (name ++ 32 ∷ rest) ≡ Some (named name ranks)
+pub read_parts : (name rest : List ℕ) (ranks : List (Option ℕ)) → is_voter_name name ≡ true → ranks_in rest ≡ Some ranks → length (name ++ 32 ∷ rest) ≤ MAX_LINE → ballot_in (name ++ 32 ∷ rest) ≡ Some (name, ranks)
 read_parts name rest ranks voter is short =
     let line : List ℕ = name ++ 32 ∷ rest in
     let at : position_or_len is_space (name ++ 32 ∷ rest) ≡ length name = first_space name rest (voter_name_has_no_space name voter) in
@@ -255,25 +255,25 @@ read_parts name rest ranks voter is short =
     let fits : nat_le (length (name ++ 32 ∷ rest)) MAX_LINE ≡ true = grind (arith, nat_tests) in
     rw (before, after, fits, voter, is)
 
-pub ballot_in-complete : (line name : List ℕ) (ranks : List (Option ℕ)) → IsBallotLine line name ranks → ballot_in line ≡ Some (named name ranks)
+pub ballot_in-complete : (line name : List ℕ) (ranks : List (Option ℕ)) → IsBallotLine line name ranks → ballot_in line ≡ Some (name, ranks)
 ballot_in-complete line name ranks h =
     let spelled : line ≡ name ++ 32 ∷ join_with_byte 44 (map rank_text ranks) = h.is_text ∙ append_assoc name (32 ∷ []) (join_with_byte 44 (map rank_text ranks)) in
     let short : length (name ++ 32 ∷ join_with_byte 44 (map rank_text ranks)) ≤ MAX_LINE = omega (arith, ap length spelled, h.is_short) in
     ap ballot_in spelled ∙ read_parts name (join_with_byte 44 (map rank_text ranks)) ranks h.is_name (ranks_in-join ranks h.has_rank h.are_ranks) short
 
 -- ---- the reading
-reading_at_place : (poll : PollContent) (line : List ℕ) (ballot : NamedRanks) (place : Option ℕ) → IsBallotLine line ballot.0 ballot.1 → length ballot.1 ≡ length poll.options
+reading_at_place : (poll : PollContent) (line : List ℕ) (ballot : List ℕ × List (Option ℕ)) (place : Option ℕ) → IsBallotLine line ballot.0 ballot.1 → length ballot.1 ≡ length poll.options
     → place_of ballot.0 poll.roll ≡ place → IsReading poll line (reading_at ballot.1 place)
 reading_at_place poll line ballot None h same is = (ballot.0, ballot.1, h, same, is)
 reading_at_place poll line ballot (Some place) h same is = (ballot.0, h, same, is)
 
-reading_by_count : (poll : PollContent) (line : List ℕ) (ballot : NamedRanks) (test : Bool) → IsBallotLine line ballot.0 ballot.1 → (length ballot.1 == length poll.options) ≡ test
+reading_by_count : (poll : PollContent) (line : List ℕ) (ballot : List ℕ × List (Option ℕ)) (test : Bool) → IsBallotLine line ballot.0 ballot.1 → (length ballot.1 == length poll.options) ≡ test
     → IsReading poll line (cond test (reading_at ballot.1 (place_of ballot.0 poll.roll)) (Bad RankCount))
 reading_by_count poll line ballot true h is = reading_at_place poll line ballot (place_of ballot.0 poll.roll) h (grind (arith, nat_tests)) refl
 reading_by_count poll line ballot false h is = (ballot.0, ballot.1, h, grind (arith, nat_tests))
 
-reading_by_ballot : (poll : PollContent) (line : List ℕ) (o : Option NamedRanks) → ballot_in line ≡ o → IsReading poll line (reading_of poll o)
-reading_by_ballot poll line None none = λ name ranks h. let impossible : None ≡ Some (named name ranks) = sym none ∙ ballot_in-complete line name ranks h in cc
+reading_by_ballot : (poll : PollContent) (line : List ℕ) (o : Option (List ℕ × List (Option ℕ))) → ballot_in line ≡ o → IsReading poll line (reading_of poll o)
+reading_by_ballot poll line None none = λ name ranks h. let impossible : ◌≡◌ {A = Option (List ℕ × List (Option ℕ))} None (Some (name, ranks)) = sym none ∙ ballot_in-complete line name ranks h in cc
 reading_by_ballot poll line (Some ballot) some = reading_by_count poll line ballot (length ballot.1 == length poll.options) (ballot_in-sound line ballot some) refl
 
 pub reading_is : (poll : PollContent) (line : List ℕ) → IsReading poll line (reading poll line)

@@ -3,13 +3,13 @@ use Rattle.std.proofs.Common.{◌≡◌, ℕ, List, Option, Some, None, sym, ◌
 use Rattle.std.proofs.lemmas.Bool.{eq-eqb, ne_eqb}
 use Rattle.vote_poll.specs.BallotLine.{IsBallotLine}
 use Rattle.vote_poll.specs.PollContent.{PollContent, option_count}
-use Rattle.vote_poll.specs.Readings.{IsReading, NamedRanks, ballot_in, reading}
+use Rattle.vote_poll.specs.Readings.{IsReading, ballot_in, reading}
 use Rattle.vote_poll.specs.declared.reading.Reading.{Reading}
 use Rattle.vote_poll.specs.declared.reading.Reading.TheVariants.{Ballot, Bad}
 use Rattle.vote_poll.specs.declared.reading.LineFault.TheVariants.{Shape, RankCount, Roll}
 use Rattle.vote_poll.proofs.GrammarLaws.{ballot_in-sound, ballot_in-complete}
 
-no_ballot : (line : List ℕ) (o : Option NamedRanks) → ballot_in line ≡ o → ((voter : List ℕ) (ranks : List (Option ℕ)) → IsBallotLine line voter ranks → ⊥) → o ≡ None
+no_ballot : (line : List ℕ) (o : Option (List ℕ × List (Option ℕ))) → ballot_in line ≡ o → ((voter : List ℕ) (ranks : List (Option ℕ)) → IsBallotLine line voter ranks → ⊥) → o ≡ None
 no_ballot line None is none = refl
 no_ballot line (Some ballot) is none = absurd (none ballot.0 ballot.1 (ballot_in-sound line ballot is))
 

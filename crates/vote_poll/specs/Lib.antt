@@ -4,6 +4,7 @@ pub mod Options
 pub mod Ranks
 pub mod Names
 pub mod PollContent
+pub mod PollValues
 pub mod PollFile
 pub mod PollFaults
 pub mod BallotLine

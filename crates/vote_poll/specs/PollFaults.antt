@@ -1,22 +1,18 @@
 -- All faults of a poll file, in their order. Each is judged by itself: wherever the keys that it speaks of are there and of their
 -- kind, whatever else is wrong. Those of the keys are in `KeyFaults` of vote_poll_keys.
-use Rattle.std.specs.Prelude.{◌≡◌, ℕ, ◌+◌, List, [], ◌∷◌, ◌++◌, map, filter, length, Bool, Option, Some, None, slice_get, Result, Ok, Err}
-use Rattle.std.specs.List.{range_with_len}
+use Rattle.std.specs.Prelude.{◌≡◌, ℕ, ◌+◌, List, [], ◌∷◌, ◌++◌, map, filter, length, Bool, ◌==◌, ◌&&◌, Option, Some, None, is_some, Result, Ok, Err}
+use Rattle.std.specs.List.{list_all, range_with_len}
 use Rattle.toml.specs.Data.{Members}
 use Rattle.vote_poll_keys.specs.KeyFaults.{FoundKeys, fault_unless, found_in, names_of_options, of_keys}
-use Rattle.vote_poll_keys.specs.Keys.{Gives, document}
+use Rattle.vote_poll_keys.specs.Keys.{document}
 use Rattle.vote_poll_keys.specs.declared.fault.PollFault.{PollFault}
 use Rattle.vote_poll_keys.specs.declared.fault.PollFault.TheVariants as fault
-use Rattle.vote_poll_text.specs.Names.{is_option_name, is_voter_name, is_within}
+use Rattle.vote_poll_text.specs.Names.{is_option_name, is_title, is_voter_name, is_within}
 use Rattle.vote_poll.specs.Names.{is_bad_at}
-use Rattle.vote_poll.specs.PollContent.{PollContent}
-use Rattle.vote_poll.specs.PollFile.{last_envelope_in, poll_in, poll_in_table, quorum_in, ratios_in, title_in, wording_in}
-use Rattle.vote_poll.specs.declared.TheConstants.{MAX_OPTIONS, MAX_ELECTORS}
+use Rattle.vote_poll.specs.PollValues.{is_integer_within, last_envelope_in, quorum_in, wording_in}
+use Rattle.vote_poll.specs.declared.TheConstants.{MAX_OPTIONS, MAX_ELECTORS, MAX_RATIO}
 
 -- ---- one fault
-abbrev pub fault_of : {X : Type 0} → Result X PollFault → List PollFault
-fault_of (Ok x) = []
-fault_of (Err e) = e ∷ []
 
 -- the faults of a value, where there is one
 abbrev pub where_found : {X : Type 0} → Option X → (X → List PollFault) → List PollFault
@@ -28,8 +24,9 @@ abbrev pub bad_places : (List ℕ → Bool) → List (List ℕ) → List ℕ
 bad_places has_shape names = filter (is_bad_at has_shape names) (range_with_len 0 (length names))
 
 -- ---- what the keys say
+
 unfoldable pub of_title : FoundKeys → List PollFault
-of_title f = where_found f.title (λ title. fault_of (title_in title))
+of_title f = where_found f.title (λ title. fault_unless (is_title title) fault.Title)
 
 -- the default option is one more
 unfoldable pub of_option_count : FoundKeys → List PollFault
@@ -40,10 +37,12 @@ unfoldable pub of_option_names : FoundKeys → List PollFault
 of_option_names f = where_found (names_of_options f) (λ names. map (λ place. fault.OptionName (place + 1)) (bad_places is_option_name names))
 
 unfoldable pub of_ratios : FoundKeys → List PollFault
-of_ratios f = where_found f.options (λ options. where_found f.ratios (λ ratios. fault_of (ratios_in (length options) ratios)))
+of_ratios f =
+    where_found f.options (λ options. where_found f.ratios (λ ratios.
+    fault_unless ((length ratios == length options) && list_all (is_integer_within 1 MAX_RATIO) ratios) fault.Ratio))
 
 unfoldable pub of_quorum : FoundKeys → List PollFault
-of_quorum f = where_found f.quorum (λ quorum. fault_of (quorum_in quorum))
+of_quorum f = where_found f.quorum (λ quorum. fault_unless (is_some (quorum_in quorum)) fault.Quorum)
 
 unfoldable pub of_roll_size : FoundKeys → List PollFault
 of_roll_size f = where_found f.roll (λ roll. fault_unless (is_within 1 MAX_ELECTORS (length roll)) fault.RollSize)
@@ -52,12 +51,13 @@ unfoldable pub of_voter_names : FoundKeys → List PollFault
 of_voter_names f = where_found f.roll (λ roll. map fault.VoterName (bad_places is_voter_name roll))
 
 unfoldable pub of_last_envelope : FoundKeys → List PollFault
-of_last_envelope f = where_found f.last_envelope (λ last. fault_of (last_envelope_in (Some last)))
+of_last_envelope f = where_found f.last_envelope (λ last. fault_unless (is_some (last_envelope_in last)) fault.LastEnvelope)
 
 unfoldable pub of_wording : FoundKeys → List PollFault
-of_wording f = where_found f.wording (λ wording. fault_of (wording_in (Some wording)))
+of_wording f = where_found f.wording (λ wording. fault_unless (is_some (wording_in wording)) fault.Wording)
 
 -- ---- the file
+
 unfoldable pub of_contents : FoundKeys → List PollFault
 of_contents f =
     of_title f
@@ -82,30 +82,3 @@ poll_faults text = faults_in (document text)
 pub record IsJudged (table : Members) (keys : FoundKeys) (faults : List PollFault) : Type 0 where
   pub found : keys ≡ found_in table
   pub all : faults ≡ faults_in (Ok table)
-
--- the poll that a table with these keys means, where it means one
-pub record IsPollOf (keys : FoundKeys) (poll : PollContent) : Type 0 where
-  pub table : Members
-  pub found : keys ≡ found_in table
-  pub means : poll_in_table table ≡ Ok poll
-
--- a table with these keys means this poll, if it means one
-abbrev pub IsOnlyPollOf : FoundKeys → PollContent → Type 0
-IsOnlyPollOf keys made = (poll : PollContent) → IsPollOf keys poll → made ≡ poll
-
--- the result is the poll of a table that was judged, or the first of its faults
-abbrev pub IsPollOrFirst : FoundKeys → List PollFault → Result PollContent PollFault → Type 0
-IsPollOrFirst keys faults result = (table : Members) → IsJudged table keys faults → result ≡ poll_in_table table
-
--- the same, memory aside
-abbrev pub GivesPollOrFirst : FoundKeys → List PollFault → Result PollContent PollFault → Type 0
-GivesPollOrFirst keys faults result = (table : Members) → IsJudged table keys faults → Gives (λ poll. poll) result (poll_in_table table)
-
--- ---- the law
-abbrev pub fault_told : Result PollContent PollFault → Option PollFault
-fault_told (Ok poll) = None
-fault_told (Err e) = Some e
-
--- the fault that is told of a poll file is the first of all, and a poll has none
-abbrev pub FirstIsTold : Type 0
-FirstIsTold = (text : List ℕ) → slice_get (poll_faults text) 0 ≡ fault_told (poll_in text)

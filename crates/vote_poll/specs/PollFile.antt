@@ -1,83 +1,55 @@
 -- What a poll file means: a poll, or the first of its faults.
-use Rattle.std.specs.Prelude.{ℕ, ◌+◌, List, [], ◌∷◌, ◌++◌, map, length, Bool, ◌&&◌, ◌==◌, if◌then◌else◌, ℤ, nat_abs, pos, int_le, Option, Some, None, option_map, Result, Ok, Err, codes}
-use Rattle.std.specs.List.{list_all}
-use Rattle.std.specs.Str.{bytes_eq}
+use Rattle.std.specs.Prelude.{◌≡◌, ℕ, List, [], ◌∷◌, map, nat_abs, Option, Some, None, option_and_then, unwrap_or, slice_get, Result, Ok, Err}
 use Rattle.toml.specs.Data.{Members}
-use Rattle.vote_poll_keys.specs.Keys.{Fields, ◌>>=◌, document, fields_of}
+use Rattle.vote_poll_keys.specs.KeyFaults.{FoundKeys, found_in, names_of_options}
+use Rattle.vote_poll_keys.specs.Keys.{Gives, ◌>>=◌, document}
 use Rattle.vote_poll_keys.specs.declared.fault.PollFault.{PollFault}
-use Rattle.vote_poll_keys.specs.declared.fault.PollFault.TheVariants as fault
-use Rattle.vote_poll.specs.Names.{first_bad}
-use Rattle.vote_poll_text.specs.Names.{is_option_name, is_title, is_voter_name, is_within}
 use Rattle.vote_poll.specs.PollContent.{PollContent}
-use Rattle.vote_poll.specs.declared.TheConstants.{MAX_OPTIONS, MAX_ELECTORS, MAX_RATIO, MAX_QUORUM_MULTIPLE}
-use Rattle.vote_poll_text.specs.declared.lines.TheConstants.{MAX_LINES}
-use Rattle.vote_poll.specs.declared.wording.Wording.{Wording}
-use Rattle.vote_poll.specs.declared.wording.Wording.TheVariants.{AtLeast, MoreThan}
+use Rattle.vote_poll.specs.PollFaults.{IsJudged, faults_in, poll_faults}
+use Rattle.vote_poll.specs.PollValues.{last_envelope_in, quorum_in, wording_in}
+use Rattle.vote_poll.specs.declared.wording.Wording.TheVariants.{AtLeast}
 
--- ---- what each key gives, or its fault
--- the value, where there is no fault
-abbrev pub err_or : {X : Type 0} → Option PollFault → X → Result X PollFault
-err_or None x = Ok x
-err_or (Some e) x = Err e
+-- the poll that keys give with which nothing is wrong; the default option is the last, and without a text the wording is the Constitution's
+abbrev pub poll_of : FoundKeys → PollContent
+poll_of f = record {
+  title = unwrap_or f.title [];
+  options = unwrap_or (names_of_options f) [];
+  ratios = map nat_abs (unwrap_or f.ratios []);
+  quorum_multiple = unwrap_or (option_and_then quorum_in f.quorum) 0;
+  roll = unwrap_or f.roll [];
+  last_envelope = option_and_then last_envelope_in f.last_envelope;
+  wording = unwrap_or (option_and_then wording_in f.wording) AtLeast;
+}
 
-abbrev pub title_in : List ℕ → Result (List ℕ) PollFault
-title_in text = if is_title text then Ok text else Err fault.Title
+-- the first of the faults, or the poll where there is none
+abbrev pub first_or : List PollFault → PollContent → Result PollContent PollFault
+first_or [] poll = Ok poll
+first_or (e ∷ faults) poll = Err e
 
--- the names of the options, the default among them
-abbrev pub option_names_in : List (List ℕ) → Result (List (List ℕ)) PollFault
-option_names_in names =
-    if is_within 2 MAX_OPTIONS (length names)
-    then err_or (option_map (λ place. fault.OptionName (place + 1)) (first_bad is_option_name names)) names else Err fault.OptionCount
-
--- the number is one from low to high
-abbrev pub is_integer_within : ℕ → ℕ → ℤ → Bool
-is_integer_within low high z = int_le (pos low) z && int_le z (pos high)
-
--- the ratio that a number is, if it is one
-abbrev pub ratio_in : ℤ → Option ℕ
-ratio_in z = if is_integer_within 1 MAX_RATIO z then Some (nat_abs z) else None
-
--- the ratios of so many options
-abbrev pub ratios_in : ℕ → List ℤ → Result (List ℕ) PollFault
-ratios_in count numbers = if (length numbers == count) && list_all (is_integer_within 1 MAX_RATIO) numbers then Ok (map nat_abs numbers) else Err fault.Ratio
-
-abbrev pub quorum_in : ℤ → Result ℕ PollFault
-quorum_in z = if is_integer_within 0 MAX_QUORUM_MULTIPLE z then Ok (nat_abs z) else Err fault.Quorum
-
-abbrev pub roll_in : List (List ℕ) → Result (List (List ℕ)) PollFault
-roll_in names = if is_within 1 MAX_ELECTORS (length names) then err_or (option_map fault.VoterName (first_bad is_voter_name names)) names else Err fault.RollSize
-
--- without a number there is no last envelope
-abbrev pub last_envelope_in : Option ℤ → Result (Option ℕ) PollFault
-last_envelope_in None = Ok None
-last_envelope_in (Some z) = if is_integer_within 0 MAX_LINES z then Ok (Some (nat_abs z)) else Err fault.LastEnvelope
-
--- without a text the wording is the Constitution's
-abbrev pub wording_in : Option (List ℕ) → Result Wording PollFault
-wording_in None = Ok AtLeast
-wording_in (Some text) = if bytes_eq text (codes "at_least") then Ok AtLeast else (if bytes_eq text (codes "more_than") then Ok MoreThan else Err fault.Wording)
-
--- the poll that the keys give, or the first fault; the default option is the last
-unfoldable pub poll_of : Fields → Result PollContent PollFault
-poll_of f = do
-  title ← title_in f.title
-  options ← option_names_in (f.options ++ f.default_option ∷ [])
-  ratios ← ratios_in (length f.options) f.ratios
-  quorum_multiple ← quorum_in f.quorum
-  roll ← roll_in f.roll
-  last_envelope ← last_envelope_in f.last_envelope
-  wording ← wording_in f.wording
-  Ok (record { title = title; options = options; ratios = ratios; quorum_multiple = quorum_multiple; roll = roll; last_envelope = last_envelope; wording = wording })
-
--- ---- the file
 -- what the table of a poll file means
 abbrev pub poll_in_table : Members → Result PollContent PollFault
-poll_in_table table = do
-  f ← fields_of table
-  poll_of f
+poll_in_table table = first_or (faults_in (Ok table)) (poll_of (found_in table))
 
 -- what the text of a poll file means
 unfoldable pub poll_in : List ℕ → Result PollContent PollFault
 poll_in text = do
   table ← document text
   poll_in_table table
+
+-- the result is the poll of a table that was judged, or the first of its faults
+abbrev pub IsPollOrFirst : FoundKeys → List PollFault → Result PollContent PollFault → Type 0
+IsPollOrFirst keys faults result = (table : Members) → IsJudged table keys faults → result ≡ poll_in_table table
+
+-- the same, memory aside
+abbrev pub GivesPollOrFirst : FoundKeys → List PollFault → Result PollContent PollFault → Type 0
+GivesPollOrFirst keys faults result = (table : Members) → IsJudged table keys faults → Gives (λ poll. poll) result (poll_in_table table)
+
+-- ---- the law
+
+abbrev pub fault_told : Result PollContent PollFault → Option PollFault
+fault_told (Ok poll) = None
+fault_told (Err e) = Some e
+
+-- the fault that is told of a poll file is the first of all, and a poll has none
+abbrev pub FirstIsTold : Type 0
+FirstIsTold = (text : List ℕ) → slice_get (poll_faults text) 0 ≡ fault_told (poll_in text)

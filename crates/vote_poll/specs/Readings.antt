@@ -38,27 +38,20 @@ rank_in (a ∷ b ∷ c ∷ rest) = None
 abbrev pub ranks_in : List ℕ → Option (List (Option ℕ))
 ranks_in text = all_some (map rank_in (slice_split (λ b. b == byte ",") text))
 
--- a voter's name, and ranks
-abbrev pub NamedRanks : Type 0
-NamedRanks = List ℕ × List (Option ℕ)
-
 abbrev pub is_space : ℕ → Bool
 is_space b = b == byte " "
 
-abbrev pub named : List ℕ → List (Option ℕ) → NamedRanks
-named voter ranks = (voter, ranks)
-
 -- the voter and the ranks of a ballot line
-abbrev pub ballot_in : List ℕ → Option NamedRanks
+abbrev pub ballot_in : List ℕ → Option (List ℕ × List (Option ℕ))
 ballot_in line =
     if nat_le (length line) MAX_LINE && is_voter_name (before_first is_space line)
-    then option_map (named (before_first is_space line)) (ranks_in (after_first is_space line)) else None
+    then option_map (λ ranks. (before_first is_space line, ranks)) (ranks_in (after_first is_space line)) else None
 
 abbrev pub reading_at : List (Option ℕ) → Option ℕ → Reading
 reading_at ranks None = Bad Roll
 reading_at ranks (Some place) = Ballot place ranks
 
-abbrev pub reading_of : PollContent → Option NamedRanks → Reading
+abbrev pub reading_of : PollContent → Option (List ℕ × List (Option ℕ)) → Reading
 reading_of poll None = Bad Shape
 reading_of poll (Some ballot) = if length ballot.1 == option_count poll then reading_at ballot.1 (place_of ballot.0 poll.roll) else Bad RankCount
 

@@ -1,13 +1,12 @@
 //! What is wrong with what the keys of a poll file say: each fault judged by itself, once for all who ask.
-ghost use Rattle.std.specs.Prelude.{◌≡◌, ◌+◌, option_map, Some};
+ghost use Rattle.std.specs.Prelude.{◌≡◌, ◌+◌};
 ghost use Rattle.std.specs.List.{list_all};
-ghost use Rattle.std.specs.Option.{ok_or};
 ghost use Rattle.vote_poll_keys.specs.FoundView.{AddsFaults, found_view};
 ghost use Rattle.vote_poll_keys.specs.KeyFaults.{fault_unless};
 ghost use Rattle.vote_poll_keys.specs.declared.fault.PollFault.TheVariants as fault;
 ghost use Rattle.vote_poll_text.specs.Names.{is_within};
 ghost use Rattle.vote_poll.specs.PollFaults.{of_contents, of_last_envelope, of_option_count, of_option_names, of_quorum, of_ratios, of_roll_size, of_title, of_voter_names, of_wording};
-ghost use Rattle.vote_poll.specs.PollFile.{is_integer_within, last_envelope_in, quorum_in, ratio_in};
+ghost use Rattle.vote_poll.specs.PollValues.{is_integer_within, last_envelope_in, quorum_in, ratio_in};
 ghost use Rattle.vote_poll.specs.declared.TheConstants.{MAX_ELECTORS, MAX_OPTIONS, MAX_RATIO};
 
 use crate::names::{NameList, push_bad_names};
@@ -113,7 +112,7 @@ fn are_ratios_right(keys: &FoundKeys<'_>) -> bool
 
 /// The multiple of Q that a whole number is, if it is one.
 pub(crate) fn parse_quorum(number: i64) -> Option<u8>
-    ensures { ok_or result fault.Quorum ≡ quorum_in number }
+    ensures { result ≡ quorum_in number }
 {
     if number < 0 || number > i64::from(MAX_QUORUM_MULTIPLE) {
         return None;
@@ -167,7 +166,7 @@ fn push_voter_names(
 
 /// The last envelope that a whole number is, if it is one.
 pub(crate) fn parse_last_envelope(number: i64) -> Option<u32>
-    ensures { ok_or (option_map Some result) fault.LastEnvelope ≡ last_envelope_in (Some number) }
+    ensures { result ≡ last_envelope_in number }
 {
     if number < 0 || number > MAX_LINES as i64 {
         return None;

@@ -1,14 +1,15 @@
 //! Reading a poll file: its keys, what is wrong with them, and the poll if nothing is.
-ghost use Rattle.std.specs.Prelude.{◌≡◌, [], None, true, IfOk, IfSome, map, nat_abs, option_copied, string_bytes, unwrap_or};
+ghost use Rattle.std.specs.Prelude.{◌≡◌, [], None, true, IfOk, map, nat_abs, option_and_then, option_copied, string_bytes, unwrap_or};
 ghost use Rattle.std.specs.List.{list_all};
 ghost use Rattle.toml.specs.Data.{Members};
 ghost use Rattle.vote_poll_keys.specs.FoundView.{found_view, numbers_view, texts, texts_view};
 ghost use Rattle.vote_poll_keys.specs.Keys.{Gives};
 ghost use Rattle.vote_poll_text.specs.Names.{is_voter_name};
 ghost use Rattle.vote_poll.specs.Names.{first_bad};
-ghost use Rattle.vote_poll.specs.PollContent.{PollContent};
-ghost use Rattle.vote_poll.specs.PollFaults.{FirstIsTold, GivesPollOrFirst, IsJudged, IsOnlyPollOf, IsPollOf};
-ghost use Rattle.vote_poll.specs.PollFile.{is_integer_within, last_envelope_in, poll_in, quorum_in, wording_in};
+ghost use Rattle.vote_poll.specs.PollFaults.{IsJudged};
+ghost use Rattle.vote_poll.specs.PollFile.{FirstIsTold, GivesPollOrFirst, poll_in, poll_of};
+ghost use Rattle.vote_poll.specs.PollValues.{is_integer_within, last_envelope_in, quorum_in, wording_in};
+ghost use Rattle.vote_poll.specs.declared.wording.Wording.TheVariants.{AtLeast};
 ghost use Rattle.vote_poll.specs.declared.TheConstants.{MAX_RATIO};
 
 use crate::faults::{parse_last_envelope, parse_quorum, parse_ratio, push_faults};
@@ -75,7 +76,7 @@ fn ratios_of(alloc: Global, numbers: &[i64]) -> Result<Vec<u8>, AllocError>
 
 /// The multiple of Q, where the key gives one.
 fn quorum_of(number: Option<i64>) -> u8
-    ensures { IfSome number (λ z. IfOk (quorum_in z) (λ multiple. result ≡ multiple)) }
+    ensures { result ≡ unwrap_or (option_and_then quorum_in number) 0 }
 {
     match number {
         Some(number) => parse_quorum(number).unwrap_or(0),
@@ -85,7 +86,7 @@ fn quorum_of(number: Option<i64>) -> u8
 
 /// The last envelope that is not late, where the key gives one.
 fn last_envelope_of(number: Option<i64>) -> Option<u32>
-    ensures { IfOk (last_envelope_in number) (λ last. result ≡ last) }
+    ensures { result ≡ option_and_then last_envelope_in number }
 {
     match number {
         Some(number) => parse_last_envelope(number),
@@ -95,7 +96,7 @@ fn last_envelope_of(number: Option<i64>) -> Option<u32>
 
 /// The wording that the key gives, and the Constitution's where there is no key.
 fn wording_of(text: Option<&str>) -> Wording
-    ensures { IfOk (wording_in (option_copied text.entry)) (λ wording. result ≡ wording) }
+    ensures { result ≡ unwrap_or (option_and_then wording_in (option_copied text.entry)) AtLeast }
 {
     match text {
         Some(text) => parse_wording(text).unwrap_or(Wording::AtLeast),
@@ -106,8 +107,8 @@ fn wording_of(text: Option<&str>) -> Wording
 impl Poll {
     /// The poll that the keys of a poll file give, with which nothing is wrong.
     fn of_keys(alloc: Global, keys: &FoundKeys<'_>) -> Result<Poll, AllocError>
-        requires { (poll : PollContent) × IsPollOf (found_view keys.now) poll }
-        ensures { IfOk result (λ poll. IsOnlyPollOf (found_view keys.now) poll) }
+        requires { (table : Members) × IsJudged table (found_view keys.now) [] }
+        ensures { IfOk result (λ poll. poll ≡ poll_of (found_view keys.now)) }
     {
         let option_names = keys.option_names(alloc)?;
         Ok(Poll {

@@ -1,8 +1,6 @@
 //! How a poll words the majority that an option needs.
-ghost use Rattle.std.specs.Prelude.{◌≡◌, Some};
-ghost use Rattle.std.specs.Option.{ok_or};
-ghost use Rattle.vote_poll_keys.specs.declared.fault.PollFault.TheVariants as fault;
-ghost use Rattle.vote_poll.specs.PollFile.{wording_in};
+ghost use Rattle.std.specs.Prelude.{◌≡◌};
+ghost use Rattle.vote_poll.specs.PollValues.{wording_in};
 
 /// How many voters have to prefer an option to the default option, where its majority ratio is r. They are measured by
 /// those who prefer the default option to it.
@@ -17,7 +15,7 @@ pub enum Wording {
 
 /// The wording that a text names, if it names one.
 pub(crate) fn parse_wording(text: &str) -> Option<Wording>
-    ensures { ok_or result fault.Wording ≡ wording_in (Some text.now) }
+    ensures { result ≡ wording_in text.now }
 {
     match text {
         "at_least" => Some(Wording::AtLeast),

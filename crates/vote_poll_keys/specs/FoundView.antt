@@ -44,6 +44,7 @@ found_view f = record {
 }
 
 -- ---- the faults of keys
+
 -- the fault of a key, if it has one
 abbrev pub key_fault : BTreeMap (String Global) Value → Inside → PollKey → List PollFault
 key_fault table keys key = fault_of_key (table_view table) (found_view keys) key

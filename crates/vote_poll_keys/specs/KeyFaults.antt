@@ -9,6 +9,7 @@ use Rattle.vote_poll_keys.specs.declared.fault.PollFault.{PollFault}
 use Rattle.vote_poll_keys.specs.declared.fault.PollFault.TheVariants as fault
 
 -- ---- what is found
+
 -- the keys, each where it is there and of its kind
 pub record FoundKeys : Type 0 where
   pub title : Option (List ℕ)
@@ -37,19 +38,20 @@ abbrev pub names_of_options : FoundKeys → Option (List (List ℕ))
 names_of_options f = option_map (λ options. options ++ option_to_list f.default_option) f.options
 
 -- ---- one fault
+
 abbrev pub fault_unless : Bool → PollFault → List PollFault
 fault_unless right e = if right then [] else e ∷ []
 
 -- the key is there and of its kind
-abbrev pub has : FoundKeys → PollKey → Bool
-has f key.Title = is_some f.title
-has f key.Options = is_some f.options
-has f key.Ratios = is_some f.ratios
-has f key.DefaultOption = is_some f.default_option
-has f key.Quorum = is_some f.quorum
-has f key.Roll = is_some f.roll
-has f key.LastEnvelope = is_some f.last_envelope
-has f key.Wording = is_some f.wording
+abbrev pub is_found : FoundKeys → PollKey → Bool
+is_found f key.Title = is_some f.title
+is_found f key.Options = is_some f.options
+is_found f key.Ratios = is_some f.ratios
+is_found f key.DefaultOption = is_some f.default_option
+is_found f key.Quorum = is_some f.quorum
+is_found f key.Roll = is_some f.roll
+is_found f key.LastEnvelope = is_some f.last_envelope
+is_found f key.Wording = is_some f.wording
 
 abbrev pub may_be_missing : PollKey → Bool
 may_be_missing key.LastEnvelope = true
@@ -58,12 +60,13 @@ may_be_missing other = false
 
 -- the key may be missing and is so, or is there and of its kind
 abbrev pub is_right : Members → FoundKeys → PollKey → Bool
-is_right table f name = (may_be_missing name && is_none (value_at name table)) || has f name
+is_right table f name = (may_be_missing name && is_none (value_at name table)) || is_found f name
 
 -- the fault of a key that is missing where it has to be there, or of the wrong kind
 abbrev pub fault_of_key : Members → FoundKeys → PollKey → List PollFault
 fault_of_key table f name = fault_unless (is_right table f name) (fault.Key name)
 
 -- ---- all keys, in their order
+
 unfoldable pub of_keys : Members → FoundKeys → List PollFault
 of_keys table f = flat_map (fault_of_key table f) all_keys

@@ -1,9 +1,9 @@
 -- What the keys of a poll file are, and what the table of a text has at them.
-use Rattle.std.specs.Prelude.{◌≡◌, ℕ, List, [], ◌∷◌, map, if◌then◌else◌, ℤ, Option, Some, None, option_map, option_and_then, Result, Ok, Err, codes}
+use Rattle.std.specs.Prelude.{◌≡◌, ℕ, List, [], ◌∷◌, map, if◌then◌else◌, Option, None, option_and_then, Result, Ok, Err, codes}
 use Rattle.std.specs.Option.{ok_or}
 use Rattle.std.specs.List.{find}
 use Rattle.std.specs.Str.{bytes_eq, is_utf8}
-use Rattle.toml.specs.Data.{Data, Items, no_items, item, Members, get_member, as_str, as_integer, as_array}
+use Rattle.toml.specs.Data.{Data, Items, no_items, item, Members, get_member, as_array}
 use Rattle.toml.specs.Parse.{parse_document}
 use Rattle.vote_poll_keys.specs.Lists.{all_some}
 use Rattle.vote_poll_keys.specs.declared.fault.PollKey.{PollKey}
@@ -12,16 +12,6 @@ use Rattle.vote_poll_keys.specs.declared.fault.PollFault.{PollFault}
 use Rattle.vote_poll_keys.specs.declared.fault.PollFault.TheVariants as fault
 
 -- ---- the keys
--- the keys, each of its kind; the last two may be missing
-pub record Fields : Type 0 where
-  pub title : List ℕ
-  pub options : List (List ℕ)
-  pub ratios : List ℤ
-  pub default_option : List ℕ
-  pub quorum : ℤ
-  pub roll : List (List ℕ)
-  pub last_envelope : Option ℤ
-  pub wording : Option (List ℕ)
 
 abbrev pub items_list : Items → List Data
 items_list no_items = []
@@ -61,42 +51,19 @@ value_at name table = get_member (key_name name) table
 abbrev pub found : {X : Type 0} → PollKey → (Data → Option X) → Members → Option X
 found name kind table = option_and_then kind (value_at name table)
 
--- the same of a key that has to be there
-abbrev pub field : {X : Type 0} → PollKey → (Data → Option X) → Members → Result X PollFault
-field name kind table = ok_or (found name kind table) (fault.Key name)
-
--- the value, where there is one; it is of the kind
-abbrev pub of_kind_or_none : {X : Type 0} → PollKey → (Data → Option X) → Option Data → Result (Option X) PollFault
-of_kind_or_none name kind None = Ok None
-of_kind_or_none name kind (Some value) = ok_or (option_map Some (kind value)) (fault.Key name)
-
--- the value of a key that may be missing
-abbrev pub optional_field : {X : Type 0} → PollKey → (Data → Option X) → Members → Result (Option X) PollFault
-optional_field name kind table = of_kind_or_none name kind (value_at name table)
-
 infixl 10 ◌>>=◌
 abbrev pub ◌>>=◌ : {A B : Type 0} → Result A PollFault → (A → Result B PollFault) → Result B PollFault
 (Ok x) >>= f = f x
 (Err e) >>= f = Err e
 
-unfoldable pub fields_of : Members → Result Fields PollFault
-fields_of table = do
-  title ← field key.Title as_str table
-  options ← field key.Options (list_of as_str) table
-  ratios ← field key.Ratios (list_of as_integer) table
-  default_option ← field key.DefaultOption as_str table
-  quorum ← field key.Quorum as_integer table
-  roll ← field key.Roll (list_of as_str) table
-  last_envelope ← optional_field key.LastEnvelope as_integer table
-  wording ← optional_field key.Wording as_str table
-  Ok (record { title = title; options = options; ratios = ratios; default_option = default_option; quorum = quorum; roll = roll; last_envelope = last_envelope; wording = wording })
-
 -- ---- the file
+
 -- the table of a text
 unfoldable pub document : List ℕ → Result Members PollFault
 document text = ok_or (if is_utf8 text then parse_document text else None) fault.Syntax
 
 -- ---- what a call gives
+
 abbrev pub Fails : {Y : Type 0} → PollFault → Result Y PollFault → Type 0
 Fails fault.Memory meaning = Unit {0}
 Fails e meaning = meaning ≡ Err e

@@ -2,7 +2,7 @@
 ghost use Rattle.std.specs.Prelude.{◌≡◌, IfOk};
 ghost use Rattle.toml.specs.View.{table_view};
 ghost use Rattle.vote_poll_keys.specs.FoundView.{AddsFaults, AreKeyFaults, AreTexts, found_view, key_fault};
-ghost use Rattle.vote_poll_keys.specs.KeyFaults.{found_in, has, is_right, may_be_missing, names_of_options};
+ghost use Rattle.vote_poll_keys.specs.KeyFaults.{found_in, is_found, is_right, may_be_missing, names_of_options};
 
 use crate::fault::{PollFault, PollKey};
 use crate::keys::{integer_at, integers_at, text_at, texts_at, value_at};
@@ -70,8 +70,8 @@ impl<'t> FoundKeys<'t> {
     }
 
     /// Whether a key is there and of its kind.
-    fn has(&self, key: PollKey) -> bool
-        ensures { result ≡ has (found_view self.now) key }
+    fn is_found(&self, key: PollKey) -> bool
+        ensures { result ≡ is_found (found_view self.now) key }
     {
         match key {
             PollKey::Title => self.title.is_some(),
@@ -89,7 +89,7 @@ impl<'t> FoundKeys<'t> {
     fn is_right(&self, table: &Table, key: PollKey) -> bool
         ensures { result ≡ is_right (table_view table.now) (found_view self.now) key }
     {
-        (may_be_missing(key) && value_at(table, key).is_none()) || self.has(key)
+        (may_be_missing(key) && value_at(table, key).is_none()) || self.is_found(key)
     }
 
     /// The faults of the keys of the table in which these were found, in the order of [`PollKey`].

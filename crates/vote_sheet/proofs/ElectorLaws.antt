@@ -11,7 +11,8 @@ use Rattle.vote_poll.specs.declared.Reading.{Reading}
 use Rattle.vote_poll.specs.declared.Reading.TheVariants.{Bad, Ballot}
 use Rattle.vote_count.specs.Ballots.{entry_prefers}
 use Rattle.vote_count.specs.Votes.{votes}
-use Rattle.vote_steps.specs.Recasts.{last_ballot, last_ballots, ranks_read}
+use Rattle.vote_steps.specs.History.{ranks_read}
+use Rattle.vote_steps.specs.Recasts.{last_ballot, last_ballots}
 use Rattle.vote_sheet.specs.ElectorLaws.{AreSameOrNoBallots, IsBallotFrom, IsWithinOne, OneBallotMovesEachCountByOne, OnlyTheLastBallotCounts, RefusedLinesAreOnlyCounted, RefusedLinesHaveNoInfluence}
 use Rattle.vote_sheet.specs.LastBallots.{last_valid_ballots, readings_in_time, voter_count, votes_for}
 use Rattle.vote_sheet.specs.Sheet.{Text}
@@ -131,15 +132,7 @@ refused_line_after poll lines line casting s refused is =
     let valid = valid_after poll line n lines refused in
     let last = same_last (readings_in_time poll (lines ++ line ∷ [])) (readings_in_time poll lines) (elector_count poll) (last_after poll line n lines refused) in
     record {
-      title = is.title;
-      electors = is.electors;
-      names = is.names;
-      ratios = is.ratios;
-      quorum_multiple = is.quorum_multiple;
-      wording = is.wording;
-      last_envelope = is.last_envelope;
       quorum = is.quorum;
-      line_count = omega (arith, is.line_count, long);
       valid = is.valid ∙ sym valid;
       refused = omega (arith, is.refused, valid, long, valid-refused poll lines, valid-refused poll (lines ++ line ∷ []));
       voters = is.voters ∙ ap (count_by is_some) (sym last);

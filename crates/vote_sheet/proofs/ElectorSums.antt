@@ -73,7 +73,7 @@ counts_once poll lines casting s is =
     let entries = last_valid_ballots poll lines in
     record {
       of_two = λ a b of_a of_b. omega (arith, is.counted a b of_a of_b, is.counted b a of_b of_a, is.voters, of_entries a b entries);
-      on_roll = omega (arith, is.voters, is.electors, count_by-le-length is_some entries, entry_count poll lines);
+      on_roll = omega (arith, is.voters, count_by-le-length is_some entries, entry_count poll lines);
       by_lines = omega (arith, is.voters, is.valid, as_many_ballots (readings_in_time poll lines) 0 (elector_count poll));
-      each_line = omega (arith, is.valid, is.refused, is.line_count, valid-refused poll lines);
+      each_line = omega (arith, is.valid, is.refused, valid-refused poll lines);
     }

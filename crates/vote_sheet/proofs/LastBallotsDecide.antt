@@ -16,17 +16,17 @@ use Rattle.vote_sheet.proofs.SameSheets.{VoteTheSame, sheet_there, with_lines, w
 use Rattle.vote_sheet.proofs.StandingLemmas.{Entry}
 
 -- ---- the parts of a sheet
-front_of : Sheet → Text
-front_of s =
-    head_text s.title s.electors s.quorum_multiple s.quorum_votes s.wording
-    ++ (line (codes "Lines: " ∷ decimal s.line_count ∷ []) ++ (last_text s.last_envelope ++ (line (codes "Valid: " ∷ decimal s.valid ∷ []) ++ (codes "Refused: " ++ decimal s.refused))))
+front_of : PollContent → List Text → Sheet → Text
+front_of poll lines s =
+    head_text poll.title (elector_count poll) poll.quorum_multiple s.quorum_votes poll.wording
+    ++ (line (codes "Lines: " ∷ decimal (length lines) ∷ []) ++ (last_text poll.last_envelope ++ (line (codes "Valid: " ∷ decimal s.valid ∷ []) ++ (codes "Refused: " ++ decimal s.refused))))
 
-rest_of : Sheet → Text
-rest_of s = decimal s.voters ++ (codes "\n" ++ (options_text s.names s.ratios ++ (count_text s.names s.matrix s.outcome s.decision ++ [])))
+rest_of : PollContent → Sheet → Text
+rest_of poll s = decimal s.voters ++ (codes "\n" ++ (options_text poll.options poll.ratios ++ (count_text poll.options s.matrix s.outcome s.decision ++ [])))
 
-at_voters : (s : Sheet) → sheet_text s ≡ front_of s ++ codes "\nVoters: " ++ rest_of s
+at_voters : (poll : PollContent) (lines : List Text) (s : Sheet) → sheet_text poll lines s ≡ front_of poll lines s ++ codes "\nVoters: " ++ rest_of poll s
 unfolding totals_text front_of rest_of
-at_voters s = simp append_assoc
+at_voters poll lines s = simp append_assoc
 
 -- ---- the law
 pub entry_at : {X : Type 0} (f : ℕ → X) (n v : ℕ) → v < n → slice_get (map f (range_with_len 0 n)) v ≡ Some (f v)
@@ -56,17 +56,17 @@ order_alike_counts_alike unique poll again lines others mapped casting text othe
     let P : PollContent → Type 0 = λ q. VoteTheSame poll lines q others in
     let votes = subst P differ.all_else (vote_the_same poll again lines others mapped differ.electors one_to_one alike) in
     let s = h.0 in
-    let t = with_lines s (length others) there.last_envelope (valid_count there others) (refused_count there others) in
+    let t = with_lines s (valid_count there others) (refused_count there others) in
     let of : IsSheetOf there others casting t =
     sheet_there poll again.roll again.last_envelope (sym differ.electors) lines others votes casting s h.1
-    (length others) there.last_envelope (valid_count there others) (refused_count there others)
-    (record { line_count = refl; last_envelope = refl; valid = refl; refused = refl }) in
-    let Q : PollContent → Type 0 = λ q. IsSheet q others casting (sheet_text t) in (
-      front_of s,
-      front_of t,
-      rest_of s,
-      h.2 ∙ at_voters s,
-      unique again others casting other (sheet_text t) k (subst Q (sym differ.all_else) (t, of, refl)) ∙ at_voters t,
+    (valid_count there others) (refused_count there others) refl refl in
+    let text_there : Text = sheet_text there others t in
+    let Q : PollContent → Type 0 = λ q. IsSheet q others casting text_there in (
+      front_of poll lines s,
+      front_of there others t,
+      rest_of poll s,
+      h.2 ∙ at_voters poll lines s,
+      unique again others casting other text_there k (subst Q (sym differ.all_else) (t, of, refl)) ∙ at_voters there others t,
     )
 
 -- the same ballots order the options alike

@@ -23,7 +23,8 @@ use Rattle.vote_poll.specs.declared.Reading.TheVariants.{Ballot}
 use Rattle.vote_poll.specs.declared.TheConstants.{MAX_LINE, MAX_OPTIONS}
 use Rattle.vote_poll_text.specs.Names.{is_voter_byte, is_voter_name, is_within}
 use Rattle.vote_poll_text.specs.declared.TheConstants.{MAX_VOTER_NAME}
-use Rattle.vote_steps.specs.Recasts.{last_ballot, ranks_read}
+use Rattle.vote_steps.specs.History.{ranks_read}
+use Rattle.vote_steps.specs.Recasts.{last_ballot}
 use Rattle.vote_sheet.specs.ElectorLaws.{BallotsThatOrderAlikeCountAlike, HaveLastBallotsAlike, OrderAlike}
 use Rattle.vote_sheet.specs.LastBallots.{last_valid_ballots, readings_in_time, valid_count, voter_count}
 use Rattle.vote_sheet.specs.Publishing.{ArePublished, KeepsTheOrder, PublishedFilesHaveTheSameSheet, PublishedFilesSayTheSame, other_names, renamed_lines}

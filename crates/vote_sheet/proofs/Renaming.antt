@@ -12,7 +12,8 @@ use Rattle.vote_poll.specs.Readings.{IsReading, is_ballot, reading, readings}
 use Rattle.vote_poll.specs.declared.Reading.{Reading}
 use Rattle.vote_poll.specs.declared.Reading.TheVariants.{Bad, Ballot}
 use Rattle.vote_count.specs.Ballots.{entry_prefers}
-use Rattle.vote_steps.specs.Recasts.{last_ballot, ranks_read}
+use Rattle.vote_steps.specs.History.{ranks_read}
+use Rattle.vote_steps.specs.Recasts.{last_ballot}
 use Rattle.vote_sheet.specs.ElectorLaws.{HaveSameSheets, IsOneToOne, NamesDoNotMatter, OrderAlike, ReadAlike}
 use Rattle.vote_sheet.specs.LastBallots.{last_valid_ballots, readings_in_time}
 use Rattle.vote_sheet.specs.Sheet.{Text}

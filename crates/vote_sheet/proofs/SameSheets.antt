@@ -1,6 +1,7 @@
 -- Two polls that differ in the names on their rolls and in their last envelopes, and files whose voters count the same in them: the sheets are the same but for the last envelope and the numbers of lines.
-use Rattle.std.proofs.Common.{◌≡◌, ℕ, ◌*◌, ◌^◌, ◌<◌, ◌≤◌, ◌⊎◌, ◌↔◌, List, Option, None, Some, length, refl, sym, ap, ◌∙◌, subst, arith}
+use Rattle.std.proofs.Common.{◌≡◌, ℕ, ◌*◌, ◌^◌, ◌<◌, ◌≤◌, ◌⊎◌, ◌↔◌, List, [], ◌∷◌, Option, None, Some, length, refl, sym, ap, ◌∙◌, subst, arith}
 use Rattle.std.specs.Prelude.{count_by, is_some}
+use Rattle.std.specs.List.{concat}
 use Rattle.vote_poll.specs.PollContent.{PollContent, elector_count, option_count}
 use Rattle.vote_count.specs.Ballots.{EachTwo, entry_prefers}
 use Rattle.vote_count.specs.declared.Cause.{Cause}
@@ -11,7 +12,7 @@ use Rattle.vote_count.specs.Sets.{Pairs}
 use Rattle.vote_count.specs.Votes.{Votes, votes}
 use Rattle.vote_sheet.specs.ElectorLaws.{HaveSameSheets}
 use Rattle.vote_sheet.specs.LastBallots.{last_valid_ballots, refused_count, valid_count, voter_count, votes_for}
-use Rattle.vote_sheet.specs.Sheet.{Sheet, Text}
+use Rattle.vote_sheet.specs.Sheet.{Sheet, Text, count_text, head_text, options_text, sheet_text, totals_text}
 use Rattle.vote_sheet.specs.SheetOf.{IsSheetOf}
 use Rattle.vote_sheet.proofs.ElectorSums.{valid-refused}
 
@@ -77,37 +78,22 @@ module _ (poll : PollContent) (matrix : Votes) where
         }
 
 -- ---- the sheets
--- the sheet with other numbers of lines, and another last envelope
-abbrev pub with_lines : Sheet → ℕ → Option ℕ → ℕ → ℕ → Sheet
-with_lines s lines last valid refused = record s { line_count = lines; last_envelope = last; valid = valid; refused = refused }
-
--- the sheet has the numbers of these lines, and the last envelope of this poll
-pub record IsOfLines (poll : PollContent) (lines : List Text) (s : Sheet) : Type 0 where
-  pub line_count : s.line_count ≡ length lines
-  pub last_envelope : s.last_envelope ≡ poll.last_envelope
-  pub valid : s.valid ≡ valid_count poll lines
-  pub refused : s.refused ≡ refused_count poll lines
+-- the sheet with other numbers of lines
+abbrev pub with_lines : Sheet → ℕ → ℕ → Sheet
+with_lines s valid refused = record s { valid = valid; refused = refused }
 
 pub sheet_there : (poll : PollContent) (roll : List Text) (last : Option ℕ) → elector_count poll ≡ length roll
     → (lines others : List Text) → VoteTheSame poll lines (with_roll poll roll last) others
     → (casting : Option ℕ) (s : Sheet) → IsSheetOf poll lines casting s
-    → (n : ℕ) (e : Option ℕ) (valid refused : ℕ) → IsOfLines (with_roll poll roll last) others (with_lines s n e valid refused)
-    → IsSheetOf (with_roll poll roll last) others casting (with_lines s n e valid refused)
-sheet_there poll roll last electors lines others same casting s is n e valid refused of =
+    → (valid refused : ℕ) → valid ≡ valid_count (with_roll poll roll last) others → refused ≡ refused_count (with_roll poll roll last) others
+    → IsSheetOf (with_roll poll roll last) others casting (with_lines s valid refused)
+sheet_there poll roll last electors lines others same casting s is valid refused valid_is refused_is =
     let P : ℕ → Type 0 = λ n. poll.quorum_multiple ^ 2 * n ≤ (2 * s.quorum_votes) ^ 2 in
     let Q : ℕ → Type 0 = λ k. (n : ℕ) → poll.quorum_multiple ^ 2 * k ≤ (2 * n) ^ 2 → s.quorum_votes ≤ n in
     record {
-      title = is.title;
-      electors = is.electors ∙ electors;
-      names = is.names;
-      ratios = is.ratios;
-      quorum_multiple = is.quorum_multiple;
-      wording = is.wording;
-      last_envelope = of.last_envelope;
       quorum = (subst P electors is.quorum.0, subst Q electors is.quorum.1);
-      line_count = of.line_count;
-      valid = of.valid;
-      refused = of.refused;
+      valid = valid_is;
+      refused = refused_is;
       voters = is.voters ∙ sym same.voters;
       size = is.size;
       counted = λ a b of_a of_b. is.counted a b of_a of_b ∙ sym (same.counts a b of_a of_b);
@@ -121,24 +107,36 @@ same_sheet_there : (poll : PollContent) (roll : List Text) → elector_count pol
     → (casting : Option ℕ) (s : Sheet) → IsSheetOf poll lines casting s → IsSheetOf (with_roll poll roll poll.last_envelope) others casting s
 same_sheet_there poll roll electors lines others same casting s is =
     let again = with_roll poll roll poll.last_envelope in
-    let of : IsOfLines again others s = record {
-      line_count = is.line_count ∙ sym same.as_long;
-      last_envelope = is.last_envelope;
-      valid = is.valid ∙ sym same.valid;
-      refused = omega (arith, is.refused, same.as_long, same.valid, valid-refused poll lines, valid-refused again others);
-    } in
-    sheet_there poll roll poll.last_envelope electors lines others same.votes casting s is s.line_count s.last_envelope s.valid s.refused of
+    sheet_there poll roll poll.last_envelope electors lines others same.votes casting s is s.valid s.refused
+    (is.valid ∙ sym same.valid)
+    (omega (arith, is.refused, same.as_long, same.valid, valid-refused poll lines, valid-refused again others))
+
+-- the text of a sheet, of so many electors and lines
+text_among : PollContent → Sheet → ℕ → ℕ → Text
+text_among poll s electors lines = concat (
+    head_text poll.title electors poll.quorum_multiple s.quorum_votes poll.wording
+    ∷ totals_text lines poll.last_envelope s.valid s.refused s.voters
+    ∷ options_text poll.options poll.ratios
+    ∷ count_text poll.options s.matrix s.outcome s.decision
+    ∷ [])
+
+same_text_there : (poll : PollContent) (roll : List Text) → elector_count poll ≡ length roll → (lines others : List Text) → length others ≡ length lines
+    → (s : Sheet) → sheet_text poll lines s ≡ sheet_text (with_roll poll roll poll.last_envelope) others s
+unfolding text_among
+same_text_there poll roll electors lines others long s =
+    ap (λ n. text_among poll s n (length lines)) electors ∙ ap (text_among poll s (length roll)) (sym long)
 
 pub same_sheets_there : (poll : PollContent) (roll : List Text) → elector_count poll ≡ length roll
     → (lines others : List Text) → CountTheSame poll lines (with_roll poll roll poll.last_envelope) others
     → HaveSameSheets poll lines (with_roll poll roll poll.last_envelope) others
 same_sheets_there poll roll electors lines others same casting text =
-    let again = with_roll poll roll poll.last_envelope in (
-      λ h. (h.0, same_sheet_there poll roll electors lines others same casting h.0 h.1, h.2),
+    let again = with_roll poll roll poll.last_envelope in
+    let same_text = same_text_there poll roll electors lines others same.as_long in (
+      λ h. (h.0, same_sheet_there poll roll electors lines others same casting h.0 h.1, h.2 ∙ same_text h.0),
       λ h. (
         h.0,
         same_sheet_there again poll.roll (sym electors) others lines (count_the_same-back poll lines again others refl same) casting h.0 h.1,
-        h.2,
+        h.2 ∙ sym (same_text h.0),
       ),
     )
 

@@ -21,7 +21,8 @@ use Rattle.vote_poll.specs.Readings.{IsReading, is_ballot, reading, readings}
 use Rattle.vote_poll.specs.declared.Reading.{Reading}
 use Rattle.vote_poll.specs.declared.Reading.TheVariants.{Ballot, Bad}
 use Rattle.vote_poll_text.specs.declared.TheConstants.{MAX_VOTER_NAME}
-use Rattle.vote_steps.specs.Recasts.{last_ballot, last_ballots, ranks_read}
+use Rattle.vote_steps.specs.History.{ranks_read}
+use Rattle.vote_steps.specs.Recasts.{last_ballot, last_ballots}
 use Rattle.vote_sheet.specs.LastBallots.{last_valid_ballots, readings_in_time, voter_count}
 use Rattle.vote_sheet.specs.Standing.{SaysTheSame, StandingSaysTheSame, ballot_line, ballot_lines, standing_lines, standing_text}
 

@@ -4,8 +4,7 @@ use Rattle.std.specs.Prelude.{nat_lt}
 use Rattle.std.specs.Cmp.{both_ways}
 use Rattle.std.specs.List.{concat}
 use Rattle.vote_poll.specs.Options.{IsOption}
-use Rattle.vote_poll.specs.declared.wording.Wording.{Wording}
-use Rattle.vote_poll.specs.PollContent.{PollContent, option_count}
+use Rattle.vote_poll.specs.PollContent.{PollContent, elector_count, option_count}
 use Rattle.vote_count.specs.declared.Decision.{Decision}
 use Rattle.vote_count.specs.declared.Decision.TheVariants.{CastingOutside, Tie, Winner}
 use Rattle.vote_count.specs.declared.Round.{Round}
@@ -168,14 +167,8 @@ decision_text_same names s t same d e is =
 parts_same : (a a' b b' c c' d d' : Text) → a ≡ a' → b ≡ b' → c ≡ c' → d ≡ d' → concat (a ∷ b ∷ c ∷ d ∷ []) ≡ concat (a' ∷ b' ∷ c' ∷ d' ∷ [])
 parts_same a a' b b' c c' d d' is_a is_b is_c is_d = cc
 
-head_text_same : (t t' : Text) (e e' m m' v v' : ℕ) (w w' : Wording) → t ≡ t' → e ≡ e' → m ≡ m' → v ≡ v' → w ≡ w' → head_text t e m v w ≡ head_text t' e' m' v' w'
-head_text_same t t' e e' m m' v v' w w' is_t is_e is_m is_v is_w = cc
-
-totals_text_same : (l l' : ℕ) (e e' : Option ℕ) (v v' r r' u u' : ℕ) → l ≡ l' → e ≡ e' → v ≡ v' → r ≡ r' → u ≡ u' → totals_text l e v r u ≡ totals_text l' e' v' r' u'
-totals_text_same l l' e e' v v' r r' u u' is_l is_e is_v is_r is_u = cc
-
-options_text_same : (names names' : List Text) (ratios ratios' : List ℕ) → names ≡ names' → ratios ≡ ratios' → options_text names ratios ≡ options_text names' ratios'
-options_text_same names names' ratios ratios' is_names is_ratios = cc
+totals_text_same : (lines : ℕ) (last : Option ℕ) (v v' r r' u u' : ℕ) → v ≡ v' → r ≡ r' → u ≡ u' → totals_text lines last v r u ≡ totals_text lines last v' r' u'
+totals_text_same lines last v v' r r' u u' is_v is_r is_u = cc
 
 count_text_same : DecisionsAreDetermined → (n : ℕ) (names : List Text) → length names ≡ n → (m w : Votes) → m.options ≡ n → w.options ≡ n → HaveSameVotes n m w
     → (o u : VerdictState) → AreSameOutcomes n o u → (casting : Option ℕ) (d e : Decision) → IsDecision (final_set o.rounds) casting d → IsDecision (final_set u.rounds) casting e
@@ -190,25 +183,23 @@ count_text_same decisions n names long m w size_m size_w same o u outcome castin
     let decision = decision_text_same names (final_set o.rounds) (final_set u.rounds) final d e (decisions (final_set o.rounds) (final_set u.rounds) casting d e final is_d is_e) in
     cc
 
-same_sheet : OutcomesAreDetermined → DecisionsAreDetermined → (poll : PollContent) (lines : List Text) (casting : Option ℕ) (s t : Sheet) → IsSheetOf poll lines casting s → IsSheetOf poll lines casting t → sheet_text s ≡ sheet_text t
+same_sheet : OutcomesAreDetermined → DecisionsAreDetermined → (poll : PollContent) (lines : List Text) (casting : Option ℕ) (s t : Sheet) → IsSheetOf poll lines casting s → IsSheetOf poll lines casting t
+    → sheet_text poll lines s ≡ sheet_text poll lines t
 same_sheet outcomes decisions poll lines casting s t is_s is_t =
     let n = option_count poll in
     let same : HaveSameVotes n s.matrix t.matrix = λ a b is_a is_b. is_s.counted a b is_a is_b ∙ sym (is_t.counted a b is_a is_b) in
-    let names : s.names ≡ t.names = is_s.names ∙ sym is_t.names in
     let outcome = outcomes poll s.matrix t.matrix s.outcome t.outcome same is_s.outcome is_t.outcome in
-    let count = count_text_same decisions n t.names (ap length is_t.names) s.matrix t.matrix is_s.size is_t.size same s.outcome t.outcome outcome casting s.decision t.decision is_s.decision is_t.decision in
-    parts_same (head_text s.title s.electors s.quorum_multiple s.quorum_votes s.wording) (head_text t.title t.electors t.quorum_multiple t.quorum_votes t.wording)
-    (totals_text s.line_count s.last_envelope s.valid s.refused s.voters) (totals_text t.line_count t.last_envelope t.valid t.refused t.voters)
-    (options_text s.names s.ratios) (options_text t.names t.ratios)
-    (count_text s.names s.matrix s.outcome s.decision) (count_text t.names t.matrix t.outcome t.decision)
-    (head_text_same s.title t.title s.electors t.electors s.quorum_multiple t.quorum_multiple s.quorum_votes t.quorum_votes s.wording t.wording
-    (is_s.title ∙ sym is_t.title) (is_s.electors ∙ sym is_t.electors) (is_s.quorum_multiple ∙ sym is_t.quorum_multiple)
-    (omega (arith, is_s.quorum.1 t.quorum_votes is_t.quorum.0, is_t.quorum.1 s.quorum_votes is_s.quorum.0))
-    (is_s.wording ∙ sym is_t.wording))
-    (totals_text_same s.line_count t.line_count s.last_envelope t.last_envelope s.valid t.valid s.refused t.refused s.voters t.voters
-    (is_s.line_count ∙ sym is_t.line_count) (is_s.last_envelope ∙ sym is_t.last_envelope) (is_s.valid ∙ sym is_t.valid) (is_s.refused ∙ sym is_t.refused) (is_s.voters ∙ sym is_t.voters))
-    (options_text_same s.names t.names s.ratios t.ratios names (is_s.ratios ∙ sym is_t.ratios))
-    (ap (λ k. count_text k s.matrix s.outcome s.decision) names ∙ count)
+    let quorum : s.quorum_votes ≡ t.quorum_votes = omega (arith, is_s.quorum.1 t.quorum_votes is_t.quorum.0, is_t.quorum.1 s.quorum_votes is_s.quorum.0) in
+    let head : ℕ → Text = λ votes. head_text poll.title (elector_count poll) poll.quorum_multiple votes poll.wording in
+    let totals : Sheet → Text = λ s. totals_text (length lines) poll.last_envelope s.valid s.refused s.voters in
+    let options = options_text poll.options poll.ratios in
+    let count : Sheet → Text = λ s. count_text poll.options s.matrix s.outcome s.decision in
+    parts_same (head s.quorum_votes) (head t.quorum_votes) (totals s) (totals t) options options (count s) (count t)
+    (ap head quorum)
+    (totals_text_same (length lines) poll.last_envelope s.valid t.valid s.refused t.refused s.voters t.voters
+    (is_s.valid ∙ sym is_t.valid) (is_s.refused ∙ sym is_t.refused) (is_s.voters ∙ sym is_t.voters))
+    refl
+    (count_text_same decisions n poll.options refl s.matrix t.matrix is_s.size is_t.size same s.outcome t.outcome outcome casting s.decision t.decision is_s.decision is_t.decision)
 
 pub sheet_is_unique_lem : OutcomesAreDetermined → DecisionsAreDetermined → SheetIsUnique
 sheet_is_unique_lem outcomes decisions poll lines casting text other h k = h.2 ∙ (same_sheet outcomes decisions poll lines casting h.0 k.0 h.1 k.1 ∙ sym k.2)

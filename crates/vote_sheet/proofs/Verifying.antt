@@ -236,9 +236,9 @@ module _ (poll : PollContent) (lines : List Text) (count : Count) (is_count : Is
   pub whole_is_sheet : (casting : Option ℕ) (t : Text) → IsWhole poll count (shared_text poll count) casting t → IsSheet poll lines casting t
   whole_is_sheet casting t whole =
       let last = whole.1 in (
-        as_sheet poll count last.0,
-        is_count casting last.0 last.1,
-        whole.2 ∙ ap (λ u. shared_text poll count ++ u) last.2 ∙ sym (sheet_parts poll count last.0),
+        as_sheet count last.0,
+        is_count.sheets casting last.0 last.1,
+        whole.2 ∙ ap (λ u. shared_text poll count ++ u) last.2 ∙ sym (sheet_parts poll lines count last.0 is_count.line_count),
       )
 
   -- where something is decided with one casting vote, each sheet is such a whole
@@ -246,13 +246,13 @@ module _ (poll : PollContent) (lines : List Text) (count : Count) (is_count : Is
       → (casting : Option ℕ) (t : Text) → IsSheet poll lines casting t → IsWhole poll count (shared_text poll count) casting t
   sheet_is_whole outcomes unique tried decided is_decided casting t sheet =
       let s = sheet.0 in
-      let same = final_sets_are_same outcomes poll lines casting tried s (as_sheet poll count decided) sheet.1 (is_count tried decided is_decided) in
+      let same = final_sets_are_same outcomes poll lines casting tried s (as_sheet count decided) sheet.1 (is_count.sheets tried decided is_decided) in
       let decision = decision_of_same (final_set s.outcome.rounds) (final_set count.verdict.rounds) same casting s.decision sheet.1.decision in
-      let again : Text = sheet_text (as_sheet poll count s.decision) in
-      let is_again : IsSheet poll lines casting again = (as_sheet poll count s.decision, is_count casting s.decision decision, refl) in (
+      let again : Text = sheet_text poll lines (as_sheet count s.decision) in
+      let is_again : IsSheet poll lines casting again = (as_sheet count s.decision, is_count.sheets casting s.decision decision, refl) in (
         decision_text poll.options (final_set count.verdict.rounds) s.decision,
         (s.decision, decision, refl),
-        unique poll lines casting t again sheet is_again ∙ sheet_parts poll count s.decision,
+        unique poll lines casting t again sheet is_again ∙ sheet_parts poll lines count s.decision is_count.line_count,
       )
 
 -- ---- what is said

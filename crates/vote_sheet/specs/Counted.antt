@@ -1,5 +1,5 @@
 -- What the program counts before anything is decided, and the sheets that this gives.
-use Rattle.std.specs.Prelude.{◌≡◌, ℕ, List, [], ◌∷◌, ◌++◌, Option, string_bytes}
+use Rattle.std.specs.Prelude.{◌≡◌, ℕ, List, [], ◌∷◌, ◌++◌, Option, length, string_bytes}
 use Rattle.std.specs.List.{concat}
 use Rattle.std.specs.declared.string.String.{String}
 use Rattle.vote_poll.specs.Options.{IsOption}
@@ -14,31 +14,23 @@ use Rattle.vote_sheet.specs.Sheet.{Sheet, Text, counted_text, decision_text, hea
 use Rattle.vote_sheet.specs.SheetOf.{IsSheetOf}
 use Rattle.vote_sheet.specs.declared.sheet.Count.{Count}
 
--- the sheet of a poll, of what its lines come to, and of what is decided
-abbrev pub as_sheet : PollContent → Count → Decision → Sheet
-as_sheet poll count decision = record {
-  title = poll.title;
-  electors = elector_count poll;
-  quorum_multiple = poll.quorum_multiple;
+-- the sheet of what the lines come to, and of what is decided
+abbrev pub as_sheet : Count → Decision → Sheet
+as_sheet count decision = record {
   quorum_votes = count.quorum_votes;
-  wording = poll.wording;
-  line_count = count.lines;
-  last_envelope = poll.last_envelope;
   valid = count.totals.valid;
   refused = count.totals.refused;
   voters = count.totals.voters;
-  names = poll.options;
-  ratios = poll.ratios;
   matrix = count.matrix;
   outcome = count.verdict;
   decision = decision;
 }
 
 -- the lines come to this count: with each decision of its final set it is a sheet of the poll, the lines and the casting vote
-abbrev pub IsCountOf : PollContent → List Text → Count → Type 0
-IsCountOf poll lines count =
-    (casting : Option ℕ) (decision : Decision) → IsDecision (final_set count.verdict.rounds) casting decision
-    → IsSheetOf poll lines casting (as_sheet poll count decision)
+pub record IsCountOf (poll : PollContent) (lines : List Text) (count : Count) : Type 0 where
+  pub line_count : count.lines ≡ length lines
+  pub sheets : (casting : Option ℕ) (decision : Decision) → IsDecision (final_set count.verdict.rounds) casting decision
+      → IsSheetOf poll lines casting (as_sheet count decision)
 
 -- each option of the final set is kept
 abbrev pub FinalSetIsKept : PollContent → Count → Type 0
@@ -66,6 +58,10 @@ shared_text poll count = concat (
     ∷ options_text poll.options poll.ratios
     ∷ counted_text (option_count poll) count.matrix count.verdict
     ∷ [])
+
+-- the sheet with this decision
+abbrev pub whole_text : PollContent → Count → Decision → Text
+whole_text poll count decision = shared_text poll count ++ decision_text poll.options (final_set count.verdict.rounds) decision
 
 -- this is the last line of the sheet with this casting vote
 abbrev pub IsLastLine : PollContent → Count → Option ℕ → Text → Type 0

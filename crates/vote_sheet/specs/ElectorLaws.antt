@@ -16,15 +16,15 @@ use Rattle.vote_sheet.specs.Standing.{AreSameFromVoters}
 -- ---- the sums of a sheet
 
 -- Of each two options a voter is for one at most. Each voter is an elector and has a valid line, and each line is valid or refused.
-pub record CountsOnce (options : ℕ) (s : Sheet) : Type 0 where
-  pub of_two : (a b : ℕ) → IsOption options a → IsOption options b → votes s.matrix a b + votes s.matrix b a ≤ s.voters
-  pub on_roll : s.voters ≤ s.electors
+pub record CountsOnce (poll : PollContent) (lines : List Text) (s : Sheet) : Type 0 where
+  pub of_two : (a b : ℕ) → IsOption (option_count poll) a → IsOption (option_count poll) b → votes s.matrix a b + votes s.matrix b a ≤ s.voters
+  pub on_roll : s.voters ≤ elector_count poll
   pub by_lines : s.voters ≤ s.valid
-  pub each_line : s.valid + s.refused ≡ s.line_count
+  pub each_line : s.valid + s.refused ≡ length lines
 
 -- Nobody counts twice, on any sheet.
 abbrev pub NobodyCountsTwice : Type 0
-NobodyCountsTwice = (poll : PollContent) (lines : List Text) (casting : Option ℕ) (s : Sheet) → IsSheetOf poll lines casting s → CountsOnce (option_count poll) s
+NobodyCountsTwice = (poll : PollContent) (lines : List Text) (casting : Option ℕ) (s : Sheet) → IsSheetOf poll lines casting s → CountsOnce poll lines s
 
 -- ---- files with the same sheets
 
@@ -53,7 +53,7 @@ IsRefusedAfter poll lines line = (last_in_time poll ≤ length lines) ⊎ (is_ba
 
 -- the sheet with one line more, which is refused
 abbrev pub with_refused_line : Sheet → Sheet
-with_refused_line s = record s { line_count = s.line_count + 1; refused = s.refused + 1 }
+with_refused_line s = record s { refused = s.refused + 1 }
 
 -- A refused line at the end of a file is counted as a line and as refused, and changes nothing else on the sheet.
 abbrev pub RefusedLinesAreOnlyCounted : Type 0

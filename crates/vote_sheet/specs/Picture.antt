@@ -87,17 +87,17 @@ edge_lines matrix outcome = each matrix.options (edges_by matrix outcome)
 
 -- ---- the whole
 
-abbrev pub picture_text : Sheet → Text
-picture_text s = concat (
-    graph_head s.title
-    ∷ node_lines s.names s.outcome s.decision
+abbrev pub picture_text : PollContent → Sheet → Text
+picture_text poll s = concat (
+    graph_head poll.title
+    ∷ node_lines poll.options s.outcome s.decision
     ∷ edge_lines s.matrix s.outcome
     ∷ line (codes "}" ∷ [])
     ∷ [])
 
 -- the text is the picture of a sheet of the poll, the lines and the casting vote, and this is what the sheet decides
 abbrev pub IsPictureAndDecision : PollContent → List Text → Option ℕ → Text → Decision → Type 0
-IsPictureAndDecision poll lines casting text decision = (s : Sheet) × IsSheetOf poll lines casting s × (text ≡ picture_text s) × (decision ≡ s.decision)
+IsPictureAndDecision poll lines casting text decision = (s : Sheet) × IsSheetOf poll lines casting s × (text ≡ picture_text poll s) × (decision ≡ s.decision)
 
 -- the picture of a sheet of the poll, the lines and the casting vote was printed, and this is what the sheet decides
 abbrev pub PrintsPicture : {Z : Type 0} → PollContent → List Text → Option ℕ → String Z × Decision → Type 0

@@ -2,6 +2,7 @@
 use Rattle.std.specs.Prelude.{ℕ, zero, suc, ◌+◌, ◌-◌, ◌==◌, Bool, true, false, if◌then◌else◌, nat_lt, List, [], ◌∷◌, ◌++◌, length, replicate, Option, Some, None, codes, decimal}
 use Rattle.std.specs.List.{concat}
 use Rattle.vote_poll.specs.Options.{at_option}
+use Rattle.vote_poll.specs.PollContent.{PollContent, elector_count}
 use Rattle.vote_poll.specs.declared.wording.Wording.{Wording}
 use Rattle.vote_poll.specs.declared.wording.Wording.TheVariants.{AtLeast, MoreThan}
 use Rattle.vote_count.specs.Votes.{Votes, votes}
@@ -14,20 +15,12 @@ use Rattle.vote_count.specs.declared.Decision.{Decision}
 use Rattle.vote_count.specs.declared.Decision.TheVariants.{Winner, Tie, CastingOutside}
 pub use Rattle.vote_sheet.specs.Texts.{Text, line}
 
--- What a sheet says. Options are numbered from 1, and the last is the default. Each other option has a ratio.
+-- What a sheet says that its poll does not. Options are numbered from 1, and the last is the default.
 pub record Sheet : Type 0 where
-  pub title : Text
-  pub electors : ℕ
-  pub quorum_multiple : ℕ
   pub quorum_votes : ℕ
-  pub wording : Wording
-  pub line_count : ℕ
-  pub last_envelope : Option ℕ
   pub valid : ℕ
   pub refused : ℕ
   pub voters : ℕ
-  pub names : List Text
-  pub ratios : List ℕ
   pub matrix : Votes
   pub outcome : VerdictState
   pub decision : Decision
@@ -200,10 +193,10 @@ counted_text n matrix outcome = concat (
 unfoldable pub count_text : List Text → Votes → VerdictState → Decision → Text
 count_text names matrix outcome decision = counted_text (length names) matrix outcome ++ decision_text names (final_set outcome.rounds) decision
 
-abbrev pub sheet_text : Sheet → Text
-sheet_text s = concat (
-    head_text s.title s.electors s.quorum_multiple s.quorum_votes s.wording
-    ∷ totals_text s.line_count s.last_envelope s.valid s.refused s.voters
-    ∷ options_text s.names s.ratios
-    ∷ count_text s.names s.matrix s.outcome s.decision
+abbrev pub sheet_text : PollContent → List Text → Sheet → Text
+sheet_text poll lines s = concat (
+    head_text poll.title (elector_count poll) poll.quorum_multiple s.quorum_votes poll.wording
+    ∷ totals_text (length lines) poll.last_envelope s.valid s.refused s.voters
+    ∷ options_text poll.options poll.ratios
+    ∷ count_text poll.options s.matrix s.outcome s.decision
     ∷ [])

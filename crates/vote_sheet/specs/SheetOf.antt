@@ -1,8 +1,8 @@
 -- Which sheet a poll, its lines and the casting vote have. No history, desk or reply occurs in it.
-use Rattle.std.specs.Prelude.{◌≡◌, ℕ, ◌≤◌, List, Option, length, string_bytes}
+use Rattle.std.specs.Prelude.{◌≡◌, ℕ, ◌≤◌, List, Option, string_bytes}
 use Rattle.std.specs.declared.string.String.{String}
 use Rattle.vote_poll.specs.Options.{IsOption}
-use Rattle.vote_poll.specs.PollContent.{PollContent, elector_count, option_count}
+use Rattle.vote_poll.specs.PollContent.{PollContent, option_count}
 use Rattle.vote_count.specs.Votes.{votes}
 use Rattle.vote_count.specs.Rules.{IsQuorum}
 use Rattle.vote_count.specs.Rounds.{IsDecision, IsOutcome, final_set}
@@ -10,22 +10,12 @@ use Rattle.vote_count.specs.declared.Decision.{Decision}
 use Rattle.vote_sheet.specs.LastBallots.{refused_count, valid_count, voter_count, votes_for}
 use Rattle.vote_sheet.specs.Sheet.{Sheet, Text, sheet_text}
 
+-- the least quorum, what the lines are, the votes over each elector's last valid ballot, and what they come to
 pub record IsSheetOf (poll : PollContent) (lines : List Text) (casting : Option ℕ) (s : Sheet) : Type 0 where
-  -- what the poll says
-  pub title : s.title ≡ poll.title
-  pub electors : s.electors ≡ elector_count poll
-  pub names : s.names ≡ poll.options
-  pub ratios : s.ratios ≡ poll.ratios
-  pub quorum_multiple : s.quorum_multiple ≡ poll.quorum_multiple
-  pub wording : s.wording ≡ poll.wording
-  pub last_envelope : s.last_envelope ≡ poll.last_envelope
   pub quorum : IsQuorum poll s.quorum_votes
-  -- what the lines are
-  pub line_count : s.line_count ≡ length lines
   pub valid : s.valid ≡ valid_count poll lines
   pub refused : s.refused ≡ refused_count poll lines
   pub voters : s.voters ≡ voter_count poll lines
-  -- the votes over each voter's last valid ballot, and what they come to
   pub size : s.matrix.options ≡ option_count poll
   pub counted : (a b : ℕ) → IsOption (option_count poll) a → IsOption (option_count poll) b → votes s.matrix a b ≡ votes_for poll lines a b
   pub outcome : IsOutcome poll s.matrix s.outcome
@@ -33,7 +23,7 @@ pub record IsSheetOf (poll : PollContent) (lines : List Text) (casting : Option 
 
 -- the text is a sheet of the poll, the lines and the casting vote, and this is what the sheet decides
 abbrev pub IsSheetAndDecision : PollContent → List Text → Option ℕ → Text → Decision → Type 0
-IsSheetAndDecision poll lines casting text decision = (s : Sheet) × IsSheetOf poll lines casting s × (text ≡ sheet_text s) × (decision ≡ s.decision)
+IsSheetAndDecision poll lines casting text decision = (s : Sheet) × IsSheetOf poll lines casting s × (text ≡ sheet_text poll lines s) × (decision ≡ s.decision)
 
 -- a sheet of the poll, the lines and the casting vote was printed, and this is what it decides
 abbrev pub PrintsSheet : {Z : Type 0} → PollContent → List Text → Option ℕ → String Z × Decision → Type 0
@@ -41,7 +31,7 @@ PrintsSheet poll lines casting printed = IsSheetAndDecision poll lines casting (
 
 -- the text is a sheet of the poll, the lines and the casting vote
 abbrev pub IsSheet : PollContent → List Text → Option ℕ → Text → Type 0
-IsSheet poll lines casting text = (s : Sheet) × IsSheetOf poll lines casting s × (text ≡ sheet_text s)
+IsSheet poll lines casting text = (s : Sheet) × IsSheetOf poll lines casting s × (text ≡ sheet_text poll lines s)
 
 -- the poll, the lines and the casting vote leave no choice in a sheet
 abbrev pub SheetIsUnique : Type 0

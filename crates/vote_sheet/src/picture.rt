@@ -203,7 +203,7 @@ fn push_picture(
     count: &Count,
     decision: Decision,
 ) -> Result<(), AllocError>
-    ensures { Adds result text.old (picture_text (as_sheet poll.now count.now decision)) text.new }
+    ensures { Adds result text.old (picture_text poll.now (as_sheet count.now decision)) text.new }
 {
     push_graph_head(text, poll)?;
     push_nodes(text, poll, &count.verdict, decision)?;

@@ -5,8 +5,7 @@ ghost use Rattle.vote_poll_text.specs.Adding.{Adds};
 ghost use Rattle.vote_poll.specs.Options.{IsOption};
 ghost use Rattle.vote_poll.specs.PollContent.{option_count};
 ghost use Rattle.vote_steps.specs.Casting.{HoldsLines};
-ghost use Rattle.vote_sheet.specs.Counted.{FinalSetIsKept, IsCountOf, WinnerIsOption, shared_text, as_sheet};
-ghost use Rattle.vote_sheet.specs.Sheet.{sheet_text};
+ghost use Rattle.vote_sheet.specs.Counted.{FinalSetIsKept, IsCountOf, WinnerIsOption, shared_text, whole_text};
 ghost use Rattle.vote_sheet.specs.SheetOf.{PrintsSheet, SheetIsUnique};
 
 use crate::sheet_text::{push_counted, push_decision, push_head, push_options, push_totals};
@@ -73,7 +72,7 @@ fn push_sheet(
     decision: Decision,
 ) -> Result<(), AllocError>
     requires { WinnerIsOption poll.now decision }
-    ensures { Adds result text.old (sheet_text (as_sheet poll.now count.now decision)) text.new }
+    ensures { Adds result text.old (whole_text poll.now count.now decision) text.new }
 {
     push_shared(text, poll, count)?;
     push_decision(text, poll, &count.verdict.final_set(), decision)

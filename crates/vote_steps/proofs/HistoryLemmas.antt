@@ -1,5 +1,6 @@
 -- How the definitions on histories change with one more step.
 use Rattle.std.proofs.Common.{◌≡◌, ℕ, ◌+◌, ◌<◌, ◌≤◌, Bool, true, false, ◌||◌, cond, eqb, ltb, not, List, [], ◌∷◌, ◌++◌, Option, Some, None, length, get_or, set, refl, sym, ap, ◌∙◌, ⊎_elim, arith, append-nil, length-set}
+use Rattle.std.specs.Prelude.{option_map}
 use Rattle.std.specs.List.{list_any, cons_option, filter_map, count_by}
 use Rattle.std.proofs.lemmas.Bool.{eq-eqb, ne_eqb, lt-ltb, le-ltb, cases_eq, cases_Bool}
 use Rattle.std.proofs.lemmas.Bool.Decides.{nat_tests}
@@ -17,7 +18,7 @@ use Rattle.vote_steps.specs.declared.step.Reply.TheVariants.{BoxClosed, Late, Su
 use Rattle.vote_steps.specs.declared.step.Step.{Step}
 use Rattle.vote_steps.specs.declared.step.Step.TheVariants.{Cast, Close}
 use Rattle.vote_steps.specs.Receiving.{after_ballot}
-use Rattle.vote_steps.specs.History.{is_close, is_cast, is_ballot, is_refused, is_closed, before_close, after_close, stamp_of, stamps, is_used, ballot_read, ballot_of, ballots, later, latest, standing, reply_beside, reply_in_time, reply_while_open, reply_to, is_valid, roll, valid, refused}
+use Rattle.vote_steps.specs.History.{is_close, is_cast, is_ballot, is_refused, is_closed, before_close, after_close, stamp_of, stamps, is_used, is_late, ranks_read, ballot_of, ballots, later, latest, standing, reply_beside, reply_in_time, reply_to, is_valid, roll, valid, refused}
 
 -- an open history is all before its close
 pub before_close-append_open : (steps more : List Step) → is_closed steps ≡ false → before_close (steps ++ more) ≡ steps ++ before_close more
@@ -157,6 +158,14 @@ pub is_used-close : (steps : List Step) (stamp : ℕ) → is_used (steps ++ Clos
 is_used-close steps stamp =
     ap (list_any (λ used. eqb used stamp)) (filter_map-append stamp_of steps (Close ∷ []) ∙ append-nil (stamps steps))
 
+-- the ballot with this stamp and these ranks
+abbrev pub stamped : ℕ → Option (List (Option ℕ)) → Option Received
+stamped n ranks = option_map (λ ranks. record { stamp = n; ranks = ranks }) ranks
+
+-- the ballot that a line gives a voter
+abbrev pub ballot_read : ℕ → ℕ → Reading → Option Received
+ballot_read v n r = stamped n (ranks_read v r)
+
 -- what a cast gives
 pub late_gives_none : (last v d n : ℕ) (r : Reading) (p : Reply) → last < n → ballot_of last v (Cast d n r p) ≡ None
 late_gives_none last v d n r p h = ap (λ t. cond t None (ballot_read v n r)) (lt-ltb last n h)
@@ -202,10 +211,10 @@ pub roll-bad : (last : ℕ) (steps : List Step) (d n : ℕ) (f : LineFault) (p :
 roll-bad last steps d n f p electors h = roll-none last steps (Cast d n (Bad f) p) electors h (λ v. none_either (ltb last n))
 
 ballot_of_same : (last d : ℕ) (b : Received) (w v : ℕ) (p : Reply) → b.stamp ≤ last → w ≡ v → ballot_of last v (Cast d b.stamp (Ballot w b.ranks) p) ≡ Some b
-ballot_of_same last d b w v p early same = in_time_gives last v d b.stamp (Ballot w b.ranks) p early ∙ ap (λ t. cond t (Some b) None) (eq-eqb w v same)
+ballot_of_same last d b w v p early same = in_time_gives last v d b.stamp (Ballot w b.ranks) p early ∙ ap (λ t. stamped b.stamp (cond t (Some b.ranks) None)) (eq-eqb w v same)
 
 ballot_of_other : (last d : ℕ) (b : Received) (w v : ℕ) (p : Reply) → b.stamp ≤ last → (w ≡ v → ⊥) → ballot_of last v (Cast d b.stamp (Ballot w b.ranks) p) ≡ None
-ballot_of_other last d b w v p early other = in_time_gives last v d b.stamp (Ballot w b.ranks) p early ∙ ap (λ t. cond t (Some b) None) (ne_eqb w v other)
+ballot_of_other last d b w v p early other = in_time_gives last v d b.stamp (Ballot w b.ranks) p early ∙ ap (λ t. stamped b.stamp (cond t (Some b.ranks) None)) (ne_eqb w v other)
 
 pub roll-ballot : (last : ℕ) (steps : List Step) (d : ℕ) (b : Received) (w : ℕ) (p : Reply) (electors : ℕ) → is_closed steps ≡ false → b.stamp ≤ last → w < electors
     → roll last (steps ++ Cast d b.stamp (Ballot w b.ranks) p ∷ []) electors ≡ set (roll last steps electors) w (Some (after_ballot (get_or (roll last steps electors) w None) b))
@@ -250,11 +259,11 @@ is_valid_in_time last steps d n (Bad f) p early = refl
 is_valid_in_time last steps d n (Ballot v ranks) p early = is_valid_beside (standing last steps v) n ∙ sym (ap not early)
 
 pub is_valid_closed : (last : ℕ) (steps : List Step) (n : ℕ) (r : Reading) → is_closed steps ≡ true → is_valid (reply_to last steps n r) ≡ false
-is_valid_closed last steps n r h = ap (λ t. is_valid (cond t BoxClosed (reply_while_open last steps n r))) h
+is_valid_closed last steps n r h = ap (λ t. is_valid (cond t BoxClosed (cond (is_late last n) Late (reply_in_time last steps n r)))) h
 
 pub is_valid_open : (last : ℕ) (steps : List Step) (d n : ℕ) (r : Reading) (p : Reply) → is_closed steps ≡ false → is_valid (reply_to last steps n r) ≡ is_ballot last (Cast d n r p)
 is_valid_open last steps d n r p h =
-    ap (λ t. is_valid (cond t BoxClosed (reply_while_open last steps n r))) h
+    ap (λ t. is_valid (cond t BoxClosed (cond (is_late last n) Late (reply_in_time last steps n r)))) h
     ∙ ⊎_elim
     (λ (late : ltb last n ≡ true). ap (λ t. is_valid (cond t Late (reply_in_time last steps n r))) late ∙ sym (is_ballot_late last d n r p late))
     (λ (early : ltb last n ≡ false). ap (λ t. is_valid (cond t Late (reply_in_time last steps n r))) early ∙ is_valid_in_time last steps d n r p early)

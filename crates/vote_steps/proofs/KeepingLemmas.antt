@@ -14,7 +14,7 @@ use Rattle.vote_steps.specs.declared.step.Reply.TheVariants.{BoxClosed, Late, Ba
 use Rattle.vote_steps.specs.declared.step.Step.{Step}
 use Rattle.vote_steps.specs.declared.step.Step.TheVariants.{Cast, Close}
 use Rattle.vote_steps.specs.Receiving.{after_ballot}
-use Rattle.vote_steps.specs.History.{is_closed, is_used, standing, reply_beside, reply_in_time, reply_while_open, reply_to, roll, valid, refused}
+use Rattle.vote_steps.specs.History.{is_closed, is_late, is_used, standing, reply_beside, reply_in_time, reply_to, roll, valid, refused}
 use Rattle.vote_poll.specs.Readings.{ReadingFits}
 use Rattle.vote_poll_text.specs.declared.lines.TheConstants.{MAX_LINES}
 use Rattle.vote_steps.specs.declared.TheConstants.{MAX_DESKS}
@@ -111,7 +111,7 @@ took_in_ballot a d n w ranks new p k h early inside len options reply ballots =
       steps_are = refl;
       electors_are = len;
       answered = reply ∙ ap (λ o. reply_beside o n) old ∙ sym
-          (ap (λ t. cond t BoxClosed (reply_while_open a.last_in_time a.steps.items n (Ballot w ranks))) open'
+          (ap (λ t. cond t BoxClosed (cond (is_late a.last_in_time n) Late (reply_in_time a.last_in_time a.steps.items n (Ballot w ranks)))) open'
           ∙ ap (λ t. cond t Late (reply_in_time a.last_in_time a.steps.items n (Ballot w ranks))) in_time);
       roll_is = ballots ∙ ap (λ xs. set xs w (Some (after_ballot (get_or xs w None) b))) k.roll_is ∙ sym (roll-ballot a.last_in_time a.steps.items d b w p (vec_len a.roll.ballots) open' early inside);
       valid_is = omega (arith, k.valid_is, valid-append_open a.last_in_time a.steps.items (Cast d n (Ballot w ranks) p) open', ap (λ t. cond {A = ℕ} (not t) 1 0) in_time);

@@ -1,7 +1,7 @@
 -- What a history says: a list of steps, oldest first, each the cast of an envelope at a desk, with its reply, or the close.
 -- Desks, stamps and voters range over all natural numbers here; a legal history keeps them within the box. `last_in_time` is the
 -- greatest stamp that is not late.
-use Rattle.std.specs.Prelude.{ℕ, ◌+◌, ◌==◌, nat_lt, Bool, true, false, not, if◌then◌else◌, List, [], ◌∷◌, Option, Some, None, option_and_then, is_some, map, count_by}
+use Rattle.std.specs.Prelude.{ℕ, ◌+◌, ◌==◌, nat_lt, Bool, true, false, not, if◌then◌else◌, List, [], ◌∷◌, Option, Some, None, option_and_then, option_map, is_some, map, count_by}
 use Rattle.std.specs.List.{filter_map, list_any, range_with_len}
 use Rattle.vote_poll.specs.Ranks.{prefers}
 use Rattle.vote_poll.specs.declared.Reading.{Reading}
@@ -56,15 +56,16 @@ is_late last_in_time stamp = nat_lt last_in_time stamp
 
 -- ---- the ballot of a voter that stands
 
--- what a line gives a voter: a ballot, where it is one of that voter
-abbrev pub ballot_read : ℕ → ℕ → Reading → Option Received
-ballot_read voter stamp (Bad fault) = None
-ballot_read voter stamp (Ballot v ranks) = if v == voter then Some (record { stamp = stamp; ranks = ranks }) else None
+-- the ranks that a line gives a voter, where it is a ballot of that voter
+abbrev pub ranks_read : ℕ → Reading → Option (List (Option ℕ))
+ranks_read voter (Bad fault) = None
+ranks_read voter (Ballot v ranks) = if v == voter then Some ranks else None
 
--- what a step gives a voter: a late cast gives nobody a ballot
+-- the ballot that a step gives a voter: a late cast gives nobody one
 abbrev pub ballot_of : ℕ → ℕ → Step → Option Received
 ballot_of last_in_time voter Close = None
-ballot_of last_in_time voter (Cast desk stamp reading reply) = if is_late last_in_time stamp then None else ballot_read voter stamp reading
+ballot_of last_in_time voter (Cast desk stamp reading reply) =
+    if is_late last_in_time stamp then None else option_map (λ ranks. record { stamp = stamp; ranks = ranks }) (ranks_read voter reading)
 
 -- the ballots of a voter that came before the close and are not late
 abbrev pub ballots : ℕ → List Step → ℕ → List Received
@@ -100,13 +101,10 @@ abbrev pub reply_in_time : ℕ → List Step → ℕ → Reading → Reply
 reply_in_time last_in_time steps stamp (Bad fault) = BadLine fault
 reply_in_time last_in_time steps stamp (Ballot voter ranks) = reply_beside (standing last_in_time steps voter) stamp
 
--- the reply of an open box
-abbrev pub reply_while_open : ℕ → List Step → ℕ → Reading → Reply
-reply_while_open last_in_time steps stamp reading = if is_late last_in_time stamp then Late else reply_in_time last_in_time steps stamp reading
-
 -- the reply to an envelope that comes after these steps
 abbrev pub reply_to : ℕ → List Step → ℕ → Reading → Reply
-reply_to last_in_time steps stamp reading = if is_closed steps then BoxClosed else reply_while_open last_in_time steps stamp reading
+reply_to last_in_time steps stamp reading =
+    if is_closed steps then BoxClosed else (if is_late last_in_time stamp then Late else reply_in_time last_in_time steps stamp reading)
 
 -- whether a reply says that the line is a valid ballot
 abbrev pub is_valid : Reply → Bool

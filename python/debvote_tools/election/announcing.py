@@ -5,7 +5,6 @@ import dataclasses
 import datetime
 import json
 import re
-import unicodedata
 
 from debvote_tools import announced, poll_file
 from debvote_tools.announced import ADDRESS, DEADLINE, EXTENDED, SECRET, WORDS, announced_in, in_words
@@ -15,13 +14,10 @@ from debvote_tools.election.folder import Election
 from debvote_tools.election.record import Files
 from debvote_tools.election.telling import time_of
 from debvote_tools.faults import Fault, Status
+from debvote_tools.signs import LINE_ENDS, odd_sign
 
 MAIL = re.compile(r"[A-Za-z0-9_][A-Za-z0-9._+=-]*@[A-Za-z0-9-]+(\.[A-Za-z0-9-]+)*")
 MAIL_LIMIT = 254
-
-# control signs, what ends a line, halves of signs, and what turns the text around it
-ODD = ("Cc", "Cs", "Co", "Zl", "Zp")
-TURNING = "\u202a\u202b\u202c\u202d\u202e\u2066\u2067\u2068\u2069"
 
 
 @dataclasses.dataclass(frozen=True)
@@ -80,7 +76,7 @@ def wanted_of(asked: Asked) -> Wanted:
 
 def demand_line(text: str | None) -> None:
     """Stops where the words are no line of text."""
-    if text is not None and (not text.strip() or any(unicodedata.category(sign) in ODD or sign in TURNING for sign in text)):
+    if text is not None and (not text.strip() or odd_sign(text, refused=LINE_ENDS) is not None):
         raise Fault(
             "--until-words", "it has to be one line of text, in UTF-8", "write it anew", Status.BAD_WORDS, "nothing was changed"
         )

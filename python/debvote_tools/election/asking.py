@@ -92,11 +92,11 @@ def demand_option(election: Election, name: str) -> None:
         raise Fault(
             f"--casting={shlex.quote(name)}",
             "no option has this name",
-            f"give one of these, exactly as it stands here: {listed(sheet.names.values())}",
+            f"give one of these, exactly as it stands here: {quoted(sheet.names.values())}",
             Status.CASTING_OUTSIDE,
         )
 
 
-def listed(names: Iterable[str]) -> str:
+def quoted(names: Iterable[str]) -> str:
     """Some names, each as it is typed in a shell."""
     return ", ".join(map(shlex.quote, names))

@@ -12,27 +12,7 @@ from debvote_tools.pages import command_block, listed, paragraph, part
 # in names; above it the page would be long, and the names stand in the poll alone
 NAMES_LIMIT = 2_000
 
-STYLE = """
-h3 { font-size: 1.05rem; margin: 1.5rem 0 0.3rem; }
-fieldset { margin: 1.25rem 0; padding: 0; border: 0; min-width: 0; }
-legend { padding: 0; font-weight: 600; }
-fieldset p { margin: 0.2rem 0 0.6rem; }
-.rank { display: grid; grid-template-columns: minmax(0, 1fr) auto; gap: 0.25rem 1rem; align-items: center;
-  padding: 0.35rem 0; border-top: 1px solid var(--line); max-width: 40rem; }
-.rank:last-child { border-bottom: 1px solid var(--line); }
-select { width: 8.5rem; }
-#line { display: block; padding: 0.6rem 0.8rem; background: var(--shade); border-left: 0.4rem solid var(--link);
-  font: 1.15rem/1.5 ui-monospace, monospace; word-break: break-all; }
-#line:empty { display: none; }
-.actions { display: flex; flex-wrap: wrap; gap: 0.75rem; margin: 0.75rem 0; }
-.said:empty { display: none; }
-#words ul { padding-left: 1.25rem; }
-.outcome p { margin: 0; }
-summary { padding: 0.5rem 0; cursor: pointer; font-weight: 600; }
-summary:focus-visible { outline: 3px solid var(--link); outline-offset: 2px; }
-#roll ul { columns: 12rem; margin: 0; padding: 0; list-style: none; font-family: ui-monospace, monospace; }
-#roll li { margin: 0; }
-"""
+STYLE = pages.resource("debvote_tools.election", "ballot.css")
 
 FORM = """<div class="field">
 <label for="name">Your name, as it stands {place}</label>
@@ -64,7 +44,7 @@ Look at the letter before you send it: it has to be one line.</p>
 
 def html(call: Call) -> str:
     """The page. It loads nothing, and runs its own script alone."""
-    script = pages.script_of("debvote_tools.election", "ballot.js")
+    script = pages.resource("debvote_tools.election", "ballot.js")
     style = pages.STYLE + pages.FIELDS_STYLE + STYLE
     parts = [head(call), options(call), form(call), roll(call), how(call), public(call), poll(call)]
     title = escape(call.title)

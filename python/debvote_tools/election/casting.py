@@ -7,17 +7,19 @@ from collections.abc import Callable, Iterator
 
 from debvote_tools import poll_file
 from debvote_tools.ballots import in_words
+from debvote_tools.console import OutputFailed, tell
 from debvote_tools.election.asking import NO_BALLOTS, refused
 from debvote_tools.election.folder import Election
 from debvote_tools.election.record import Files
-from debvote_tools.election.telling import count_of, tell
+from debvote_tools.election.telling import count_of
 from debvote_tools.faults import Fault, Status
 from debvote_tools.files import BALLOTS_LIMIT, LINES_LIMIT, in_memory, uninterrupted
-from debvote_tools.lines import Line, differences, shown
+from debvote_tools.lines import Line, differences
 from debvote_tools.pages import joined
 from debvote_tools.program import Answer, Finding, findings_in, replies_in, standing_in
 from debvote_tools.shapes import plainly
 from debvote_tools.sheet import Sheet, sheet_in
+from debvote_tools.signs import shown_line
 
 
 @dataclasses.dataclass(frozen=True)
@@ -145,12 +147,13 @@ def cast(
     act: str,
     files: Files,
     lines: list[Line],
-    keep: Callable[[], None],
+    keep: Callable[[], str | None],
     look: Callable[[Batch], None] = lambda batch: None,
 ) -> Batch:
     """Casts lines, none of them empty, and tells what became of each. The caller holds the lock alone.
 
-    First `look` may stop at what debvote says of the batch. Then `keep` keeps what came, also where debvote refuses the whole.
+    First `look` may stop at what debvote says of the batch. Then `keep` keeps what came, also where debvote refuses the whole, and
+    returns the name of the record of the act, if it has one.
     Nothing is told before it is done, and what is done is told: an interrupt waits.
     """
     try:
@@ -163,14 +166,15 @@ def cast(
     look(batch)
     with uninterrupted():
         election.begin_journal()
-        keep()
+        record = keep() or ""
     first, last = batch.ballots[0].envelope, batch.ballots[-1].envelope
     envelopes = str(first) if first == last else f"{first}-{last}"
     with uninterrupted():
-        election.act(act, files, envelopes, ballots=batch.new)
+        own = b"".join(ballot.text + b"\n" for ballot in batch.ballots)
+        election.act(act, files, envelopes, ballots=batch.new, cast=own, record=record)
         try:
             tell(*report(election, batch))
-        except Fault as fault:
+        except OutputFailed as fault:
             done = f"{election.ballots} has what was to be told ({envelopes}) all the same"
             raise Fault(None, "the output failed", "ask debvote-election status", fault.status, done) from None
     return batch
@@ -211,7 +215,7 @@ def change_words(ballot: Ballot) -> Iterator[str]:
     came = ballot.line.inner
     if came != ballot.text:
         how = ", ".join(differences(came, ballot.text))
-        yield f"{ballot.line.where}: `{shown(came)}` was changed to `{shown(ballot.text)}` ({how})"
+        yield f"{ballot.line.where}: `{shown_line(came)}` was changed to `{shown_line(ballot.text)}` ({how})"
 
 
 def ballot_words(ballot: Ballot, names: list[str]) -> str:
@@ -219,7 +223,7 @@ def ballot_words(ballot: Ballot, names: list[str]) -> str:
     if ballot.finding is not None:
         word = "" if ballot.finding.word == ballot.reply else f"{ballot.finding.word}: "
         plain = "" if other_cause(ballot) else plainly(ballot.line.changed, ballot.finding)
-        return f"{shown(ballot.text)}: {word}{ballot.finding.hint}{plain}{more_words(ballot)}"
+        return f"{shown_line(ballot.text)}: {word}{ballot.finding.hint}{plain}{more_words(ballot)}"
     voter, ranks = ballot.text.decode("ascii").split(" ")
     return f"{voter}: {in_words(ranks, names)}"
 
@@ -253,14 +257,14 @@ def cause_words(ballot: Ballot) -> Iterator[str]:
     other = other_cause(ballot)
     if other is not None:
         why = f"{other.word}: {other.hint}{plainly(ballot.line.changed, other)}"
-        yield f"  it went in as it came; written as `{shown(ballot.line.changed)}` it is refused too: {why}"
+        yield f"  it went in as it came; written as `{shown_line(ballot.line.changed)}` it is refused too: {why}"
 
 
 def would_words(ballot: Ballot) -> str:
     """A line that is not cast yet, as it would go in, and the one cause that would stay after the changes that are allowed."""
     finding = ballot.finding_of_changed
     why = "" if finding is None else f": {finding.word}: {finding.hint}{plainly(ballot.line.changed, finding)}"
-    return f"{shown(ballot.text)}{why}"
+    return f"{shown_line(ballot.text)}{why}"
 
 
 def other_cause(ballot: Ballot) -> Finding | None:

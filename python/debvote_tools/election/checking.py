@@ -1,9 +1,9 @@
 """Whether debvote takes the poll, for the commands that go on with it alone where it does."""
 
 import re
-import sys
 
 from debvote_tools import poll_file
+from debvote_tools.console import tell, tell_as_it_is
 from debvote_tools.election.asking import NO_BALLOTS, command, explained, refused
 from debvote_tools.election.folder import Election
 from debvote_tools.election.record import Files
@@ -13,7 +13,7 @@ from debvote_tools.sheet import Sheet, sheet_in
 from debvote_tools.signs import written
 
 # the lines of a poll, in the order in which a new one has them
-LINES = ("title", "options", "ratios", "default", "quorum", "roll", "last_envelope", "wording")
+LINES = (*poll_file.REQUIRED, poll_file.LAST_ENVELOPE, poll_file.WORDING)
 
 # how a finding begins that does not name its line, and the line that it is about
 ABOUT = {
@@ -28,9 +28,9 @@ ABOUT = {
 def checked(election: Election, files: Files) -> Sheet:
     """Prints what debvote says of the poll, and gives its sheet without ballots. It stops where a key is refused or not read."""
     answer = explained(election, files.poll)
-    sys.stdout.write(answer.text)
+    tell_as_it_is(answer.text)
     if answer.status == Status.BAD_POLL:
-        sys.stdout.write("".join(f"{line}\n" for line in plain_words(answer.text, files.poll)))
+        tell(*replacements(answer.text, files.poll))
         reason, cure = what_to_do(election, files.poll, answer.text.splitlines())
         raise Fault(election.poll, reason, cure, Status.BAD_POLL)
     if answer.status != Status.DECIDED:
@@ -47,7 +47,7 @@ def checked(election: Election, files: Files) -> Sheet:
     return sheet_in(counted.text)
 
 
-def plain_words(said: str, poll: bytes) -> list[str]:
+def replacements(said: str, poll: bytes) -> list[str]:
     """What is written in place of each letter that is no plain character, where debvote refuses one."""
     # debvote names a letter that it knows, and of any other its first byte
     if not re.search(r" has the (?:byte 0x|letter )", said):
@@ -59,10 +59,10 @@ def plain_words(said: str, poll: bytes) -> list[str]:
     listed = found.get("options")
     texts = [found.get("title"), *(listed if isinstance(listed, list) else []), found.get("default")]
     signs = dict.fromkeys(sign for text in texts if isinstance(text, str) for sign in text if not sign.isascii())
-    return [plain_word(sign) for sign in signs]
+    return [replacement(sign) for sign in signs]
 
 
-def plain_word(sign: str) -> str:
+def replacement(sign: str) -> str:
     """What is written in place of a letter that is no plain character."""
     other = plain(sign.lower())
     other = (other.upper() if len(other) == 1 else other.title()) if sign.isupper() else other
@@ -89,7 +89,7 @@ def what_to_do(election: Election, poll: bytes, findings: list[str]) -> tuple[st
 def lines_about(poll: bytes, findings: list[str]) -> list[str]:
     """The lines of the poll that the findings are about."""
     found = set()
-    default = f"name of option {len(options_of(poll)) + 1}"
+    default = f"name of option {len(options_as_written(poll)) + 1}"
     for finding in findings:
         said = re.match(r"poll: (?:key )?([^:]+): ", finding)
         words = said[1] if said else ""
@@ -100,7 +100,7 @@ def lines_about(poll: bytes, findings: list[str]) -> list[str]:
     return [line for line in LINES if line in found]
 
 
-def options_of(poll: bytes) -> list[object]:
+def options_as_written(poll: bytes) -> list[object]:
     """The options of a poll that may be out of order."""
     try:
         listed = poll_file.document(poll).get("options")

@@ -14,8 +14,6 @@ from debvote_tools.files import sum_of, write_whole
 from debvote_tools.journal import NONE, Entry
 from debvote_tools.letters import copied, wrapped
 
-BALLOTS_SUM = "head -n {number} ballots.txt | sha256sum"
-
 
 @dataclasses.dataclass(frozen=True)
 class Letter:
@@ -51,7 +49,7 @@ class Letter:
                 "put in later without your seeing it. When the result is published, type these commands in its folder; they "
                 "have to answer the first and the last of these sums:"
             ),
-            copied("sha256sum poll.toml") + copied(BALLOTS_SUM.format(number=self.number)),
+            copied("sha256sum poll.toml") + copied(closed.LINES_IN_TIME.format(number=self.number)),
         ]
         return "\n".join(parts)
 

@@ -2,30 +2,49 @@
 
 import argparse
 import importlib
-import io
-import os
 import pathlib
 import signal
 import sys
 from collections.abc import Sequence
 
+from debvote_tools import console
 from debvote_tools.election.folder import Election
 from debvote_tools.faults import Fault, Status
 from debvote_tools.files import Written
-from debvote_tools.signs import written
 
 PROGRAM = "debvote-election"
 
 # the modules of the commands, in the order in which an election needs them; each has `NAME`, `HELP`, `options` and `run`
-COMMANDS = ("new", "roll", "check", "codes", "call", "add", "desk", "status", "close", "count", "publish")
+COMMANDS = (
+    "new",
+    "roll",
+    "check",
+    "codes",
+    "call",
+    "add",
+    "held",
+    "undo",
+    "letters",
+    "desk",
+    "status",
+    "close",
+    "count",
+    "publish",
+)
 
 
 # the commands that change nothing
 QUIET = ("check", "status", "count")
 
 
-def parser() -> argparse.ArgumentParser:
-    """The command line: each command with its options."""
+def modules_for(words: Sequence[str]) -> set[str]:
+    """The commands whose modules these words need: each takes a while to be read, and most runs need one of them."""
+    named = {name for name in COMMANDS if name in words}
+    return named if named and not {"-h", "--help"} & set(words) else set(COMMANDS)
+
+
+def parser(words: Sequence[str] = COMMANDS) -> argparse.ArgumentParser:
+    """The command line: each command, and its options if it may be the one that these words ask for."""
     # --folder may stand before the command and behind it
     folder = argparse.ArgumentParser(add_help=False)
     folder.add_argument(
@@ -38,7 +57,11 @@ def parser() -> argparse.ArgumentParser:
         description="Holds an election in one folder, from the list of members to the published result, by debvote.",
     )
     commands = top.add_subparsers(dest="command", metavar="COMMAND", required=True)
+    needed = modules_for(words)
     for name in COMMANDS:
+        if name not in needed:
+            commands.add_parser(name)
+            continue
         module = importlib.import_module(f"debvote_tools.election.commands.{name}")
         command = commands.add_parser(name, help=module.HELP, description=f"{module.HELP}.", allow_abbrev=False, parents=[folder])
         module.options(command)
@@ -50,42 +73,30 @@ def main(beside: pathlib.Path, words: Sequence[str] | None = None) -> int:
     """Runs a command, and returns the exit status. `beside` is the folder of the program."""
     for number in (signal.SIGHUP, signal.SIGTERM):
         signal.signal(number, lambda number, _: sys.exit(128 + number))
-    if sys.stdout is None:
-        return failed("standard output is closed; nothing was changed", Status.BAD_OUTPUT)
-    # a name that the terminal can't show is no reason to stop
-    if isinstance(sys.stdout, io.TextIOWrapper):
-        sys.stdout.reconfigure(errors="backslashreplace")
-    asked = parser().parse_args(words)
+    if not console.has_output():
+        return console.failed(PROGRAM, "standard output is closed; nothing was changed", Status.BAD_OUTPUT)
+    console.prepare()
+    words = sys.argv[1:] if words is None else words
+    asked = parser(words).parse_args(words)
     signal.signal(signal.SIGINT, signal.default_int_handler)
     try:
         election = Election(pathlib.Path(getattr(asked, "folder", ".")), beside)
         status: int = asked.run(election, asked)
-        sys.stdout.flush()
         return status
+    except console.OutputFailed as fault:
+        # a command that changes nothing ends quietly where nobody reads on
+        is_quiet = fault.is_closed_pipe and asked.command in QUIET
+        return 128 + signal.SIGPIPE if is_quiet else console.failed(PROGRAM, fault.words, fault.status)
     except Fault as fault:
-        return failed(fault.words, fault.status)
+        return console.failed(PROGRAM, fault.words, fault.status)
     except KeyboardInterrupt:
-        return failed("interrupted; what was told is done, and nothing else", 128 + signal.SIGINT)
+        return console.failed(PROGRAM, "interrupted; what was told is done, and nothing else", 128 + signal.SIGINT)
     except OSError as error:
-        # a file that can't be read or written is named; what has no name is the output
+        # a file that can't be read or written is named, but for standard input
         if error.filename is None:
-            # whoever reads the first lines alone, as `head` does, has what was asked for
-            if isinstance(error, BrokenPipeError) and asked.command in QUIET:
-                return failed(None, 128 + signal.SIGPIPE)
-            return failed("the output failed; what was told is done: ask debvote-election status", Status.BAD_OUTPUT)
+            return console.failed(
+                PROGRAM, f"{error.strerror}; what was told is done: ask debvote-election status", Status.BAD_OUTPUT
+            )
         state = "it is written, but perhaps not on the disk yet" if isinstance(error, Written) else "it is as it was"
         words = f"{error.filename}: {error.strerror}; {state}; put this right, then run the command again"
-        return failed(words, Status.BAD_OUTPUT)
-
-
-def failed(words: str | None, status: int) -> int:
-    """Says why the run did not come to its end, unless that is told, and gives the exit status."""
-    # what can't be written now can't be written at the end either
-    try:
-        if sys.stdout is not None:
-            sys.stdout.flush()
-    except OSError:
-        os.dup2(os.open(os.devnull, os.O_WRONLY), sys.stdout.fileno())
-    if words is not None:
-        print(f"{PROGRAM}: {written(words)}", file=sys.stderr)
-    return status
+        return console.failed(PROGRAM, words, Status.BAD_OUTPUT)

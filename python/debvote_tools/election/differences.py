@@ -8,6 +8,7 @@ import pathlib
 
 from debvote_tools import poll_file
 from debvote_tools.ballots import in_normal_form
+from debvote_tools.console import tell
 from debvote_tools.election.folder import Election
 from debvote_tools.election.telling import count_of
 from debvote_tools.faults import Fault
@@ -28,10 +29,10 @@ def tell_differences(election: Election, target: pathlib.Path) -> None:
         changed = {line.partition(b" ")[0].decode("ascii", "replace") for line in lines_in(folder) ^ ballots} | (aliases ^ roll)
         if changed:
             who = count_of(len(changed), "elector")
-            print(f"Note: {folder} has other ballots, or none, of {who}.")
-            print("  Whoever sees both folders, and knows whose ballots changed, knows how they voted.")
+            tell(f"Note: {folder} has other ballots, or none, of {who}.")
+            tell("  Whoever sees both folders, and knows whose ballots changed, knows how they voted.")
             if voters_in(folder, target):
-                print(f"  The two files {VOTERS} differ, and name them: with both folders everybody knows.")
+                tell(f"  The two files {VOTERS} differ, and name them: with both folders everybody knows.")
 
 
 def voters_in(folder: pathlib.Path, target: pathlib.Path) -> bool:

@@ -1,17 +1,20 @@
-"""What `add` stops at until a person has looked: a file that is none of ballots, and one that was added before."""
+"""What `add` stops at until a person has looked: a file of which few lines are ballots, and one that was added before."""
 
 import csv
 import dataclasses
 import pathlib
 import re
+from collections.abc import Callable
 
-from debvote_tools.election.casting import Ballot
+from debvote_tools.election.casting import Ballot, ballot_words
 from debvote_tools.election.folder import Election
 from debvote_tools.election.record import Files
+from debvote_tools.console import tell
 from debvote_tools.faults import Fault, Status
 from debvote_tools.files import BALLOTS_LIMIT, LINES_LIMIT
-from debvote_tools.lines import MARK, Line, lines_in, shown
+from debvote_tools.lines import BLANKS, MARK, PART, Line, lines_in
 from debvote_tools.members import COLUMNS
+from debvote_tools.signs import shown_line
 
 EVEN_SO = "add it all the same with --even-so"
 
@@ -21,8 +24,11 @@ LONGEST_LINE = 500
 # the part of what is left that a file may take without a question
 SHARE = 10
 
-# what does not count where two files are compared at first sight
-UNSEEN = b" \t\r\n"
+# what does not count where two files are compared at first sight: blanks, and what may be changed of a line
+UNSEEN = b" \t\r\n:.*\"'`"
+
+# so many lines that are no ballots are told
+MOST = 10
 
 
 @dataclasses.dataclass(frozen=True)
@@ -36,20 +42,28 @@ class Part:
 
 # ---------------------------------------------------------------- a file that is none of ballots
 def stop_at_no_ballot(parts: list[Part], is_form: bool) -> None:
-    """Stops where a file, or the batch, has more than one line, and debvote takes none of them as a ballot."""
+    """Stops where a file, or the batch, has more than one line, and debvote takes fewer than half of them as ballots."""
     whole = [ballot for part in parts for ballot in part.ballots]
     for part in [*parts, dataclasses.replace(parts[0], ballots=whole)]:
-        if len(part.ballots) > 1 and all(ballot.finding for ballot in part.ballots):
-            raise Fault(
-                part.name,
-                f"debvote takes none of the {len(part.ballots)} lines as a ballot",
-                f"{cure_of(part, is_form)}, or {EVEN_SO}",
-                Status.DOUBT,
-                "nothing was added",
-            )
+        wrong = [ballot for ballot in part.ballots if ballot.finding]
+        if len(part.ballots) < 2 or len(wrong) * 2 <= len(part.ballots):
+            continue
+        right = len(part.ballots) - len(wrong)
+        if right:
+            tell(*(f"{ballot.line.where}: no ballot: {ballot_words(ballot, [])}" for ballot in wrong[:MOST]))
+            if len(wrong) > MOST:
+                tell(f"and {len(wrong) - MOST} more lines that are no ballots")
+        takes = f"{right} alone" if right else "none"
+        raise Fault(
+            part.name,
+            f"debvote takes {takes} of the {len(part.ballots)} lines as a ballot",
+            f"{cure_of(part, wrong[0], is_form)}, or {EVEN_SO}",
+            Status.DOUBT,
+            "nothing was added",
+        )
 
 
-def cure_of(part: Part, is_form: bool) -> str:
+def cure_of(part: Part, wrong: Ballot, is_form: bool) -> str:
     """What to do instead, by what the file looks like."""
     if is_form:
         return "look whether --name and --ranks name the right columns, the ranks in the order of the options"
@@ -57,9 +71,9 @@ def cure_of(part: Part, is_form: bool) -> str:
         return "it looks like the list of members, so name the file of the ballots"
     if is_table(part.ballots):
         return "it looks like a table, which is added with --csv --name COLUMN --ranks COLUMN,COLUMN,.."
-    first = part.ballots[0]
-    why = "" if first.finding is None else f" ({first.finding.word}: {first.finding.hint})"
-    return f"look at the file, whose first line is `{shown(first.text)}`{why}"
+    why = "" if wrong.finding is None else f" ({wrong.finding.word}: {wrong.finding.hint})"
+    first = "whose first line is" if wrong is part.ballots[0] else "which has the line"
+    return f"look at the file, {first} `{shown_line(wrong.text)}`{why}"
 
 
 def is_list_of_members(data: bytes) -> bool:
@@ -109,16 +123,82 @@ def earlier_file(folder: pathlib.Path, part: Part, is_form: bool) -> pathlib.Pat
         data = file.read_bytes()
         if data == part.data:
             return file
-        if not is_form and begin in unseen(data):
+        # dashes and quotation marks of many kinds may be changed, too
+        if not is_form and (begin in unseen(data) or not data.isascii()):
             before = [line.changed for line in lines_in(data, file.name) if not line.is_empty]
             if before == lines or (len(lines) > 1 and set(lines) <= set(before)):
                 return file
     return None
 
 
+def beginning_of(data: bytes) -> bytes:
+    """The first line of a file, as far as two files are compared by it at first sight: signs that may be changed are left out."""
+    first = next(
+        (found[1] for found in PART.finditer(data.removeprefix(MARK)) if found[1].strip(BLANKS) or found.end() == len(data)), b""
+    )
+    return unseen(bytes(byte for byte in first[:LONGEST_LINE] if byte < 0x80).replace(b"-", b""))
+
+
+def doubles_words(part: Part) -> list[str]:
+    """The electors of whom a file has several ballots, in words."""
+    found: dict[bytes, list[Ballot]] = {}
+    for ballot in part.ballots:
+        if ballot.finding is None:
+            found.setdefault(ballot.text.partition(b" ")[0], []).append(ballot)
+    return [
+        f"Note: {part.name} has {len(ballots)} ballots of {name.decode('ascii')} "
+        f"({', '.join(ballot.line.where.rpartition(':')[2].strip() for ballot in ballots[:5])}{', ..' if ballots[5:] else ''}); "
+        "the last one counts."
+        for name, ballots in found.items()
+        if len(ballots) > 1
+    ]
+
+
 def unseen(data: bytes) -> bytes:
-    """The bytes without blanks and capital letters."""
-    return data.translate(None, UNSEEN).lower()
+    """The bytes without blanks and capital letters, and without what may be changed of a line."""
+    return data.translate(None, UNSEEN).replace(b";", b",").lower()
+
+
+@dataclasses.dataclass(frozen=True)
+class Before:
+    """That the first lines of a file came before: so many, with an earlier file."""
+
+    lines: int
+    earlier: pathlib.Path
+
+    def words(self, rest: int) -> str:
+        came = "its first line" if self.lines == 1 else f"its first {self.lines} lines"
+        return f"{came} came before, in this order, with {self.earlier}; {rest} more {'line is' if rest == 1 else 'lines are'} new"
+
+
+def first_lines_before(
+    election: Election, files: Files, data: bytes, lines: list[Line], lines_of: Callable[[bytes], list[Line]]
+) -> Before | None:
+    """The longest beginning of a file that came before as a whole, where its lines are among the ballots, and others stand behind it.
+
+    `lines_of` reads the lines of an earlier file as this one was read.
+    """
+    begin = beginning_of(data)
+    texts = [line.changed for line in lines if not line.is_empty]
+    if not election.received.is_dir() or not texts:
+        return None
+    there = set((files.ballots or b"").split(b"\n"))
+    best = None
+    for file in sorted(file for file in election.received.iterdir() if file.is_file()):
+        earlier = file.read_bytes()
+        if beginning_of(earlier) != begin:
+            continue
+        try:
+            before = [line.changed for line in lines_of(earlier) if not line.is_empty]
+        except Fault:
+            # it is no table with these columns
+            continue
+        is_longer = best is None or len(before) > best.lines
+        if 0 < len(before) < len(texts) and is_longer and texts[: len(before)] == before:
+            best = Before(len(before), file)
+    kept = {line.changed: line.kept for line in lines}
+    is_in = best is not None and all(text in there or kept[text] in there for text in texts[: best.lines])
+    return best if is_in else None
 
 
 def envelopes_of(files: Files, part: Part) -> str:

@@ -1,10 +1,10 @@
 """What the commands do where lines that came were taken out or changed by hand: the close stops, and others tell it."""
 
 from debvote_tools import by_hand, journal
+from debvote_tools.console import tell
 from debvote_tools.election.asking import command
 from debvote_tools.election.folder import Election
 from debvote_tools.election.record import Files
-from debvote_tools.election.telling import tell
 from debvote_tools.faults import Fault, Status
 
 EVEN_SO = "Close although lines that came were taken out or changed by hand; the page of the result says so"

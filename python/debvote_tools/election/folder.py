@@ -8,7 +8,7 @@ from collections.abc import Iterator
 from debvote_tools import called, closed, journal, secret
 from debvote_tools.election.record import Files, Record
 from debvote_tools.faults import Fault, Status
-from debvote_tools.files import locked, write_new, write_whole
+from debvote_tools.files import locked, sum_of, write_new, write_whole
 from debvote_tools.program import Debvote
 from debvote_tools.sheet import Sheet
 
@@ -60,17 +60,25 @@ class Election(Record):
 
     # ------------------------------------------------------------ the acts
     def act(
-        self, name: str, files: Files, envelopes: str = journal.NONE, *, poll: bytes | None = None, ballots: bytes | None = None
+        self,
+        name: str,
+        files: Files,
+        envelopes: str = journal.NONE,
+        *,
+        poll: bytes | None = None,
+        ballots: bytes | None = None,
+        cast: bytes | None = None,
+        record: str = "",
     ) -> Files:
         """Notes that an act begins, writes the new poll or the new ballots, whole, notes that it is done, and returns the files
         as they are after it.
 
         The caller holds the lock alone. At most one of both is given, so that an act that is cut off is done or not done; with
-        none of them the act is noted alone. Raises OSError, and then no file is changed.
+        none of them the act is noted alone. `cast` is the new lines of the ballots. Raises OSError, and then no file is changed.
         """
         after = Files(files.poll if poll is None else poll, files.ballots if ballots is None else ballots)
         self.note_found(files)
-        journal.begin(self.journal, name, envelopes, after.sums)
+        journal.begin(self.journal, name, envelopes, after.sums, None if cast is None else sum_of(cast), record)
         try:
             if poll is not None:
                 write_whole(self.poll, poll)

@@ -5,6 +5,7 @@ import dataclasses
 import io
 import re
 
+from debvote_tools.ballots import UNRANKED
 from debvote_tools.faults import Fault, Status
 from debvote_tools.lines import BLANKS, Line
 from debvote_tools.tables import DELIMITERS, MARKS, mark_of
@@ -19,9 +20,11 @@ class Columns:
 
     name: str
     ranks: list[str]
+    # whether an empty cell stands for an option that is not ranked
+    is_blank_unranked: bool = False
 
 
-def columns_of(name: str, ranks: str, options: list[str]) -> Columns:
+def columns_of(name: str, ranks: str, options: list[str], *, is_blank_unranked: bool = False) -> Columns:
     """The columns that the command line names; there are as many ranks as options."""
     try:
         heads = [head.strip() for head in next(csv.reader([ranks], strict=True, skipinitialspace=True), [])]
@@ -39,18 +42,20 @@ def columns_of(name: str, ranks: str, options: list[str]) -> Columns:
     double = next((head for head, key in zip([name, *heads], keys) if keys.count(key) > 1), None)
     if double is not None:
         raise Fault("--name, --ranks", f"the column `{double}` is named twice", "name each once", Status.BAD_WORDS)
-    return Columns(name.strip(), heads)
+    return Columns(name.strip(), heads, is_blank_unranked)
 
 
 def lines_of_form(data: bytes, file: str, columns: Columns) -> list[Line]:
-    """The lines that the rows of a form make. A cell that is empty stays so, and debvote refuses its line."""
+    """The lines that the rows of a form make. A cell that is empty stays so, and debvote refuses its line, unless it is told that it
+    stands for an option that is not ranked.
+    """
     rows = rows_in(text_in(data, file), file, columns)
     number, head = next(((number, row) for number, row in enumerate(rows, start=1) if any(row)), (0, list[str]()))
     places = places_of(head, file, columns)
     found = []
     for at, row in enumerate(rows[number:], start=number + 1):
         check_width(row, head, f"{file}: row {at}")
-        found.append(line_of(row, places, f"{file}: row {at}"))
+        found.append(line_of(row, places, f"{file}: row {at}", is_blank_unranked=columns.is_blank_unranked))
     return found
 
 
@@ -117,7 +122,7 @@ def check_width(row: list[str], head: list[str], where: str) -> None:
         )
 
 
-def line_of(row: list[str], places: list[int], where: str) -> Line:
+def line_of(row: list[str], places: list[int], where: str, *, is_blank_unranked: bool = False) -> Line:
     """The line of a row. What may be changed is changed in each cell by itself, so that none becomes a part of another."""
     name, *ranks = [(row[place] if place < len(row) else "").encode("utf-8", "backslashreplace") for place in places]
     if not any(cell.strip() for cell in row):
@@ -125,4 +130,6 @@ def line_of(row: list[str], places: list[int], where: str) -> Line:
     came = name + b" " + b",".join(ranks)
     kept = re.sub(rb"[\r\n]+", b" ", came)
     name, *ranks = [re.sub(rb"[\r\n]+", b" ", cell).strip(BLANKS) for cell in (name, *ranks)]
+    if is_blank_unranked and name:
+        ranks = [cell or UNRANKED.encode() for cell in ranks]
     return Line(where, came, kept, name.lower() + b" " + b",".join(ranks))

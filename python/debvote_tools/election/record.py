@@ -4,9 +4,9 @@ import contextlib
 import dataclasses
 import functools
 import pathlib
-import sys
 
-from debvote_tools import journal, lost
+from debvote_tools import called, journal, lost
+from debvote_tools.console import tell_aside
 from debvote_tools.election.paths import Paths
 from debvote_tools.faults import Fault, Status
 from debvote_tools.files import BALLOTS_LIMIT, POLL_LIMIT, append_whole, read_at_most, take_away_temporaries
@@ -109,12 +109,13 @@ class Record(Paths):
             journal.end(self.journal)
         except OSError as error:
             words = f"{error.strerror}, as its last line was to be ended; this {name} is done all the same: do not repeat it"
-            print(f"debvote-election: {self.journal}: {words}", file=sys.stderr)
+            tell_aside(f"debvote-election: {self.journal}: {words}")
 
     # ------------------------------------------------------------ what a cut-off act has left
     def settle(self, files: Files) -> None:
         """Notes an act that was cut off, and takes away what a run that was killed has left half written."""
-        for folder in (self.folder, self.received, self.backup, self.private):
+        take_away_temporaries(self.folder, called.NAMES)
+        for folder in (self.received, self.backup, self.private):
             take_away_temporaries(folder)
         begun = journal.begun(self.journal)
         is_undone = begun is not None and begun.sums != files.sums

@@ -10,18 +10,7 @@ from debvote_tools.secret import Holder
 from debvote_tools.secret_words import BY_PYTHON, FIND
 from debvote_tools.sheet import Sheet
 
-STYLE = """
-.slip { margin: 1.5rem 0; padding: 0.25rem 1rem; border: 2px dashed var(--line); break-inside: avoid; }
-.slip h2 { margin: 0.75rem 0 0.5rem; }
-.slip dd code { font-size: 1.15rem; }
-.code span { display: inline-block; margin-right: 0.5em; }
-.small { font-size: 0.85rem; }
-@media print {
-  :root { color-scheme: light; --ink: #000000; --paper: #ffffff; --line: #000000; --shade: #ffffff; }
-  h1, .note { display: none; }
-  .slip { margin: 0 0 0.5rem; }
-}
-"""
+STYLE = pages.resource("debvote_tools.election", "slips.css")
 
 NOTE = "Print this page, cut the slips out, and give each elector their own, so that nobody else sees it. Then destroy the rest."
 VOTE = "You vote under this name. The code is no part of your ballot: keep it, and send it to nobody."

@@ -4,13 +4,15 @@ import argparse
 import os
 import re
 
-from debvote_tools import called
+from debvote_tools import called, journal
+from debvote_tools.console import tell
 from debvote_tools.election.asking import command, given_already
 from debvote_tools.election.folder import Election
 from debvote_tools.election.record import Files
-from debvote_tools.election.telling import tell, time_of
+from debvote_tools.election.telling import time_of
 from debvote_tools.faults import Fault, Status
 from debvote_tools.files import sync_folder, uninterrupted
+from debvote_tools.journal import Entry
 
 
 def options(parser: argparse.ArgumentParser) -> None:
@@ -43,8 +45,8 @@ def demand_call(election: Election) -> None:
 
 
 def demand_unvoted(election: Election, files: Files) -> None:
-    """Stops where ballots were given for the poll of the call, or the vote is over."""
-    given = given_already(election, files)
+    """Stops where ballots were given for the poll of the call, or the vote is over. Who has emptied their file gives none back."""
+    given = given_already(election, files) or given_before(election, files)
     if given is not None:
         raise Fault(election.call, "the call can't be taken back any more", given, Status.DOUBT, "")
     closed = election.closed()
@@ -56,6 +58,22 @@ def demand_unvoted(election: Election, files: Files) -> None:
             Status.DOUBT,
             "nothing was changed",
         )
+
+
+def given_before(election: Election, files: Files) -> str | None:
+    """That ballots were given for the poll of the call, and are not there any more; none where the journal has none."""
+    acts = journal.acts_done(election.journal, files.sums)
+    call = next((at for at, entry in enumerate(acts) if entry.act == called.MADE and not is_taken_back(acts[at:])), len(acts))
+    came = next((entry for entry in acts[call:] if entry.act in journal.CASTING), None)
+    if came is None:
+        return None
+    gone = f"ballots were given for its poll at {time_of(came)}, and {election.ballots} has none now"
+    return f"{gone}; put them back (what came is kept in {election.received}), or hold a new election: debvote-election new FOLDER"
+
+
+def is_taken_back(acts: list[Entry]) -> bool:
+    """Whether these acts have a call that was taken back."""
+    return any(entry.act == called.TAKEN_BACK for entry in acts)
 
 
 def move_folder(election: Election) -> str | None:

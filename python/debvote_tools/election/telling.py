@@ -4,20 +4,12 @@ import contextlib
 
 from debvote_tools import announced, journal
 from debvote_tools.announced import announced_in, in_words
+from debvote_tools.console import tell
 from debvote_tools.election.folder import Election
 from debvote_tools.election.record import Files
-from debvote_tools.faults import Fault, Status
+from debvote_tools.faults import Fault
 from debvote_tools.files import sum_of
 from debvote_tools.journal import Entry
-from debvote_tools.signs import written
-
-
-def tell(*lines: str, end: str = "\n") -> None:
-    """Writes lines to standard output, at once. Where that fails, the fault says that what was told before is done."""
-    try:
-        print(*map(written, lines), sep="\n", end=end, flush=True)
-    except OSError:
-        raise Fault(None, "the output failed", "ask debvote-election status", Status.BAD_OUTPUT, "what was told is done") from None
 
 
 def count_of(number: int, what: str) -> str:
@@ -67,7 +59,7 @@ def tell_edits(election: Election, files: Files) -> None:
     undone = election.cut_off
     if undone is not None:
         many = "envelopes" if "-" in undone.envelopes else "envelope"
-        what = f"{many} {undone.envelopes}, " if undone.act in ("add", "cast") else ""
+        what = f"{many} {undone.envelopes}, " if undone.act in journal.CASTING else ""
         kept = f"; what came is kept in {election.received}" if what else ""
         tell(f"Note: the last act ({undone.act}, {what}{time_of(undone)}) was cut off, and is not done{kept}.")
     for file in election.edited(files):
@@ -95,8 +87,7 @@ def what_differs(ballots: bytes, acts: list[Entry]) -> str:
 def lines_noted(acts: list[Entry]) -> int | None:
     """How many lines the ballots had at the last act, as far as the acts tell it."""
     same = (entry for entry in reversed(acts) if entry.sums.ballots == acts[-1].sums.ballots)
-    found = next((entry for entry in same if entry.act in ("add", "cast")), None)
-    return int(found.envelopes.rpartition("-")[2]) if found else None
+    return next((entry.lines for entry in same if entry.lines is not None), None)
 
 
 def beginning(ballots: bytes, lines: int) -> bytes:

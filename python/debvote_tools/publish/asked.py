@@ -22,3 +22,4 @@ class Asked:
     about: str | None = None
     who: str | None = None
     because: str | None = None
+    texts_read: bool = False

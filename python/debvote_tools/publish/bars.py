@@ -3,7 +3,7 @@
 All numbers are those of the sheet. Each bar has its number in words, so that nothing is told by its colour or its length alone.
 """
 
-from debvote_tools.pages import paragraph, part
+from debvote_tools.pages import paragraph, part, resource
 from debvote_tools.publish.published import Published
 from debvote_tools.publish.why import against_default, least, prefer, verdict, wanted
 from debvote_tools.sheet import Sheet
@@ -17,18 +17,7 @@ HEIGHT = 10
 MARK = f"-3V{HEIGHT + 3}"
 
 # the bar of those who prefer the option is full, that of the others hollow; the mark of the quorum is dashed
-STYLE = """.bars { --bar: var(--link); padding: 0; list-style: none; }
-@media (prefers-color-scheme: dark) { .bars { --bar: #3d73bd; } }
-.bars > li { margin: 0 0 1rem; padding: 0.5rem 0 0.25rem; border-top: 1px solid var(--line); break-inside: avoid; }
-.bars p { margin: 0.25rem 0; }
-.bars svg { display: block; width: 100%; height: 1.25rem; margin: 0.4rem 0 0.7rem; overflow: visible; }
-.bars rect { vector-effect: non-scaling-stroke; stroke: currentColor; stroke-width: 1; fill: none; }
-.bars .whole { stroke: var(--line); stroke-dasharray: 1 3; }
-.bars .for { fill: var(--bar); }
-.bars .against { fill: var(--shade); stroke-width: 2; }
-.bars path { vector-effect: non-scaling-stroke; stroke-width: 4; }
-.bars .quorum { stroke-dasharray: 4 3; }
-"""
+STYLE = resource("debvote_tools.publish", "bars.css")
 
 
 def bars(found: Published) -> str:

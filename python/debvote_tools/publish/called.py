@@ -5,12 +5,13 @@ import os
 import pathlib
 import re
 
+from debvote_tools.called import FOLDER, LETTER
 from debvote_tools.faults import Doubt
 from debvote_tools.files import read_at_most, sum_of
 from debvote_tools.poll_file import COMPARE, as_announced
 
 # the letter of the call has the sum on a line of its own
-LETTER = pathlib.Path("call", "call.txt")
+COPY = pathlib.Path(FOLDER, LETTER)
 SUM = re.compile(rb"(?m)^  ([0-9a-f]{64})$")
 LETTER_LIMIT = 1_048_576
 
@@ -19,7 +20,7 @@ WHOLE = "sha256sum poll.toml"
 
 
 @dataclasses.dataclass(frozen=True)
-class Called:
+class PollSums:
     """The sum of the published poll as it was announced, and that of the file as it is; the last envelope; and what was announced.
 
     In a secret vote both sums are that of the file: it has no line that came later. The last envelope is none where the poll has
@@ -46,10 +47,10 @@ class Called:
         return f"{self.whole_sum}  poll.toml" if self.is_secret else f"{self.poll_sum}  -"
 
 
-def called_of(poll: bytes, last_envelope: int | None, announced: str | None, *, is_secret: bool = False) -> Called:
+def poll_sums_of(poll: bytes, last_envelope: int | None, announced: str | None, *, is_secret: bool = False) -> PollSums:
     """What is said of the call, for the bytes of the published poll."""
     whole = sum_of(poll)
-    return Called(whole if is_secret else sum_of(as_announced(poll)), whole, last_envelope, announced, is_secret)
+    return PollSums(whole if is_secret else sum_of(as_announced(poll)), whole, last_envelope, announced, is_secret)
 
 
 def folders_of(file: str) -> list[pathlib.Path]:
@@ -61,7 +62,7 @@ def announced_sum(poll: str) -> str | None:
     """The sum that the call for votes in the folder of the poll announced; none where there is no call."""
     for folder in folders_of(poll):
         try:
-            letter = read_at_most(folder / LETTER, LETTER_LIMIT)
+            letter = read_at_most(folder / COPY, LETTER_LIMIT)
         except OSError:
             continue
         found: list[bytes] = SUM.findall(letter)
@@ -70,7 +71,7 @@ def announced_sum(poll: str) -> str | None:
     return None
 
 
-def about_call(poll: str, called: Called) -> list[Doubt]:
+def about_announced(poll: str, called: PollSums) -> list[Doubt]:
     """That the poll is not the one that was called."""
     if called.announced in (None, called.poll_sum):
         return []

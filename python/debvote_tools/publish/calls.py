@@ -2,8 +2,8 @@
 
 import dataclasses
 import pathlib
-import sys
 
+from debvote_tools.console import tell_aside_as_it_is
 from debvote_tools.faults import Status, Told
 from debvote_tools.program import Debvote, casting_words
 
@@ -27,7 +27,7 @@ class Calls:
         Its fault lines go to standard error as they are.
         """
         answer = self.debvote.ask(*words)
-        print(answer.faults, end="", file=sys.stderr, flush=True)
+        tell_aside_as_it_is(answer.faults)
         if answer.status != Status.DECIDED and not (answer.text and answer.status in also):
             raise Told(answer.status)
         return answer.text, answer.status

@@ -7,7 +7,6 @@ import contextlib
 import dataclasses
 import datetime
 import pathlib
-import unicodedata
 from collections.abc import Iterable
 from html import escape
 
@@ -16,8 +15,8 @@ from debvote_tools.files import POLL_LIMIT, read_at_most
 from debvote_tools.pages import paragraph
 from debvote_tools.poll_file import as_announced
 from debvote_tools.publish.calls import POLL, SHEET
-from debvote_tools.publish.texts import ODD, TURNING
 from debvote_tools.sheet import Sheet, sheet_in
+from debvote_tools.signs import odd_sign
 
 # in characters
 LONGEST = 200
@@ -41,8 +40,7 @@ class Cast:
 def cast_in(by: str | None, on: str | None) -> Cast:
     """The words of the command line, looked through."""
     if by is not None:
-        is_odd = any(unicodedata.category(sign) in ODD or sign in TURNING or sign in QUOTATION_MARKS for sign in by)
-        if not by.strip() or is_odd or len(by) > LONGEST:
+        if not by.strip() or odd_sign(by, refused=QUOTATION_MARKS) is not None or len(by) > LONGEST:
             words = f"it has to be a name on one line, of at most {LONGEST} characters, and without quotation marks"
             raise Fault("--cast-by", words, "write it anew", Status.BAD_WORDS)
     try:

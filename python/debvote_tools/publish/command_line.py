@@ -1,13 +1,12 @@
 """The command line of debvote-publish."""
 
 import argparse
-import io
-import os
 import pathlib
 import signal
 import sys
 from collections.abc import Sequence
 
+from debvote_tools import console
 from debvote_tools.faults import Fault, Status
 from debvote_tools.publish.asked import Asked
 from debvote_tools.publish.folder import publish
@@ -59,6 +58,8 @@ def page_options(parser: argparse.ArgumentParser) -> None:
     parser.add_argument("--who", metavar="FILE", help=who)
     because = "With --even-so: why the doubts are none, in your words; the page says that they are yours"
     parser.add_argument("--because", metavar="TEXT", help=because)
+    read = "In a secret vote: you have read the texts for the page, and everybody may; without it you are asked at the terminal"
+    parser.add_argument("--texts-read", action="store_true", help=read)
 
 
 def main(beside: pathlib.Path, words: Sequence[str] | None = None) -> int:
@@ -67,9 +68,7 @@ def main(beside: pathlib.Path, words: Sequence[str] | None = None) -> int:
     for number in (signal.SIGHUP, signal.SIGINT, signal.SIGTERM):
         signal.signal(number, lambda number, _: sys.exit(128 + number))
     asked = taken(Asked, parser().parse_args(words))
-    # a label that the terminal can't show is no reason to stop
-    if isinstance(sys.stdout, io.TextIOWrapper):
-        sys.stdout.reconfigure(errors="backslashreplace")
+    console.prepare()
     return ended(asked, beside)
 
 
@@ -77,20 +76,15 @@ def ended(asked: Asked, beside: pathlib.Path | None) -> int:
     """Publishes, tells how it ended, and returns the exit status."""
     try:
         said, status = publish(asked, beside)
+    except console.OutputFailed as fault:
+        return console.failed(PROGRAM, "the output failed; nothing was published: run it again", fault.status)
     except Fault as fault:
-        return failed(fault.words, fault.status)
+        return console.failed(PROGRAM, fault.words, fault.status)
     except OSError as error:
-        return failed(f"the folder can't be made: {error}", Status.BAD_OUTPUT)
+        return console.failed(PROGRAM, f"the folder can't be made: {error}", Status.BAD_OUTPUT)
     try:
-        os.write(sys.stdout.fileno(), said.encode())
-    except (OSError, AttributeError):
-        # the folder is there
-        return failed("output failed", Status.BAD_OUTPUT)
-    return status
-
-
-def failed(words: str | None, status: int) -> int:
-    """Says why the run did not come to its end, unless that is told, and gives the exit status."""
-    if words is not None:
-        print(f"{PROGRAM}: {words}", file=sys.stderr)
+        console.tell_as_it_is(said)
+    except console.OutputFailed as fault:
+        words = f"the output failed; the folder {asked.folder} is made all the same: look at its page index.html"
+        return console.failed(PROGRAM, words, fault.status)
     return status

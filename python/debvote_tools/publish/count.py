@@ -1,6 +1,6 @@
 """The parts of the page that say how the result came about: options, votes, defeats with their picture, and rounds."""
 
-from debvote_tools.pages import joined, listed, paragraph, part, wide
+from debvote_tools.pages import joined, listed, paragraph, part, resource, wide
 from debvote_tools.publish.data import ended
 from debvote_tools.publish.picture import MOST_IN_PAGE, least_width, picture_in_page
 from debvote_tools.publish.published import Published
@@ -9,15 +9,7 @@ from debvote_tools.sheet import Round, Sheet
 # how an option ended, as its row of the table is marked; one that has lost has no mark
 MARKS = {"won": "won", "left": "tied", "quorum": "dropped: quorum", "majority": "dropped: majority"}
 
-STYLE = """.ended { display: inline-block; padding: 0 0.4rem; border: 1px solid currentColor; border-radius: 0.3rem;
-  font-size: 0.85rem; }
-tr.won th[scope=row], tr.left th[scope=row] { border-left: 0.4rem solid var(--link); }
-tr.dropped th[scope=row], tr.dropped td { color: var(--faint); }
-:root { --faint: #5f5f5f; }
-@media (prefers-color-scheme: dark) { :root { --faint: #a9a9a9; } }
-h3 { font-size: 1.05rem; margin: 1.5rem 0 0.3rem; }
-.picture svg { display: block; max-width: 100%; height: auto; }
-"""
+STYLE = resource("debvote_tools.publish", "count.css")
 
 
 def style(found: Published) -> str:

@@ -8,19 +8,18 @@ import dataclasses
 import pathlib
 import re
 import shlex
-import sys
 
 from debvote_tools import by_hand, called, journal, lost
 from debvote_tools.closed import Counted, changed_since
+from debvote_tools.console import tell_aside
 from debvote_tools.faults import Doubt, Fault, Status, Told, other_format
 from debvote_tools.files import sum_of
 from debvote_tools.journal import Sums
-from debvote_tools.poll_file import as_announced
+from debvote_tools.poll_file import REQUIRED, as_announced
 from debvote_tools.program import Debvote, Findings, Totals, findings_in
 from debvote_tools.publish.called import announced_sum, folders_of
 from debvote_tools.publish.calls import BALLOTS, POLL, Calls
 from debvote_tools.sheet import Sheet
-from debvote_tools.signs import written
 
 EVEN_SO = "(or publish it as it is, with --even-so)"
 
@@ -39,19 +38,15 @@ MOSTLY_REFUSED = "More than half of the lines that came are refused."
 # what the page of a secret vote says where lines were put in or taken out, or the last envelope was changed
 NOT_AS_CLOSED = "The ballots that are in time are not those of the close: since then some were put in, taken out or changed."
 
-# how many keys a poll must have
-REQUIRED_KEYS = 6
 
-
-def tell(lines: list[str]) -> None:
+def tell_lines(lines: list[str]) -> None:
     """Tells each line on standard error."""
-    for line in lines:
-        print(f"debvote-publish: {written(line)}", file=sys.stderr)
+    tell_aside(*(f"debvote-publish: {line}" for line in lines))
 
 
 def stop(found: list[Doubt]) -> Fault:
     """The fault that ends the run at these doubts, which are told."""
-    tell([f"{doubt.line()} {EVEN_SO}" for doubt in found])
+    tell_lines([f"{doubt.line()} {EVEN_SO}" for doubt in found])
     return Told(Status.DOUBT)
 
 
@@ -93,7 +88,7 @@ def reads_as_poll(debvote: Debvote, file: str) -> bool:
     lines = debvote.ask("explain", "--poll", file).text.splitlines()
     is_toml = bool(lines) and not any(re.match(r"poll:\d+:\d+: ", line) for line in lines[:2])
     missing = [line for line in lines if re.fullmatch(r"poll: key \w+: it is missing", line)]
-    return is_toml and len(missing) < REQUIRED_KEYS
+    return is_toml and len(missing) < len(REQUIRED)
 
 
 def reads_as_ballots(debvote: Debvote, file: str) -> bool:
@@ -210,7 +205,8 @@ def about_call(folder: pathlib.Path, poll: str, data: bytes) -> list[Doubt]:
         return []
     announced = announced_sum(poll)
     found = [] if announced is not None else [no_folder(folder, call)]
-    if not call.is_of(data) and (announced in (None, sum_of(as_announced(data))) or call.is_shortened(data)):
+    is_untold = announced in (None, sum_of(as_announced(data))) or (call.poll is not None and call.has_other_time(data))
+    if not call.is_of(data) and is_untold:
         change = f"it was changed after the call for votes: {call.change_in(data)}"
         cure = "find out who changed it, and publish the poll that was called"
         sentence = "The poll is not the one that was called."

@@ -47,7 +47,7 @@
 
   // The poll that the page carries: a published poll has a line for each key, with its value as JSON.
   const keyAndValue = (line) => [line.slice(0, line.indexOf(" = ")), JSON.parse(line.slice(line.indexOf(" = ") + 3))];
-  const pollOf = () => new Map(linesOf("poll-file").map(keyAndValue));
+  const pollOf = () => new Map(linesOf("Poll-file").map(keyAndValue));
 
   // The ballots of the page that count, by their aliases. In a secret vote each line counts, and nothing is late.
   function countOf(poll) {
@@ -56,7 +56,7 @@
     const roll = new Set(poll.get("roll"));
     const options = poll.get("options").length + 1;
     const counted = new Map();
-    for (const [place, line] of linesOf("ballots-file").entries()) {
+    for (const [place, line] of linesOf("Ballots-file").entries()) {
       const [, alias, ranks] = LINE.exec(line) ?? [];
       const counts = roll.has(alias) && ranks.split(",").length === options && !counted.has(alias);
       if (!counts) throw new Error(`line ${place + 1} of the ballots does not count`);

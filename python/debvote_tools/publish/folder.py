@@ -7,13 +7,14 @@ import shutil
 import tempfile
 
 from debvote_tools.closed import lines_of
+from debvote_tools.console import tell
 from debvote_tools.faults import Doubt, Fault, Status
 from debvote_tools.files import BALLOTS_LIMIT, POLL_LIMIT, read_at_most, sum_of, sync_folder, write_public
-from debvote_tools.poll_file import roll_of
+from debvote_tools.poll_file import BadPoll, roll_of
 from debvote_tools.program import findings_in, standing_in
 from debvote_tools.publish import casting, doubts, letter, recounting, roll, second_count, secret
 from debvote_tools.publish.asked import Asked
-from debvote_tools.publish.called import about_call, announced_sum, called_of, folders_of
+from debvote_tools.publish.called import about_announced, announced_sum, folders_of, poll_sums_of
 from debvote_tools.publish.calls import BALLOTS, POLL, SHEET, Calls, calls_in
 from debvote_tools.publish.data import result_json, votes_csv
 from debvote_tools.publish.labels import labels_in, labels_of, told
@@ -22,6 +23,7 @@ from debvote_tools.publish.picture import picture_of
 from debvote_tools.publish.published import File, Further, Published, Times
 from debvote_tools.publish.texts import reason_in, text_in
 from debvote_tools.publish.times import times_of
+from debvote_tools.secret import copy_is_gone
 from debvote_tools.sheet import Sheet, sheet_in
 
 PAGE, SUMS = "index.html", "SHA256SUMS"
@@ -67,8 +69,10 @@ def publish(asked: Asked, beside: pathlib.Path | None) -> tuple[str, int]:
         sync_folder(folder)
         folder.rename(target)
         sync_folder(target.parent)
-    except BaseException:
+    except BaseException as fault:
         shutil.rmtree(folder, ignore_errors=True)
+        if isinstance(fault, BadPoll):
+            raise fault.of(asked.poll, "publish again") from None
         raise
     return said, status
 
@@ -80,6 +84,9 @@ def demand_words(asked: Asked) -> None:
         if asked.voters:
             words = "it goes with --secret; in an open vote the page has who voted what"
             raise Fault("--voters", words, "leave it out", Status.BAD_WORDS)
+        if asked.texts_read:
+            words = "it goes with --secret: it says that the texts for the page tell nobody's vote"
+            raise Fault("--texts-read", words, "leave it out", Status.BAD_WORDS)
     elif asked.who is not None and not asked.voters:
         raise Fault(
             "--who",
@@ -118,7 +125,7 @@ def fill(folder: pathlib.Path, asked: Asked, given: Given, beside: pathlib.Path 
     text, status = count(calls, asked)
     found = doubts.found_in(calls, asked.poll, asked.ballots, sheet_in(text))
     found += about_casting(asked, given, sheet_in(text), poll)
-    found += about_call(asked.poll, called_of(poll, sheet_in(text).last_envelope, given.announced))
+    found += about_announced(asked.poll, poll_sums_of(poll, sheet_in(text).last_envelope, given.announced))
     settle(found, asked)
     times = times_of(doubts.election_of(asked.poll), poll, ballots, sheet_in(text).last_envelope)
     return make(calls, text, given, found, Further(), times), status
@@ -129,14 +136,16 @@ def fill_secret(
 ) -> tuple[str, int]:
     """Writes all files of a secret vote: poll and ballots are published under aliases, and what they come from is not written."""
     poll, ballots = inputs_of(asked)
-    secret.demand_texts(texts_of(asked, given), codes, (asked.poll, poll), (asked.ballots, ballots))
+    texts = texts_of(asked, given)
+    secret.demand_texts(texts, codes, (asked.poll, poll), (asked.ballots, ballots), are_read=asked.texts_read)
     with secret.private_folder(poll, ballots) as room:
         private = calls_in(room, beside, asked.casting, asked.desks)
         text = count(private, asked)[0]
         found = doubts.found_in(private, asked.poll, asked.ballots, sheet_in(text))
         hidden = secret.hidden_of(codes, poll, standing_in(private.standing()))
         found += about_casting(asked, given, sheet_in(text), hidden.poll)
-        found += about_call(asked.poll, called_of(hidden.poll, None, given.announced, is_secret=True))
+        found += about_announced(asked.poll, poll_sums_of(hidden.poll, None, given.announced, is_secret=True))
+        found += filter(None, [copy_is_gone(codes, poll)])
         settle(found, asked)
         totals = findings_in(private.explain()).totals
     write_public(folder / POLL, hidden.poll)
@@ -190,12 +199,12 @@ def make(calls: Calls, text: str, given: Given, found: list[Doubt], further: Fur
     folder, sheet = calls.debvote.folder, sheet_in(text)
     labels = labels_of(given.labels_file, given.labels, sheet)
     if not labels.is_empty:
-        print(told(labels, sheet), end="", flush=True)
+        tell(*told(labels, sheet))
     version, standing, refused = calls.version(), calls.standing(), findings_in(calls.explain()).refused
     write_public(folder / SHEET, text.encode())
     verified, picture = calls.verify(), picture_of(calls.picture(), len(sheet.names))
     poll, ballots = ((folder / name).read_bytes() for name in (POLL, BALLOTS))
-    called = called_of(poll, sheet.last_envelope, given.announced, is_secret=further.unlisted is not None)
+    called = poll_sums_of(poll, sheet.last_envelope, given.announced, is_secret=further.unlisted is not None)
     lines = lines_of(ballots)
     published = Published(
         sheet, standing, refused, lines, picture, calls.casting, verified.rstrip("\n"), version, found, called, labels,
@@ -208,34 +217,39 @@ def make(calls: Calls, text: str, given: Given, found: list[Doubt], further: Fur
 
 
 def write_files(folder: pathlib.Path, found: Published, poll: bytes, ballots: bytes) -> None:
-    """Writes what follows from the sheet, the page and the sums last."""
-    made = made_of(found, poll, ballots)
+    """Writes what follows from the sheet, the page, the letter that has its sum, and the sums last."""
+    made = made_of(found)
     for file in made:
         write_public(folder / file.name, file.data)
     there = [
-        File(POLL, "the poll: title, options, quorum and roll", b""),
-        File(BALLOTS, "the ballots, a line each, in the order in which they were entered", b""),
-        File(SHEET, "the result sheet, from which this page is made", b""),
+        File(POLL, "the poll: title, options, quorum and roll", poll),
+        File(BALLOTS, "the ballots, a line each, in the order in which they were entered", ballots),
+        File(SHEET, "the result sheet, from which this page is made", (folder / SHEET).read_bytes()),
         *made,
+        File(letter.NAME, letter.WHAT, b""),
+        *found.further.files,
         File(SUMS, "the sums of these files and of this page", b""),
     ]
-    write_public(folder / PAGE, page_of(found, there).encode())
+    page = page_of(found, there).encode()
+    write_public(folder / PAGE, page)
+    for file in (File(letter.NAME, letter.WHAT, letter.letter_of(found, poll, ballots, page)), *found.further.files):
+        write_public(folder / file.name, file.data)
     write_public(folder / SUMS, sums_of(folder).encode())
 
 
-def made_of(found: Published, poll: bytes, ballots: bytes) -> list[File]:
-    """The files that follow from poll, ballots and sheet, and the further ones."""
+def made_of(found: Published) -> list[File]:
+    """The files that follow from poll, ballots and sheet."""
     files = [
         File("standing.txt", "of each elector the ballot that stands", found.standing.encode()),
         File("result.json", "what the sheet says, for programs", result_json(found.sheet, found.labels, found.version).encode()),
         File("votes.csv", "the table of votes, for spreadsheets", votes_csv(found.sheet).encode()),
         File(recounting.NAME, "a second count, in Python", recounting.recount_program()),
+        File(recounting.SCRIPT, "a third count, in JavaScript", recounting.recount_script()),
         File(recounting.GUIDE, "how to read the sheet, what to check, and what a doubt is", recounting.guide()),
     ]
     if found.picture is not None:
         files.append(File("picture.svg", "the picture of the defeats", found.picture))
-    files.append(File(letter.NAME, letter.WHAT, letter.letter_of(found, poll, ballots)))
-    return [*files, *found.further.files]
+    return files
 
 
 def count(calls: Calls, asked: Asked) -> tuple[str, int]:
@@ -244,7 +258,7 @@ def count(calls: Calls, asked: Asked) -> tuple[str, int]:
         return calls.count()
     except Fault as fault:
         if fault.status == Status.BAD_POLL:
-            doubts.tell([doubt.line() for doubt in doubts.misplaced(calls.debvote, asked.poll, asked.ballots)])
+            doubts.tell_lines([doubt.line() for doubt in doubts.misplaced(calls.debvote, asked.poll, asked.ballots)])
         raise
 
 

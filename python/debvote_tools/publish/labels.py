@@ -113,11 +113,11 @@ def alike(text: str) -> str:
     return "".join(sign for sign in signs if not sign.isspace() and unicodedata.category(sign) not in UNSEEN).casefold()
 
 
-def told(labels: Labels, sheet: Sheet) -> str:
+def told(labels: Labels, sheet: Sheet) -> list[str]:
     """The number of each option with its name in the poll and its label, for who publishes."""
     title = [] if labels.title is None else [f"  the title {sheet.title}: {labels.title}"]
     options = [f"  {number} {name}: {labels.options.get(number, '(no label)')}" for number, name in sheet.names.items()]
-    return "\n".join(["The page calls them so, each behind its name in the poll:", *title, *options, ""])
+    return ["The page calls them so, each behind its name in the poll:", *title, *options]
 
 
 def bad_label(where: str, reason: str, cure: str) -> Fault:

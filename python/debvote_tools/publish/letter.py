@@ -7,21 +7,22 @@ from debvote_tools.publish.published import Published
 
 NAME = "letter.txt"
 
-WHAT = "the sums of poll and ballots, to be sent to each elector as a letter"
+WHAT = "the sums of poll, ballots and this page, to be sent to each elector as a letter"
 
 LATER = (
     "The poll has the last envelope {}: later lines are late, and count for nothing. Without the lines that came after the call it "
     "has this sum, which stands in your letter of the call, if one came to you:"
 )
 SAME = "This sum stands in your letter of the call, too, if one came to you."
+PAGE = "The sum of the page index.html, which is another one if anybody changes what stands there, as a doubt or a time:"
 HOW = (
     "Whoever keeps the web site could show each reader another folder. So compare: this command, typed in the folder with the files "
-    "of the result, has to answer the two sums above."
+    "of the result, has to answer the three sums above."
 )
 THEN = "The page index.html, under How to verify, says how to look at your own ballot, and how to count again."
 
 
-def letter_of(found: Published, poll: bytes, ballots: bytes) -> bytes:
+def letter_of(found: Published, poll: bytes, ballots: bytes, page: bytes) -> bytes:
     """The letter, in plain text. The names are those of the poll."""
     called, told = found.called, casting.told(found.cast)
     said = (
@@ -37,8 +38,10 @@ def letter_of(found: Published, poll: bytes, ballots: bytes) -> bytes:
         *said,
         wrapped("The sum of the file ballots.txt:"),
         copied(sum_of(ballots)),
+        wrapped(PAGE),
+        copied(sum_of(page)),
         wrapped(HOW),
-        copied("sha256sum poll.toml ballots.txt"),
+        copied("sha256sum poll.toml ballots.txt index.html"),
         wrapped(THEN),
     ]
     return "\n".join(parts).encode("utf-8")

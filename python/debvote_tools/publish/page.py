@@ -6,12 +6,12 @@ from html import escape
 
 from debvote_tools import ballots, pages
 from debvote_tools.pages import command_block, joined, listed, paragraph, part
-from debvote_tools.publish import bars, count, result, roll, times
+from debvote_tools.publish import bars, count, count_again, result, roll, times
 from debvote_tools.publish.called import WHOLE
 from debvote_tools.publish.calls import BALLOTS, FILES, POLL, SHEET
 from debvote_tools.publish.picture import words_for_dot
 from debvote_tools.publish.published import File, Published
-from debvote_tools.publish.recounting import GUIDE, NAME as RECOUNT
+from debvote_tools.publish.recounting import GUIDE, NAME as RECOUNT, SCRIPT
 from debvote_tools.publish.refused import refused
 from debvote_tools.publish.second_count import ISOLATED
 from debvote_tools.publish.unseen import unseen
@@ -26,6 +26,7 @@ COMPARE_SUM = (
     "the call:"
 )
 BALLOTS_SUM = "The ballots have the sum that stands in the letter of the result:"
+PAGE_SUM = "And so has this page, as it was downloaded:"
 
 OWN = (
     '<b>Your own ballot.</b> It stands under <a href="#Ballots">Ballots</a> as you sent it. If you did not vote, you stand under '
@@ -37,8 +38,12 @@ OWN_IN_SECRET = (
 )
 LETTER = "<b>The sum in your letter.</b> The letter of the call that came to you must have this sum, the poll's: <code>{}</code>."
 RESULT_LETTER = (
-    "<b>The letter of the result.</b> It came to you by another way than this page, and must name the same winner. If none came, ask "
-    "the secretary for it."
+    "<b>The letter of the result.</b> It came to you by another way than this page, and must name the same winner. It has the sum of "
+    "this page, too, which shows whether anybody has changed what stands here. If none came, ask the secretary for it."
+)
+COUNT_HERE = (
+    '<b>The count.</b> <a href="#Count-again-here">Count again here</a> counts the ballots of this page anew in your browser, and '
+    "compares a sum of your letter."
 )
 TOGETHER = (
     "Where every elector does so on the same files, those with the sums of the letter of the result, no ballot was left out or "
@@ -51,6 +56,12 @@ FROM_ELSEWHERE = (
     "has it as <code>/usr/share/doc/debvote/reference.py</code>; lay it into your folder under the name <code>recount.py</code>."
 )
 
+WITH_SCRIPT = (
+    f"With JavaScript, by nodejs: <code>{SCRIPT}</code> is the count of the button above, and shares nothing with the other two. It "
+    "too is from the same web site as what it checks; the package debvote has it as "
+    "<code>/usr/share/doc/debvote/recount.js</code>."
+)
+
 NO_OTHER = "No file lies in the folder that is not named there. Look at this before you run anything in it:"
 NO_OTHER_FILE = 'ls -A | grep -vxF "$(cut -c67- SHA256SUMS)"'
 
@@ -59,15 +70,24 @@ def page_of(found: Published, files: list[File]) -> str:
     """The page, whole. The files are those of the folder, in the order in which the page names them."""
     parts = [why(found), count.options(found), count.votes(found), count.defeats(found), count.rounds(found)]
     parts += [standing_ballots(found), *([] if found.voting is None else [roll.roll(found.voting)]), refused(found)]
-    parts += [*found.further.parts, unseen(found), check(found, files)]
+    published = {file.name: file.data for file in files}
+    parts += [*found.further.parts, unseen(found), count_again.count_again(published), check(found, files)]
     parts.insert(1, times.times(found))
     about = result.about(found)
     parts = [bars.bars(found), *about, *parts]
     sections = "".join(map(found.with_names, [result.result(found), contents(parts), *parts]))
-    style = pages.STYLE + bars.STYLE + count.style(found) + roll.STYLE + (result.DOUBTS_STYLE if found.doubts else "")
-    style += (pages.GIVEN_STYLE if about or found.because else "") + found.further.style
+    sections += count_again.carried(published)
+    style = (
+        pages.STYLE
+        + pages.FIELDS_STYLE
+        + bars.STYLE
+        + count.style(found)
+        + roll.STYLE
+        + (result.DOUBTS_STYLE if found.doubts else "")
+    )
+    style += (pages.GIVEN_STYLE if about or found.because else "") + count_again.STYLE + found.further.style
     title = found.title()
-    return pages.page(f"Result: {head_of(found)}", title, sections, style=style, script=found.further.script)
+    return pages.page(f"Result: {head_of(found)}", title, sections, style=style, script=count_again.script() + found.further.script)
 
 
 def head_of(found: Published) -> str:
@@ -141,6 +161,8 @@ def check(found: Published, files: list[File]) -> str:
         *(command_block(*command) for command in debvote_commands(found)),
         f"<h3>Without debvote</h3>\n{paragraph(alone)}",
         *(command_block(*command) for command in python_commands(found)),
+        paragraph(WITH_SCRIPT),
+        *(command_block(*command) for command in script_commands(found)),
     ]
     return part("How to verify", *blocks)
 
@@ -148,7 +170,7 @@ def check(found: Published, files: list[File]) -> str:
 def enough(found: Published) -> list[str]:
     """What an elector looks at who does not count again."""
     is_secret = found.further.unlisted is not None
-    entries = [OWN_IN_SECRET if is_secret else OWN, LETTER.format(found.called.poll_sum), RESULT_LETTER]
+    entries = [OWN_IN_SECRET if is_secret else OWN, LETTER.format(found.called.poll_sum), RESULT_LETTER, COUNT_HERE]
     guide = f'<a href="{GUIDE}">{GUIDE}</a> says how, and how to read all that is here.'
     return [listed("ul", entries), paragraph(TOGETHER), paragraph(guide)]
 
@@ -166,6 +188,7 @@ def whole_commands(found: Published) -> list[Command]:
         words = COMPARE_WHOLE_SUM if found.called.is_secret else COMPARE_SUM
         commands.append((words, found.called.command, found.called.answer))
     commands.append((BALLOTS_SUM, f"sha256sum {BALLOTS}", f"{found.ballots_sum}  {BALLOTS}"))
+    commands.append((PAGE_SUM, "sha256sum index.html", None))
     return commands + times.commands(found.times)
 
 
@@ -208,6 +231,12 @@ def python_commands(found: Published) -> list[Command]:
             "the same",
         ),
     ]
+
+
+def script_commands(found: Published) -> list[Command]:
+    """What the count in JavaScript says of them."""
+    words = shlex.join(["nodejs", SCRIPT, "verify", *FILES, "--sheet", SHEET])
+    return [(f"The sheet is that of the poll{with_later(found)}, and the ballots:", words, found.verified)]
 
 
 def in_time(found: Published) -> str:

@@ -2,8 +2,9 @@
 
 import shutil
 import subprocess
-import sys
 import xml.etree.ElementTree as xml
+
+from debvote_tools.console import tell_aside
 
 # where a picture takes Graphviz longer, there is none
 PICTURE_SECONDS = 60
@@ -28,13 +29,13 @@ def picture_of(graph: str, options: int) -> bytes | None:
     """The picture of a graph by Graphviz, or none; where there is none it says why."""
     dot = shutil.which("dot")
     if dot is None:
-        print("debvote-publish: no picture: Graphviz (its program dot) is not installed", file=sys.stderr)
+        tell_aside("debvote-publish: no picture: Graphviz (its program dot) is not installed")
         return None
     words = words_for_dot(options)
     try:
         drawn = subprocess.run([dot, *words[1:]], input=graph.encode(), capture_output=True, timeout=PICTURE_SECONDS, check=True)
     except subprocess.SubprocessError as error:
-        print(f"debvote-publish: no picture: {error}", file=sys.stderr)
+        tell_aside(f"debvote-publish: no picture: {error}")
         return None
     return drawn.stdout
 

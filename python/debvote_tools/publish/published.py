@@ -9,7 +9,7 @@ from debvote_tools.announced import Announced
 from debvote_tools.faults import Doubt
 from debvote_tools.journal import Entry
 from debvote_tools.program import Finding, Totals
-from debvote_tools.publish.called import Called
+from debvote_tools.publish.called import PollSums
 from debvote_tools.publish.casting import Cast
 from debvote_tools.publish.labels import Labels
 from debvote_tools.publish.roll import Voting
@@ -78,7 +78,7 @@ class Published:
     verified: str
     version: str
     doubts: list[Doubt]
-    called: Called
+    called: PollSums
     labels: Labels
     about: str | None
     further: Further

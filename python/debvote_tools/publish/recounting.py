@@ -1,11 +1,14 @@
-"""What lies beside what is published, as it is: the second count, a program in Python that shares nothing with debvote, and the
-guide for electors."""
+"""What lies beside what is published, as it is: two more counts, programs in Python and in JavaScript that share nothing with
+debvote nor with each other, and the guide for electors."""
 
+import importlib.resources
 import pathlib
 
 from debvote_tools.faults import Fault, Status
 
 NAME = "recount.py"
+SCRIPT = "recount.js"
+PACKAGE = "debvote_tools.publish"
 GUIDE = "READING-A-SHEET.md"
 
 # the folder that debvote_tools lies in; the package has both there, and a checkout has them elsewhere
@@ -15,6 +18,11 @@ PLACE = pathlib.Path(__file__).resolve().parents[2]
 def recount_program() -> bytes:
     """The bytes of the program."""
     return bytes_of("the second count", PLACE / NAME, PLACE.parent / "tests" / "reference.py")
+
+
+def recount_script() -> bytes:
+    """The bytes of the program in JavaScript, which the page has too."""
+    return importlib.resources.files(PACKAGE).joinpath(SCRIPT).read_bytes()
 
 
 def guide() -> bytes:

@@ -8,6 +8,7 @@ from debvote_tools.program import Finding, Totals
 from debvote_tools.publish.calls import BALLOTS
 from debvote_tools.publish.published import Published
 from debvote_tools.shapes import plainly
+from debvote_tools.signs import seen
 
 HEADING = "Refused lines"
 
@@ -59,7 +60,7 @@ def runs_of(findings: list[Finding], lines: list[bytes]) -> list[Run]:
     left = TEXTS_LIMIT
     for finding in findings:
         line = lines[finding.envelope - 1]
-        cause, text = cause_of(finding, line), shown_line(line) if left > 0 else None
+        cause, text = cause_of(finding, line), line_on_page(line) if left > 0 else None
         if runs and runs[-1].last == finding.envelope - 1 and (runs[-1].cause, runs[-1].text) == (cause, text):
             runs[-1].last = finding.envelope
         else:
@@ -68,14 +69,13 @@ def runs_of(findings: list[Finding], lines: list[bytes]) -> list[Run]:
     return runs
 
 
-def shown_line(line: bytes) -> str:
+def line_on_page(line: bytes) -> str:
     """A line as it stands on the page, in HTML: characters that are not seen stand by their numbers, and a long one is cut."""
     if not line:
         return "(an empty line)"
     text = line.decode("utf-8", "backslashreplace")
-    seen = "".join(sign if sign.isprintable() else f"\\u{ord(sign):04X}" for sign in text[:SHOWN])
     cut = f" (the first {SHOWN} of {len(text)} characters)" if len(text) > SHOWN else ""
-    return f"<code><bdi>{escape(seen)}</bdi></code>{cut}"
+    return f"<code><bdi>{escape(''.join(map(seen, text[:SHOWN])))}</bdi></code>{cut}"
 
 
 def cause_of(finding: Finding, line: bytes) -> str:

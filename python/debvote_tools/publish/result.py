@@ -3,7 +3,7 @@
 from html import escape
 
 from debvote_tools.faults import Doubt
-from debvote_tools.pages import in_their_words, joined, listed, paragraph, part
+from debvote_tools.pages import in_their_words, joined, listed, paragraph, part, resource
 from debvote_tools.publish import casting
 from debvote_tools.publish.published import Published
 from debvote_tools.publish.recounting import GUIDE
@@ -17,12 +17,7 @@ COUNTED = (
 COMPARE_LETTER = "Compare it with the one in <strong>your</strong> letter."
 
 # the style of a page that has doubts, behind that of all pages: a frame and a word mark a doubt, and not colour alone
-DOUBTS_STYLE = """.doubts { --warning: #8f1d00; --warned: #fff0e6; margin: 1rem 0; padding: 0.5rem 1rem;
-  border: 2px solid var(--warning); background: var(--warned); }
-.doubts ul { margin: 0; padding-left: 1.25rem; }
-.doubts strong { color: var(--warning); }
-@media (prefers-color-scheme: dark) { .doubts { --warning: #ffb38a; --warned: #3d1d0c; } }
-"""
+DOUBTS_STYLE = resource("debvote_tools.publish", "doubts.css")
 
 WHY_NONE = "Why this is published even so, in the words of those who publish this page. The program has not checked them:"
 

@@ -8,7 +8,8 @@ from html import escape
 from debvote_tools.faults import Fault, Status
 from debvote_tools.members import members_in
 from debvote_tools.pages import paragraph, part
-from debvote_tools.publish.texts import odd_sign
+from debvote_tools.publish.texts import ALLOWED
+from debvote_tools.signs import number_of, odd_sign
 
 HEADING = "Who voted"
 
@@ -56,11 +57,11 @@ def who_in(file: str) -> dict[str, str]:
     """The real names of a list of members, by the names of the roll."""
     found = {}
     for member in members_in(pathlib.Path(file)).members:
-        sign = odd_sign(member.who)
+        sign = odd_sign(member.who, allowed=ALLOWED)
         if sign is not None:
             raise Fault(
                 f"{file}:{member.line}",
-                f"the real name of {member.name or 'a member'} has the sign U+{ord(sign):04X}, which no name has",
+                f"the real name of {member.name or 'a member'} has the sign {number_of(sign)}, which no name has",
                 "take it out",
                 Status.BAD_WORDS,
             )

@@ -25,13 +25,7 @@ from debvote_tools.sheet import Sheet
 # the cure where two counts of the same votes differ
 KEEP_FILES = "keep all files, and tell the maintainers"
 
-STYLE = """
-.field { margin: 0.75rem 0; }
-#answer p { margin: 0.5rem 0; }
-.found { padding: 0.6rem 0.8rem; background: var(--shade); border-left: 0.4rem solid var(--link); }
-summary { padding: 0.5rem 0; cursor: pointer; }
-.absent { margin: 0; padding: 0; list-style: none; font-family: ui-monospace, monospace; }
-"""
+STYLE = pages.resource("debvote_tools.publish", "find.css")
 
 FORM = """<div id="find" hidden>
 <p>Type your name and your code, and the page shows which ballot counts for you. What you type stays in the page: it sends
@@ -123,8 +117,12 @@ def secret_folder_of(place: pathlib.Path) -> pathlib.Path | None:
     return None
 
 
-def demand_texts(texts: dict[str, str], codes: pathlib.Path, poll: tuple[str, bytes], ballots: tuple[str, bytes]) -> None:
-    """Stops where a text for the page, by its file, would tell what is private. Poll and ballots stand with their files."""
+def demand_texts(
+    texts: dict[str, str], codes: pathlib.Path, poll: tuple[str, bytes], ballots: tuple[str, bytes], *, are_read: bool
+) -> None:
+    """Stops where a text for the page, by its file, would tell what is private, or was not read. Poll and ballots stand with their
+    files.
+    """
     if not texts:
         return
     folders = (secret_folder_of(place) for file in (poll[0], ballots[0], str(codes.parent)) for place in folders_of(file))
@@ -133,7 +131,8 @@ def demand_texts(texts: dict[str, str], codes: pathlib.Path, poll: tuple[str, by
     holders, options = secret.holders_in(codes), poll_file.options_of(poll[1])
     for file, text in texts.items():
         untelling.demand_no_private_file(file, election)
-        untelling.demand_untelling(file, text, holders, options, sums)
+        untelling.demand_untelling(file, text, holders, sums)
+    untelling.demand_read(texts, holders, options, are_read=are_read)
 
 
 # ---------------------------------------------------------------- the files under aliases
@@ -199,8 +198,8 @@ def further_of(hidden: Hidden, totals: Totals, *, with_voters: bool) -> Further:
         voters=hidden.voters if with_voters else None,
         about_ballots=said,
         parts=[find(hidden), remains()],
-        style=pages.FIELDS_STYLE + STYLE,
-        script=pages.script_of("debvote_tools.publish", "find.js"),
+        style=STYLE,
+        script=pages.resource("debvote_tools.publish", "find.js"),
         files=files,
         described=described,
     )
@@ -217,13 +216,7 @@ def find(hidden: Hidden) -> str:
     commands = [(ALONE, BY_PYTHON), (WITH_OPENSSL, BY_OPENSSL), (THEN, f"debvote {OWN}")]
     commands.append((THEN_BY_PYTHON, f"python3 -I recount.py {OWN}"))
     blocks = [command_block(*command) for command in commands]
-    return part(FIND, FORM, paragraph(ABSTAINED), paragraph(ALIAS), *blocks, *absent, *carried(hidden))
-
-
-def carried(hidden: Hidden) -> list[str]:
-    """The two files, for the script: it counts them, and trusts nothing else of the page. Without script nobody sees them."""
-    files = {"poll-file": hidden.poll, "ballots-file": hidden.ballots}
-    return [f'<pre id="{name}" hidden>{escape(data.decode("utf-8"))}</pre>' for name, data in files.items()]
+    return part(FIND, FORM, paragraph(ABSTAINED), paragraph(ALIAS), *blocks, *absent)
 
 
 def remains() -> str:

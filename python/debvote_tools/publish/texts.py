@@ -1,9 +1,8 @@
 """Texts that are given for the page beside poll and ballots: plain, in UTF-8."""
 
-import unicodedata
-
 from debvote_tools.faults import Fault, Status
 from debvote_tools.files import read_at_most
+from debvote_tools.signs import number_of, odd_sign
 
 # in bytes
 LIMIT = 65_536
@@ -11,9 +10,8 @@ LIMIT = 65_536
 # in characters; a reason that is given with --because is a sentence or some
 LONGEST_REASON = 2_000
 
-# what no plain text has: signs that steer a terminal, halves of signs, and what turns the text around it
-ODD = ("Cc", "Cs", "Co")
-TURNING = "\u202a\u202b\u202c\u202d\u202e\u2066\u2067\u2068\u2069"
+# the signs that steer a terminal, and stand in a plain text all the same
+ALLOWED = "\t\n"
 
 
 def text_in(file: str, what: str) -> str:
@@ -33,11 +31,11 @@ def text_in(file: str, what: str) -> str:
         line = data.count(b"\n", 0, error.start) + 1
         raise bad_text(f"{file}:{line}", "it is not in UTF-8", "save it as plain text in UTF-8") from None
     text = text.replace("\r\n", "\n")
-    sign = odd_sign(text)
+    sign = odd_sign(text, allowed=ALLOWED)
     if sign is not None:
         raise bad_text(
             f"{file}:{line_at(text, text.index(sign))}",
-            f"it has the sign U+{ord(sign):04X}, which no plain text has",
+            f"it has the sign {number_of(sign)}, which no plain text has",
             "take it out",
         )
     if not text.strip():
@@ -47,19 +45,14 @@ def text_in(file: str, what: str) -> str:
 
 def reason_in(text: str) -> str:
     """The reason that is given with --because, on the command line."""
-    sign = odd_sign(text)
+    sign = odd_sign(text, allowed=ALLOWED)
     if sign is not None:
-        raise bad_text("--because", f"the text has the sign U+{ord(sign):04X}, which no plain text has", "take it out")
+        raise bad_text("--because", f"the text has the sign {number_of(sign)}, which no plain text has", "take it out")
     if not text.strip():
         raise bad_text("--because", "the text is empty", "write it, or leave --because out")
     if len(text) > LONGEST_REASON:
         raise bad_text("--because", f"the text has {len(text)} characters, {LONGEST_REASON} are the most", "shorten it")
     return text
-
-
-def odd_sign(text: str) -> str | None:
-    """The first sign of a text that no plain text has."""
-    return next((sign for sign in text if sign not in "\t\n" and (unicodedata.category(sign) in ODD or sign in TURNING)), None)
 
 
 def paragraphs_of(text: str) -> list[str]:

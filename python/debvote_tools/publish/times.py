@@ -10,6 +10,7 @@ from html import escape
 from debvote_tools import journal
 from debvote_tools.announced import announced_in, in_words
 from debvote_tools.called import MADE, TAKEN_BACK
+from debvote_tools.closed import LINES_IN_TIME
 from debvote_tools.files import sum_of
 from debvote_tools.journal import Entry, Sums
 from debvote_tools.pages import paragraph, part
@@ -26,7 +27,6 @@ UNSEEN = "Nobody can see from here whether that clock was right. Compare it with
 SAYS_NOTHING = "the poll does not say it as a time"
 
 # the poll is that of its close, and the ballots may have late lines behind those in time
-BALLOTS = "head -n {number} ballots.txt | sha256sum"
 CLOSED_BALLOTS = "The lines that were in time at the close; the letter of the close, if it was sent to you, names this sum:"
 
 
@@ -113,4 +113,4 @@ def commands(found: Times) -> list[tuple[str, str, str | None]]:
     if found.in_time is None:
         return []
     number, answer = found.in_time
-    return [(CLOSED_BALLOTS, BALLOTS.format(number=number), f"{answer}  -")]
+    return [(CLOSED_BALLOTS, LINES_IN_TIME.format(number=number), f"{answer}  -")]

@@ -1,16 +1,19 @@
 """What a text that is given for the page of a secret vote must not have: what a slip of the hand takes from the private files.
 
-A wrong file beside --about or --labels, or a sum that `close` has told, would say who voted what; no word goes over this.
+A wrong file beside --about or --labels, or a sum that `close` has told, would say who voted what; no word goes over this. Whether a
+text says in words how somebody voted, no program can tell: a person reads each text before it is published.
 """
 
 import pathlib
 import re
 
 from debvote_tools import journal, secret
+from debvote_tools.console import is_terminal, is_yes, tell
 from debvote_tools.faults import Fault, Status
 from debvote_tools.files import sum_of
 from debvote_tools.poll_file import as_announced
 from debvote_tools.secret import Holder
+from debvote_tools.signs import shown_text
 
 # the files and folders of an election that are nobody's but the secretary's
 FILES = ("poll.toml", "ballots", "members.csv", journal.NAME)
@@ -20,6 +23,9 @@ FOLDERS = (secret.PRIVATE, "backup", "received")
 RANK = r"(?:-|[1-9]\d?(?!\d))"
 RANKS = rf"{RANK}(?:\s*[,;]\s*{RANK})+"
 BETWEEN = r"""(?:\s*<[^<>]*>)?["'\s:;,=|]+"""
+
+QUESTION = "Is this what everybody may read?"
+HOW = "Type y where everybody may read it, or n to publish nothing."
 
 SIXTY_FOUR = re.compile(r"(?<![0-9a-f])[0-9a-f]{64}(?![0-9a-f])")
 
@@ -41,8 +47,8 @@ def demand_no_private_file(file: str, election: pathlib.Path | None) -> None:
         )
 
 
-def demand_untelling(file: str, text: str, holders: list[Holder], options: list[str], sums: set[str]) -> None:
-    """Stops where a text has a code, an alias, a ballot under the name of its elector, or a sum of the private files."""
+def demand_untelling(file: str, text: str, holders: list[Holder], sums: set[str]) -> None:
+    """Stops where a text has a code, an alias, or a sum of the private files."""
     lower = text.lower()
     squeezed = re.sub(r"[^0-9a-f]", "", re.sub(r"<[^>]*>", "", lower))
     found = None
@@ -50,12 +56,29 @@ def demand_untelling(file: str, text: str, holders: list[Holder], options: list[
         found = "the code of an elector"
     elif any(holder.alias in squeezed for holder in holders):
         found = "the alias of an elector, and may tell whose it is"
-    elif holders and ballot_with_name(holders, options).search(lower):
-        found = "a ballot with the name of its elector"
     elif sums.intersection(SIXTY_FOUR.findall(lower)):
         found = "the sum of a private file, by which one can try guesses of who voted what"
     if found is not None:
         raise Fault(file, f"it has {found}", "take it out", Status.DOUBT, "nothing was published")
+
+
+def demand_read(texts: dict[str, str], holders: list[Holder], options: list[str], *, are_read: bool) -> None:
+    """Stops unless a person has read the texts, by their files: at a terminal each is shown, and asked about."""
+    if are_read:
+        return
+    ballots = ballot_with_name(holders, options)
+    for file, text in texts.items():
+        found = ballots.search(text.lower())
+        what = "" if found is None else f"it looks as if it has a ballot with the name of its elector (`{shown_text(found[0])}`)"
+        if not is_terminal():
+            told = "everybody will read it, and nobody has said that it was read before" + (what and f"; {what}")
+            raise Fault(file, told, "read it, then publish with --texts-read", Status.DOUBT, "nothing was published")
+        tell(f"This will stand on the page, from {file}:", "", *(f"  {line}" for line in text.rstrip("\n").split("\n")), "")
+        tell(*([f"Note: {what}."] if what else []))
+        if not is_yes(QUESTION, HOW):
+            raise Fault(
+                file, "it is not what everybody may read", "change it, then publish again", Status.DOUBT, "nothing was published"
+            )
 
 
 def ballot_with_name(holders: list[Holder], options: list[str]) -> re.Pattern[str]:

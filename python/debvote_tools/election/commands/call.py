@@ -7,9 +7,9 @@ import os
 import pathlib
 import shutil
 import stat
-import tempfile
 
 from debvote_tools import called, journal, poll_file, secret
+from debvote_tools.console import tell
 from debvote_tools.election import announcing, call_letter, call_page, taking_back
 from debvote_tools.election.asking import NO_BALLOTS, command, given_already
 from debvote_tools.election.call_words import Call
@@ -19,17 +19,11 @@ from debvote_tools.election.folder import Election
 from debvote_tools.election.record import Files
 from debvote_tools.election.secrecy import aliases_now, demand_own_folder, told_apart
 from debvote_tools.faults import Fault, Status
-from debvote_tools.files import TEMPORARY, sum_of, sync_folder, take_away_temporaries, umask, write_new, write_whole
+from debvote_tools.files import sum_of, sync_folder, take_away_folder, temporary_folder, umask, write_new, write_whole
 from debvote_tools.sheet import Sheet
 from debvote_tools.words import taken
 
 HELP = "Make the call for votes, a page and a letter; the poll is not changed any more"
-
-SUMS = "SHA256SUMS"
-NAMES = ("index.html", "call.txt", "poll.toml", SUMS)
-
-# how the name of a folder begins that is not in its place yet, or no more
-LEFTOVER = f"{TEMPORARY}call-"
 
 
 @dataclasses.dataclass(frozen=True)
@@ -72,14 +66,13 @@ def call(election: Election, wanted: announcing.Wanted, *, no_roll: bool) -> int
         is_anew = election.call.exists()
         apart = told_apart(election, poll)
         has_slips = election.is_secret() and not is_anew and write_slips(election, sheet, files.poll)
-        take_away_leftovers(election)
         make(election, files, poll, texts_of(made, poll))
     if stays_out:
-        print("The poll stays out of the folder, as in the earlier call.")
-        print(f"To call with it, first run {command(election, 'call', '--take-back')}.")
+        tell("The poll stays out of the folder, as in the earlier call.")
+        tell(f"To call with it, first run {command(election, 'call', '--take-back')}.")
     say(election, made, is_anew)
     if has_slips:
-        print(f"The slips have got what the call says: print {election.slips}, cut them out, and give each elector their own.")
+        tell(f"The slips have got what the call says: print {election.slips}, cut them out, and give each elector their own.")
     if apart:
         tell_apart(apart)
     say_next(election)
@@ -94,11 +87,11 @@ def demand_own(election: Election) -> None:
         return
     if folder.is_symlink() or not folder.is_dir():
         raise foreign(folder, "it is no folder", "move it away")
-    sums = sums_in(folder / SUMS)
+    sums = sums_in(folder / called.SUMS)
     for file in sorted(folder.iterdir()):
-        if file.name not in NAMES or not stat.S_ISREG(file.lstat().st_mode):
+        if file.name not in called.NAMES or not stat.S_ISREG(file.lstat().st_mode):
             raise foreign(file, "this command did not make it", f"move it out of {folder}")
-        if file.name != SUMS and sums.get(file.name) != sum_of(file.read_bytes()):
+        if file.name != called.SUMS and sums.get(file.name) != sum_of(file.read_bytes()):
             raise foreign(file, "it is not as this command made it", f"move the folder {folder} away if you want to keep it")
 
 
@@ -116,7 +109,7 @@ def sums_in(file: pathlib.Path) -> dict[str, str]:
 
 def was_without_poll(election: Election) -> bool:
     """Whether the earlier call left the poll out of its folder: so a call anew tells no roll unasked."""
-    return (election.call / "index.html").is_file() and not (election.call / "poll.toml").exists()
+    return (election.call / called.PAGE).is_file() and not (election.call / called.POLL).exists()
 
 
 # ---------------------------------------------------------------- the poll
@@ -156,7 +149,7 @@ def ended(election: Election, files: Files) -> Files:
         return files
     kept = election.keep_copy(election.poll)
     after = election.act("ended", files, poll=files.poll + b"\n")
-    print(f"{election.poll}: its last line had no line feed, and has one now; the file as it was is {kept}")
+    tell(f"{election.poll}: its last line had no line feed, and has one now; the file as it was is {kept}")
     return after
 
 
@@ -167,7 +160,7 @@ def announce(election: Election, files: Files, poll: bytes) -> Files:
     election.keep_copy(election.poll)
     after = election.act("extend" if election.is_called() else "announce", files, poll=poll)
     for line in announcing.lines_that_differ(files.poll, poll):
-        print(f"{election.poll} has got the line: {line}")
+        tell(f"{election.poll} has got the line: {line}")
     return after
 
 
@@ -218,17 +211,17 @@ def call_of(election: Election, sheet: Sheet, poll: bytes, said: announcing.Said
 # ---------------------------------------------------------------- the folder
 def texts_of(call: Call, poll: bytes) -> dict[str, bytes]:
     """The files of the call, the sums last."""
-    texts = {"index.html": call_page.html(call).encode(), "call.txt": call_letter.letter(call).encode()}
+    texts = {called.PAGE: call_page.html(call).encode(), called.LETTER: call_letter.letter(call).encode()}
     if call.has_poll:
-        texts["poll.toml"] = poll
+        texts[called.POLL] = poll
     sums = "".join(f"{sum_of(texts[name])}  {name}\n" for name in sorted(texts))
-    return texts | {SUMS: sums.encode()}
+    return texts | {called.SUMS: sums.encode()}
 
 
 def make(election: Election, files: Files, poll: bytes, texts: dict[str, bytes]) -> None:
     """Makes the folder beside its place, keeps the poll that is called, notes the act, and moves the folder there."""
     count = len(journal.done(election.entries()))
-    made = pathlib.Path(tempfile.mkdtemp(prefix=LEFTOVER, dir=election.folder))
+    made = temporary_folder(election.folder)
     try:
         made.chmod(0o777 & ~umask())
         for name, text in texts.items():
@@ -281,7 +274,7 @@ def put_in_place(election: Election, made: pathlib.Path) -> None:
     """Moves the new folder to its place; the earlier one steps aside first. At each moment the one there is whole, or none is."""
     before = None
     if election.call.exists():
-        before = pathlib.Path(tempfile.mkdtemp(prefix=LEFTOVER, dir=election.folder))
+        before = temporary_folder(election.folder)
         # takes the place of the empty folder
         election.call.rename(before)
     try:
@@ -292,35 +285,20 @@ def put_in_place(election: Election, made: pathlib.Path) -> None:
         raise
     sync_folder(election.folder)
     if before is not None:
-        take_away(before)
-
-
-def take_away(folder: pathlib.Path) -> None:
-    """Removes the files of a call, and its folder where nothing else is in it."""
-    with contextlib.suppress(OSError):
-        for name in NAMES:
-            (folder / name).unlink(missing_ok=True)
-        folder.rmdir()
-
-
-def take_away_leftovers(election: Election) -> None:
-    """Removes what runs that were killed have left beside the call."""
-    for folder in election.folder.glob(f"{LEFTOVER}*"):
-        take_away_temporaries(folder)
-        take_away(folder)
+        take_away_folder(before, called.NAMES)
 
 
 # ---------------------------------------------------------------- what is said
 def say(election: Election, call: Call, is_anew: bool) -> None:
     """Says what was made."""
-    print(f"Made the folder {election.call} {'anew' if is_anew else 'with the page index.html and the letter call.txt'}.")
+    tell(f"Made the folder {election.call} {'anew' if is_anew else 'with the page index.html and the letter call.txt'}.")
     if call.is_secret:
-        print("The vote is secret: the poll of the call has aliases, and no name of an elector is in the folder.")
-    print(f"The sum of the poll: {call.poll_sum}")
-    print(*(f"{line}\n" for line in said_lines(election, call)), sep="", end="")
+        tell("The vote is secret: the poll of the call has aliases, and no name of an elector is in the folder.")
+    tell(f"The sum of the poll: {call.poll_sum}")
+    tell(*said_lines(election, call))
     if election.closed() is not None:
-        print("The election is closed already: ballots that come now are late.")
-    print(f"{election.poll} must not be changed any more.")
+        tell("The election is closed already: ballots that come now are late.")
+    tell(f"{election.poll} must not be changed any more.")
 
 
 def said_lines(election: Election, call: Call) -> list[str]:
@@ -339,13 +317,13 @@ def said_lines(election: Election, call: Call) -> list[str]:
 
 def tell_apart(names: list[str]) -> None:
     """Says whose aliases an earlier call gives away."""
-    print(
+    tell(
         f"Note: an earlier call had another roll, and whoever kept it sees that the new aliases are those of: {secret.some(names)}."
     )
-    print("  If it was published, take the call back, and hold the election in a new folder, with new codes for all.")
+    tell("  If it was published, take the call back, and hold the election in a new folder, with new codes for all.")
 
 
 def say_next(election: Election) -> None:
     """Says what comes next."""
     send = f"put the folder {election.call} on the web site, or send {election.call / 'call.txt'} to each elector"
-    print(f"Next: {send}; enter the ballots that come with: {command(election, 'add')} or {command(election, 'desk')}")
+    tell(f"Next: {send}; enter the ballots that come with: {command(election, 'add')} or {command(election, 'desk')}")

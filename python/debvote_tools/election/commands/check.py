@@ -4,6 +4,7 @@ import argparse
 import dataclasses
 
 from debvote_tools import poll_file
+from debvote_tools.console import tell
 from debvote_tools.election.asking import call_command, command, quorum_words
 from debvote_tools.election.checking import checked
 from debvote_tools.election.folder import Election
@@ -34,8 +35,8 @@ def run(election: Election, words: argparse.Namespace) -> int:
     asked = taken(Asked, words)
     with election.reading() as files:
         sheet = checked(election, files)
-    print_poll(sheet, poll_file.roll_of(files.poll), has_all=asked.all)
-    print(f"Next: {what_next(election, files)}")
+    tell_poll(sheet, poll_file.roll_of(files.poll), has_all=asked.all)
+    tell(f"Next: {what_next(election, files)}")
     return Status.DECIDED
 
 
@@ -48,16 +49,16 @@ def what_next(election: Election, files: Files) -> str:
     return call_command(election)
 
 
-def print_poll(sheet: Sheet, roll: list[str], *, has_all: bool) -> None:
+def tell_poll(sheet: Sheet, roll: list[str], *, has_all: bool) -> None:
     """Says what is voted on, by a sheet without ballots, and who votes."""
-    print(f"Title: {sheet.title}")
-    print("Options:")
+    tell(f"Title: {sheet.title}")
+    tell("Options:")
     for option, name in sheet.names.items():
         kind = f"majority ratio {sheet.ratios[option]}" if option in sheet.ratios else "the default option"
-        print(f"{option:3}  {name} ({kind})")
+        tell(f"{option:3}  {name} ({kind})")
     if sheet.is_more_than:
-        print("Majority: more than the ratio, where Debian has at least the ratio")
-    print(quorum_words(sheet))
+        tell("Majority: more than the ratio, where Debian has at least the ratio")
+    tell(quorum_words(sheet))
     most = len(roll) if has_all else SHOWN
     more = [f"and {len(roll) - most} more, in the poll and with --all"] if len(roll) > most else []
-    print(f"Electors: {sheet.electors} ({', '.join([*roll[:most], *more])})")
+    tell(f"Electors: {sheet.electors} ({', '.join([*roll[:most], *more])})")

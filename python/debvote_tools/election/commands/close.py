@@ -6,13 +6,17 @@ import re
 
 from debvote_tools import announced, closed, journal, poll_file, secret
 from debvote_tools.announced import announced_in, in_words, minute_of
+from debvote_tools.console import is_terminal, is_yes, tell
 from debvote_tools.election import closing_letter
 from debvote_tools.election.asking import NO_BALLOTS, command, refused
 from debvote_tools.election.edited import EVEN_SO, stop_at_changes
 from debvote_tools.election.folder import Election
+from debvote_tools.election.letters import store
+from debvote_tools.election.letters.adding import HOW, waiting_words
+from debvote_tools.election.letters.plan import LATE
 from debvote_tools.election.record import Files
 from debvote_tools.election.secrecy import demand_own_folder
-from debvote_tools.election.telling import count_of, tell, tell_edits, tell_what_is_gone, time_of
+from debvote_tools.election.telling import count_of, tell_edits, tell_what_is_gone, time_of
 from debvote_tools.faults import Fault, Status
 from debvote_tools.files import in_memory, sum_of, uninterrupted
 from debvote_tools.journal import Entry
@@ -27,17 +31,20 @@ class Asked:
     """The words of this command."""
 
     early: bool
+    yes: bool
     even_so: bool
 
 
 def options(parser: argparse.ArgumentParser) -> None:
     early = "Close before the time until which one can vote; the page of the result tells it"
     parser.add_argument("--early", action="store_true", help=early)
+    parser.add_argument("--yes", action="store_true", help="Close without a question although letters wait")
     parser.add_argument("--even-so", action="store_true", help=EVEN_SO)
 
 
 def run(election: Election, words: argparse.Namespace) -> int:
     asked = taken(Asked, words)
+    seen = None if asked.yes else ask_about_letters(election)
     with election.changing() as files:
         demand_own_folder(election)
         tell_edits(election, files)
@@ -47,6 +54,7 @@ def run(election: Election, words: argparse.Namespace) -> int:
         if before is not None:
             return say_again(election, files, sheet, before)
         stop_at_a_last_envelope(election, files, sheet)
+        tell_waiting(election, files, seen)
         stop_at_changes(election, files, even_so=asked.even_so)
         demand_over(election, files, early=asked.early)
         if not election.is_secret():
@@ -63,6 +71,41 @@ def run(election: Election, words: argparse.Namespace) -> int:
                 closing_letter.write(election, after, close, sheet.title)
             say(election, after, number)
     return Status.DECIDED
+
+
+def ask_about_letters(election: Election) -> set[int]:
+    """The letters that wait, about which it asks at a terminal, and elsewhere stops."""
+    with election.reading() as files:
+        if election.closed() is not None:
+            return set()
+        numbers = waiting_now(election, files)
+    if numbers:
+        demand_yes(election, len(numbers))
+    return numbers
+
+
+def waiting_now(election: Election, files: Files) -> set[int]:
+    """The numbers of the letters that wait, but for those that came behind the deadline: they wait for the close."""
+    return {letter.number for letter in store.state_of(election, files).waiting if letter.why != LATE}
+
+
+def demand_yes(election: Election, number: int) -> None:
+    """Asks whether to close although letters wait."""
+    words = f"{waiting_words(number)} until you have looked, and a ballot in one of them does not count"
+    if not is_terminal() or not is_yes(f"{words}. Close all the same?", HOW):
+        cure = f"look at them with {command(election, 'held')}, or close as it is: {command(election, 'close', '--yes')}"
+        raise Fault(election.received, words, cure, Status.DOUBT, "the election is not closed")
+
+
+def tell_waiting(election: Election, files: Files, seen: set[int] | None) -> None:
+    """Says how many letters wait; stops where more do than were asked about."""
+    letters = store.state_of(election, files).waiting
+    new = waiting_now(election, files) - (seen if seen is not None else waiting_now(election, files))
+    if new:
+        cure = f"look at them with {command(election, 'held')}, then close again"
+        raise Fault(election.received, "letters came meanwhile that wait", cure, Status.DOUBT, "the election is not closed")
+    if letters:
+        tell(f"Note: {waiting_words(len(letters))} until you have looked ({command(election, 'held')}).")
 
 
 def sheet_of_all(election: Election, files: Files) -> Sheet:
@@ -184,6 +227,9 @@ def letter_words(election: Election) -> str:
 
 def called_sum(election: Election) -> list[str]:
     """The sum of the poll under aliases that was called. What hinders to read it does not hinder the close."""
+    gone = secret.copy_is_gone(election.codes, election.poll.read_bytes())
+    if gone is not None:
+        return [f"Note: {gone.line()}"]
     try:
         found = sum_of(secret.private_bytes(election.called_aliases))
     except Fault as fault:

@@ -7,19 +7,20 @@ import os
 import re
 
 from debvote_tools import journal, poll_file, secret
+from debvote_tools.console import tell
 from debvote_tools.election import announcing, slips
 from debvote_tools.election.asking import call_command, command
 from debvote_tools.election.checking import checked
 from debvote_tools.election.folder import Election
 from debvote_tools.election.record import Files
 from debvote_tools.election.secrecy import aliases_now
-from debvote_tools.election.telling import count_of, tell, time_of
+from debvote_tools.election.telling import count_of, time_of
 from debvote_tools.faults import Fault, Status
 from debvote_tools.files import sync_folder, uninterrupted, write_new, write_whole
-from debvote_tools.lines import shown
 from debvote_tools.members import Member, members_in
 from debvote_tools.secret import FILE_MODE, FOLDER_MODE, Holder
 from debvote_tools.sheet import Sheet
+from debvote_tools.signs import shown_line
 
 HELP = "Make a secret code for each elector, for a secret vote; it comes before the call"
 
@@ -168,7 +169,7 @@ def demand_no_formula(election: Election, members: list[Member]) -> None:
             if any(FORMULA.match(part) for part in re.split("[,;\t|]", said)):
                 raise Fault(
                     f"{election.members}:{member.line}",
-                    f"a spreadsheet would take `{shown(said.encode())}` for a formula, which can send codes away",
+                    f"a spreadsheet would take `{shown_line(said.encode())}` for a formula, which can send codes away",
                     "write it in another way",
                     Status.DOUBT,
                 )

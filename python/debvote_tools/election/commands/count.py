@@ -2,9 +2,9 @@
 
 import argparse
 import dataclasses
-import sys
 
-from debvote_tools.election.asking import command, demand_option, files_of, listed, refused
+from debvote_tools.console import tell_as_it_is, tell_aside
+from debvote_tools.election.asking import command, demand_option, files_of, quoted, refused
 from debvote_tools.election.folder import Election
 from debvote_tools.election.secrecy import publish_words
 from debvote_tools.faults import Status
@@ -46,10 +46,8 @@ def run(election: Election, words: argparse.Namespace) -> int:
         sheet = sheet_in(answer.text)
         changes = [*election.what_is_gone(files), *election.changed_since_close(files, sheet)]
     # the sheet alone, so that it can go into a file
-    sys.stdout.write(answer.text)
-    sys.stdout.flush()
-    print(*(f"Note: {change}\n" for change in changes), sep="", end="", file=sys.stderr)
-    print(f"Next: {what_next(election, sheet, asked.casting)}", file=sys.stderr)
+    tell_as_it_is(answer.text)
+    tell_aside(*(f"Note: {change}" for change in changes), f"Next: {what_next(election, sheet, asked.casting)}")
     return answer.status
 
 
@@ -62,6 +60,6 @@ def what_next(election: Election, sheet: Sheet, casting: str | None) -> str:
         return over + command(election, *publish, *(casting_words(casting) if winner[1] else []))
     names = [sheet.names[option] for option in sheet.final_set()]
     outside = sheet.casting_outside()
-    why = f"; {listed([sheet.names[outside]])} is not among them" if outside is not None else ""
+    why = f"; {quoted([sheet.names[outside]])} is not among them" if outside is not None else ""
     commands = " or ".join(command(election, *publish, *casting_words(name)) for name in names)
-    return f"{over}it is a tie between {listed(names)}{why}; who has the casting vote chooses one of them: {commands}"
+    return f"{over}it is a tie between {quoted(names)}{why}; who has the casting vote chooses one of them: {commands}"

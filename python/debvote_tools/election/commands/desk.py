@@ -8,6 +8,7 @@ import select
 import sys
 
 from debvote_tools.ballots import in_words
+from debvote_tools.console import is_yes, tell, typed
 from debvote_tools.election.asking import command
 from debvote_tools.election.casting import (
     Ballot,
@@ -26,7 +27,7 @@ from debvote_tools.election.casting import (
 from debvote_tools.election.doubts import is_too_long, long_words
 from debvote_tools.election.folder import Election
 from debvote_tools.election.secrecy import demand_own_folder
-from debvote_tools.election.telling import tell, tell_edits, tell_time
+from debvote_tools.election.telling import tell_edits, tell_time
 from debvote_tools.faults import Fault, Status
 from debvote_tools.files import BALLOTS_LIMIT, append_whole, in_memory, uninterrupted, write_new
 from debvote_tools.lines import Line, lines_in
@@ -203,34 +204,13 @@ def at_terminal(desk: Desk) -> None:
         elif line.changed.lower() == QUIT:
             return
         else:
-            answer = is_yes(show(desk.election, line))
+            answer = is_yes(show(desk.election, line), "Type y to cast it, or n to forget it.")
             if answer is None:
                 return
             if answer:
                 desk.cast([line], came)
             else:
                 tell("It was not cast, and is forgotten.")
-
-
-def typed(question: str) -> bytes | None:
-    """What is typed, with its line end; none at the end of the input."""
-    tell(question, end="")
-    line = sys.stdin.buffer.readline()
-    if not line:
-        tell("")
-    return line or None
-
-
-def is_yes(question: str) -> bool | None:
-    """Asks whether to cast; none at the end of the input."""
-    while (answer := typed(f"{question} [y/n] ")) is not None:
-        word = answer.strip().lower()
-        if word in (b"y", b"yes"):
-            return True
-        if word in (b"n", b"no"):
-            return False
-        tell("Type y to cast it, or n to forget it.")
-    return None
 
 
 def tell_head(election: Election) -> None:

@@ -6,8 +6,8 @@ import contextlib
 import pathlib
 import shlex
 
+from debvote_tools.console import tell
 from debvote_tools.election.folder import Election
-from debvote_tools.election.telling import tell
 from debvote_tools.faults import Fault, Status
 from debvote_tools.files import locked, uninterrupted, write_whole
 from debvote_tools.words import taken

@@ -5,8 +5,8 @@ import dataclasses
 import os
 import pathlib
 import shlex
-import sys
 
+from debvote_tools.console import tell
 from debvote_tools.election.asking import NO_BALLOTS, command, demand_option
 from debvote_tools.election.commands.count import casting_option
 from debvote_tools.election.differences import tell_differences
@@ -37,15 +37,15 @@ class Asked:
     about: str | None
     who: str | None
     because: str | None
+    texts_read: bool
 
     def again(self, *, is_secret: bool) -> list[str]:
         """The same words, but for the folder."""
         with_value = [("--cast-by", self.cast_by), ("--cast-on", self.cast_on)]
         of_page = [("--labels", self.labels), ("--about", self.about), ("--who", self.who), ("--because", self.because)]
         cast, page = ([f"{name}={said}" for name, said in given if said is not None] for given in (with_value, of_page))
-        given = [("--even-so", self.even_so), ("--secret", is_secret), ("--voters", self.voters)]
-        flags = [name for name, is_given in given if is_given]
-        return ["publish", *casting_words(self.casting), *cast, *flags, *page]
+        flags = ("--even-so", self.even_so), ("--secret", is_secret), ("--voters", self.voters), ("--texts-read", self.texts_read)
+        return ["publish", *casting_words(self.casting), *cast, *(name for name, is_given in flags if is_given), *page]
 
 
 def options(parser: argparse.ArgumentParser) -> None:
@@ -71,13 +71,11 @@ def run(election: Election, words: argparse.Namespace) -> int:
         demand_ballots(election, files, asked)
         if asked.casting is not None:
             demand_option(election, asked.casting)
-        # what it tells stands behind what was told before
-        sys.stdout.flush()
         status = ended(publication(election, files, asked, target), election.beside)
     if status in (Status.DECIDED, Status.TIE, Status.CASTING_OUTSIDE) and target.is_dir():
         if asked.secret:
             tell_differences(election, target)
-        print(f"Next: {what_next(election, asked, target, status)}")
+        tell(f"Next: {what_next(election, asked, target, status)}")
     return status
 
 
@@ -115,6 +113,7 @@ def publication(election: Election, files: Files, asked: Asked, target: pathlib.
         about=asked.about,
         who=asked.who,
         because=asked.because,
+        texts_read=asked.texts_read,
     )
 
 

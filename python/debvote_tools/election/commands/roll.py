@@ -8,14 +8,16 @@ import re
 from collections.abc import Callable
 
 from debvote_tools import called, poll_file
+from debvote_tools.console import tell
 from debvote_tools.election.asking import command, empty_sheet, explained, given_already, quorum_words
 from debvote_tools.election.folder import Election
 from debvote_tools.election.record import Files
-from debvote_tools.election.telling import count_of, tell
+from debvote_tools.election.telling import count_of
 from debvote_tools.faults import Fault, Status
 from debvote_tools.files import uninterrupted, write_whole
-from debvote_tools.members import AGAIN, Member, Members, doubles, doubt, members_in, plain, proposals, shown
+from debvote_tools.members import AGAIN, LONGEST_NAME, Member, Members, doubles, doubt, members_in, plain, proposals
 from debvote_tools.pages import joined
+from debvote_tools.signs import shown_text
 from debvote_tools.words import taken
 
 HELP = "Write the roll of the poll from the list of members"
@@ -88,7 +90,7 @@ def tell_proposals(members: Members, names: dict[int, str], *, has_all: bool) ->
     told = [member for member in members.members if member.line in names]
     most = len(told) if has_all else MOST_MEMBERS
     for member in told[:most]:
-        tell(f"  {names[member.line]}: {shown(member.who or member.mail)} (line {member.line})")
+        tell(f"  {names[member.line]}: {shown_text(member.who or member.mail)} (line {member.line})")
     if len(told) > most:
         tell(f"  and {len(told) - most} more, in {members.file}")
 
@@ -97,7 +99,7 @@ def stop_at_doubles(members: Members) -> None:
     """Stops where two members have one name."""
     found = doubles(members.members, lambda member: member.name)
     for group in found:
-        tell(f"{members.file}: {lines_of([member.line for member in group])} have the same name: {shown(group[0].name)}")
+        tell(f"{members.file}: {lines_of([member.line for member in group])} have the same name: {shown_text(group[0].name)}")
     if found:
         raise doubt(
             members.file,
@@ -121,7 +123,7 @@ def demand_allowed(election: Election, members: Members, poll: bytes) -> None:
     if names:
         raise doubt(
             members.file,
-            "a roll does not allow these names: each has 1 to 32 small letters, digits, points and hyphens",
+            f"a roll does not allow these names: each has 1 to {LONGEST_NAME} small letters, digits, points and hyphens",
             f"put them right, {AGAIN}; the roll of the poll is as it was",
         )
     size = next((finding for finding in findings if finding.startswith("poll: size of roll: ")), None)
@@ -135,7 +137,7 @@ def tell_alike(members: Members, column: str, key: Callable[[Member], str]) -> N
     """Tells the members who look like one person; whether they are is for the secretary to say."""
     for group in doubles(members.members, key):
         lines = lines_of([member.line for member in group])
-        texts = " and ".join(dict.fromkeys(f"`{shown(getattr(member, column))}`" for member in group))
+        texts = " and ".join(dict.fromkeys(f"`{shown_text(getattr(member, column))}`" for member in group))
         names = ", ".join(member.name for member in group)
         tell(f"{members.file}: {lines} have the same {column}: {texts}. Is this one person? They are on the roll as: {names}")
 
@@ -181,7 +183,7 @@ def list_of(names: list[str]) -> str:
 def tell_roll(election: Election, members: Members, *, has_all: bool) -> None:
     """Says how many electors the roll has, and who they are; of many the first."""
     first = members.members if has_all else members.members[:MOST_MEMBERS]
-    told = [f"  {member.name}" + (f": {shown(member.who)}" if member.who else "") for member in first]
+    told = [f"  {member.name}" + (f": {shown_text(member.who)}" if member.who else "") for member in first]
     rest = len(members.members) - len(first)
     more = [f"  and {rest} more, in {members.file}"] if rest else []
     tell(f"The roll of {election.poll} has {count_of(len(members.members), 'elector')}:", *told, *more)

@@ -4,23 +4,25 @@ import argparse
 import dataclasses
 import itertools
 import re
-import sys
 import textwrap
 
-from debvote_tools import announced, called, journal, poll_file
+from debvote_tools import announced, called, journal, poll_file, secret
 from debvote_tools.announced import announced_in, in_words
+from debvote_tools.console import shows, tell
 from debvote_tools.election.asking import call_command, command, files_of, quorum_words, refused
 from debvote_tools.election.edited import changes_of
 from debvote_tools.election.folder import Election
+from debvote_tools.election.letters import store
 from debvote_tools.election.record import Files
 from debvote_tools.election.secrecy import aliases_now, demand_own_folder, publish_words
+from debvote_tools.console import tell
 from debvote_tools.election.telling import time_of
 from debvote_tools.faults import Fault, Status
 from debvote_tools.journal import Entry
-from debvote_tools.members import shown
 from debvote_tools.program import Finding, Findings, findings_in, standing_in
 from debvote_tools.shapes import plainly
 from debvote_tools.sheet import Sheet, sheet_in
+from debvote_tools.signs import shown_line
 
 HELP = "Say how far the election is: lines, ballots, who has none yet, what was refused"
 
@@ -57,21 +59,23 @@ def options(parser: argparse.ArgumentParser) -> None:
 def run(election: Election, asked: argparse.Namespace) -> int:
     with election.reading() as files:
         acts = acts_of(election, files)
+        waiting = store.state_of(election, files).waiting
         tell_edited(election, files, acts)
         state = state_of(election, files)
         gone = election.what_is_gone(files)
         changed = [*changes_of(election, files).lines(), *election.changed_since_close(files, state.sheet)]
-    print(f"Title: {state.sheet.title}")
+    tell(f"Title: {state.sheet.title}")
     tell_secrecy(election, files)
     tell_until(files.poll)
     tell_stage(election, acts, state.sheet)
     for line in [*gone, *changed]:
-        print(f"Note: {line}")
-    print(quorum_words(state.sheet))
+        tell(f"Note: {line}")
+    tell(quorum_words(state.sheet))
     tell_lines(state)
     tell_electors(state)
     tell_refused(state)
-    print(f"Next: {what_next(election, acts, state)}")
+    tell_waiting(election, waiting)
+    tell(f"Next: {what_next(election, acts, state)}")
     return Status.DECIDED
 
 
@@ -79,7 +83,7 @@ def acts_of(election: Election, files: Files) -> list[Entry]:
     """The acts that were done. One that was cut off, and that no later act has noted as such yet, is told."""
     begun = journal.begun(election.journal)
     if begun is not None and begun.sums != files.sums:
-        print(f"Note: the last act ({begun.act}, {time_of(begun)}) was cut off, and is not done; run it again.")
+        tell(f"Note: the last act ({begun.act}, {time_of(begun)}) was cut off, and is not done; run it again.")
     return journal.acts_done(election.journal, files.sums)
 
 
@@ -111,49 +115,52 @@ def tell_edited(election: Election, files: Files, acts: list[Entry]) -> None:
     for before, found in itertools.pairwise(acts):
         if found.act == journal.FOUND and found.sums.ballots != before.sums.ballots:
             since = f"between {time_of(before)} ({before.act}) and {time_of(found)}"
-            print(f"Note: {election.ballots} was edited by hand {since}; what came is kept in {election.received}.")
+            tell(f"Note: {election.ballots} was edited by hand {since}; what came is kept in {election.received}.")
     for file in election.edited(files):
         kept = election.backup if file == election.poll else election.received
-        print(f"Note: {file} was edited by hand after the last act of debvote-election ({acts[-1].act}, {time_of(acts[-1])}).")
-        print(f"  Where you did not do this, find out who did; what debvote-election had is kept in {kept}.")
+        tell(f"Note: {file} was edited by hand after the last act of debvote-election ({acts[-1].act}, {time_of(acts[-1])}).")
+        tell(f"  Where you did not do this, find out who did; what debvote-election had is kept in {kept}.")
 
 
 def tell_secrecy(election: Election, files: Files) -> None:
     """Says that the vote is secret, and what is wrong with its codes."""
     if not election.is_secret():
         return
-    print("The vote is secret: ballots are published under aliases. What this command tells is for you alone.")
+    tell("The vote is secret: ballots are published under aliases. What this command tells is for you alone.")
+    gone = secret.copy_is_gone(election.codes, files.poll)
+    if gone is not None:
+        tell(f"Note: {gone.line()}")
     try:
         demand_own_folder(election)
         aliases_now(election, files.poll)
     except Fault as fault:
-        print(f"Note: {fault.words}")
+        tell(f"Note: {fault.words}")
 
 
 def tell_until(poll: bytes) -> None:
     """Says until when one can vote, where the poll says it, and whether that is over."""
     said = announced_in(poll)
     if said.until is not None:
-        print(f"Until when: {in_words(said.until)}{'; that is over' if announced.now() >= said.until else ''}")
+        tell(f"Until when: {in_words(said.until)}{'; that is over' if announced.now() >= said.until else ''}")
     elif said.words is not None:
-        print(f"Until when: {said.words}")
+        tell(f"Until when: {said.words}")
 
 
 def tell_stage(election: Election, acts: list[Entry], sheet: Sheet) -> None:
     """Says whether the election is called and closed."""
     call = journal.last(acts, called.MADE)
     if election.call.exists() or election.is_called():
-        print(f"Call for votes: made{f' at {time_of(call)}' if call else ''}")
+        tell(f"Call for votes: made{f' at {time_of(call)}' if call else ''}")
     else:
-        print("Call for votes: not made yet")
+        tell("Call for votes: not made yet")
     close = journal.last(acts, "close")
     last = sheet.last_envelope
     if close is not None:
-        print(f"Closed: at {time_of(close)}" + ("" if last is None else f"; the last envelope in time is {last}"))
+        tell(f"Closed: at {time_of(close)}" + ("" if last is None else f"; the last envelope in time is {last}"))
     elif last is not None:
-        print(f"Closed: not yet, but the poll says that the last envelope in time is {last}")
+        tell(f"Closed: not yet, but the poll says that the last envelope in time is {last}")
     else:
-        print("Closed: not yet")
+        tell("Closed: not yet")
 
 
 def what_next(election: Election, acts: list[Entry], state: State) -> str:
@@ -166,25 +173,31 @@ def what_next(election: Election, acts: list[Entry], state: State) -> str:
     return f"{command(election, 'count')}, then {command(election, *publish_words(election))}"
 
 
+def tell_waiting(election: Election, waiting: list[store.Kept]) -> None:
+    """Says how many letters wait."""
+    if waiting:
+        tell(f"Letters that wait until you have looked: {len(waiting)} ({command(election, 'held')} lists them)")
+
+
 # ---------------------------------------------------------------- lines and electors
 def tell_lines(state: State) -> None:
     """Says how many lines there are, and which of them are late."""
     totals = state.findings.totals
-    print(f"Lines: {totals.lines} ({totals.valid} valid, {totals.refused} refused, {totals.late} of them late)")
+    tell(f"Lines: {totals.lines} ({totals.valid} valid, {totals.refused} refused, {totals.late} of them late)")
     late = [finding.envelope for finding in state.findings.refused if finding.word == "late"]
     if late:
         which = f"envelope {late[0]}" if len(late) == 1 else f"envelopes {late[0]} to {late[-1]}"
-        print(f"Late, so that they count for nothing: {which}")
+        tell(f"Late, so that they count for nothing: {which}")
 
 
 def tell_electors(state: State) -> None:
     """Says who has no ballot yet."""
-    print(f"Electors with a ballot that stands: {len(state.standing)} of {len(state.roll)}")
-    if sys.stdout.isatty():
-        print(f"  {bar_of(len(state.standing), len(state.roll))}")
+    tell(f"Electors with a ballot that stands: {len(state.standing)} of {len(state.roll)}")
+    if shows():
+        tell(f"  {bar_of(len(state.standing), len(state.roll))}")
     if state.without:
-        print(f"Electors without one ({len(state.without)}):")
-        print_wrapped(state.without)
+        tell(f"Electors without one ({len(state.without)}):")
+        tell(in_lines(state.without))
 
 
 def bar_of(part: int, whole: int) -> str:
@@ -193,9 +206,9 @@ def bar_of(part: int, whole: int) -> str:
     return f"[{'#' * full}{'.' * (BAR - full)}] {part * 100 // whole} %"
 
 
-def print_wrapped(names: list[str]) -> None:
-    """Prints names with spaces between, in lines that a terminal shows whole."""
-    print(textwrap.fill(" ".join(names), WIDTH, initial_indent="  ", subsequent_indent="  ", break_on_hyphens=False))
+def in_lines(names: list[str]) -> str:
+    """Names with spaces between, in lines that a terminal shows whole."""
+    return textwrap.fill(" ".join(names), WIDTH, initial_indent="  ", subsequent_indent="  ", break_on_hyphens=False)
 
 
 def tell_refused(state: State) -> None:
@@ -223,10 +236,14 @@ def elector_of(line: bytes) -> str | None:
 
 def tell_findings(title: str, findings: list[Finding], lines: list[bytes]) -> None:
     """Tells refused lines, each with what debvote says of it."""
-    if not findings:
-        return
-    print(f"{title} ({len(findings)}):")
-    for finding in findings:
-        line = lines[finding.envelope - 1]
-        print(f"  line {finding.envelope}: {shown(line.decode('utf-8', 'backslashreplace')) or '(empty)'}")
-        print(f"    {finding.word}: {finding.hint}{plainly(line, finding)}")
+    if findings:
+        tell(f"{title} ({len(findings)}):", *(said for finding in findings for said in told_of(finding, lines)))
+
+
+def told_of(finding: Finding, lines: list[bytes]) -> tuple[str, str]:
+    """A refused line, and what debvote says of it."""
+    line = lines[finding.envelope - 1]
+    return (
+        f"  line {finding.envelope}: {shown_line(line) or '(empty)'}",
+        f"    {finding.word}: {finding.hint}{plainly(line, finding)}",
+    )

@@ -1,6 +1,6 @@
 use Rattle.std.proofs.Common.{◌≡◌, true, take}
 use Rattle.std.specs.List.{list_all}
-use Rattle.vote_poll.specs.PollFile.{is_integer_within}
+use Rattle.vote_poll.specs.PollValues.{is_integer_within}
 use Rattle.vote_poll.specs.declared.TheConstants.{MAX_RATIO}
 use Rattle.vote_poll.proofs.faults.are_ratios.Given as goal
 

@@ -5,12 +5,12 @@ use Rattle.std.proofs.lemmas.Option.{same_Some}
 use Rattle.std.specs.List.{before_first, after_first}
 use Rattle.std.specs.Option.{option_map}
 use Rattle.vote_poll.specs.Parsing.{kept_and_count, parts_in, voter_kept_and_count}
-use Rattle.vote_poll.specs.Readings.{is_space, named, ranks_in}
+use Rattle.vote_poll.specs.Readings.{is_space, ranks_in}
 use Rattle.vote_poll.specs.declared.TheConstants.{MAX_LINE}
 use Rattle.vote_poll.proofs.reading.parse.Goals as goal
 
 by_ranks : (voter before : List ℕ) (kept : List (Option ℕ)) (count : ℕ) (o : Option (List (Option ℕ))) → voter ≡ before → Some (kept, count) ≡ option_map kept_and_count o
-    → Some (voter, kept, count) ≡ option_map voter_kept_and_count (option_map (named before) o)
+    → Some (voter, kept, count) ≡ option_map voter_kept_and_count (option_map (λ rs. (before, rs)) o)
 by_ranks voter before kept count None same listed = cc
 by_ranks voter before kept count (Some ranks) same listed = ap₂ (λ (v : List ℕ) (p : List (Option ℕ) × ℕ). Some (v, p.0, p.1)) same (same_Some (kept, count) (kept_and_count ranks) listed)
 

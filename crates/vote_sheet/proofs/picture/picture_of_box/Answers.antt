@@ -6,9 +6,9 @@ use Rattle.vote_sheet.proofs.picture.picture_of_box.Goals as goal
 
 pub returns : goal.returns
 returns c =
-    let s : Sheet = as_sheet c.args.poll.now c.in_ok-count.count c.decide-decision.result in (
+    let s : Sheet = as_sheet c.in_ok-count.count c.decide-decision.result in (
       s,
-      c.in_ok-count.ensures.sheets c.args.casting c.decide-decision.result c.decide-decision.ensures.decision,
-      c.in_ok-push_picture.ensures ∙ ap (λ t. t ++ picture_text s) c.new-text.ensures.bytes,
+      c.in_ok-count.ensures.sheets.sheets c.args.casting c.decide-decision.result c.decide-decision.ensures.decision,
+      c.in_ok-push_picture.ensures ∙ ap (λ t. t ++ picture_text c.args.poll.now s) c.new-text.ensures.bytes,
       refl,
     )

@@ -1,9 +1,8 @@
-use Rattle.std.proofs.Common.{◌≡◌, ◌++◌, ◌∙◌, Bool, List, ap, append_assoc, string_bytes, sym}
+use Rattle.std.proofs.Common.{◌≡◌, ◌++◌, ◌∙◌, Bool, List, ap, append_assoc, string_bytes}
 use Rattle.std.proofs.lemmas.Result.{on_ok_weaker}
 use Rattle.vote_count.specs.Rounds.{final_set}
 use Rattle.vote_sheet.specs.Counted.{shared_text}
 use Rattle.vote_sheet.specs.Sheet.{Text, decision_text}
-use Rattle.vote_sheet.proofs.Parts.{sheet_parts}
 use Rattle.vote_sheet.proofs.sheet.push_sheet.Goals as goal
 
 pub returns : goal.returns
@@ -17,4 +16,4 @@ returns c =
     on_ok_weaker c.push_decision.result (λ (is : P). is
     ∙ ap (λ (set : List Bool). shared ++ decision_text poll.options set c.args.decision) c.final_set.ensures
     ∙ ap (λ t. t ++ last) c.in_ok-push_shared.ensures
-    ∙ append_assoc old (shared_text poll count) last ∙ ap (λ t. old ++ t) (sym (sheet_parts poll count c.args.decision))) c.push_decision.ensures
+    ∙ append_assoc old (shared_text poll count) last) c.push_decision.ensures

@@ -1,0 +1,113 @@
+"""What both programs say and ask: the one place that writes to standard output and standard error, and that reads an answer.
+
+No text that is told has a sign that steers a terminal (`signs.written`), but for what debvote wrote, which has none.
+"""
+
+import io
+import os
+import sys
+from typing import TextIO
+
+from debvote_tools.faults import Fault, Status
+from debvote_tools.signs import written
+
+
+class OutputFailed(Fault):
+    """Standard output takes nothing more. What was told before is done."""
+
+    def __init__(self, *, is_closed_pipe: bool = False) -> None:
+        super().__init__(None, "the output failed", "ask debvote-election status", Status.BAD_OUTPUT, "what was told is done")
+        # whoever reads the first lines alone, as `head` does, has what was asked for
+        self.is_closed_pipe = is_closed_pipe
+
+
+def prepare() -> None:
+    """Before anything is told: a sign that the terminal can't show is no reason to stop."""
+    if isinstance(sys.stdout, io.TextIOWrapper):
+        sys.stdout.reconfigure(errors="backslashreplace")
+
+
+def has_output() -> bool:
+    """Whether standard output was open when the program was started."""
+    return sys.stdout is not None
+
+
+def is_terminal() -> bool:
+    """Whether a person sits there, who sees what is told, and can answer."""
+    return sys.stdin is not None and sys.stdin.isatty() and shows()
+
+
+def shows() -> bool:
+    """Whether what is told is seen at a terminal."""
+    return sys.stdout is not None and sys.stdout.isatty()
+
+
+def tell(*lines: str) -> None:
+    """Writes lines to standard output, at once. Raises `OutputFailed`."""
+    tell_as_it_is("".join(f"{written(line)}\n" for line in lines))
+
+
+def tell_as_it_is(text: str) -> None:
+    """Writes to standard output, at once, what debvote wrote. Raises `OutputFailed`."""
+    if sys.stdout is None:
+        raise OutputFailed()
+    try:
+        write(sys.stdout, text)
+    except OSError as error:
+        raise OutputFailed(is_closed_pipe=isinstance(error, BrokenPipeError)) from None
+
+
+def tell_aside(*lines: str) -> None:
+    """Writes lines to standard error, at once. Where it takes nothing, the exit status says what there is to say."""
+    tell_aside_as_it_is("".join(f"{written(line)}\n" for line in lines))
+
+
+def tell_aside_as_it_is(text: str) -> None:
+    """Writes to standard error, at once, what debvote wrote there."""
+    if sys.stderr is None:
+        return
+    try:
+        write(sys.stderr, text)
+    except OSError:
+        pass
+
+
+def write(output: TextIO, text: str) -> None:
+    """Writes a text at once. Where this fails, what is left of it is dropped: else Python would try again as it ends, and end
+    with a status of its own."""
+    try:
+        output.write(text)
+        output.flush()
+    except OSError:
+        nowhere = os.open(os.devnull, os.O_WRONLY)
+        os.dup2(nowhere, output.fileno())
+        os.close(nowhere)
+        raise
+
+
+def failed(program: str, words: str | None, status: int) -> int:
+    """Says why a program did not come to its end, unless that is told, and gives its exit status."""
+    if words is not None:
+        tell_aside(f"{program}: {words}")
+    return status
+
+
+def typed(question: str) -> bytes | None:
+    """What is typed as the answer to a question, with its line end; none at the end of the input."""
+    tell_as_it_is(written(question))
+    line = sys.stdin.buffer.readline()
+    if not line:
+        tell("")
+    return line or None
+
+
+def is_yes(question: str, how: str) -> bool | None:
+    """Whether a question is answered with yes or no; none at the end of the input. To any other answer it says how to answer."""
+    while (answer := typed(f"{question} [y/n] ")) is not None:
+        word = answer.strip().lower()
+        if word in (b"y", b"yes"):
+            return True
+        if word in (b"n", b"no"):
+            return False
+        tell(how)
+    return None

@@ -1,0 +1,1 @@
+"""Ballots that come by letter: how letters are read, which line of one is a ballot, and where they are kept."""

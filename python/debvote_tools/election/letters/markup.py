@@ -1,0 +1,144 @@
+"""The text of a letter that has marks alone (HTML): its words, line by line, as a person reads them.
+
+Python's own reader of HTML takes a time that grows with the square of the length where marks have no end, and anybody may send such
+a letter; so the marks are parted here by one expression, which reads each sign once.
+"""
+
+import html
+import re
+
+# a comment, a declaration, a mark with its attributes, a sign that begins none of them, or a text; what has no end ends with the text
+TOKEN = re.compile(
+    r"""<!--.*?(?:-->|\Z)|<[!?][^>]*+(?:>|\Z)"""
+    r"""|<(?P<end>/?)(?P<tag>[a-zA-Z][a-zA-Z0-9:-]*+)(?P<given>(?:[^<>"']|"[^"<>]*+"|'[^'<>]*+')*+)>|(?P<text>[^<]++|<)""",
+    re.DOTALL,
+)
+ATTRIBUTE = re.compile(r"""(?P<name>[a-zA-Z-]++)(?:\s*=\s*(?:"(?P<double>[^"]*+)"|'(?P<single>[^']*+)'|(?P<bare>[^\s"'>]++)))?""")
+
+# each of them begins a line, and what stands behind its end begins one too
+BLOCKS = frozenset(
+    "address article aside blockquote body center dd div dl dt fieldset figure footer form h1 h2 h3 h4 h5 h6 header hr li main nav ol p "
+    "pre section table tbody tfoot thead tr ul".split()
+)
+CELLS = frozenset(("td", "th"))
+# what is not shown
+UNSEEN = frozenset(("head", "script", "style", "title", "template", "object", "svg", "math", "select", "textarea", "noscript"))
+# they have no end
+BARE = frozenset("area base br col embed hr img input link meta source track wbr".split())
+
+# what mail programs call the part in which they put the letter that is answered
+QUOTED = re.compile(
+    r"(?:^|\s)(?:gmail_quote|gmail_extra|yahoo_quoted|moz-cite-prefix|protonmail_quote|zmail_extra|OutlookMessageHeader)(?:\s|$)"
+)
+QUOTED_IDS = frozenset(
+    (
+        "divRplyFwdMsg",
+        "appendonsend",
+        "isForwardContent",
+        "isReplyContent",
+        "reply-intro",
+        "mail-editor-reference-message-container",
+    )
+)
+HIDDEN = re.compile(r"display\s*:\s*none|visibility\s*:\s*hidden|mso-hide\s*:\s*all", re.IGNORECASE)
+
+
+class Reader:
+    """Collects the lines. What is quoted gets the sign > before it, as mail programs write it in plain text."""
+
+    def __init__(self) -> None:
+        self.lines: list[str] = []
+        self.parts: list[str] = []
+        # the open elements, each with whether what is in it is quoted, is shown, and keeps its line ends
+        self.open: list[tuple[str, bool, bool, bool]] = []
+
+    def state(self) -> tuple[bool, bool, bool]:
+        """Whether what comes is quoted, is not shown, and keeps its line ends."""
+        return self.open[-1][1:] if self.open else (False, False, False)
+
+    def begin(self, tag: str, given: dict[str, str]) -> None:
+        """An element begins."""
+        if tag == "br":
+            self.end_line()
+            return
+        if tag in BLOCKS:
+            self.end_line()
+        elif tag in CELLS and self.parts:
+            self.parts.append(" ")
+        if tag in BARE:
+            return
+        was_quoted, is_unseen, is_kept = self.state()
+        is_quoted = was_quoted or is_quotation(tag, given)
+        if is_quoted != was_quoted:
+            self.end_line()
+        is_unseen = is_unseen or tag in UNSEEN or "hidden" in given or HIDDEN.search(given.get("style", "")) is not None
+        self.open.append((tag, is_quoted, is_unseen, is_kept or tag == "pre"))
+
+    def end(self, tag: str) -> None:
+        """An element ends."""
+        if tag in BLOCKS:
+            self.end_line()
+        # an end without a beginning is none; one of an outer element ends all in it
+        place = next(
+            (place for place in range(len(self.open) - 1, max(-1, len(self.open) - 50), -1) if self.open[place][0] == tag), None
+        )
+        if place is None:
+            return
+        if self.open[-1][1] != (place > 0 and self.open[place - 1][1]):
+            self.end_line()
+        del self.open[place:]
+
+    def text(self, data: str) -> None:
+        """A text comes."""
+        _, is_unseen, is_kept = self.state()
+        if is_unseen:
+            return
+        if not is_kept:
+            self.parts.append(re.sub(r"[ \t\r\n\f]+", " ", data))
+            return
+        first, *others = data.split("\n")
+        self.parts.append(first)
+        for line in others:
+            self.end_line()
+            self.parts.append(line)
+
+    def end_line(self) -> None:
+        """Ends the line, where there is something on it."""
+        text = "".join(self.parts).strip()
+        self.parts.clear()
+        if text:
+            self.lines.append(f"> {text}" if self.state()[0] else text)
+
+
+def attributes_of(text: str) -> dict[str, str]:
+    """The attributes of a mark."""
+    found: dict[str, str] = {}
+    for part in ATTRIBUTE.finditer(text):
+        value = next((part[kind] for kind in ("double", "single", "bare") if part[kind] is not None), "")
+        found.setdefault(part["name"].lower(), html.unescape(value))
+    return found
+
+
+def is_quotation(tag: str, given: dict[str, str]) -> bool:
+    """Whether an element holds what another has written."""
+    return (
+        tag == "blockquote"
+        or QUOTED.search(given.get("class", "")) is not None
+        or given.get("id", "").removeprefix("x_") in QUOTED_IDS
+    )
+
+
+def lines_of(text: str) -> list[str]:
+    """The lines of a text with marks."""
+    reader = Reader()
+    for token in TOKEN.finditer(text):
+        if token["text"] is not None:
+            reader.text(html.unescape(token["text"]))
+        elif token["tag"] is None:
+            continue
+        elif token["end"]:
+            reader.end(token["tag"].lower())
+        else:
+            reader.begin(token["tag"].lower(), attributes_of(token["given"]))
+    reader.end_line()
+    return reader.lines

@@ -1,0 +1,200 @@
+"""The letters of an election, as its folder keeps them: whole in received/letters, with a record for each act that is about them.
+
+A record holds where the journal has an act with its name that was done; one that a killed run has left is none. So the letters
+that are in, and those that wait, follow from the journal, and an act on letters is done whole or not at all, like all acts.
+"""
+
+import collections.abc
+import dataclasses
+import datetime
+import json
+import pathlib
+import re
+from collections.abc import Iterable
+from typing import Any
+
+from debvote_tools import journal
+from debvote_tools.election.folder import Election
+from debvote_tools.election.letters.message import Letter, Raw
+from debvote_tools.election.letters.reading import Near
+from debvote_tools.election.record import Files
+from debvote_tools.faults import Fault, Status
+from debvote_tools.files import take_away_temporaries, write_whole
+
+FOLDER = "letters"
+
+# how a file of letters ends, and a record
+LETTERS, RECORD = ".mbox", ".jsonl"
+
+# the acts that have a record of letters: some came, one that waited was entered or set aside, receipts were written
+CAME, ENTERED, SET_ASIDE, RECEIPTS = "letters", "enter", "set-aside", "receipts"
+
+# before each letter in a file of them
+BETWEEN = b"From debvote-election Thu Jan  1 00:00:00 1970\n"
+
+
+@dataclasses.dataclass(frozen=True)
+class Kept:
+    """A letter that came: its number, where it is kept, who sent it and when it arrived, and what became of it."""
+
+    number: int
+    where: str
+    file: str
+    start: int
+    size: int
+    message_id: str
+    text_sum: str
+    references: str
+    senders: list[str]
+    subject: str
+    arrived: str | None
+    # why it waits; none where its ballot is in
+    why: str | None
+    near: list[Near]
+    # its ballot, the number of its line in the letter, and its envelope; none where it waits
+    line: int | None = None
+    ballot: str | None = None
+    envelope: int | None = None
+    # the act that entered its ballot, by its place among the acts that were done; none where it waits
+    is_set_aside: bool = False
+    # whether a receipt was written for what became of it
+    has_receipt: bool = False
+
+    @property
+    def sender(self) -> str:
+        return ", ".join(address or "(unknown)" for address in self.senders) or "nobody"
+
+    @property
+    def waits(self) -> bool:
+        return self.why is not None and self.envelope is None and not self.is_set_aside
+
+    @property
+    def time(self) -> datetime.datetime | None:
+        return None if self.arrived is None else datetime.datetime.fromisoformat(self.arrived)
+
+    def when(self) -> str:
+        """When it arrived, in words."""
+        return "at a time that is not known" if self.time is None else f"{self.time:%Y-%m-%d %H:%M:%S} UTC"
+
+
+@dataclasses.dataclass
+class State:
+    """The letters by their numbers, in the order in which they came, and the number of the next one."""
+
+    letters: dict[int, Kept]
+    next: int
+
+    @property
+    def waiting(self) -> list[Kept]:
+        return [letter for letter in self.letters.values() if letter.waits]
+
+    def keys(self) -> set[tuple[str, str]]:
+        """By what each is known when it comes again."""
+        return {(letter.message_id, letter.text_sum) for letter in self.letters.values()}
+
+
+# ---------------------------------------------------------------- what the journal says
+def state_of(election: Election, files: Files) -> State:
+    """The letters as they are now. The caller holds the lock."""
+    acts = journal.acts_done(election.journal, files.sums)
+    state = State({}, 1)
+    # what each act that cast lines has changed of the letters, so that an act that takes its lines back can take this back, too
+    cast: list[dict[int, Kept | None]] = []
+    for act in acts:
+        if act.act == journal.UNDO:
+            for number, before in cast.pop().items() if cast else ():
+                if before is None:
+                    state.letters.pop(number, None)
+                else:
+                    state.letters[number] = before
+            continue
+        changed = changes_of(election, act, state)
+        if act.act in journal.CASTING:
+            cast.append({number: state.letters.get(number) for number in changed})
+        state.letters |= changed
+        state.next = max([state.next, *(number + 1 for number in changed)])
+    return state
+
+
+def changes_of(election: Election, act: journal.Entry, state: State) -> dict[int, Kept]:
+    """The letters that an act has brought or changed."""
+    if not act.record or not re.fullmatch(r"\d+", act.record):
+        return {}
+    changed: dict[int, Kept] = {}
+    for row in rows_of(folder_of(election) / f"{act.record}{RECORD}"):
+        number = int(row["number"])
+        if act.act in (CAME, "add"):
+            near = [Near(*found) for found in row.pop("near")]
+            changed[number] = Kept(**row, near=near)
+        elif number in state.letters:
+            changed[number] = dataclasses.replace(state.letters[number], **{key: row[key] for key in row if key != "number"})
+    return changed
+
+
+def rows_of(file: pathlib.Path) -> list[dict[str, Any]]:
+    """The rows of a record."""
+    try:
+        return [json.loads(line) for line in file.read_text("utf-8").splitlines()]
+    except (OSError, ValueError) as error:
+        why = error.strerror if isinstance(error, OSError) else "it can't be read"
+        cure = "put it back from a copy: the journal has an act on letters whose record this is"
+        raise Fault(file, why, cure, Status.DOUBT) from None
+
+
+# ---------------------------------------------------------------- what is kept
+def folder_of(election: Election) -> pathlib.Path:
+    return election.received / FOLDER
+
+
+def next_record(election: Election) -> str:
+    """The name of the next record. What killed runs have left half written is taken away."""
+    folder = folder_of(election)
+    election.received.mkdir(exist_ok=True)
+    folder.mkdir(exist_ok=True)
+    take_away_temporaries(folder)
+    numbers = [int(found[1]) for file in folder.iterdir() if (found := re.match(r"(\d+)[.-]", file.name))]
+    return f"{max(numbers, default=0) + 1:04}"
+
+
+def keep_letters(election: Election, record: str, name: str, letters: Iterable[Letter]) -> tuple[str, list[int]]:
+    """Keeps letters whole in a file, and returns its name, and where each begins in it."""
+    parts: list[Raw] = [letter.raw for letter in letters]
+    starts, place = [], 0
+    for raw in parts:
+        starts.append(place + len(BETWEEN))
+        place += len(BETWEEN) + raw.end - raw.start + 2
+    file = f"{record}-{name}{LETTERS}"
+    write_whole(folder_of(election) / file, pieces_of(parts))
+    return file, starts
+
+
+def pieces_of(parts: list[Raw]) -> collections.abc.Iterator[bytes | memoryview]:
+    """The bytes of a file of letters."""
+    for raw in parts:
+        yield BETWEEN
+        yield raw.source[raw.start : raw.end]
+        yield b"\n\n"
+
+
+def keep_record(election: Election, record: str, rows: Iterable[dict[str, object]]) -> None:
+    """Writes a record. It holds when the journal has the act with its name."""
+    data = "".join(json.dumps(row, ensure_ascii=True) + "\n" for row in rows)
+    write_whole(folder_of(election) / f"{record}{RECORD}", data.encode("ascii"))
+
+
+def row_of(letter: Kept) -> dict[str, object]:
+    """A letter as its record has it."""
+    row = dataclasses.asdict(letter)
+    return row | {"near": [[near.number, near.text, near.why] for near in letter.near]}
+
+
+def raw_of(election: Election, letter: Kept) -> Raw:
+    """A letter that was kept, whole."""
+    file = folder_of(election) / letter.file
+    try:
+        with open(file, "rb") as source:
+            source.seek(letter.start)
+            data = source.read(letter.size)
+    except OSError as error:
+        raise Fault(file, error.strerror, "put it back from a copy", Status.DOUBT) from None
+    return Raw(f"letter {letter.number}", memoryview(data), 0, len(data))

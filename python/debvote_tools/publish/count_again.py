@@ -1,0 +1,119 @@
+"""The part of the page that counts again in the browser, by recount.js, over the files that the page carries.
+
+Its sentences stand here, those of its script too. The script is given them, with places by name.
+"""
+
+import base64
+import json
+import re
+from html import escape
+
+from debvote_tools import pages
+from debvote_tools.pages import paragraph, part
+from debvote_tools.publish.calls import BALLOTS, POLL, SHEET
+from debvote_tools.publish.recounting import PACKAGE, SCRIPT
+
+HEADING = "Count again here"
+
+# in bytes; larger files are not carried by the page, and the reader chooses them. Those of a secret vote, which the finding of
+# one's own ballot needs too, never come to more: a poll has at most 1,048,576 bytes, and each of 10,000 ballots at most 129
+CARRIED_LIMIT = 4_000_000
+
+SAID = (
+    "Your browser can count the ballots anew, by a program of its own, and compare its sheet with the published one line by line, "
+    "and this page with its files. Nothing is sent."
+)
+SECOND = (
+    "That is a second opinion from the same web site: whoever can change this page can change this count too. For a third one, get "
+    "the files from this page and a program from elsewhere, or ask somebody who did: "
+    '<a href="#How-to-verify">How to verify</a> has the commands. No count shows whether the files are what the electors sent.'
+)
+NO_SCRIPT = "This browser runs no script here, so there is no button. Nothing else of the page needs one for this."
+TOO_LARGE = "The files are too large to be carried by this page: download them, and choose them here."
+
+BUTTON = "Count again here"
+LETTER = "The sum of the poll or of the ballots in a letter that came to you, to have it compared; it may be left out"
+FROM_DISK = "Count files from your own disk"
+FILES = f"{POLL}, {BALLOTS} and {SHEET}, as you got them from here or from another elector; without a sheet, that of this page is compared"
+BUTTON_FILES = "Count these files"
+PROGRESS = "How much of it is counted"
+
+# what the script says; a word in braces is a place
+SENTENCES = {
+    "counting": "Counting.",
+    "fault": "These files cannot be counted: {fault}.",
+    "no_secret_vote": "This is no secret vote as it is published: {why}. Tell it to the other electors.",
+    "same": "The same, line for line: this count comes to the published sheet, in all its {lines} lines.",
+    "differs": "Not the same: line {line} differs. The published sheet has: {given}. This count has: {counted}.",
+    "last": "This count ends with: {line}",
+    "casting": "The sheet has a casting vote for {option}. No count shows whose it was.",
+    "page_same": "This page shows what its files come to: the result, the table of votes, and each of the {ballots} ballots.",
+    "page_differs": "This page shows something else than its files come to: {where}. Tell it to the other electors.",
+    "the_result": "the result",
+    "the_votes": "the table of votes",
+    "the_ballot": "the ballot of {elector}",
+    "the_ballots": "the ballots, which are not as many",
+    "called_sum": "The sum of the poll, as your letter of the call has to have it, is {sum}.",
+    "poll_sum": "With its last envelope, {last}, as the letter of the result has to have it, it is {sum}.",
+    "ballots_sum": "The sum of the ballots, as the letter of the result has to have it, is {sum}.",
+    "sum_named": "This page names it too.",
+    "sum_not_named": "This page does not name it: the files are others than those from which it was made.",
+    "letter_same": "Yours is the same.",
+    "letter_other": (
+        "None of these is the sum that you typed. If it is that of the poll or of the ballots, and typed right, your letter speaks of "
+        "other files: ask for them. A page cannot make the sum of itself."
+    ),
+    "no_sums": "This browser makes no sums of a page that did not come by https. Compare them by the commands below.",
+    "second": "This was a second opinion, from the same web site as the page.",
+    "whole_sheet": "The whole sheet by this count",
+    "choose": f"Choose {POLL} and {BALLOTS}, by these names and one of each; {SHEET} may be with them.",
+    "unreadable": "A file that you chose cannot be read.",
+}
+
+STYLE = pages.resource(PACKAGE, "count_again.css")
+
+
+def count_again(files: dict[str, bytes]) -> str:
+    """The part. The files are those that are published, by their names."""
+    is_carried = len(files[POLL]) + len(files[BALLOTS]) <= CARRIED_LIMIT
+    of_page = f'<p><button id="Again-button" type="button">{BUTTON}</button></p>' if is_carried else paragraph(TOO_LARGE)
+    letter = field("Again-letter", LETTER, 'type="text" autocomplete="off" spellcheck="false"')
+    chosen = field("Again-files", FILES, 'type="file" multiple')
+    button = f'<p><button id="Again-chosen" type="button">{BUTTON_FILES}</button></p>'
+    opened = "" if is_carried else " open"
+    form = (
+        f'<div id="Again" hidden>\n{letter}\n{of_page}\n'
+        f'<progress id="Again-progress" max="1" value="0" aria-label="{PROGRESS}" hidden></progress>\n'
+        '<div id="Again-answer" role="status"></div>\n<div id="Again-more"></div>\n'
+        f"<details{opened}>\n<summary>{FROM_DISK}</summary>\n{chosen}\n{button}\n</details>\n</div>"
+    )
+    no_script = f'<p id="Again-no-script">{NO_SCRIPT}</p>'
+    return part(HEADING, paragraph(SAID), paragraph(SECOND), form, no_script)
+
+
+def field(name: str, label: str, kind: str) -> str:
+    return f'<div class="field">\n<label for="{name}">{label}</label>\n<input id="{name}" {kind}>\n</div>'
+
+
+def carried(files: dict[str, bytes]) -> str:
+    """The files, for the script; they stand at the end of the page, and nobody sees them. No elector has a name with a capital."""
+    shown = {"Poll-file": files[POLL], "Ballots-file": files[BALLOTS], "Sheet-file": files[SHEET]}
+    if len(files[POLL]) + len(files[BALLOTS]) > CARRIED_LIMIT:
+        shown = {"Sheet-file": files[SHEET]}
+    return "".join(as_block(name, data) for name, data in shown.items())
+
+
+def as_block(name: str, data: bytes) -> str:
+    """A file as a part of the page that the browser gives back byte for byte: as it is where it is plain, else in base 64.
+
+    A browser leaves out a line feed at the beginning, and changes carriage returns.
+    """
+    if re.fullmatch(rb"[\t\n\x20-\x7e]*", data):
+        return f'<pre id="{name}" hidden>\n{escape(data.decode("ascii"), quote=False)}</pre>\n'
+    return f'<pre id="{name}" data-as="base64" hidden>{base64.b64encode(data).decode("ascii")}</pre>\n'
+
+
+def script() -> str:
+    """The script: the count, its sentences, and what the buttons do."""
+    words = json.dumps(SENTENCES, indent=1).replace("<", "\\u003c")
+    return f"{pages.resource(PACKAGE, SCRIPT)}const WORDS = {words};\n{pages.resource(PACKAGE, 'count_again.js')}"

@@ -1,0 +1,189 @@
+"""`letters`: what goes to the electors, to whom, and that nothing from outside begins a line of a head."""
+
+import email
+import email.policy
+import pathlib
+import stat
+import sys
+
+import support
+from letters_support import MEMBERS, OTHER_RANKS, RANKS, LettersTest, letter
+
+sys.path.insert(0, str(support.ROOT / "python"))
+
+from debvote_tools.election.letters import mail  # noqa: E402
+
+
+class OutTest(LettersTest):
+    def setUp(self) -> None:
+        super().setUp()
+        (self.folder / "call").rmdir()
+        self.assertEqual(self.election("call", "--until-words", "soon", "--to", "vote@club.example").status, 0)
+
+    def written(self, kind: str, *words: object) -> dict[str, email.message.EmailMessage]:
+        """The letters of a kind that are written now, by their addresses."""
+        ended = self.election("letters", *words, kind)
+        self.assertEqual((ended.status, ended.faults), (0, ""), ended)
+        place = next((line.split(": ")[1] for line in ended.output.splitlines() if line.startswith("Wrote ")), None)
+        if place is None:
+            self.assertIn("There is no letter to write.\n", ended.output)
+            return {}
+        self.assertIn(f'Next: for letter in {place}/*.eml; do sendmail -t < "$letter"; done\n', ended.output)
+        files = sorted((self.folder / place).iterdir())
+        found = [email.message_from_bytes(file.read_bytes(), policy=email.policy.default) for file in files]
+        for message in found:
+            self.assertEqual((message["From"], message["X-Unsent"]), ("vote@club.example", "1"))
+            self.assertEqual(len(message.get_all("To")), 1)
+            self.assertTrue(message["Message-ID"].endswith("@club.example>"), message["Message-ID"])
+        return {message["To"].addresses[0].addr_spec: message for message in found}
+
+
+class Kinds(OutTest):
+    def test_the_call(self) -> None:
+        self.write("members.csv", MEMBERS.replace("Ada,", "Åda Ø <x>,").replace("ben@club.example", ""))
+        ended = self.election("letters", "call")
+        self.assertIn("No address in members.csv: ben.\nWrote 8 letters: letters/0001-call\n", ended.output)
+        found = self.written("call")
+        text = found["ada@club.example"].get_content()
+        self.assertIn("You vote under this name:\n\n  ada\n", text)
+        self.assertIn(self.read("call/call.txt").decode(), text)
+        self.assertIn("Send the line alone, without anything else", text)
+        self.assertEqual(found["ada@club.example"]["To"].addresses[0].display_name, "Åda Ø <x>")
+        self.assertEqual(found["ada@club.example"]["Subject"], "Vote: Where we meet in spring")
+
+    def test_receipts(self) -> None:
+        self.added(
+            letter("ada", f"Ada: {RANKS}.\n", head="References: <0@x.example> nonsense\n"),
+            letter("ben", "ben 1,2\n"),
+            letter("cleo", f"dan {RANKS}\n"),
+            letter("eve", f"eve {RANKS}\n", sender="stranger@x.example"),
+            letter("fay", "away\n", head="Auto-Submitted: auto-replied\n"),
+        )
+        found = self.written("receipts")
+        # to nobody whose address is not in the list, and to no program
+        self.assertEqual(sorted(found), ["ada@club.example", "ben@club.example", "cleo@club.example"])
+        ada = found["ada@club.example"]
+        self.assertEqual((ada["In-Reply-To"], ada["References"]), ("<1.ada@mail.example>", "<0@x.example> <1.ada@mail.example>"))
+        text = " ".join(ada.get_content().split())
+        self.assertIn(
+            f"Your ballot has come. It is number 1 of all lines that came. It was read as: ada {RANKS} In words: At the lake, then ",
+            text,
+        )
+        text = " ".join(found["ben@club.example"].get_content().split())
+        self.assertIn("The reason: no line of it, above what is quoted, is a ballot of this vote.", text)
+        self.assertIn("For example: ben 1,2,3,4", text)
+        text = " ".join(found["cleo@club.example"].get_content().split())
+        self.assertIn("The reason: the name on the ballot is not that of the sender by the list of members.", text)
+        self.assertNotIn("dan@club.example", text)
+        # once
+        self.assertEqual(self.written("receipts"), {})
+        self.added(letter("ben", f"ben {RANKS}\n", number=2), name="two")
+        self.assertEqual(sorted(self.written("receipts")), ["ben@club.example"])
+        # one that waited, and is entered now
+        self.assertEqual(self.election("held", 3, "--enter", 1).status, 0)
+        self.assertEqual(sorted(self.written("receipts")), ["cleo@club.example"])
+        output = self.election("undo").output
+        self.assertIn(
+            "Receipts were written already that do not hold any more; write to these:\n  letter 3, cleo@club.example: envelope 3\n",
+            output,
+        )
+
+    def test_an_answer_to_a_letter_is_no_ballot(self) -> None:
+        """Whoever quotes one of these letters without marks votes by it no second time."""
+        self.added(letter("ada", f"ada {RANKS}\n"), letter("ben", "ben 1,2\n"))
+        texts = [message.get_content() for kind in ("receipts", "reminders", "call") for message in self.written(kind).values()]
+        self.assertGreater(len(texts), 15)
+        self.added(*(letter("ada", text, number=number) for number, text in enumerate(texts, start=10)), name="answers")
+        self.assertEqual(self.lines(), [f"ada {RANKS}"])
+
+    def test_reminders(self) -> None:
+        self.election("add", given=f"ada {RANKS}\nben 1,2\n")
+        found = self.written("reminders")
+        self.assertEqual(len(found), 8)
+        self.assertNotIn("ada@club.example", found)
+        text = " ".join(found["ben@club.example"].get_content().split())
+        self.assertIn("Until when: soon Send your ballot to: vote@club.example", text)
+        self.assertEqual(self.election("close").status, 0)
+        self.assert_fault(self.election("letters", "reminders"), 9, "reminders: the vote is closed; nothing was written: ")
+
+    def test_the_result(self) -> None:
+        self.assert_fault(self.election("letters", "result"), 2, "--at: it is missing; nothing was written: ")
+        self.assert_fault(
+            self.election("letters", "result", "--at", "x"), 9, "result/letter.txt: No such file or directory; nothing was "
+        )
+        self.election("add", given="".join(f"{name} {RANKS}\n" for name in ("ada", "ben", "cleo")))
+        self.assertEqual(self.election("close").status, 0)
+        self.assertEqual(self.election("publish").status, 0)
+        text = self.written("result", "--at", "https://club.example/vote")["hal@club.example"].get_content()
+        self.assertIn("  https://club.example/vote\n", text)
+        self.assertIn("Winner: 1 At the lake\n", text)
+        self.assertIn("under your name: hal.", " ".join(text.split()))
+
+    def test_one_mbox(self) -> None:
+        ended = self.election("letters", "--mbox", "call")
+        self.assertIn("Wrote 9 letters: letters/0001-call.mbox\n", ended.output)
+        self.assertEqual(self.read("letters/0001-call.mbox").count(b"\nTo: "), 9)
+
+    def test_an_address_that_is_missing(self) -> None:
+        self.assertEqual(self.election("call", "--take-back").status, 0)
+        self.write("poll.toml", support.POLL)
+        self.assertEqual(self.election("call").status, 0)
+        self.assert_fault(self.election("letters", "call"), 2, "--from: the call names no address; nothing was written: ")
+        self.assert_fault(self.election("letters", "--from", "a b", "call"), 2, "--from: it has to be one mail address, ")
+        self.assertEqual(self.election("letters", "--from", "vote@x.example", "call").status, 0)
+
+
+class Secret(LettersTest):
+    def test_codes_and_ranks_stay_private(self) -> None:
+        (self.folder / "call").rmdir()
+        self.assertEqual(self.election("codes").status, 0)
+        self.assertEqual(self.election("call", "--to", "vote@club.example").status, 0)
+        self.added(letter("ada", f"ada {RANKS}\n"), letter("ben", f"ben {RANKS}\nben {OTHER_RANKS}\n"))
+        self.assertEqual(self.election("letters", "call").status, 0)
+        self.assertEqual(self.election("letters", "receipts").status, 0)
+        self.assertEqual(self.election("letters", "--mbox", "call").status, 0)
+        self.assertFalse((self.folder / "letters").exists())
+        place = self.folder / "private" / "letters"
+        for file in (place, *place.rglob("*")):
+            self.assertEqual(stat.S_IMODE(file.stat().st_mode), 0o700 if file.is_dir() else 0o600, file)
+        codes = {row.split(",")[0]: row.split(",")[3] for row in self.read("private/codes.csv").decode().splitlines()[1:]}
+        self.assertIn(codes["ada"], self.only(place / "0001-call", "ada"))
+        self.assertNotIn(codes["ben"], self.only(place / "0001-call", "ada"))
+        for name in ("ada", "ben"):
+            text = self.only(place / "0002-receipts", name)
+            self.assertNotIn(RANKS, text)
+            self.assertNotIn(OTHER_RANKS, text)
+            self.assertNotIn("At the lake, then", text)
+
+    def only(self, folder: pathlib.Path, name: str) -> str:
+        """The text of the letter to an elector."""
+        (file,) = folder.glob(f"*-{name}.eml")
+        return email.message_from_bytes(file.read_bytes(), policy=email.policy.default).get_content()
+
+
+class Heads(LettersTest):
+    def test_nothing_begins_a_line_of_a_head(self) -> None:
+        evil = "x\r\nBcc: evil@x.example\n\nbody\u2028\u202e\x1b"
+        found = mail.message_of(
+            mail.Mail("a", evil, "ada@club.example", evil, "text\n", f"<1@x>{evil}", f"<2@x> {evil} <3@x>"), "vote@club.example"
+        )
+        message = email.message_from_bytes(found, policy=email.policy.default)
+        names = ["From", "To", "Subject", "Date", "Message-ID", "In-Reply-To", "References", "X-Unsent", "Auto-Submitted"]
+        self.assertEqual(message.keys()[: len(names)], names)
+        self.assertNotIn("Bcc", message)
+        self.assertEqual(message.get_content(), "text\n")
+        self.assertEqual([address.addr_spec for address in message["To"].addresses], ["ada@club.example"])
+        self.assertEqual((message["In-Reply-To"], message["References"]), ("<1@x>", "<2@x> <3@x> <1@x>"))
+
+    def test_addresses_that_are_none(self) -> None:
+        for text in ("", "a", "a@b@c", "a b@c", "a@b\n", "a@b,c@d", "<a@b>", "ä@b.c", "a@b\r\nBcc: c@d"):
+            self.assertFalse(mail.is_address(text), text)
+        self.assertTrue(mail.is_address("anna+x@club.example"))
+
+    def test_words_in_any_language(self) -> None:
+        text = "Grüße, 選挙\n" + "x" * 300 + "\n"
+        found = mail.message_of(mail.Mail("a", "安娜", "a@b.example", "Où", text), "v@b.example")
+        self.assertTrue(found.isascii())
+        self.assertLess(max(map(len, found.split(b"\n"))), 999)
+        message = email.message_from_bytes(found, policy=email.policy.default)
+        self.assertEqual((message["Subject"], message["To"].addresses[0].display_name, message.get_content()), ("Où", "安娜", text))

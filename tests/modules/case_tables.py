@@ -1,0 +1,96 @@
+"""Tables of cases: a file of TOML, in which each table is a case, so that cases of one subject stand side by side.
+
+    command = "explain"     what each case runs
+    poll = "title = .."     the poll of each case that has none of its own
+
+    [NAME]
+    about = "What the case shows."
+    poll = ".."
+    ballots = ".."
+    stdout = ".."
+    stderr = ".."
+    status = 9
+
+What `about` says is the first line of the poll file too, behind `# `. The command is run on the files poll.toml and ballots, or on
+poll.toml alone where a case has no ballots. A text that is missing is empty, and a missing status is 0.
+"""
+
+import pathlib
+import tomllib
+from dataclasses import dataclass
+
+POLL, BALLOTS = "poll.toml", "ballots"
+
+
+@dataclass
+class Row:
+    """A case of a table: its files, and what the program is to answer."""
+
+    command: str
+    about: str | None
+    poll: str
+    ballots: str | None
+    stdout: str = ""
+    stderr: str = ""
+    status: int = 0
+
+    def words(self) -> list[str]:
+        """The words of the command line."""
+        return [self.command, "--poll", POLL, *([] if self.ballots is None else ["--ballots", BALLOTS])]
+
+    def files(self) -> dict[str, bytes]:
+        """The files that the program reads, by their names."""
+        head = "" if self.about is None else f"# {self.about}\n"
+        files = {POLL: (head + self.poll).encode()}
+        return files if self.ballots is None else files | {BALLOTS: self.ballots.encode()}
+
+
+def read_table(file: pathlib.Path) -> dict[str, Row]:
+    """The cases of a table, by their names."""
+    table = tomllib.loads(file.read_bytes().decode())
+    given = {"command": table.pop("command"), "about": None, "poll": table.pop("poll", ""), "ballots": None}
+    return {name: Row(**given | row) for name, row in table.items()}
+
+
+def written(text: str) -> str:
+    """A text as TOML has it: on lines of its own, and as it is, where no sign in it has to be spelled."""
+    start = "\n" if "\n" in text else ""
+    if start and "'''" not in text and not text.endswith("'") and all(sign.isprintable() or sign == "\n" for sign in text):
+        return f"'''{start}{text}'''"
+    quotes = '"""' if start else '"'
+    return quotes + start + "".join(map(spelled, text)) + quotes
+
+
+def spelled(sign: str) -> str:
+    """A sign within quotes."""
+    known = {"\\": "\\\\", '"': '\\"', "\r": "\\r", "\t": "\\t", "\n": "\n"}
+    if sign in known:
+        return known[sign]
+    return sign if sign.isprintable() else f"\\U{ord(sign):08X}" if ord(sign) > 0xFFFF else f"\\u{ord(sign):04X}"
+
+
+def rewrite(file: pathlib.Path, name: str, stdout: str, stderr: str, status: int) -> None:
+    """Writes a table anew, in which one case wants another answer; the comments at its top stay."""
+    rows = read_table(file)
+    rows[name].stdout, rows[name].stderr, rows[name].status = stdout, stderr, status
+    lines = file.read_text().splitlines(keepends=True)
+    head = next((place for place, line in enumerate(lines) if not line.startswith("#")), len(lines))
+    write_table(file, rows, "".join(lines[:head]))
+
+
+def write_table(file: pathlib.Path, rows: dict[str, Row], comment: str = "") -> None:
+    """Writes a table of one command; the poll that most cases have stands once, at its top."""
+    (command,) = {row.command for row in rows.values()}
+    polls = [row.poll for row in rows.values()]
+    most = max(polls, key=polls.count)
+    shared = most if polls.count(most) > 1 else None
+    parts = [comment, f"command = {written(command)}\n" + ("" if shared is None else f"poll = {written(shared)}\n")]
+    for name, row in rows.items():
+        lines = [f"[{name}]"]
+        lines += [] if row.about is None else [f"about = {written(row.about)}"]
+        lines += [f"poll = {written(row.poll)}"] if row.poll != (shared or "") else []
+        lines += [] if row.ballots is None else [f"ballots = {written(row.ballots)}"]
+        lines += [f"{part} = {written(getattr(row, part))}" for part in ("stdout", "stderr") if getattr(row, part)]
+        lines += [f"status = {row.status}"] if row.status else []
+        parts.append("\n".join(lines) + "\n")
+    file.write_bytes("\n".join(part for part in parts if part).encode())

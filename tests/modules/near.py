@@ -1,0 +1,40 @@
+#!/usr/bin/env python3
+"""Names that are not there: which there are that are near, or how to list them.
+
+    tests/modules/near.py crate NAME    ends with 0 where crates.txt has the crate, else says what is near, and ends with 1
+"""
+
+import difflib
+import pathlib
+import sys
+from collections.abc import Iterable
+
+ROOT = pathlib.Path(__file__).resolve().parent.parent.parent
+
+
+def crates() -> list[str]:
+    """The names of all crates, lowest first."""
+    lines = [line.partition("#")[0] for line in (ROOT / "crates.txt").read_text().splitlines()]
+    return [line.partition(":")[0].split()[0] for line in lines if line.strip()]
+
+
+def words_of_missing(kind: str, name: str, names: Iterable[str], listed_by: str) -> str:
+    """What is said of a name that is not there: names that are near, or have it as a part, or else how to list all."""
+    names = list(names)
+    near = [known for known in names if name and name in known][:5] or difflib.get_close_matches(name, names, n=5, cutoff=0.45)
+    said = f"there is no {kind} {name}" if name else f"say which {kind}"
+    return f"{said}; near are {', '.join(near)}" if near else f"{said}; {listed_by} lists them"
+
+
+def main() -> int:
+    if len(sys.argv) != 3 or sys.argv[1] != "crate":
+        print(__doc__.strip())
+        return 2
+    if sys.argv[2] in crates():
+        return 0
+    print(words_of_missing("crate", sys.argv[2], crates(), "crates.txt"), file=sys.stderr)
+    return 1
+
+
+if __name__ == "__main__":
+    sys.exit(main())

@@ -1,0 +1,117 @@
+"""The folders and the pages of examples, of cases, and of an election whose names are made to hurt a page.
+
+In each folder the files must be what the program writes, with their sums; reading.py and data.py say what must stand on the page.
+"""
+
+import hashlib
+import re
+
+import browser
+import data
+import elections
+import reading
+import slips
+import support
+
+# the files of a folder, but for picture and sums
+FILES = {"poll.toml", "ballots.txt", "sheet.txt", "standing.txt", "result.json", "votes.csv", "recount.py", "index.html"}
+FILES |= {"READING-A-SHEET.md", "letter.txt", "recount.js"}
+
+
+def try_folder(expect, name, poll, ballots, more, folder):
+    """The files of a folder: the inputs, what the program writes of them, and their sums."""
+    even_so = ["--even-so"] if name in elections.DOUBTFUL else []
+    files = ["--poll", poll, "--ballots", ballots]
+    sheet, _, wanted = support.run([support.PROGRAM, "count", *files, *more])
+    is_tie = " " in re.findall(r"(?m)^Round \d+: (.*)$", sheet)[-1]
+    cast = support.CAST if is_tie and more else []
+    output, faults, status = support.publish_files(poll, ballots, folder, "--desks", "3", *more, *cast, *even_so)
+    expect(f"{name}: its status", (status, faults if support.HAS_PICTURES else ""), (wanted, ""))
+    if not folder.exists():
+        return False
+    verified = support.run([support.PROGRAM, "verify", *files, "--sheet", folder / "sheet.txt"])[0]
+    expect(f"{name}: what is said", output, sheet.splitlines()[-1] + "\n" + verified)
+    texts = [(folder / file).read_bytes() for file in ("poll.toml", "ballots.txt", "sheet.txt", "standing.txt")]
+    standing = support.run([support.PROGRAM, "standing", *files])[0]
+    expect(f"{name}: its files", texts, [poll.read_bytes(), ballots.read_bytes(), sheet.encode(), standing.encode()])
+    guide = (folder / "READING-A-SHEET.md").read_bytes()
+    expect(f"{name}: its guide", guide, (support.ROOT / "docs" / "READING-A-SHEET.md").read_bytes())
+    found = {file.name: hashlib.sha256(file.read_bytes()).hexdigest() for file in folder.iterdir() if file.name != "SHA256SUMS"}
+    sums = dict(reversed(line.split("  ")) for line in (folder / "SHA256SUMS").read_text().splitlines())
+    expect(f"{name}: its sums", sums, found)
+    pictures = {"picture.svg"} if support.HAS_PICTURES else set()
+    expect(f"{name}: its names", set(found), FILES | pictures)
+    modes = {file.stat().st_mode & 0o777 for file in folder.iterdir()}
+    expect(f"{name}: it can be read by all", (folder.stat().st_mode & 0o777, modes), (0o755, {0o644}))
+    return True
+
+
+def try_recasts_and_a_last_envelope(expect, scratch):
+    """The words for electors who voted again, and for a poll that has got its last envelope since the call."""
+    room = scratch / "recasts"
+    room.mkdir()
+    called = slips.PLAIN_POLL.encode()
+    for ends, ballots, last, said in [
+        ("plain", "ada 1,2,3\n", "", ""),
+        ("one", "ada 1,2,3\nada 2,1,3\n", "last_envelope = 2\n", "1 voter has 2 valid lines: electors who voted again "),
+        ("late", "ada 1,2,3\nben 2,1,3\nada 2,1,3\nben 1,2,3\n", "last_envelope = 3\n", "2 voters have 3 valid lines: electors who"),
+    ]:
+        (room / "poll.toml").write_bytes(called + last.encode())
+        (room / "ballots").write_text(ballots)
+        found = support.publish_files(room / "poll.toml", room / "ballots", room / ends)
+        expect(f"{ends}: its status", found[2], 0)
+        reading.try_page(expect, ends, room / ends)
+        page = (room / ends / "index.html").read_text()
+        expect(f"{ends}: its words", (said in page, "voted again" in page), (True, bool(said)))
+        is_told = "The sum of the poll without the lines that it got after the call. Compare it with the one" in page
+        expect(f"{ends}: the sum of the call", (is_told, hashlib.sha256(called).hexdigest() + "  -" in page), (bool(last),) * 2)
+
+
+class FoldersTest(support.PublishTest):
+    @classmethod
+    def setUpClass(cls):
+        super().setUpClass()
+        cls.facts = []
+        published = support.side_by_side(cls.publish, elections.elections(cls.scratch))
+        cls.castings = {folder: casting for folder, casting in published if folder.exists()}
+        cls.folders = list(cls.castings)
+
+    @classmethod
+    def publish(cls, election):
+        """Publishes an election, notes what is to be said of its files, and returns its folder and what the casting vote is for."""
+        name, poll, ballots, more = election
+        try_folder(lambda *fact: cls.facts.append(fact), name, poll, ballots, more, cls.scratch / name)
+        return cls.scratch / name, more[-1].removeprefix("--casting=") if more else None
+
+    def test_files(self):
+        self.assertGreater(len(self.folders), len(elections.CASES))
+        for fact in self.facts:
+            self.expect(*fact)
+
+    def test_pages(self):
+        for folder in self.folders:
+            reading.try_page(self.expect, folder.name, folder)
+
+    def test_parts_of_pages(self):
+        for folder, casting in self.castings.items():
+            data.try_published(self.expect, folder.name, folder, casting)
+
+    def test_recasts_and_a_last_envelope(self):
+        try_recasts_and_a_last_envelope(self.expect, self.scratch)
+
+    @browser.NEEDS_TIDY
+    def test_tidy(self):
+        browser.try_tidy(self.expect, self.folders)
+
+    @browser.NEEDS_BROWSER
+    def test_browser(self):
+        browser.try_pages(self.expect, self.folders, self.scratch)
+
+    @browser.NEEDS_BROWSER
+    def test_bars(self):
+        browser.try_bars(self.expect, self.folders[:8], self.scratch)
+
+    @browser.NEEDS_BROWSER
+    @browser.NEEDS_PICTURES
+    def test_pictures(self):
+        browser.try_pictures(self.expect, self.folders, self.scratch, {True, False})

@@ -1,0 +1,81 @@
+"""What the tests of debvote-publish share: a folder for each test, and the programs, which run as a user runs them."""
+
+import concurrent.futures
+import os
+import pathlib
+import shutil
+import subprocess
+import sys
+import tempfile
+
+import expecting
+
+ROOT = pathlib.Path(__file__).resolve().parent.parent.parent
+PROGRAM = ROOT / "crates" / "debvote" / "out" / "debvote"
+PUBLISH = ROOT / "bin" / "debvote-publish"
+CASES = ROOT / "tests" / "cases"
+EXAMPLES = ROOT / "examples"
+PATH = os.pathsep.join([str(PROGRAM.parent), os.environ["PATH"]])
+
+# what a run says where Graphviz is not installed, and so of this machine
+HAS_PICTURES = shutil.which("dot") is not None
+NO_PICTURE = "debvote-publish: no picture: Graphviz (its program dot) is not installed\n"
+
+# a run that has not ended by then hangs: far more than any takes beside other work
+SECONDS = 600
+
+# what the page of the largest election comes to at most, in bytes; 1.3 million of them are its poll and its ballots, which it
+# carries to have them counted again
+LARGEST_PAGE = 7_000_000
+
+# whose the casting vote was, where one decides
+CAST = ["--cast-by", "Anna <b>", "--cast-on", "2026-12-05"]
+
+# the two files of an election, in its folder
+FILES = ["--poll", "poll.toml", "--ballots", "ballots"]
+
+
+def demand_program():
+    """Ends the tests where there is no program to be asked."""
+    if not PROGRAM.exists():
+        sys.exit(f"{PROGRAM} is not there: make build proves and builds it")
+
+
+def run(words, path=PATH, **how):
+    """What a run says, and its status."""
+    given = {"capture_output": True, "text": True, "timeout": SECONDS, "env": {**os.environ, "PATH": path}}
+    ended = subprocess.run(list(map(str, words)), **given, **how)
+    return ended.stdout, ended.stderr, ended.returncode
+
+
+def publish(room, *words, **how):
+    """What debvote-publish says in a folder, but for a picture that can't be drawn on this machine, and its status."""
+    output, faults, status = run([sys.executable, PUBLISH, *words], cwd=room, **how)
+    return output, faults if HAS_PICTURES else faults.removesuffix(NO_PICTURE), status
+
+
+def publish_files(poll, ballots, folder, *more, **how):
+    """What debvote-publish says of these files, and its status."""
+    return run([sys.executable, PUBLISH, "--poll", poll, "--ballots", ballots, *more, folder], **how)
+
+
+def room_with(folder, example):
+    """A folder with the two files of an example."""
+    folder.mkdir(parents=True)
+    for name in ("poll.toml", "ballots"):
+        (folder / name).write_bytes((EXAMPLES / example / name).read_bytes())
+    return folder
+
+
+def side_by_side(function, items):
+    """What a function that runs programs returns for each of some items, as many at once as there are processors."""
+    with concurrent.futures.ThreadPoolExecutor(len(os.sched_getaffinity(0))) as pool:
+        return list(pool.map(function, items))
+
+
+class PublishTest(expecting.Expecting):
+    """Tests with a folder for them all, in which each makes those of its own names."""
+
+    @classmethod
+    def setUpClass(cls):
+        cls.scratch = pathlib.Path(cls.enterClassContext(tempfile.TemporaryDirectory(prefix="debvote-publish-")))

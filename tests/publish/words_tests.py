@@ -1,0 +1,41 @@
+"""The words for a ballot and for a share, which are written down here one by one."""
+
+import sys
+
+import expecting
+import support
+
+sys.path.append(str(support.ROOT / "python"))
+
+from debvote_tools.ballots import in_words  # noqa: E402
+from debvote_tools.publish.result import share  # noqa: E402
+
+
+def try_ballots_in_words(expect):
+    """What other commands say of a ballot: equal options and unranked ones are told from the others."""
+    names = ["At the lake", "In the town hall", "Sell the house", "Further discussion"]
+    for ranks, wanted in [
+        ("1,2,3,4", "At the lake, then In the town hall, then Sell the house, then Further discussion"),
+        ("10,2,99,1", "Further discussion, then In the town hall, then At the lake, then Sell the house"),
+        ("2,1,1,3", "In the town hall and Sell the house equally, then At the lake, then Further discussion"),
+        ("5,5,5,5", "At the lake, In the town hall, Sell the house and Further discussion equally"),
+        ("1,-,-,2", "At the lake, then Further discussion; not ranked, and so behind all others: In the town hall and Sell the house"),
+        ("-,-,-,-", "no option is ranked, so nothing is preferred"),
+    ]:
+        expect(f"{ranks} in words", in_words(ranks, names), wanted)
+
+
+def try_shares(expect):
+    """How many have voted, in per cent: none alone is 0, all alone are 100, and it is rounded."""
+    wanted = {(0, 10_000): "0 %", (1, 10_000): "0.1 %", (9_999, 10_000): "99.9 %", (10_000, 10_000): "100 %"}
+    wanted |= {(1, 3): "33.3 %", (2, 3): "66.7 %", (1, 8): "12.5 %", (1, 400): "0.3 %", (80, 100): "80 %", (1, 1): "100 %"}
+    for (voters, electors), words in wanted.items():
+        expect(f"{voters} of {electors}", share(voters, electors), words)
+
+
+class WordsTest(expecting.Expecting):
+    def test_ballots_in_words(self):
+        try_ballots_in_words(self.expect)
+
+    def test_shares(self):
+        try_shares(self.expect)
