@@ -1,5 +1,5 @@
 -- The exit status that the program answers to its words.
-use Rattle.std.specs.Prelude.{◌≡◌, ◌<◌, ◌⊎◌, ℕ, List, None, length}
+use Rattle.std.specs.Prelude.{◌≡◌, ◌<◌, ◌⊎◌, ℕ, List, None, drop, length}
 use Rattle.std.proofs.Common.{Bor}
 use Rattle.vote_job_words.specs.Words.{texts_of}
 use Rattle.vote_job_words.specs.declared.OrderFault.{OrderFault}
@@ -17,6 +17,8 @@ abbrev pub Answers : List (Bor (List ℕ)) → ℕ → Type 0
 Answers words answered =
     (written : Written) × (length words ≡ 0 → AnswersJoined None written answered) × (0 < length words → AnswersWorded (λ name. None) (texts_of words) written answered)
 
--- this is answered to the words that the system gave, whichever they are; or there is no memory for them
-abbrev pub AnswersAny : ℕ → Type 0
-AnswersAny answered = ((words : List (Bor (List ℕ))) × Answers words answered) ⊎ (answered ≡ order_status Memory)
+-- this is answered to the words of a run, the first of which is the program's name: those after it are answered, or there is no
+-- memory for them
+abbrev pub AnswersRun : List (List ℕ) → ℕ → Type 0
+AnswersRun given answered =
+    ((words : List (Bor (List ℕ))) × (texts_of words ≡ drop 1 given) × Answers words answered) ⊎ (answered ≡ order_status Memory)

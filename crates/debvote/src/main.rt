@@ -10,10 +10,11 @@
 //! `vote_job_files`, which answers them.
 #![tactic(auto)]
 
-ghost use Rattle.std.specs.Prelude.{◌≡◌, IfErr};
-ghost use Rattle.debvote.specs.Program.{Answers, AnswersAny, AreNotGiven};
+ghost use Rattle.std.specs.Prelude.{◌≡◌, IfErr, IfOk, drop, map, string_bytes};
+ghost use Rattle.vote_job_words.specs.Words.{texts_of};
+ghost use Rattle.debvote.specs.Program.{Answers, AnswersRun, AreNotGiven};
 
-use std::alloc::AllocError;
+use std::alloc::{AllocError, Global};
 use std::io::{ErrorKind, IsTerminal};
 use std::marker::Brand;
 use std::process::ExitCode;
@@ -26,12 +27,12 @@ use vote_files::{Meter, SystemSources, WriterSink};
 use vote_job_files::{answer, refuse};
 use vote_job_words::OrderFault;
 
-/// The words after the program's name, as the system gives them: which they are, no contract of std says.
+/// The words of the run, the first of which is the program's name, as the system gives them: which they are, no contract of std says.
 fn words_given<R: Env + AllocGlobal>(rt: &R) -> Result<Vec<String>, OrderFault>
     ensures { IfErr result AreNotGiven }
 {
     match env::args(rt) {
-        Ok(args) => Ok(args.skip(1).collect(rt.alloc())?),
+        Ok(args) => Ok(args.collect(rt.alloc())?),
         Err(error) if error.kind() == ErrorKind::InvalidData => Err(OrderFault::NotUtf8),
         Err(_) => Err(OrderFault::Memory),
     }
@@ -54,19 +55,36 @@ fn run_metered<R: Files + Input + Print + Eprint + AllocGlobal + Threads + Wait 
     answer(rt, &SystemSources::new(rt), words, at_terminal, &mut sink)
 }
 
-/// Answers the words that the system gave, and gives the exit status.
+/// The words after the program's name.
+fn after_name(given: &[String]) -> &[String]
+    ensures { result.now ≡ drop 1 given.now }
+{
+    match given.split_first() {
+        Some((_, words)) => words,
+        None => given,
+    }
+}
+
+/// The words, borrowed.
+fn borrowed<'a>(alloc: Global, words: &'a [String]) -> Result<Vec<&'a str>, AllocError>
+    ensures { IfOk result (λ all. texts_of all.items ≡ map string_bytes words.now) }
+{
+    let mut all = Vec::new(alloc);
+    for word in words {
+        all.push(word.as_str())?;
+    }
+    Ok(all)
+}
+
+/// Answers the words that a run is given, and gives the exit status.
 fn run_program<R: Files + Input + Print + Eprint + AllocGlobal + Threads + Wait + Sync>(
     rt: &R,
     given: &[String],
     at_terminal: bool,
 ) -> u8
-    ensures { AnswersAny result }
+    ensures { AnswersRun (map string_bytes given.now) result }
 {
-    let words: Result<Vec<&str>, AllocError> = given
-        .iter()
-        .map(|word| word.as_str())
-        .collect(rt.alloc());
-    match words {
+    match borrowed(rt.alloc(), after_name(given)) {
         Ok(words) => run_metered::<R, Brand>(rt, words.as_slice(), at_terminal, Blank::new(2)),
         Err(fault) => refuse(rt, &OrderFault::from(fault)),
     }
@@ -74,7 +92,7 @@ fn run_program<R: Files + Input + Print + Eprint + AllocGlobal + Threads + Wait 
 
 fn main(rt: HostRuntime) -> ExitCode {
     let status = match words_given(&rt) {
-        Ok(words) => run_program(&rt, words.as_slice(), rt.stdin().is_terminal()),
+        Ok(given) => run_program(&rt, given.as_slice(), rt.stdin().is_terminal()),
         Err(fault) => refuse(&rt, &fault),
     };
     ExitCode::from(status)

@@ -5,8 +5,8 @@
 //! whole right answer, and says `refused` where the call answered its want of memory or of a thread, with nothing written. So
 //! whoever runs it with one growth or one start refused after another sees whether any other answer comes.
 
+ghost use Rattle.vote_work.specs.Asked.{DesksFit};
 ghost use Rattle.vote_steps.specs.Desks.{AreDesks};
-ghost use Rattle.vote_jobs.specs.Performing.{HasDesks};
 
 use crate::inputs::{BALLOTS, CYCLE, SHEET, assert_same, lines_of, poll_of};
 use std::alloc::{AllocError, Global};
@@ -16,8 +16,9 @@ use std::sync::Wait;
 use std::test::Fail;
 use std::thread::Threads;
 use vote_desks::{Gate, NoGate, Slip, VoteFault, take_votes};
-use vote_jobs::{Ended, Job, RunFault, perform_on, sheet, status};
+use vote_jobs::{Ended, Job, RunFault, perform_on, sheet, split_joined, status};
 use vote_poll::{Lines, LinesFault, Poll, PollFault};
+use vote_work::{Listing, Purpose, Work};
 
 /// A writer in memory that takes so many bytes at once, fails once it holds as many as its limit, and counts its flushes.
 #[derive(Drop)]
@@ -78,11 +79,12 @@ fn written_of_cycle<R: Threads + Wait + Sync>(
     paper.at_once = at_once;
     paper.limit = limit;
     paper.can_flush = can_flush;
-    let job = Job::Count {
+    let job = Work::Count {
         poll: CYCLE.as_bytes(),
         ballots: BALLOTS.as_bytes(),
         desks: 1,
         casting: None,
+        purpose: Purpose::Sheet,
     };
     let (paper, done) = perform_on(rt, alloc, &job, &NoGate, paper);
     let ended = done.end;
@@ -158,7 +160,7 @@ fn performed<G: Gate + Sync, R: Threads + Wait + Sync>(
     gate: &G,
     text: &str,
 ) -> Result<(bool, usize, Result<Ended, RunFault>), AllocError>
-    requires { HasDesks job.now }
+    requires { DesksFit job.now }
 {
     let paper = endless(alloc)?;
     let (paper, done) = perform_on(rt, alloc, job, gate, paper);
@@ -178,11 +180,12 @@ fn ended_through<R: Threads + Wait + Sync>(
 ) -> Result<(usize, Result<Ended, RunFault>), AllocError>
     requires { AreDesks desks }
 {
-    let job = Job::Count {
+    let job = Work::Count {
         poll: CYCLE.as_bytes(),
         ballots: BALLOTS.as_bytes(),
         desks,
         casting: None,
+        purpose: Purpose::Sheet,
     };
     let (_, len, ended) = performed(rt, alloc, &job, &gate, SHEET)?;
     Ok((len, ended))
@@ -216,7 +219,7 @@ fn fault_of<R: Threads + Wait + Sync>(
     text: &str,
     end: Ended,
 ) -> Result<Option<RunFault>, Fail>
-    requires { HasDesks job.now }
+    requires { DesksFit job.now }
 {
     let (is_text, len, ended) = performed(rt, alloc, job, &NoGate, text)?;
     match ended {
@@ -234,7 +237,7 @@ fn walk<R: Threads + Wait + Abort + Sync>(
     text: &str,
     end: Ended,
 ) -> Result<(), Fail>
-    requires { HasDesks job.now }
+    requires { DesksFit job.now }
 {
     match fault_of(rt, alloc, job, text, end)? {
         None => Ok(()),
@@ -250,11 +253,12 @@ fn walk<R: Threads + Wait + Abort + Sync>(
 
 /// The count of the cycle at two desks.
 fn walk_count<R: Threads + Wait + Abort + Sync>(rt: &R, alloc: Global) -> Result<(), Fail> {
-    let job = Job::Count {
+    let job = Work::Count {
         poll: CYCLE.as_bytes(),
         ballots: BALLOTS.as_bytes(),
         desks: 2,
         casting: None,
+        purpose: Purpose::Sheet,
     };
     walk(rt, alloc, &job, SHEET, Ended::Decided(1))
 }
@@ -271,9 +275,10 @@ fn threads_of_perform_on_count(rt: HostRuntime) -> Result<(), Fail> {
 
 #[test]
 fn memory_of_perform_on_steps(rt: HostRuntime) -> Result<(), Fail> {
-    let job = Job::Steps {
+    let job = Work::List {
         poll: CYCLE.as_bytes(),
         ballots: b"v0 1,2\nv1 1,2,3,4\nv1 4,3,2,1",
+        listing: Listing::Steps,
     };
     let replies = "1 bad rank count\n2 counted\n3 replaced\n";
     walk(&rt, rt.alloc(), &job, replies, Ended::Done)
@@ -281,9 +286,10 @@ fn memory_of_perform_on_steps(rt: HostRuntime) -> Result<(), Fail> {
 
 #[test]
 fn memory_of_perform_on_standing(rt: HostRuntime) -> Result<(), Fail> {
-    let job = Job::Standing {
+    let job = Work::List {
         poll: CYCLE.as_bytes(),
         ballots: b"v1 1,2,3,4\nv0 -,2,99,1\nv1 4,3,2,1",
+        listing: Listing::Standing,
     };
     let standing = "v0 -,2,99,1\nv1 4,3,2,1\n";
     walk(&rt, rt.alloc(), &job, standing, Ended::Done)
@@ -291,13 +297,14 @@ fn memory_of_perform_on_standing(rt: HostRuntime) -> Result<(), Fail> {
 
 /// The comparison of a sheet with the count of the cycle.
 fn verify(sheet: &'static [u8]) -> Job<'static>
-    ensures { HasDesks result }
+    ensures { DesksFit result }
 {
-    Job::Verify {
+    Work::Count {
         poll: CYCLE.as_bytes(),
         ballots: BALLOTS.as_bytes(),
-        sheet,
         desks: 1,
+        casting: None,
+        purpose: Purpose::Verification(sheet),
     }
 }
 
@@ -309,11 +316,11 @@ fn memory_of_perform_on_verify(rt: HostRuntime) -> Result<(), Fail> {
 
 #[test]
 fn memory_of_perform_on_explain(rt: HostRuntime) -> Result<(), Fail> {
-    let job = Job::Explain {
+    let job = Work::Explain {
         poll: CYCLE.as_bytes(),
         ballots: Some(b"v0 1,2\nv1 1,2,3,4\r\n"),
         file: Some("my ballots"),
-        poll_file: None,
+        poll_name: None,
     };
     let findings =
         "ballots:1: bad rank count: 2 ranks, the poll has 4 options\nballots:2: bad shape: column 11: carriage return\na ballot line of this poll: v0 1,2,3,4\nlines of bad shape end with a carriage return: the file comes from Windows; take it out with tr -d '\\r' < 'my ballots' > 'my ballots'.new\n2 lines: 0 valid, 2 refused, 0 of them late; 0 of 9 electors have a ballot\n";
@@ -322,7 +329,7 @@ fn memory_of_perform_on_explain(rt: HostRuntime) -> Result<(), Fail> {
 
 #[test]
 fn memory_of_perform_on_check(rt: HostRuntime) -> Result<(), Fail> {
-    let job = Job::Check {
+    let job = Work::Check {
         poll: CYCLE.as_bytes(),
     };
     let sizes = "poll ok: 4 options, 9 electors\n";
@@ -335,7 +342,12 @@ const JOINED: &[u8] =
 
 #[test]
 fn memory_of_perform_on_joined(rt: HostRuntime) -> Result<(), Fail> {
-    let job = Job::Joined { input: JOINED };
+    let (poll, ballots) = split_joined(JOINED);
+    let job = Work::List {
+        poll,
+        ballots,
+        listing: Listing::Steps,
+    };
     let replies = "1 counted\n2 counted\n3 replaced\n";
     walk(&rt, rt.alloc(), &job, replies, Ended::Done)
 }

@@ -3,7 +3,7 @@ use Rattle.std.specs.Prelude.{◌≡◌, ◌⊎◌, ℕ, List, Option, Err, stri
 use Rattle.std.specs.Io.KnownBytes.{Appends, Keeps}
 use Rattle.vote_files.specs.Device.{AppendsPrefix}
 use Rattle.vote_job_words.specs.Words.{AreNoTask, AskFor}
-use Rattle.vote_job_words.specs.declared.Task.{Task}
+use Rattle.vote_job_words.specs.Order.{Task}
 use Rattle.vote_job_words.specs.declared.OrderFault.{OrderFault}
 use Rattle.vote_job_words.specs.declared.OrderFault.TheVariants.{Help, Refused, NotUtf8, Memory}
 use Rattle.vote_jobs.specs.Status.{status}
@@ -23,18 +23,11 @@ abbrev pub AnswersWords : OrderFault → Written → ℕ → Type 0
 AnswersWords (Help text) written answered = AnswersHelp (string_bytes text) written answered
 AnswersWords fault written answered = (answered ≡ order_status fault) × Keeps written.old written.new
 
--- the words ask for a task, which ends so on the bytes that are told of the names of its files
-abbrev pub AnswersTask : (List ℕ → Option (List ℕ)) → List (List ℕ) → Written → ℕ → Type 0
-AnswersTask file_bytes words written answered =
-    (task : Task) × (performed : Performed) × AskFor words task × EndsTask file_bytes task written performed × (answered ≡ status performed.end)
-
--- the words are no task, and this is why
-abbrev pub AnswersNoTask : List (List ℕ) → Written → ℕ → Type 0
-AnswersNoTask words written answered = (fault : OrderFault) × AreNoTask words fault × AnswersWords fault written answered
-
--- there are words, and they are answered so
+-- the words ask for a task, which ends so on the bytes that are told of the names of its files; or they are none, and this is why
 abbrev pub AnswersWorded : (List ℕ → Option (List ℕ)) → List (List ℕ) → Written → ℕ → Type 0
-AnswersWorded file_bytes words written answered = AnswersTask file_bytes words written answered ⊎ AnswersNoTask words written answered
+AnswersWorded file_bytes words written answered =
+    ((task : Task) × (performed : Performed) × AskFor words task × EndsTask file_bytes task written performed × (answered ≡ status performed.end))
+    ⊎ ((fault : OrderFault) × AreNoTask words fault × AnswersWords fault written answered)
 
 -- without words a joined input ends so, by the bytes that are told of standard input
 abbrev pub AnswersJoined : Option (List ℕ) → Written → ℕ → Type 0

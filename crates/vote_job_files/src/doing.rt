@@ -1,9 +1,8 @@
 //! A task, or a joined input, from its files to the end of its job.
 
 ghost use Rattle.std.specs.Prelude.{◌≡◌, ◌<◌, ◌↔◌, Err, IsErrOf};
-ghost use Rattle.vote_job_words.specs.Order.{DesksFit};
-ghost use Rattle.vote_job_files.specs.Doing.{EndsJoined, EndsTask, IsDone, written_by};
-ghost use Rattle.vote_job_files.specs.Jobs.{files_of};
+ghost use Rattle.vote_work.specs.Asked.{DesksFit};
+ghost use Rattle.vote_job_files.specs.Doing.{EndsJoined, EndsTask, IsTaskDone, written_by};
 
 use crate::inputs::{Inputs, read_inputs, read_joined};
 use crate::tasks::job_of;
@@ -13,7 +12,8 @@ use std::thread::Threads;
 use vote_desks::NoGate;
 use vote_files::{Sink, Sources};
 use vote_job_words::Task;
-use vote_jobs::{Job, Performed, RunFault, perform};
+use vote_jobs::{Performed, RunFault, perform, split_joined};
+use vote_work::{Listing, Work};
 
 /// How a run ends whose inputs were not all read.
 fn unread(fault: RunFault) -> Performed
@@ -35,7 +35,7 @@ fn do_job<W: Sink, R: Threads + Wait + Sync>(
     sink: &mut W,
 ) -> Performed
     requires { DesksFit task.now }
-    ensures done { IsDone task.now (files_of inputs.now) (written_by W.contents W.flushed sink.old sink.new) result }
+    ensures done { IsTaskDone task.now inputs.now (written_by W.contents W.flushed sink.old sink.new) result }
     ensures output { IsErrOf result.end RunFault.Output ↔ (W.faults sink.old < W.faults sink.new) }
 {
     let job = job_of(task, inputs);
@@ -43,6 +43,7 @@ fn do_job<W: Sink, R: Threads + Wait + Sync>(
 }
 
 /// Reads the files of a task, before anything is checked, and does its job.
+#[tactic(auto, using(crate::proofs::OnFiles::done_on_its_files))]
 pub fn carry_out<S: Sources, W: Sink, R: Threads + Wait + Sync>(
     rt: &R,
     alloc: Global,
@@ -75,8 +76,11 @@ pub fn print_joined<S: Sources, W: Sink, R: Threads + Wait + Sync>(
         Ok(input) => input,
         Err(fault) => return unread(fault),
     };
-    let job = Job::Joined {
-        input: input.as_slice(),
+    let (poll, ballots) = split_joined(input.as_slice());
+    let job = Work::List {
+        poll,
+        ballots,
+        listing: Listing::Steps,
     };
     perform(rt, alloc, &job, &NoGate, sink)
 }

@@ -1,12 +1,12 @@
 //! The inputs of the program, read whole up to their limits.
 
-ghost use Rattle.std.specs.Prelude.{◌≡◌, ◌≤◌, [], IfErr, IfOk, IfSome, vec_len};
+ghost use Rattle.std.specs.Prelude.{◌≡◌, ◌≤◌, [], IfErr, IfOk, IfSome, IsSome, vec_len};
 ghost use Rattle.vote_files.specs.Device.{IsWhole};
 ghost use Rattle.vote_jobs.specs.Status.{ballots_unread, poll_unread, sheet_unread};
-ghost use Rattle.vote_job_files.specs.Jobs.{AreFilesOf, ballots_name, files_of, poll_name, sheet_name};
-ghost use Rattle.vote_job_files.specs.Unread.{AreBallotsUnread, HasBallots, HasSheet, IsPollUnread, IsReadOr, IsSheetUnread, IsUnread};
+ghost use Rattle.vote_work.specs.Asked.{ballot_file, poll_file, sheet_file};
+ghost use Rattle.vote_job_files.specs.Jobs.{AreReadOf};
+ghost use Rattle.vote_job_files.specs.Unread.{IsFaultBy, IsReadOr, IsUnread};
 
-use crate::tasks::{ballots_name, poll_name, sheet_name};
 use std::alloc::Global;
 use vote_files::{ReadFault, Sources};
 use vote_job_words::Task;
@@ -56,11 +56,11 @@ fn of_sheet(read: Result<Vec<u8>, ReadFault>) -> Result<Vec<u8>, RunFault>
 
 /// All bytes of a task's poll file.
 fn read_poll<S: Sources>(sources: &S, alloc: Global, task: &Task<'_>) -> Result<Vec<u8>, RunFault>
-    ensures whole { IfOk result (λ bytes. IsWhole (S.file_bytes sources.now (poll_name task.now)) bytes.items) }
+    ensures whole { IfOk result (λ bytes. IsWhole (S.file_bytes sources.now (poll_file task.now).now) bytes.items) }
     ensures within { IfOk result (λ bytes. vec_len bytes ≤ POLL_LIMIT) }
-    ensures fault { IfErr result IsPollUnread }
+    ensures fault { IfErr result (IsFaultBy poll_unread) }
 {
-    of_poll(sources.read_file(alloc, poll_name(task), POLL_LIMIT))
+    of_poll(sources.read_file(alloc, task.poll(), POLL_LIMIT))
 }
 
 /// All bytes of a task's ballot file, or none if it names none.
@@ -69,12 +69,12 @@ fn read_ballots<S: Sources>(
     alloc: Global,
     task: &Task<'_>,
 ) -> Result<Vec<u8>, RunFault>
-    ensures whole { IfOk result (λ bytes. IfSome (ballots_name task.now) (λ name. IsWhole (S.file_bytes sources.now name) bytes.items)) }
+    ensures whole { IfOk result (λ bytes. IfSome (ballot_file task.now) (λ name. IsWhole (S.file_bytes sources.now name.now) bytes.items)) }
     ensures within { IfOk result (λ bytes. vec_len bytes ≤ BALLOTS_LIMIT) }
-    ensures unnamed { ¬ HasBallots task.now → IfOk result (λ bytes. bytes.items ≡ []) }
-    ensures fault { IfErr result (λ fault. HasBallots task.now × AreBallotsUnread fault) }
+    ensures unnamed { ¬ IsSome (ballot_file task.now) → IfOk result (λ bytes. bytes.items ≡ []) }
+    ensures fault { IfErr result (λ fault. IsSome (ballot_file task.now) × IsFaultBy ballots_unread fault) }
 {
-    match ballots_name(task) {
+    match task.ballots() {
         Some(name) => of_ballots(sources.read_file(alloc, name, BALLOTS_LIMIT)),
         None => Ok(Vec::new(alloc)),
     }
@@ -82,12 +82,12 @@ fn read_ballots<S: Sources>(
 
 /// All bytes of the published sheet that a task compares, or none if it compares none.
 fn read_sheet<S: Sources>(sources: &S, alloc: Global, task: &Task<'_>) -> Result<Vec<u8>, RunFault>
-    ensures whole { IfOk result (λ bytes. IfSome (sheet_name task.now) (λ name. IsWhole (S.file_bytes sources.now name) bytes.items)) }
+    ensures whole { IfOk result (λ bytes. IfSome (sheet_file task.now) (λ name. IsWhole (S.file_bytes sources.now name.now) bytes.items)) }
     ensures within { IfOk result (λ bytes. vec_len bytes ≤ SHEET_LIMIT) }
-    ensures unnamed { ¬ HasSheet task.now → IfOk result (λ bytes. bytes.items ≡ []) }
-    ensures fault { IfErr result (λ fault. HasSheet task.now × IsSheetUnread fault) }
+    ensures unnamed { ¬ IsSome (sheet_file task.now) → IfOk result (λ bytes. bytes.items ≡ []) }
+    ensures fault { IfErr result (λ fault. IsSome (sheet_file task.now) × IsFaultBy sheet_unread fault) }
 {
-    match sheet_name(task) {
+    match task.sheet() {
         Some(name) => of_sheet(sources.read_file(alloc, name, SHEET_LIMIT)),
         None => Ok(Vec::new(alloc)),
     }
@@ -107,12 +107,12 @@ pub fn read_inputs<S: Sources>(
     alloc: Global,
     task: &Task<'_>,
 ) -> Result<Inputs, RunFault>
-    ensures files { IfOk result (λ inputs. AreFilesOf (S.file_bytes sources.now) task.now (files_of inputs)) }
+    ensures files { IfOk result (λ inputs. AreReadOf (S.file_bytes sources.now) task.now inputs) }
     ensures poll { IfOk result (λ inputs. vec_len inputs.poll ≤ POLL_LIMIT) }
     ensures ballots { IfOk result (λ inputs. vec_len inputs.ballots ≤ BALLOTS_LIMIT) }
     ensures sheet { IfOk result (λ inputs. vec_len inputs.sheet ≤ SHEET_LIMIT) }
-    ensures no_ballots { ¬ HasBallots task.now → IfOk result (λ inputs. inputs.ballots.items ≡ []) }
-    ensures no_sheet { ¬ HasSheet task.now → IfOk result (λ inputs. inputs.sheet.items ≡ []) }
+    ensures no_ballots { ¬ IsSome (ballot_file task.now) → IfOk result (λ inputs. inputs.ballots.items ≡ []) }
+    ensures no_sheet { ¬ IsSome (sheet_file task.now) → IfOk result (λ inputs. inputs.sheet.items ≡ []) }
     ensures fault { IfErr result (IsUnread task.now) }
 {
     let poll = match read_poll(sources, alloc, task) {
@@ -138,7 +138,7 @@ pub fn read_inputs<S: Sources>(
 pub fn read_joined<S: Sources>(sources: &S, alloc: Global) -> Result<Vec<u8>, RunFault>
     ensures whole { IfOk result (λ bytes. IsWhole (S.standard_bytes sources.now) bytes.items) }
     ensures within { IfOk result (λ bytes. vec_len bytes ≤ JOINED_LIMIT) }
-    ensures fault { IfErr result AreBallotsUnread }
+    ensures fault { IfErr result (IsFaultBy ballots_unread) }
 {
     of_ballots(sources.read_standard_input(alloc, JOINED_LIMIT))
 }

@@ -1,12 +1,14 @@
 -- What the getters of the matches read, by the rows.
-use Rattle.std.proofs.Common.{◌≡◌, ◌≢◌, ◌∙◌, ◌<◌, ℕ, Option, Some, None, Result, Ok, Err, refl, sym, subst, ap, arith, List, codes, slice_index}
+use Rattle.std.proofs.Common.{Bor, ◌≡◌, ◌≢◌, ◌∙◌, ◌<◌, ℕ, Option, Some, None, Result, Ok, Err, refl, sym, subst, ap, arith, List, codes, slice_index}
 use Rattle.std.specs.Str.Parse.{IsNumeral, ParsesUnsigned, digits_value, without_leading_plus}
 use Rattle.clap.specs.Words.{ReadsOne, Row, Text, first_of, first_value, one_text, rows_of}
 use Rattle.clap.specs.declared.parser.matches.Found.{Found}
 use Rattle.clap.proofs.WalkLemmas.{first_value-rows, one_text-rows}
-use Rattle.vote_job_words.specs.Order.{HasDesks, HasNumber, HasValues, subcommand_name}
-use Rattle.vote_job_words.specs.declared.command_line.Task.{Task}
-use Rattle.vote_job_words.specs.declared.command_line.Task.TheVariants.{Count, Steps, Check, Explain, Standing, Verify, Picture}
+use Rattle.vote_job_words.specs.Order.{HasDesks, HasNumber, HasValues, Task, purpose_name, subcommand_name}
+use Rattle.vote_work.specs.declared.Listing.TheVariants as listing
+use Rattle.vote_work.specs.declared.Purpose.{Purpose}
+use Rattle.vote_work.specs.declared.Purpose.TheVariants as purpose
+use Rattle.vote_work.specs.declared.Work.TheVariants as work
 
 pub first_value_rows : (found : Found) (id : Text) → first_value found id ≡ first_of id (rows_of found)
 first_value_rows = first_value-rows
@@ -36,21 +38,21 @@ no_number_read gives parses found id n None few other value has =
 abbrev CountsByName : Text → Type 0
 CountsByName name = (slice_index name 1 ≢ 116) × (slice_index name 1 ≢ 104) × (slice_index name 1 ≢ 120)
 
+counts_by_name : (made_for : Purpose (Bor Text)) → CountsByName (purpose_name made_for)
+counts_by_name purpose.Sheet = (λ e. omega (arith, e), λ e. omega (arith, e), λ e. omega (arith, e))
+counts_by_name purpose.Picture = (λ e. omega (arith, e), λ e. omega (arith, e), λ e. omega (arith, e))
+counts_by_name (purpose.Verification sheet) = (λ e. omega (arith, e), λ e. omega (arith, e), λ e. omega (arith, e))
+
 -- a task of such a command has a number of desks
 no_desks : (rows : List Row) → ((desks : ℕ) → HasDesks rows desks → ⊥) → (name : Text) → CountsByName name → (task : Task) → subcommand_name task ≡ name → HasValues rows task → ⊥
-no_desks rows none name counts (Count poll ballots desks casting) is has = none desks has.2
-no_desks rows none name counts (Steps poll ballots) is has = counts.0 (ap (λ text. slice_index text 1) (sym is))
-no_desks rows none name counts (Check poll) is has = counts.1 (ap (λ text. slice_index text 1) (sym is))
-no_desks rows none name counts (Explain poll ballots) is has = counts.2 (ap (λ text. slice_index text 1) (sym is))
-no_desks rows none name counts (Standing poll ballots) is has = counts.0 (ap (λ text. slice_index text 1) (sym is))
-no_desks rows none name counts (Verify poll ballots sheet desks) is has = none desks has.3
-no_desks rows none name counts (Picture poll ballots desks casting) is has = none desks has.2
+no_desks rows none name counts (work.Count poll ballots desks casting made_for) is has = none desks has.2
+no_desks rows none name counts (work.List poll ballots listing.Steps) is has = counts.0 (ap (λ text. slice_index text 1) (sym is))
+no_desks rows none name counts (work.List poll ballots listing.Standing) is has = counts.0 (ap (λ text. slice_index text 1) (sym is))
+no_desks rows none name counts (work.Check poll) is has = counts.1 (ap (λ text. slice_index text 1) (sym is))
+no_desks rows none name counts (work.Explain poll ballots file poll_name) is has = counts.2 (ap (λ text. slice_index text 1) (sym is))
 
-pub no_count : (rows : List Row) → ((desks : ℕ) → HasDesks rows desks → ⊥) → (task : Task) → subcommand_name task ≡ codes "count" → HasValues rows task → ⊥
-no_count rows none = no_desks rows none (codes "count") (λ e. omega (arith, e), λ e. omega (arith, e), λ e. omega (arith, e))
+pub no_count : (rows : List Row) → ((desks : ℕ) → HasDesks rows desks → ⊥) → (made_for : Purpose (Bor Text)) → (task : Task) → subcommand_name task ≡ purpose_name made_for → HasValues rows task → ⊥
+no_count rows none made_for = no_desks rows none (purpose_name made_for) (counts_by_name made_for)
 
 pub no_verify : (rows : List Row) → ((desks : ℕ) → HasDesks rows desks → ⊥) → (task : Task) → subcommand_name task ≡ codes "verify" → HasValues rows task → ⊥
 no_verify rows none = no_desks rows none (codes "verify") (λ e. omega (arith, e), λ e. omega (arith, e), λ e. omega (arith, e))
-
-pub no_picture : (rows : List Row) → ((desks : ℕ) → HasDesks rows desks → ⊥) → (task : Task) → subcommand_name task ≡ codes "picture" → HasValues rows task → ⊥
-no_picture rows none = no_desks rows none (codes "picture") (λ e. omega (arith, e), λ e. omega (arith, e), λ e. omega (arith, e))

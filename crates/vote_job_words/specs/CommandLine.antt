@@ -1,9 +1,10 @@
 -- The command line, as `clap` reads it.
-use Rattle.std.specs.Prelude.{true, [], ◌∷◌, Some, codes, pos}
+use Rattle.std.specs.Prelude.{true, List, [], ◌∷◌, Some, codes, pos}
+use Rattle.std.specs.List.{fold}
 use Rattle.clap.specs.Words.{App, Rule, Text, new_app, new_rule, with_rule, with_subcommand}
 use Rattle.clap.specs.declared.builder.ArgAction.TheVariants.{Set}
 use Rattle.clap.specs.declared.builder.ValueParser.TheVariants as parser
-use Rattle.vote_job_words.specs.declared.TheConstants.{MAX_DESKS}
+use Rattle.vote_work.specs.declared.TheConstants.{MAX_DESKS}
 
 -- a flag with one value
 abbrev pub flag : Text → Rule
@@ -19,34 +20,30 @@ desks_flag = record (flag (codes "desks")) {
   parser = Some (parser.Signed (pos 1) (pos MAX_DESKS));
 }
 
-abbrev pub check_command : App
-check_command = with_rule (new_app (codes "check")) (required_flag (codes "poll"))
+abbrev pub poll_flag : Rule
+poll_flag = required_flag (codes "poll")
 
--- a command on a poll and its ballots
-abbrev pub ballots_command : Text → App
-ballots_command name = with_rule (with_rule (new_app name) (required_flag (codes "poll"))) (required_flag (codes "ballots"))
+abbrev pub ballots_flag : Rule
+ballots_flag = required_flag (codes "ballots")
 
-abbrev pub steps_command : App
-steps_command = ballots_command (codes "steps")
+abbrev pub casting_flag : Rule
+casting_flag = flag (codes "casting")
 
-abbrev pub standing_command : App
-standing_command = ballots_command (codes "standing")
+-- a command: its name, and its flags
+abbrev pub command : Text → List Rule → App
+command name flags = fold with_rule (new_app name) flags
 
--- a command that counts, where the casting vote may choose
-abbrev pub counting_command : Text → App
-counting_command name = with_rule (with_rule (ballots_command name) desks_flag) (flag (codes "casting"))
-
-abbrev pub count_command : App
-count_command = counting_command (codes "count")
-
-abbrev pub picture_command : App
-picture_command = counting_command (codes "picture")
-
-abbrev pub verify_command : App
-verify_command = with_rule (with_rule (ballots_command (codes "verify")) (required_flag (codes "sheet"))) desks_flag
-
-abbrev pub explain_command : App
-explain_command = with_rule (with_rule (new_app (codes "explain")) (required_flag (codes "poll"))) (flag (codes "ballots"))
+-- the commands on the result, and then those that check what was handed in or published
+abbrev pub commands : List App
+commands =
+    command (codes "count") (poll_flag ∷ ballots_flag ∷ desks_flag ∷ casting_flag ∷ [])
+    ∷ command (codes "steps") (poll_flag ∷ ballots_flag ∷ [])
+    ∷ command (codes "check") (poll_flag ∷ [])
+    ∷ command (codes "explain") (poll_flag ∷ flag (codes "ballots") ∷ [])
+    ∷ command (codes "standing") (poll_flag ∷ ballots_flag ∷ [])
+    ∷ command (codes "verify") (poll_flag ∷ ballots_flag ∷ required_flag (codes "sheet") ∷ desks_flag ∷ [])
+    ∷ command (codes "picture") (poll_flag ∷ ballots_flag ∷ desks_flag ∷ casting_flag ∷ [])
+    ∷ []
 
 -- the words come without the program's name
 abbrev pub bare_command : App
@@ -54,14 +51,5 @@ bare_command =
     let new = new_app (codes "debvote") in
     record new { top = record new.top { no_binary_name = true; subcommand_required = true; has_version = true } }
 
--- the commands on the result, and then those that check what was handed in or published
 abbrev pub debvote_command : App
-debvote_command =
-    with_subcommand
-    (with_subcommand
-    (with_subcommand
-    (with_subcommand
-    (with_subcommand (with_subcommand (with_subcommand bare_command count_command.top) steps_command.top) check_command.top) explain_command.top)
-    standing_command.top)
-    verify_command.top)
-    picture_command.top
+debvote_command = fold (λ program command. with_subcommand program command.top) bare_command commands

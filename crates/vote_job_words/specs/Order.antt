@@ -1,15 +1,26 @@
 -- What the words ask for, from what `clap` found in them.
-use Rattle.std.specs.Prelude.{◌≡◌, ◌≢◌, ◌≤◌, ◌⊎◌, ℕ, List, Option, Some, None, codes, option_map}
+use Rattle.std.specs.Prelude.{◌≡◌, ◌≢◌, ◌≤◌, ◌⊎◌, ℕ, Bool, ◌||◌, if◌then◌else◌, List, Option, Some, None, codes, nat_eq, option_and_then, option_copied}
+use Rattle.std.specs.List.{starts_with}
+use Rattle.std.specs.Str.{bytes_eq}
+use Rattle.std.proofs.Common.{Bor}
 use Rattle.std.specs.Str.Parse.{IsNumeral, digits_value, without_leading_plus}
 use Rattle.clap.specs.Words.{Row, Text, first_of, one_of}
 use Rattle.clap.specs.Kinds.{IsAmong, Kinds}
 use Rattle.clap.specs.declared.error.kind.ErrorKind.{ErrorKind}
 use Rattle.clap.specs.declared.error.kind.ErrorKind.TheVariants as kind
-use Rattle.vote_job_words.specs.declared.TheConstants.{MAX_DESKS}
 use Rattle.vote_job_words.specs.declared.command_line.OrderFault.{OrderFault}
 use Rattle.vote_job_words.specs.declared.command_line.OrderFault.TheVariants.{Help, Refused, NotUtf8, Memory}
-use Rattle.vote_job_words.specs.declared.command_line.Task.{Task}
-use Rattle.vote_job_words.specs.declared.command_line.Task.TheVariants.{Count, Steps, Check, Explain, Standing, Verify, Picture}
+use Rattle.vote_work.specs.declared.TheConstants.{MAX_DESKS}
+use Rattle.vote_work.specs.declared.Listing.{Listing}
+use Rattle.vote_work.specs.declared.Listing.TheVariants as listing
+use Rattle.vote_work.specs.declared.Purpose.{Purpose}
+use Rattle.vote_work.specs.declared.Purpose.TheVariants as purpose
+use Rattle.vote_work.specs.declared.Work.{Work}
+use Rattle.vote_work.specs.declared.Work.TheVariants as work
+
+-- what is asked for, on files of these names
+abbrev pub Task : Type 0
+Task = Work (Bor Text)
 
 -- the value of a subcommand's option
 abbrev pub HasText : List Row → Text → Text → Type 0
@@ -22,45 +33,50 @@ HasNumber rows name n = (text : Text) × (one_of name rows ≡ Some text) × IsN
 abbrev pub HasDesks : List Row → ℕ → Type 0
 HasDesks rows desks = (1 ≤ desks) × (desks ≤ MAX_DESKS) × HasNumber rows (codes "desks") desks
 
--- a number of desks that may be asked for
-abbrev pub AreDesks : ℕ → Type 0
-AreDesks desks = (1 ≤ desks) × (desks ≤ MAX_DESKS)
+-- the name stands for standard input or a pipe, which a later command can't read again
+abbrev pub is_stream : Text → Bool
+is_stream name = bytes_eq name (codes "-") || bytes_eq name (codes "/dev/stdin") || starts_with nat_eq name (codes "/dev/fd/")
 
--- a task that counts has such a number of desks
-abbrev pub DesksFit : Task → Type 0
-DesksFit (Count poll ballots desks casting) = AreDesks desks
-DesksFit (Steps poll ballots) = Unit {0}
-DesksFit (Check poll) = Unit {0}
-DesksFit (Explain poll ballots) = Unit {0}
-DesksFit (Standing poll ballots) = Unit {0}
-DesksFit (Verify poll ballots sheet desks) = AreDesks desks
-DesksFit (Picture poll ballots desks casting) = AreDesks desks
+-- the name of a file that a later command can read
+abbrev pub told_name : Text → Option Text
+told_name name = if is_stream name then None else Some name
 
 -- the subcommand that asks for the task
-abbrev pub subcommand_name : Task → Text
-subcommand_name (Count poll ballots desks casting) = codes "count"
-subcommand_name (Steps poll ballots) = codes "steps"
-subcommand_name (Check poll) = codes "check"
-subcommand_name (Explain poll ballots) = codes "explain"
-subcommand_name (Standing poll ballots) = codes "standing"
-subcommand_name (Verify poll ballots sheet desks) = codes "verify"
-subcommand_name (Picture poll ballots desks casting) = codes "picture"
+abbrev pub purpose_name : {T : Type 0} → Purpose T → Text
+purpose_name purpose.Sheet = codes "count"
+purpose_name purpose.Picture = codes "picture"
+purpose_name (purpose.Verification sheet) = codes "verify"
 
--- the values of a count
-abbrev pub HasCountValues : List Row → Text → Text → ℕ → Option Text → Type 0
-HasCountValues rows poll ballots desks casting =
-    HasText rows (codes "poll") poll × HasText rows (codes "ballots") ballots × HasDesks rows desks × (casting ≡ first_of (codes "casting") rows)
+abbrev pub listing_name : Listing → Text
+listing_name listing.Steps = codes "steps"
+listing_name listing.Standing = codes "standing"
+
+abbrev pub subcommand_name : Task → Text
+subcommand_name (work.Count poll ballots desks casting made_for) = purpose_name made_for
+subcommand_name (work.List poll ballots listed) = listing_name listed
+subcommand_name (work.Check poll) = codes "check"
+subcommand_name (work.Explain poll ballots file poll_name) = codes "explain"
+
+-- a count that compares no sheet
+abbrev pub IsPrinted : {T : Type 0} → Purpose T → Type 0
+IsPrinted (purpose.Verification sheet) = ⊥
+IsPrinted printed = Unit {0}
+
+-- the values that a count has for its purpose: the option of the casting vote, or the sheet that is compared
+abbrev pub HasPurpose : List Row → Option Text → Purpose (Bor Text) → Type 0
+HasPurpose rows casting (purpose.Verification sheet) = (casting ≡ None) × HasText rows (codes "sheet") sheet.now
+HasPurpose rows casting printed = casting ≡ first_of (codes "casting") rows
 
 -- the task has the values of the subcommand's options
 abbrev pub HasValues : List Row → Task → Type 0
-HasValues rows (Count poll ballots desks casting) = HasCountValues rows poll.now ballots.now desks (option_map (λ name. name.now) casting)
-HasValues rows (Steps poll ballots) = HasText rows (codes "poll") poll.now × HasText rows (codes "ballots") ballots.now
-HasValues rows (Check poll) = HasText rows (codes "poll") poll.now
-HasValues rows (Explain poll ballots) = HasText rows (codes "poll") poll.now × (option_map (λ name. name.now) ballots ≡ first_of (codes "ballots") rows)
-HasValues rows (Standing poll ballots) = HasText rows (codes "poll") poll.now × HasText rows (codes "ballots") ballots.now
-HasValues rows (Verify poll ballots sheet desks) =
-    HasText rows (codes "poll") poll.now × HasText rows (codes "ballots") ballots.now × HasText rows (codes "sheet") sheet.now × HasDesks rows desks
-HasValues rows (Picture poll ballots desks casting) = HasCountValues rows poll.now ballots.now desks (option_map (λ name. name.now) casting)
+HasValues rows (work.Count poll ballots desks casting made_for) =
+    HasText rows (codes "poll") poll.now × HasText rows (codes "ballots") ballots.now × HasDesks rows desks × HasPurpose rows (option_copied casting) made_for
+HasValues rows (work.List poll ballots listed) = HasText rows (codes "poll") poll.now × HasText rows (codes "ballots") ballots.now
+HasValues rows (work.Check poll) = HasText rows (codes "poll") poll.now
+HasValues rows (work.Explain poll ballots file poll_name) =
+    let given = first_of (codes "ballots") rows in
+    HasText rows (codes "poll") poll.now × (option_copied ballots ≡ given) × (option_copied file ≡ option_and_then told_name given)
+    × (option_copied poll_name ≡ told_name poll.now)
 
 -- this is the task of the subcommand with the values of its options; or there is none that has them
 abbrev pub IsTaskOf : Text → List Row → Option Task → Type 0
@@ -90,16 +106,10 @@ IsFaultOfKind k (Refused text) = IsRefusal k
 IsFaultOfKind k NotUtf8 = ⊥
 IsFaultOfKind k Memory = k ≡ kind.OutOfMemory
 
--- help is returned only if the words ask for it
-abbrev pub HelpsIfAsked : Kinds → OrderFault → Type 0
-HelpsIfAsked kinds (Help text) = (k : ErrorKind) × AsksForHelp k × IsAmong k kinds
-HelpsIfAsked kinds (Refused text) = Unit {0}
-HelpsIfAsked kinds NotUtf8 = ⊥
-HelpsIfAsked kinds Memory = Unit {0}
-
--- words are refused only if `clap` finds a fault in them, or no task has the values that it finds; they are all UTF-8
-abbrev pub RefusesIfAtFault : Kinds → Option (Text × List Row) → OrderFault → Type 0
-RefusesIfAtFault kinds subcommand (Help text) = Unit {0}
-RefusesIfAtFault kinds subcommand (Refused text) = ((k : ErrorKind) × IsRefusal k × IsAmong k kinds) ⊎ AsksForNone subcommand
-RefusesIfAtFault kinds subcommand NotUtf8 = ⊥
-RefusesIfAtFault kinds subcommand Memory = Unit {0}
+-- words are no task for this reason: help only if they ask for it; a refusal only if `clap` finds a fault in them, or no task has the
+-- values that it finds; they are all UTF-8
+abbrev pub IsNoTask : Kinds → Option (Text × List Row) → OrderFault → Type 0
+IsNoTask kinds subcommand (Help text) = (k : ErrorKind) × AsksForHelp k × IsAmong k kinds
+IsNoTask kinds subcommand (Refused text) = ((k : ErrorKind) × IsRefusal k × IsAmong k kinds) ⊎ AsksForNone subcommand
+IsNoTask kinds subcommand NotUtf8 = ⊥
+IsNoTask kinds subcommand Memory = Unit {0}

@@ -4,9 +4,8 @@ use Rattle.std.proofs.Common.{Bor}
 use Rattle.clap.specs.Faults.{fault_of}
 use Rattle.clap.specs.Words.{Text, subcommand_of}
 use Rattle.vote_job_words.specs.CommandLine.{debvote_command}
-use Rattle.vote_job_words.specs.Order.{AsksFor, HelpsIfAsked, RefusesIfAtFault}
+use Rattle.vote_job_words.specs.Order.{AsksFor, IsNoTask, Task}
 use Rattle.vote_job_words.specs.declared.command_line.OrderFault.{OrderFault}
-use Rattle.vote_job_words.specs.declared.command_line.Task.{Task}
 
 -- the bytes of the words
 abbrev pub texts_of : List (Bor Text) → List Text
@@ -18,5 +17,4 @@ AskFor words task = AsksFor (subcommand_of debvote_command words) task
 
 -- they are no task for this reason, by the same
 abbrev pub AreNoTask : List Text → OrderFault → Type 0
-AreNoTask words fault =
-    HelpsIfAsked (fault_of debvote_command words) fault × RefusesIfAtFault (fault_of debvote_command words) (subcommand_of debvote_command words) fault
+AreNoTask words fault = IsNoTask (fault_of debvote_command words) (subcommand_of debvote_command words) fault

@@ -6,60 +6,20 @@ ghost use Rattle.clap.specs.Values.{kind_of};
 ghost use Rattle.clap.specs.declared.builder.command.Command.TheViews.{out-Command as fields_of};
 ghost use Rattle.clap.specs.Words.{app_of, first_of, found_of, rows_of, rule_of, subcommand_rows_of};
 ghost use Rattle.vote_job_words.specs.CommandLine.{bare_command, debvote_command, desks_flag, flag, required_flag};
-ghost use Rattle.vote_job_words.specs.Order.{AsksFor, AsksForNone, DesksFit, HasDesks, IsFaultOfKind, IsTaskOf};
-ghost use Rattle.vote_job_words.specs.Subcommands.{flag_rule, flags_of, name_of, subcommand_app};
+ghost use Rattle.vote_job_words.specs.Order.{AsksFor, AsksForNone, HasDesks, IsFaultOfKind, IsPrinted, IsTaskOf, is_stream, listing_name, purpose_name, told_name};
+ghost use Rattle.vote_work.specs.Asked.{DesksFit};
+ghost use Rattle.vote_job_words.specs.Subcommands.{flag_rule, name_and_flags, subcommand_app};
 ghost use Rattle.vote_job_words.specs.Words.{AreNoTask, AskFor, texts_of};
 ghost use Rattle.vote_job_words.specs.declared.command_line.OrderFault.TheVariants.{Help, Memory, NotUtf8};
 
-use crate::{MAX_DESKS, VERSION};
+use crate::VERSION;
 use clap::error::ErrorKind;
 use clap::{Arg, ArgAction, ArgMatches, Command, Error};
 use std::alloc::{AllocError, Global};
+use vote_work::{Listing, MAX_DESKS, Purpose, Work};
 
 /// What the words ask for. Files are named.
-#[derive(Clone, Copy)]
-pub enum Task<'a> {
-    /// Count the ballots, and print the sheet.
-    Count {
-        poll: &'a str,
-        ballots: &'a str,
-        desks: u8,
-        casting: Option<&'a str>,
-    },
-    /// Print the reply to each ballot.
-    Steps {
-        poll: &'a str,
-        ballots: &'a str,
-    },
-    /// Check the poll file.
-    Check {
-        poll: &'a str,
-    },
-    /// Report every problem in the poll file, and in the ballots if they are given.
-    Explain {
-        poll: &'a str,
-        ballots: Option<&'a str>,
-    },
-    /// Print the ballots that count.
-    Standing {
-        poll: &'a str,
-        ballots: &'a str,
-    },
-    /// Count the ballots, and compare the result with a published sheet.
-    Verify {
-        poll: &'a str,
-        ballots: &'a str,
-        sheet: &'a str,
-        desks: u8,
-    },
-    /// Count the ballots, and print the result as a graph for Graphviz.
-    Picture {
-        poll: &'a str,
-        ballots: &'a str,
-        desks: u8,
-        casting: Option<&'a str>,
-    },
-}
+pub type Task<'a> = Work<'a, &'a str>;
 
 /// Why the words are no task.
 #[derive(Debug, Drop, thiserror::Error)]
@@ -203,7 +163,7 @@ const VERIFY_FLAGS: [Flag; 4] = [Flag::Poll, Flag::Ballots, Flag::Sheet, Flag::D
 impl Subcommand {
     /// The word that asks for the command.
     fn name<'a>(self) -> &'a str
-        ensures { result.now ≡ name_of self }
+        ensures { result.now ≡ (name_and_flags self).0 }
     {
         match self {
             Subcommand::Count => "count",
@@ -236,7 +196,7 @@ impl Subcommand {
 
     /// The flags of the command, in the order in which help lists them.
     fn flags(self) -> &'static [Flag]
-        ensures { result.now ≡ flags_of self }
+        ensures { result.now ≡ (name_and_flags self).1 }
     {
         match self {
             Subcommand::Count | Subcommand::Picture => &COUNT_FLAGS,
@@ -322,74 +282,92 @@ fn text_given<'a>(given: &ArgMatches<'a>, id: &str) -> Option<&'a str>
     given.get_str(id)
 }
 
-#[tactic(auto, using(crate::proofs::Orders::first_value_rows))]
-fn count_task<'a>(given: &ArgMatches<'a>) -> Option<Task<'a>>
-    ensures { IsTaskOf (codes "count") (rows_of (found_of given.now)) result }
+/// Whether a name stands for standard input or a pipe, which a later command can't read again.
+fn is_stream(name: &[u8]) -> bool
+    ensures { result ≡ is_stream name.now }
 {
-    Some(Task::Count {
+    name == b"-".as_slice() || name == b"/dev/stdin".as_slice() || name.starts_with(b"/dev/fd/")
+}
+
+/// The name of a file that a later command can read.
+fn told_name(name: &str) -> Option<&str>
+    ensures { option_copied result ≡ told_name name.now }
+{
+    if is_stream(name.as_bytes()) {
+        None
+    } else {
+        Some(name)
+    }
+}
+
+/// The name of the option that the casting vote chooses, if one is given.
+#[tactic(auto, using(crate::proofs::Orders::first_value_rows))]
+fn casting_given<'a>(given: &ArgMatches<'a>) -> Option<&'a [u8]>
+    ensures { option_copied result ≡ first_of (codes "casting") (rows_of (found_of given.now)) }
+{
+    match given.get_str("casting") {
+        Some(name) => Some(name.as_bytes()),
+        None => None,
+    }
+}
+
+/// A count that compares no sheet.
+fn count_task<'a>(given: &ArgMatches<'a>, purpose: Purpose<&'a str>) -> Option<Task<'a>>
+    requires { IsPrinted purpose }
+    ensures { IsTaskOf (purpose_name purpose.entry) (rows_of (found_of given.now)) result }
+{
+    Some(Work::Count {
         poll: text_given(given, "poll")?,
         ballots: text_given(given, "ballots")?,
         desks: desks_given(given)?,
-        casting: given.get_str("casting"),
-    })
-}
-
-fn steps_task<'a>(given: &ArgMatches<'a>) -> Option<Task<'a>>
-    ensures { IsTaskOf (codes "steps") (rows_of (found_of given.now)) result }
-{
-    Some(Task::Steps {
-        poll: text_given(given, "poll")?,
-        ballots: text_given(given, "ballots")?,
-    })
-}
-
-fn check_task<'a>(given: &ArgMatches<'a>) -> Option<Task<'a>>
-    ensures { IsTaskOf (codes "check") (rows_of (found_of given.now)) result }
-{
-    Some(Task::Check {
-        poll: text_given(given, "poll")?,
-    })
-}
-
-#[tactic(auto, using(crate::proofs::Orders::first_value_rows))]
-fn explain_task<'a>(given: &ArgMatches<'a>) -> Option<Task<'a>>
-    ensures { IsTaskOf (codes "explain") (rows_of (found_of given.now)) result }
-{
-    Some(Task::Explain {
-        poll: text_given(given, "poll")?,
-        ballots: given.get_str("ballots"),
-    })
-}
-
-fn standing_task<'a>(given: &ArgMatches<'a>) -> Option<Task<'a>>
-    ensures { IsTaskOf (codes "standing") (rows_of (found_of given.now)) result }
-{
-    Some(Task::Standing {
-        poll: text_given(given, "poll")?,
-        ballots: text_given(given, "ballots")?,
+        casting: casting_given(given),
+        purpose,
     })
 }
 
 fn verify_task<'a>(given: &ArgMatches<'a>) -> Option<Task<'a>>
     ensures { IsTaskOf (codes "verify") (rows_of (found_of given.now)) result }
 {
-    Some(Task::Verify {
+    Some(Work::Count {
         poll: text_given(given, "poll")?,
         ballots: text_given(given, "ballots")?,
-        sheet: text_given(given, "sheet")?,
         desks: desks_given(given)?,
+        casting: None,
+        purpose: Purpose::Verification(text_given(given, "sheet")?),
     })
 }
 
-#[tactic(auto, using(crate::proofs::Orders::first_value_rows))]
-fn picture_task<'a>(given: &ArgMatches<'a>) -> Option<Task<'a>>
-    ensures { IsTaskOf (codes "picture") (rows_of (found_of given.now)) result }
+fn list_task<'a>(given: &ArgMatches<'a>, listing: Listing) -> Option<Task<'a>>
+    ensures { IsTaskOf (listing_name listing) (rows_of (found_of given.now)) result }
 {
-    Some(Task::Picture {
+    Some(Work::List {
         poll: text_given(given, "poll")?,
         ballots: text_given(given, "ballots")?,
-        desks: desks_given(given)?,
-        casting: given.get_str("casting"),
+        listing,
+    })
+}
+
+fn check_task<'a>(given: &ArgMatches<'a>) -> Option<Task<'a>>
+    ensures { IsTaskOf (codes "check") (rows_of (found_of given.now)) result }
+{
+    Some(Work::Check {
+        poll: text_given(given, "poll")?,
+    })
+}
+
+fn explain_task<'a>(given: &ArgMatches<'a>) -> Option<Task<'a>>
+    ensures { IsTaskOf (codes "explain") (rows_of (found_of given.now)) result }
+{
+    let ballots = text_given(given, "ballots");
+    let poll = text_given(given, "poll")?;
+    Some(Work::Explain {
+        poll,
+        ballots,
+        file: match ballots {
+            Some(name) => told_name(name),
+            None => None,
+        },
+        poll_name: told_name(poll),
     })
 }
 
@@ -400,13 +378,13 @@ fn task_of<'a>(matches: &ArgMatches<'a>) -> Option<Task<'a>>
 {
     let (name, given) = matches.subcommand()?;
     match name {
-        "count" => count_task(given),
-        "steps" => steps_task(given),
+        "count" => count_task(given, Purpose::Sheet),
+        "steps" => list_task(given, Listing::Steps),
         "check" => check_task(given),
         "explain" => explain_task(given),
-        "standing" => standing_task(given),
+        "standing" => list_task(given, Listing::Standing),
         "verify" => verify_task(given),
-        "picture" => picture_task(given),
+        "picture" => count_task(given, Purpose::Picture),
         _ => None,
     }
 }

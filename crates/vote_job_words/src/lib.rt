@@ -12,12 +12,8 @@
 #![tactic(auto)]
 
 mod command_line;
-pub mod laws;
 
 pub use command_line::{OrderFault, Task, order};
 
 /// The version of the program, as `debvote --version` says it.
 pub const VERSION: &str = "1.0.0";
-
-/// The most desks that the words can ask for.
-pub const MAX_DESKS: u8 = 8;

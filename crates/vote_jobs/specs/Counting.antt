@@ -1,5 +1,6 @@
 -- What a count is refused for, what it tells, and how it ends.
 use Rattle.std.specs.Prelude.{◌≡◌, ◌≢◌, ◌+◌, ℕ, Bool, List, All, length, Option, Some, None, option_map, IfSome, Ok}
+use Rattle.std.proofs.Common.{Bor}
 use Rattle.vote_count.specs.declared.Decision.{Decision}
 use Rattle.vote_count.specs.declared.Decision.TheVariants as decision
 use Rattle.vote_poll_text.specs.Lines.{lines_of}
@@ -24,8 +25,8 @@ use Rattle.vote_jobs.specs.Told.{Told}
 use Rattle.vote_jobs.specs.declared.fault.InputFault.{InputFault}
 use Rattle.vote_jobs.specs.declared.fault.Ended.{Ended}
 use Rattle.vote_jobs.specs.declared.fault.Ended.TheVariants as ended
-use Rattle.vote_jobs.specs.declared.counting.Purpose.{Purpose}
-use Rattle.vote_jobs.specs.declared.counting.Purpose.TheVariants as purpose
+use Rattle.vote_work.specs.declared.Purpose.{Purpose}
+use Rattle.vote_work.specs.declared.Purpose.TheVariants as purpose
 use Rattle.vote_jobs.specs.declared.fault.RunFault.{RunFault}
 use Rattle.vote_jobs.specs.declared.fault.RunFault.TheVariants as run
 
@@ -80,13 +81,8 @@ pub record IsCountedIn (inputs : Inputs) (sealed : SealedState) : Type 0 where
   pub at : length sealed.sheets ≡ inputs.desks
   pub rising : All Rises sealed.sheets
 
--- a box is told, and it is one
-abbrev pub IsCountedAt : Inputs → Option SealedState → Type 0
-IsCountedAt inputs None = ⊥
-IsCountedAt inputs (Some sealed) = IsCountedIn inputs sealed
-
 -- what is told of a count that is made for this, of the poll, the lines and the option of the casting vote
-abbrev pub IsMade : Purpose → PollContent → List Text → Option ℕ → Told → Type 0
+abbrev pub IsMade : Purpose (Bor Text) → PollContent → List Text → Option ℕ → Told → Type 0
 IsMade purpose.Picture poll lines casting told = (decision : Decision) × IsPictureAndDecision poll lines casting told.text decision × (told.end ≡ ended_by_decision decision)
 IsMade purpose.Sheet poll lines casting told = (decision : Decision) × IsSheetAndDecision poll lines casting told.text decision × (told.end ≡ ended_by_decision decision)
 IsMade (purpose.Verification sheet) poll lines casting told =
@@ -94,6 +90,6 @@ IsMade (purpose.Verification sheet) poll lines casting told =
     × (told.end ≡ ended_by_verification verification)
 
 -- the same of the inputs
-abbrev pub IsCountFor : Purpose → Inputs → Told → Type 0
+abbrev pub IsCountFor : Purpose (Bor Text) → Inputs → Told → Type 0
 IsCountFor made_for inputs told =
     (poll : PollContent) × (poll_in inputs.poll ≡ Ok poll) × IsMade made_for poll (lines_of inputs.ballots) (casting_option poll inputs.casting) told

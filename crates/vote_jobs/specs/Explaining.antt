@@ -1,7 +1,6 @@
 -- What `explain` writes, and how it ends.
-use Rattle.std.specs.Prelude.{◌≡◌, ◌≢◌, ◌≤◌, ℕ, Bool, ◌==◌, ◌&&◌, if◌then◌else◌, List, [], ◌++◌, length, nat_eq, Option, Some, None, option_copied, Result, Ok, Err}
+use Rattle.std.specs.Prelude.{◌≡◌, ◌≢◌, ◌≤◌, ℕ, Bool, ◌==◌, ◌&&◌, if◌then◌else◌, List, [], ◌++◌, length, nat_eq, Option, Some, None, Result, Ok, Err}
 use Rattle.std.specs.List.{ends_with}
-use Rattle.std.proofs.Common.{Bor}
 use Rattle.std.specs.Result.{result_err}
 use Rattle.vote_poll_findings.specs.Findings.{AreFindingsOf}
 use Rattle.vote_poll_text.specs.Lines.{line_feed, lines_of}
@@ -84,8 +83,3 @@ pub record Explains (poll_text : Text) (ballots file : Option Text) (old new : O
   pub votes : (fault : VoteFault) → result_err result ≢ Some (run.Vote fault)
   pub input : (fault : InputFault) → result_err result ≢ Some (run.Input fault)
   pub writes : Writes (Tells (IsExplanation poll_text ballots file) result) old new (result_err result)
-
--- a call does so, by what its sink holds before and after it
-abbrev pub ExplainsTo : {S : Type 0} → Text → Option (Bor Text) → Option (Bor Text) → (S → Option Text) → S → S → Result Ended RunFault → Type 0
-ExplainsTo poll_text ballots file contents old new result =
-    Explains poll_text (option_copied ballots) (option_copied file) (contents old) (contents new) result

@@ -15,8 +15,8 @@ use Rattle.vote_files.specs.Device.{AppendsPrefix}
 use Rattle.vote_sheet.specs.Steps.{IsStepsText, check_text}
 use Rattle.vote_sheet.specs.Standing.{standing_text}
 use Rattle.vote_sheet.specs.Texts.{Text}
-use Rattle.vote_jobs.specs.declared.listing.Listing.{Listing}
-use Rattle.vote_jobs.specs.declared.listing.Listing.TheVariants as listing
+use Rattle.vote_work.specs.declared.Listing.{Listing}
+use Rattle.vote_work.specs.declared.Listing.TheVariants as listing
 use Rattle.vote_jobs.specs.Told.{Told}
 use Rattle.vote_jobs.specs.declared.fault.InputFault.{InputFault}
 use Rattle.vote_jobs.specs.declared.fault.Ended.{Ended}
@@ -62,10 +62,6 @@ Tells IsMeant result text = (told : Told) × IsMeant told × (text ≡ told.text
 -- of a text of the program: its bytes are what is meant
 abbrev pub IsText : {Z : Type 0} → (Text → Type 0) → String Z → Type 0
 IsText IsMeant text = IsMeant (string_bytes text)
-
--- a call writes this text, by what its sink holds before and after it
-abbrev pub WritesTo : {S T : Type 0} → Text → (S → Option Text) → S → S → Result T RunFault → Type 0
-WritesTo text contents old new result = Writes (λ meant. meant ≡ text) (contents old) (contents new) (result_err result)
 
 -- what is listed of a poll and its lines
 abbrev pub IsListed : Listing → PollContent → List Text → Text → Type 0

@@ -5,7 +5,7 @@ ghost use Rattle.std.specs.Result.{result_err};
 ghost use Rattle.vote_steps.specs.Desks.{AreDesks};
 ghost use Rattle.vote_jobs.specs.Counting.{AnswersInputs, IsCountFor, IsCountedIn, IsMade, ended_by_decision, ended_by_verification};
 ghost use Rattle.vote_jobs.specs.Inputs.{inputs_at};
-ghost use Rattle.vote_jobs.specs.Performing.{CountsTo};
+ghost use Rattle.vote_jobs.specs.Performing.{Counts};
 ghost use Rattle.vote_jobs.specs.Taking.{CanBeCounted};
 
 use crate::fault::{Ended, RunFault};
@@ -19,17 +19,7 @@ use vote_count::Decision;
 use vote_desks::{AuditWitness, Gate};
 use vote_files::Sink;
 use vote_sheet::{Verification, picture_of_box, sheet_of_box, verify_sheet};
-
-/// What a count is made for.
-#[derive(Clone, Copy)]
-pub enum Purpose<'s> {
-    /// The result sheet.
-    Sheet,
-    /// The outcome as a graph for Graphviz.
-    Picture,
-    /// Whether these bytes are a sheet of the count, whatever the casting vote.
-    Verification(&'s [u8]),
-}
+use vote_work::Purpose;
 
 /// How a count ends that is decided so.
 fn ended_by_decision(decision: Decision) -> Ended
@@ -56,7 +46,7 @@ fn ended_by_verification(found: Verification) -> Ended
 fn text_of_taken(
     alloc: Global,
     taken: &Taken<'_>,
-    purpose: Purpose<'_>,
+    purpose: Purpose<&[u8]>,
 ) -> Result<RunText, AllocError>
     requires { CanBeCounted taken.now }
     ensures { IfOk result (IsMade purpose.entry taken.now.poll taken.now.lines taken.now.casting) }
@@ -92,7 +82,7 @@ fn count_inputs<G: Gate + Sync, R: Threads + Wait + Sync>(
     rt: &R,
     alloc: Global,
     inputs: &CountInputs<'_>,
-    purpose: Purpose<'_>,
+    purpose: Purpose<&[u8]>,
     gate: &G,
 ) -> Result<(RunText, AuditWitness), RunFault>
     requires { AreDesks inputs.now.desks }
@@ -115,12 +105,12 @@ pub fn count_for<G: Gate + Sync, W: Sink, R: Threads + Wait + Sync>(
     rt: &R,
     alloc: Global,
     inputs: &CountInputs<'_>,
-    purpose: Purpose<'_>,
+    purpose: Purpose<&[u8]>,
     gate: &G,
     sink: &mut W,
 ) -> Performed
     requires { AreDesks inputs.now.desks }
-    ensures counts { CountsTo G.bars purpose.entry inputs.now W.contents sink.old sink.new result }
+    ensures counts { Counts G.bars purpose.entry inputs.now (W.contents sink.old) (W.contents sink.new) result }
     ensures output { IsErrOf result.end RunFault.Output ↔ (W.faults sink.old < W.faults sink.new) }
     ensures flushed { OnOk result.end (W.flushed sink.new ≡ true) }
 {
@@ -151,7 +141,7 @@ pub fn run<G: Gate + Sync, W: Sink, R: Threads + Wait + Sync>(
 ) -> Performed
     requires { AreDesks desks }
     ensures counts { let inputs = inputs_at poll_text.entry ballots.entry desks casting.entry in
-        CountsTo G.bars Purpose.Sheet inputs W.contents sink.old sink.new result }
+        Counts G.bars Purpose.Sheet inputs (W.contents sink.old) (W.contents sink.new) result }
     ensures output { IsErrOf result.end RunFault.Output ↔ (W.faults sink.old < W.faults sink.new) }
     ensures flushed { OnOk result.end (W.flushed sink.new ≡ true) }
 {

@@ -2,7 +2,7 @@
 
 ghost use Rattle.std.specs.Prelude.{◌≡◌, ◌<◌, ◌↔◌, true, Ok, IfErr, IfOk, IsErrOf, None, OnOk, option_copied, string_bytes, ◌++◌};
 ghost use Rattle.vote_poll.specs.PollFile.{poll_in};
-ghost use Rattle.vote_jobs.specs.Explaining.{AnswersGiven, ExplainsTo, IsExplainFault, IsExplanation, IsGivenFault, IsSaid, IsSaidOfLines, ended_by_findings};
+ghost use Rattle.vote_jobs.specs.Explaining.{AnswersGiven, Explains, IsExplainFault, IsExplanation, IsGivenFault, IsSaid, IsSaidOfLines, ended_by_findings};
 
 use crate::fault::{Ended, RunFault};
 use crate::output::{RunText, write_run};
@@ -123,7 +123,7 @@ pub fn explain<W: Sink>(
     poll_file: Option<&str>,
     sink: &mut W,
 ) -> Result<Ended, RunFault>
-    ensures explains { ExplainsTo poll_text.now ballots.entry file.entry W.contents sink.old sink.new result }
+    ensures explains { Explains poll_text.now (option_copied ballots.entry) (option_copied file.entry) (W.contents sink.old) (W.contents sink.new) result }
     ensures output { IsErrOf result RunFault.Output ↔ (W.faults sink.old < W.faults sink.new) }
     ensures flushed { OnOk result (W.flushed sink.new ≡ true) }
 {

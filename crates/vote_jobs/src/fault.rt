@@ -1,7 +1,7 @@
 //! How a run ends, and the exit status that says so.
 
 ghost use Rattle.std.specs.Prelude.{◌≡◌, ◌≢◌, ◌↔◌, IsErrOf};
-ghost use Rattle.vote_jobs.specs.Status.{ballots_unread, fault_status, input_status, poll_unread, sheet_unread, status, vote_status};
+ghost use Rattle.vote_jobs.specs.Status.{ballots_unread, fault_status, poll_unread, sheet_unread, status};
 
 use std::alloc::AllocError;
 use std::fmt;
@@ -159,7 +159,7 @@ pub fn sheet_unread(fault: ReadFault) -> RunFault
 }
 
 fn input_status(fault: &InputFault) -> u8
-    ensures status { result ≡ input_status fault.now }
+    ensures status { result ≡ fault_status (RunFault.Input fault.now) }
     ensures other { result ≢ 7 }
 {
     match fault {
@@ -170,7 +170,7 @@ fn input_status(fault: &InputFault) -> u8
 }
 
 fn vote_status(fault: &VoteFault) -> u8
-    ensures status { result ≡ vote_status fault.now }
+    ensures status { result ≡ fault_status (RunFault.Vote fault.now) }
     ensures other { result ≢ 7 }
 {
     match fault {

@@ -1,9 +1,9 @@
 //! From bytes to bytes: the runs of the program, each of which reads its texts, works on them and writes what is meant into a
 //! sink.
 //!
-//! - [`count_for`] counts the ballots of its [`CountInputs`] and writes what the count is made for, its [`Purpose`]: the result
+//! - [`count_for`] counts the ballots of its [`CountInputs`] and writes what the count is made for, its [`Purpose`](vote_work::Purpose): the result
 //!   sheet, the picture, or how a published sheet compares. [`run`] is it for the sheet.
-//! - [`print_listing`] casts the ballots and writes a [`Listing`]: the reply to each line, or the ballots that count.
+//! - [`print_listing`] casts the ballots and writes a [`Listing`](vote_work::Listing): the reply to each line, or the ballots that count.
 //!   [`print_steps`] is it for the replies, and [`steps_joined`] does so for a poll and its ballots in one input.
 //! - [`check_poll`] reads a poll file and writes how many options and electors it has, and [`explain`] writes all that is wrong
 //!   with it and with its ballots.
@@ -40,13 +40,13 @@ mod taking;
 
 pub use audited::sheet;
 pub use checking::check_poll;
-pub use counting::{Purpose, count_for, run};
+pub use counting::{count_for, run};
 pub use explaining::explain;
 pub use fault::{
     Ended, InputFault, RunFault, ballots_unread, fault_status, poll_unread, sheet_unread, status,
 };
 pub use jobs::{Job, perform, perform_on};
 pub use joined::split_joined;
-pub use listing::{Listing, print_listing, print_steps, steps_joined};
+pub use listing::{print_listing, print_steps, steps_joined};
 pub use performed::Performed;
 pub use taking::CountInputs;

@@ -4,9 +4,10 @@ ghost use Rattle.std.specs.Prelude.{◌≡◌, ◌≢◌, ◌<◌, ◌↔◌, tr
 ghost use Rattle.std.specs.Result.{result_err};
 ghost use Rattle.vote_poll_text.specs.Lines.{lines_of};
 ghost use Rattle.vote_jobs.specs.Explaining.{IsGivenFault};
-ghost use Rattle.vote_jobs.specs.Performing.{ListsJoinedTo, ListsTo};
+ghost use Rattle.vote_jobs.specs.Joined.{joined_parts};
+ghost use Rattle.vote_jobs.specs.Performing.{Lists};
 ghost use Rattle.vote_jobs.specs.Runs.{AnswersFiles, AnswersLines, IsListed, IsListing, IsText};
-ghost use Rattle.vote_jobs.specs.declared.listing.Listing.TheVariants.{Steps};
+ghost use Rattle.vote_work.specs.declared.Listing.TheVariants.{Steps};
 
 use crate::fault::RunFault;
 use crate::joined::split_joined;
@@ -15,15 +16,7 @@ use std::alloc::{AllocError, Global};
 use vote_files::Sink;
 use vote_poll::{Lines, Poll};
 use vote_sheet::{standing_text, steps_text};
-
-/// What is listed of the ballots, which one desk casts in their order.
-#[derive(Clone, Copy)]
-pub enum Listing {
-    /// The reply to each ballot.
-    Steps,
-    /// The ballots that count: the last valid one of each elector.
-    Standing,
-}
+use vote_work::Listing;
 
 /// The text of a listing of a poll and its lines.
 fn list_lines(
@@ -83,7 +76,7 @@ pub fn print_listing<W: Sink>(
     listing: Listing,
     sink: &mut W,
 ) -> Result<(), RunFault>
-    ensures lists { ListsTo listing poll_text.now ballots.now W.contents sink.old sink.new result }
+    ensures lists { Lists listing poll_text.now ballots.now (W.contents sink.old) (W.contents sink.new) (result_err result) }
     ensures output { IsErrOf result RunFault.Output ↔ (W.faults sink.old < W.faults sink.new) }
     ensures flushed { OnOk result (W.flushed sink.new ≡ true) }
 {
@@ -101,7 +94,7 @@ pub fn print_steps<W: Sink>(
     ballots: &[u8],
     sink: &mut W,
 ) -> Result<(), RunFault>
-    ensures lists { ListsTo Steps poll_text.now ballots.now W.contents sink.old sink.new result }
+    ensures lists { Lists Steps poll_text.now ballots.now (W.contents sink.old) (W.contents sink.new) (result_err result) }
     ensures output { IsErrOf result RunFault.Output ↔ (W.faults sink.old < W.faults sink.new) }
     ensures flushed { OnOk result (W.flushed sink.new ≡ true) }
 {
@@ -110,7 +103,7 @@ pub fn print_steps<W: Sink>(
 
 /// `print_steps` for a poll and its ballots in one input, as [`split_joined`] parts it.
 pub fn steps_joined<W: Sink>(alloc: Global, input: &[u8], sink: &mut W) -> Result<(), RunFault>
-    ensures lists { ListsJoinedTo input.now W.contents sink.old sink.new result }
+    ensures lists { let parts = joined_parts input.now in Lists Steps parts.0 parts.1 (W.contents sink.old) (W.contents sink.new) (result_err result) }
     ensures output { IsErrOf result RunFault.Output ↔ (W.faults sink.old < W.faults sink.new) }
     ensures flushed { OnOk result (W.flushed sink.new ≡ true) }
 {

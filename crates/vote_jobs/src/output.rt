@@ -1,7 +1,8 @@
 //! Writing the text of a run.
 
 ghost use Rattle.std.specs.Prelude.{◌≡◌, ◌<◌, ◌↔◌, true, IfErr, IsErr, OnOk};
-ghost use Rattle.vote_jobs.specs.Runs.{WritesTo};
+ghost use Rattle.std.specs.Result.{result_err};
+ghost use Rattle.vote_jobs.specs.Runs.{Writes};
 
 use crate::fault::{Ended, RunFault};
 use std::marker::Model;
@@ -25,7 +26,7 @@ impl Model for RunText {
 
 /// Writes the text of a run, whose only fault from here on is its output's.
 pub(crate) fn write_run<W: Sink>(sink: &mut W, text: &[u8]) -> Result<(), RunFault>
-    ensures writes { WritesTo text.now W.contents sink.old sink.new result }
+    ensures writes { Writes (λ meant. meant ≡ text.now) (W.contents sink.old) (W.contents sink.new) (result_err result) }
     ensures only { IfErr result (λ fault. fault ≡ RunFault.Output) }
     ensures output { IsErr result ↔ (W.faults sink.old < W.faults sink.new) }
     ensures flushed { OnOk result (W.flushed sink.new ≡ true) }

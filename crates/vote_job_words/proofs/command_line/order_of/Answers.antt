@@ -7,11 +7,10 @@ use Rattle.clap.specs.Words.{App, Row, Text, is_simple, subcommand_of}
 use Rattle.clap.specs.declared.error.Error.{Error}
 use Rattle.clap.specs.declared.error.kind.ErrorKind.{ErrorKind}
 use Rattle.vote_job_words.specs.CommandLine.{debvote_command}
-use Rattle.vote_job_words.specs.Order.{AsksFor, AsksForHelp, HelpsIfAsked, IsFaultOfKind, IsRefusal, RefusesIfAtFault}
+use Rattle.vote_job_words.specs.Order.{AsksFor, AsksForHelp, IsFaultOfKind, IsNoTask, IsRefusal, Task}
 use Rattle.vote_job_words.specs.Words.{texts_of}
 use Rattle.vote_job_words.specs.declared.command_line.OrderFault.{OrderFault}
 use Rattle.vote_job_words.specs.declared.command_line.OrderFault.TheVariants.{Help, Refused, NotUtf8, Memory}
-use Rattle.vote_job_words.specs.declared.command_line.Task.{Task}
 use Rattle.vote_job_words.proofs.command_line.order_of.Goals as goal
 
 free : is_simple_and_free debvote_command ≡ true
@@ -34,23 +33,18 @@ asked kinds error (inl memory) (inl asks) = cc
 asked kinds error (inl memory) (inr asks) = cc
 asked kinds error (inr among) asks = (kind_of error, asks, among)
 
-helps : (kinds : Kinds) (error : Error) (fault : OrderFault) → HasKind kinds error → (fault ≢ Memory → IsFaultOfKind (kind_of error) fault) → HelpsIfAsked kinds fault
-helps kinds error (Help text) has by = asked kinds error has (by (λ e. cc))
-helps kinds error (Refused text) has by = tt
-helps kinds error NotUtf8 has by = by (λ e. cc)
-helps kinds error Memory has by = tt
-
 -- an error that refuses is one of its kinds
 refused : (kinds : Kinds) (error : Error) → HasKind kinds error → IsRefusal (kind_of error) → (k : ErrorKind) × IsRefusal k × IsAmong k kinds
 refused kinds error (inl memory) by = absurd (by.2 memory)
 refused kinds error (inr among) by = (kind_of error, by, among)
 
-refuses : (kinds : Kinds) (subcommand : Option (Text × List Row)) (error : Error) (fault : OrderFault) → HasKind kinds error → (fault ≢ Memory → IsFaultOfKind (kind_of error) fault)
-    → RefusesIfAtFault kinds subcommand fault
-refuses kinds subcommand error (Help text) has by = tt
-refuses kinds subcommand error (Refused text) has by = inl (refused kinds error has (by (λ e. cc)))
-refuses kinds subcommand error NotUtf8 has by = by (λ e. cc)
-refuses kinds subcommand error Memory has by = tt
+-- no task, where `clap` finds an error
+at_fault : (kinds : Kinds) (subcommand : Option (Text × List Row)) (error : Error) (fault : OrderFault) → HasKind kinds error → (fault ≢ Memory → IsFaultOfKind (kind_of error) fault)
+    → IsNoTask kinds subcommand fault
+at_fault kinds subcommand error (Help text) has by = asked kinds error has (by (λ e. cc))
+at_fault kinds subcommand error (Refused text) has by = inl (refused kinds error has (by (λ e. cc)))
+at_fault kinds subcommand error NotUtf8 has by = by (λ e. cc)
+at_fault kinds subcommand error Memory has by = tt
 
 pub returns-in-Err-clause-no_task : goal.returns-in-Err-clause-no_task
 returns-in-Err-clause-no_task c =
@@ -58,34 +52,22 @@ returns-in-Err-clause-no_task c =
     let texts = texts_of c.args.words.now in
     let P : App → Type 0 = λ command. HasKind (fault_of command texts) c.in-Err.error in
     let has = subst P same (c.in-Err.ensures.kinds (ap is_simple_and_free same ∙ free)) in
-    let error = c.in-Err.error in
-    let fault = c.order_fault_of.result in (
-      helps (fault_of debvote_command texts) error fault has c.order_fault_of.ensures,
-      refuses (fault_of debvote_command texts) (subcommand_of debvote_command texts) error fault has c.order_fault_of.ensures,
-    )
+    at_fault (fault_of debvote_command texts) (subcommand_of debvote_command texts) c.in-Err.error c.order_fault_of.result has c.order_fault_of.ensures
 
--- a refusal with the usage, where the words ask for no task
-helps_not : (kinds : Kinds) (fault : OrderFault) → ((text : _) → fault ≢ Help text) → fault ≢ NotUtf8 → HelpsIfAsked kinds fault
-helps_not kinds (Help text) no_help read = absurd (no_help text refl)
-helps_not kinds (Refused text) no_help read = tt
-helps_not kinds NotUtf8 no_help read = read refl
-helps_not kinds Memory no_help read = tt
-
-refuses_no_task : (kinds : Kinds) (subcommand : Option (Text × List Row)) (fault : OrderFault) → fault ≢ NotUtf8 → ((task : Task) → AsksFor subcommand task → ⊥)
-    → RefusesIfAtFault kinds subcommand fault
-refuses_no_task kinds subcommand (Help text) read none = tt
-refuses_no_task kinds subcommand (Refused text) read none = inr none
-refuses_no_task kinds subcommand NotUtf8 read none = read refl
-refuses_no_task kinds subcommand Memory read none = tt
+-- no task, where the words ask for none: a refusal with the usage
+without_task : (kinds : Kinds) (subcommand : Option (Text × List Row)) (fault : OrderFault) → ((text : _) → fault ≢ Help text) → fault ≢ NotUtf8
+    → ((task : Task) → AsksFor subcommand task → ⊥) → IsNoTask kinds subcommand fault
+without_task kinds subcommand (Help text) no_help read none = absurd (no_help text refl)
+without_task kinds subcommand (Refused text) no_help read none = inr none
+without_task kinds subcommand NotUtf8 no_help read none = read refl
+without_task kinds subcommand Memory no_help read none = tt
 
 pub returns-clause-no_task : goal.returns-clause-no_task
 returns-clause-no_task c =
     let same = c.requires.app in
-    let found = c.in-Ok.ensures.ok.2 (ap is_simple same ∙ simple) in (
-      helps_not _ c.no_task.result c.no_task.ensures.refuses c.no_task.ensures.read,
-      refuses_no_task _ _ c.no_task.result c.no_task.ensures.read (λ task asks.
-          c.in-None.ensures.none task (asks.0, found.1 ∙ ap (λ (command : App). subcommand_of command (texts_of c.args.words.now)) same ∙ asks.1, asks.2)),
-    )
+    let found = c.in-Ok.ensures.ok.2 (ap is_simple same ∙ simple) in
+    without_task _ _ c.no_task.result c.no_task.ensures.refuses c.no_task.ensures.read (λ task asks.
+    c.in-None.ensures.none task (asks.0, found.1 ∙ ap (λ (command : App). subcommand_of command (texts_of c.args.words.now)) same ∙ asks.1, asks.2))
 
 pub returns-in-Some-clause-ok : goal.returns-in-Some-clause-ok
 returns-in-Some-clause-ok c =

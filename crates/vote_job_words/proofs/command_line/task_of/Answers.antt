@@ -2,8 +2,7 @@ use Rattle.std.proofs.Common.{◌≡◌, ◌∙◌, IfNone, IfSome, List, Option
 use Rattle.clap.specs.Words.{Row, Text, found_of, rows_of, subcommand_name_of, subcommand_rows_of}
 use Rattle.clap.specs.declared.parser.matches.ArgMatches.{ArgMatches}
 use Rattle.clap.specs.declared.parser.matches.ArgMatches.TheViews.{out-ArgMatches}
-use Rattle.vote_job_words.specs.Order.{AsksFor, HasValues, IsTaskOf}
-use Rattle.vote_job_words.specs.declared.command_line.Task.{Task}
+use Rattle.vote_job_words.specs.Order.{AsksFor, HasValues, IsTaskOf, Task}
 use Rattle.vote_job_words.proofs.command_line.task_of.Goals as goal
 
 -- a name and rows that stand in one subcommand
@@ -37,11 +36,11 @@ returns-in-count-clause-none c =
 
 pub returns-in-steps-clause-found : goal.returns-in-steps-clause-found
 returns-in-steps-clause-found c =
-    asks _ _ _ c.steps_task.result (entered c.args.matches.now _ _ (rows_of (found_of c.in_ok-name.given.now)) c.in_ok-name.ensures.name c.in_ok-name.ensures.rows c.in-steps.is) c.steps_task.ensures
+    asks _ _ _ c.list_task.result (entered c.args.matches.now _ _ (rows_of (found_of c.in_ok-name.given.now)) c.in_ok-name.ensures.name c.in_ok-name.ensures.rows c.in-steps.is) c.list_task.ensures
 
 pub returns-in-steps-clause-none : goal.returns-in-steps-clause-none
 returns-in-steps-clause-none c =
-    asks_none _ _ _ c.steps_task.result (entered c.args.matches.now _ _ (rows_of (found_of c.in_ok-name.given.now)) c.in_ok-name.ensures.name c.in_ok-name.ensures.rows c.in-steps.is) c.steps_task.ensures
+    asks_none _ _ _ c.list_task.result (entered c.args.matches.now _ _ (rows_of (found_of c.in_ok-name.given.now)) c.in_ok-name.ensures.name c.in_ok-name.ensures.rows c.in-steps.is) c.list_task.ensures
 
 pub returns-in-check-clause-found : goal.returns-in-check-clause-found
 returns-in-check-clause-found c =
@@ -61,11 +60,11 @@ returns-in-explain-clause-none c =
 
 pub returns-in-standing-clause-found : goal.returns-in-standing-clause-found
 returns-in-standing-clause-found c =
-    asks _ _ _ c.standing_task.result (entered c.args.matches.now _ _ (rows_of (found_of c.in_ok-name.given.now)) c.in_ok-name.ensures.name c.in_ok-name.ensures.rows c.in-standing.is) c.standing_task.ensures
+    asks _ _ _ c.list_task-in-standing.result (entered c.args.matches.now _ _ (rows_of (found_of c.in_ok-name.given.now)) c.in_ok-name.ensures.name c.in_ok-name.ensures.rows c.in-standing.is) c.list_task-in-standing.ensures
 
 pub returns-in-standing-clause-none : goal.returns-in-standing-clause-none
 returns-in-standing-clause-none c =
-    asks_none _ _ _ c.standing_task.result (entered c.args.matches.now _ _ (rows_of (found_of c.in_ok-name.given.now)) c.in_ok-name.ensures.name c.in_ok-name.ensures.rows c.in-standing.is) c.standing_task.ensures
+    asks_none _ _ _ c.list_task-in-standing.result (entered c.args.matches.now _ _ (rows_of (found_of c.in_ok-name.given.now)) c.in_ok-name.ensures.name c.in_ok-name.ensures.rows c.in-standing.is) c.list_task-in-standing.ensures
 
 pub returns-in-verify-clause-found : goal.returns-in-verify-clause-found
 returns-in-verify-clause-found c =
@@ -77,8 +76,8 @@ returns-in-verify-clause-none c =
 
 pub returns-in-picture-clause-found : goal.returns-in-picture-clause-found
 returns-in-picture-clause-found c =
-    asks _ _ _ c.picture_task.result (entered c.args.matches.now _ _ (rows_of (found_of c.in_ok-name.given.now)) c.in_ok-name.ensures.name c.in_ok-name.ensures.rows c.in-picture.is) c.picture_task.ensures
+    asks _ _ _ c.count_task-in-picture.result (entered c.args.matches.now _ _ (rows_of (found_of c.in_ok-name.given.now)) c.in_ok-name.ensures.name c.in_ok-name.ensures.rows c.in-picture.is) c.count_task-in-picture.ensures
 
 pub returns-in-picture-clause-none : goal.returns-in-picture-clause-none
 returns-in-picture-clause-none c =
-    asks_none _ _ _ c.picture_task.result (entered c.args.matches.now _ _ (rows_of (found_of c.in_ok-name.given.now)) c.in_ok-name.ensures.name c.in_ok-name.ensures.rows c.in-picture.is) c.picture_task.ensures
+    asks_none _ _ _ c.count_task-in-picture.result (entered c.args.matches.now _ _ (rows_of (found_of c.in_ok-name.given.now)) c.in_ok-name.ensures.name c.in_ok-name.ensures.rows c.in-picture.is) c.count_task-in-picture.ensures

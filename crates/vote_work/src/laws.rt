@@ -1,4 +1,4 @@
-//! The limit of the command line, in a number: the law is the contract of a function that does nothing.
+//! The limit of what can be asked for, in a number: the law is the contract of a function that does nothing.
 
 ghost use Rattle.std.specs.Prelude.{◌≡◌};
 

@@ -1,0 +1,7 @@
+use Rattle.std.proofs.Common.{◌≡◌, map, string_bytes, take}
+use Rattle.vote_job_words.specs.Words.{texts_of}
+use Rattle.debvote.proofs.borrowed.Given as goal
+
+-- the words before this one are borrowed
+abbrev pub invariant-loop-word : goal.invariant-loop-word
+invariant-loop-word l = texts_of l.all.items ≡ map string_bytes (take l.word-index l.words)

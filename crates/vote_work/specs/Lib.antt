@@ -1,0 +1,2 @@
+-- what contracts say of the work that is asked for
+pub mod Asked
