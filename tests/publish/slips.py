@@ -121,12 +121,20 @@ class Slip:
             (room / "backup" / "ballots.closed").write_bytes((self.closed + self.edit).encode())
 
     def journal(self):
-        """The lines of the journal: the sums after all acts are those of the files, but for an act that was cut off."""
+        """The lines of the journal: up to the close the ballots are those of the close, then as they are; the last act that was cut
+        off has the sum of another poll.
+        """
+        cast = 0
         for number, act in enumerate(self.acts, start=1):
             is_lost = self.is_cut_off and number == len(self.acts)
-            closed = self.ballots if self.closed is None or act != "close" else self.closed
-            envelopes = f"1-{closed.count(chr(10))}" if act == "close" and closed else "-"
-            poll, ballots = (hashlib.sha256(text.encode()).hexdigest() for text in (self.poll, closed))
+            text = self.ballots if self.closed is None or "close" not in self.acts[number - 1 :] else self.closed
+            lines = text.count("\n")
+            envelopes = "-"
+            if act == "close" and text:
+                envelopes = f"1-{lines}"
+            elif act == "add" and lines > cast:
+                envelopes, cast = f"{cast + 1}-{lines}", lines
+            poll, ballots = (hashlib.sha256(said.encode()).hexdigest() for said in (self.poll, text))
             sums = f"{'0' * 64 if is_lost else poll}\t{ballots}"
             yield f"2026-11-25T18:04:11Z\t{act}\t{envelopes}\t{sums}" + ("" if is_lost else "\n")
 
