@@ -96,7 +96,7 @@ class Debvote:
         return subprocess.run(words, cwd=self.folder, capture_output=True, input=given)
 
     def version(self) -> str:
-        """The line of `--version`, as `debvote 1.0.0`."""
+        """The line of `--version`, as `debvote 1.1.0`."""
         return self.ask("--version").text.strip()
 
 
