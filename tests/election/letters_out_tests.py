@@ -47,9 +47,18 @@ class Kinds(OutTest):
         text = found["ada@club.example"].get_content()
         self.assertIn("You vote under this name:\n\n  ada\n", text)
         self.assertIn(self.read("call/call.txt").decode(), text)
-        self.assertIn("Send the line alone, without anything else", text)
+        self.assertEqual(" ".join(text.split()).count("send the line alone, as plain text, without anything above or below it."), 1)
+        self.assertNotIn("Send the line alone, without anything else", text)
         self.assertEqual(found["ada@club.example"]["To"].addresses[0].display_name, "Åda Ø <x>")
         self.assertEqual(found["ada@club.example"]["Subject"], "Vote: Where we meet in spring")
+
+    def test_the_call_of_an_earlier_version(self) -> None:
+        """It does not say to send the line alone, so the letter around it does."""
+        call = "".join(part for part in self.read("call/call.txt").decode().splitlines(True) if "line alone" not in part)
+        self.write("call/call.txt", call)
+        text = self.written("call")["ada@club.example"].get_content()
+        self.assertIn("Send the line alone, without anything else, as plain text.", text)
+        self.assertIn(call, text)
 
     def test_receipts(self) -> None:
         self.added(
