@@ -189,6 +189,19 @@ class Heads(LettersTest):
             self.assertFalse(mail.is_address(text), text)
         self.assertTrue(mail.is_address("anna+x@club.example"))
 
+    def test_lines_that_programs_on_the_way_change(self) -> None:
+        """They are coded, so that the same words arrive."""
+        long = "x " * 600 + "\n"
+        for text in (".\n", "a\n.\nb\n", "From a\n", ">>From a\n", long, "ä\n.\n", "ä" + "From " * 60 + "\n.\n"):
+            with self.subTest(text=text):
+                data = mail.message_of(mail.Mail("a", "Ada", "a@b.example", "s", text), "v@b.example")
+                lines = data.partition(b"\n\n")[2].split(b"\n")
+                bad = [line for line in lines if line == b"." or line.lstrip(b">").startswith(b"From ") or len(line) > 76]
+                self.assertEqual(bad, [])
+                self.assertEqual(email.message_from_bytes(data, policy=email.policy.default).get_content(), text)
+        plain = mail.message_of(mail.Mail("a", "Ada", "a@b.example", "s", "..\nFrom: a\n"), "v@b.example")
+        self.assertTrue(plain.endswith(b"\n\n..\nFrom: a\n"), plain)
+
     def test_words_in_any_language(self) -> None:
         text = "Grüße, 選挙\n" + "x" * 300 + "\n"
         found = mail.message_of(mail.Mail("a", "安娜", "a@b.example", "Où", text), "v@b.example")
