@@ -156,6 +156,10 @@ class MadeTest(CallTest):
             "all ballots are published, each with the name of its elector",
             "and who has not voted; your real name may stand beside the name on the roll",
             "Lines that were refused or came late are published too",
+            "If you send your ballot by e-mail, send the line alone, as plain text, without anything above or below it.",
+            "You may get a receipt, a letter that says how your ballot was read, or what is wrong with it. If none comes, ask the",
+            "Of an e-mail only the line of the ballot is entered. The e-mail itself, with the address that it came from and all else "
+            "in it, is kept by the secretary, and is not published.",
             sum_of(self.read("poll.toml")),
         ]
         for part in parts:

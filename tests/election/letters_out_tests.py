@@ -47,9 +47,18 @@ class Kinds(OutTest):
         text = found["ada@club.example"].get_content()
         self.assertIn("You vote under this name:\n\n  ada\n", text)
         self.assertIn(self.read("call/call.txt").decode(), text)
-        self.assertIn("Send the line alone, without anything else", text)
+        self.assertEqual(" ".join(text.split()).count("send the line alone, as plain text, without anything above or below it."), 1)
+        self.assertNotIn("Send the line alone, without anything else", text)
         self.assertEqual(found["ada@club.example"]["To"].addresses[0].display_name, "Åda Ø <x>")
         self.assertEqual(found["ada@club.example"]["Subject"], "Vote: Where we meet in spring")
+
+    def test_the_call_of_an_earlier_version(self) -> None:
+        """It does not say to send the line alone, so the letter around it does."""
+        call = "".join(part for part in self.read("call/call.txt").decode().splitlines(True) if "line alone" not in part)
+        self.write("call/call.txt", call)
+        text = self.written("call")["ada@club.example"].get_content()
+        self.assertIn("Send the line alone, without anything else, as plain text.", text)
+        self.assertIn(call, text)
 
     def test_receipts(self) -> None:
         self.added(
@@ -179,6 +188,19 @@ class Heads(LettersTest):
         for text in ("", "a", "a@b@c", "a b@c", "a@b\n", "a@b,c@d", "<a@b>", "ä@b.c", "a@b\r\nBcc: c@d"):
             self.assertFalse(mail.is_address(text), text)
         self.assertTrue(mail.is_address("anna+x@club.example"))
+
+    def test_lines_that_programs_on_the_way_change(self) -> None:
+        """They are coded, so that the same words arrive."""
+        long = "x " * 600 + "\n"
+        for text in (".\n", "a\n.\nb\n", "From a\n", ">>From a\n", long, "ä\n.\n", "ä" + "From " * 60 + "\n.\n"):
+            with self.subTest(text=text):
+                data = mail.message_of(mail.Mail("a", "Ada", "a@b.example", "s", text), "v@b.example")
+                lines = data.partition(b"\n\n")[2].split(b"\n")
+                bad = [line for line in lines if line == b"." or line.lstrip(b">").startswith(b"From ") or len(line) > 76]
+                self.assertEqual(bad, [])
+                self.assertEqual(email.message_from_bytes(data, policy=email.policy.default).get_content(), text)
+        plain = mail.message_of(mail.Mail("a", "Ada", "a@b.example", "s", "..\nFrom: a\n"), "v@b.example")
+        self.assertTrue(plain.endswith(b"\n\n..\nFrom: a\n"), plain)
 
     def test_words_in_any_language(self) -> None:
         text = "Grüße, 選挙\n" + "x" * 300 + "\n"

@@ -280,8 +280,17 @@ class CallTest(SecretTest):
             self.assertIn(poll_sum, text)
             self.assertIn("sha256sum poll.toml", text)
             self.assertNotIn("grep -v", text)
-            for said in ("The vote is secret.", "on the slip with your code", "The secretary knows", "send it to nobody"):
+            for said in (
+                "The vote is secret.",
+                "on the slip with your code",
+                "The secretary knows",
+                "send it to nobody",
+                "You may get a receipt, a letter that says that your ballot has come, or what is wrong with it.",
+                "The e-mail itself, with the address that it came from and all else in it, is kept by the secretary, and is not",
+            ):
                 self.assertIn(said, " ".join(text.split()))
+            # a receipt repeats no ranks
+            self.assertNotIn("how your ballot was read", " ".join(text.split()))
             self.assertNotIn("each with the name of its elector", " ".join(text.split()))
         for row in self.rows():
             for secret_text in (row["name"], row["who"], row["mail"], row["code"]):

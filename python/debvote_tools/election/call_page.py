@@ -134,12 +134,13 @@ def roll(call: Call) -> str:
 def how(call: Call) -> str:
     example = command_block("For example:", call.example())
     said = [call.how_words(), call_words.RANKS]
-    blocks = [*map(paragraph, said), example, paragraph(escape(call.example_words())), paragraph(call_words.AGAIN)]
+    behind = [escape(call.example_words()), call_words.AGAIN, call_words.SEND_ALONE, call.receipt_words()]
+    blocks = [*map(paragraph, said), example, *map(paragraph, behind)]
     return part("How a ballot is written", *blocks)
 
 
 def public(call: Call) -> str:
-    return part("What will be public", paragraph(call.public_words()))
+    return part("What will be public", paragraph(call.public_words()), paragraph(call_words.LETTER))
 
 
 def poll(call: Call) -> str:

@@ -22,6 +22,16 @@ RANKS = (
     "the same rank are equal to you. A hyphen stands for an option that you do not rank: it is behind all others."
 )
 AGAIN = "You may vote again: of your ballots that are valid and in time the last one counts."
+SEND_ALONE = "If you send your ballot by e-mail, send the line alone, as plain text, without anything above or below it."
+RECEIPT = (
+    "You may get a receipt, a letter that says how your ballot was read, or what is wrong with it. If none comes, ask the secretary "
+    "whether your ballot has arrived."
+)
+# a letter that goes out repeats no ranks of a secret ballot
+RECEIPT_OF_SECRET = (
+    "You may get a receipt, a letter that says that your ballot has come, or what is wrong with it. If none comes, ask the secretary "
+    "whether your ballot has arrived."
+)
 NAMES = "The name on your ballot has to be one of these, letter for letter."
 DEFAULT = (
     "It stays where no other option is good enough. Rank before it what you would accept, and behind it what is worse to you "
@@ -39,6 +49,10 @@ PUBLIC_OF_SECRET = (
     "The secretary knows how each elector voted, whoever shows their code shows their vote, and with few voters the sum of the "
     "votes may tell. Of lines that were refused or came late their number alone is published. A list of the electors who have "
     "voted, without their votes, may be published too. When this call was made and when the vote was closed is published."
+)
+LETTER = (
+    "Of an e-mail only the line of the ballot is entered. The e-mail itself, with the address that it came from and all else in it, "
+    "is kept by the secretary, and is not published."
 )
 LATER = (
     "The poll is not changed any more, but for two lines that it may get: extended_to, where the time is extended, and "
@@ -95,6 +109,10 @@ class Call:
     def how_words(self) -> str:
         """How a ballot is written."""
         return HOW.format(place=self.place) + (f" {NO_CODE}" if self.is_secret else "")
+
+    def receipt_words(self) -> str:
+        """What answers a ballot, where the society answers."""
+        return RECEIPT_OF_SECRET if self.is_secret else RECEIPT
 
     def public_words(self) -> str:
         """What will be public."""

@@ -15,7 +15,6 @@ from debvote_tools.election.folder import Election
 from debvote_tools.election.letters import store
 from debvote_tools.election.record import Files
 from debvote_tools.election.secrecy import aliases_now, demand_own_folder, publish_words
-from debvote_tools.console import tell
 from debvote_tools.election.telling import time_of
 from debvote_tools.faults import Fault, Status
 from debvote_tools.journal import Entry

@@ -1,10 +1,9 @@
 """How `add` takes letters: it tells what becomes of each, asks, and enters the ballots, all of them or none."""
 
 import dataclasses
-import pathlib
 
+from debvote_tools import announced
 from debvote_tools.announced import announced_in, in_words as time_in_words
-from debvote_tools import announced, journal
 from debvote_tools.ballots import in_words
 from debvote_tools.by_hand import OF_TABLE
 from debvote_tools.election.asking import command

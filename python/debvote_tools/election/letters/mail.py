@@ -24,8 +24,13 @@ MESSAGE_ID = re.compile(r"<[!-;=?-~]{1,200}>")
 # so many letters are named that a letter answers
 MOST_REFERENCES = 20
 
-# lines of any length, each ended as files of this system are
-POLICY = email.policy.default.clone(max_line_length=78, utf8=False, cte_type="7bit")
+# lines of any length, each ended as files of this system are; a coded line may have 76 signs, and gets two more where it is protected
+POLICY = email.policy.default.clone(max_line_length=74, utf8=False, cte_type="7bit")
+
+# lines that programs on the way change: these words begin a letter of an mbox, and a point alone ends what `sendmail -t` reads
+CHANGED_ON_THE_WAY = re.compile(r"(?m)^(?:(?=>*From ).|\.$)")
+# in signs; mail servers break lines of a thousand
+LONGEST_LINE = 900
 
 
 @dataclasses.dataclass(frozen=True)
@@ -64,8 +69,19 @@ def message_of(mail: Mail, sender: str) -> bytes:
     message["X-Unsent"] = "1"
     # no program answers it by itself
     message["Auto-Submitted"] = "auto-generated"
-    message.set_content(mail.text, charset="utf-8", cte="7bit" if mail.text.isascii() else "quoted-printable")
+    set_text(message, mail.text)
     return message.as_bytes()
+
+
+def set_text(message: email.message.EmailMessage, text: str) -> None:
+    """Sets the text of a letter: as it is where every program leaves it so, and otherwise coded."""
+    is_safe = text.isascii() and CHANGED_ON_THE_WAY.search(text) is None
+    if is_safe and all(len(line) <= LONGEST_LINE for line in text.split("\n")):
+        message.set_content(text, charset="utf-8", cte="7bit")
+        return
+    message.set_content(text, charset="utf-8", cte="quoted-printable")
+    coded = str(message.get_payload())
+    message.set_payload(CHANGED_ON_THE_WAY.sub(lambda found: f"={ord(found[0]):02X}", coded))
 
 
 def line_of(text: str) -> str:
@@ -116,5 +132,5 @@ def take_away_leftovers(folder: pathlib.Path) -> None:
 
 
 def mbox_part(data: bytes) -> bytes:
-    """A letter as it stands in an mbox."""
-    return b"From debvote-election Thu Jan  1 00:00:00 1970\n" + re.sub(rb"(?m)^(>*From )", rb">\1", data) + b"\n"
+    """A letter as it stands in an mbox. No line of it begins as that between two letters."""
+    return b"From debvote-election Thu Jan  1 00:00:00 1970\n" + data + b"\n"

@@ -2,6 +2,7 @@
 
 from debvote_tools.announced import announced_in, in_words as time_in_words
 from debvote_tools.ballots import in_words
+from debvote_tools.election import call_words
 from debvote_tools.election.casting import right_line
 from debvote_tools.election.letters import plan, store
 from debvote_tools.letters import copied, heading, wrapped
@@ -48,8 +49,9 @@ def of_call(who: str, name: str, call: str, holder: Holder | None) -> str:
             ),
             copied(BY_PYTHON),
         ]
-    receipt = "When your ballot has come you may get a receipt: a letter that says how it was read, or what is wrong with it."
-    return "\n".join([*parts, wrapped(SEND_ALONE), wrapped(receipt), call])
+    # a call of version 1.0.0 does not say it
+    alone = [] if wrapped(call_words.SEND_ALONE) in call else [wrapped(SEND_ALONE)]
+    return "\n".join([*parts, *alone, call])
 
 
 # ---------------------------------------------------------------- receipts
