@@ -27,6 +27,12 @@
 
   const paragraph = (...words) => element("p", sentence(...words));
 
+  // Shows an answer. It may be longer than the window, or below it; its beginning is seen.
+  function say(...nodes) {
+    answer.replaceChildren(...nodes);
+    answer.scrollIntoView({ block: "nearest" });
+  }
+
   // The bytes of a file that the page carries, as it was published.
   function carried(id) {
     const node = byId(id);
@@ -65,7 +71,7 @@
     } finally {
       if (isLast()) {
         progress.hidden = true;
-        if (nodes) answer.replaceChildren(...nodes);
+        if (nodes) say(...nodes);
       }
     }
   }
@@ -172,7 +178,6 @@
   }
 
   async function countChosen() {
-    answer.scrollIntoView({ block: "nearest" });
     let files = null;
     let key = "choose";
     try {
@@ -184,7 +189,7 @@
     asked += 1;
     progress.hidden = true;
     more.replaceChildren();
-    return answer.replaceChildren(paragraph(key));
+    return say(paragraph(key));
   }
 
   const ofPage = () => ({ poll: carried("Poll-file"), ballots: carried("Ballots-file"), sheet: carried("Sheet-file") });
