@@ -74,7 +74,9 @@ class ByKeys(Reader):
             way = self.tab_to(window, IN_DISK)
             window.press("Enter")
             way += self.tab_to(window, "Again-chosen")
-            self.assertEqual([place["name"] for place in way[-5:]], ["Again-letter", "Again-button", IN_DISK, "Again-files", "Again-chosen"])
+            self.assertEqual(
+                [place["name"] for place in way[-5:]], ["Again-letter", "Again-button", IN_DISK, "Again-files", "Again-chosen"]
+            )
             for place in way:
                 with self.subTest(place=place, is_dark=is_dark):
                     ring = "rgb(147, 191, 255)" if is_dark else "rgb(10, 79, 158)"
@@ -141,6 +143,79 @@ class ByKeys(Reader):
         self.assertEqual({place["ring"][0] for place in way}, {"solid"})
         window.press("Enter")
         self.assert_counted(window)
+
+
+# what is shown of the page: the first of each kind, and the colours of all
+SHOWN = """(() => {
+  const style = getComputedStyle(document.body), wide = document.querySelector(".wide");
+  const shown = (what) => [...document.querySelectorAll(what)].map((node) => node.checkVisibility());
+  return { kinds: Object.fromEntries(%s.map((what) => [what, shown(what)])), colours: [style.backgroundColor, style.color],
+    wide: getComputedStyle(wide).overflowX };
+})()"""
+
+# what a reader on paper can do nothing with, and what stays
+FOR_SCREENS = ["#find", "#Again", "#Again-no-script", "nav"]
+FOR_ALL = ["h1", "h2", ".outcome", ".bars svg", "table", ".ballots li", "#How-to-verify", "pre code"]
+
+LIGHT, DARK = ["rgb(255, 255, 255)", "rgb(26, 26, 26)"], ["rgb(22, 22, 23)", "rgb(233, 233, 230)"]
+
+# what has a name where a page is read out
+NAMED_ROLES = {
+    "textbox",
+    "button",
+    "link",
+    "image",
+    "progressbar",
+    "region",
+    "navigation",
+    "heading",
+    "table",
+    "DisclosureTriangle",
+}
+
+
+@unittest.skipUnless(BROWSER, "chromium is not installed")
+class OnPaperAndReadOut(Reader):
+    def setUp(self) -> None:
+        super().setUp()
+        self.closed()
+        self.done("publish", "--secret")
+
+    def test_paper(self) -> None:
+        """Fields and buttons are not on paper, nor links to parts; what they say of the result is, in light colours."""
+        for is_dark in (False, True):
+            window = self.at(is_dark=is_dark)
+            self.assertEqual(window.ask(SHOWN % [*FOR_ALL])["colours"], DARK if is_dark else LIGHT)
+            window.for_paper()
+            found = window.ask(SHOWN % [*FOR_SCREENS, *FOR_ALL])
+            for what in FOR_SCREENS:
+                self.assertEqual(set(found["kinds"][what]), {False}, what)
+            for what in FOR_ALL:
+                self.assertEqual(set(found["kinds"][what]), {True}, what)
+            self.assertEqual((found["colours"], found["wide"]), (LIGHT, "visible"))
+
+    def test_what_is_read_out(self) -> None:
+        """Whatever can be used has a name, the answers are read out when they come, and the language is told."""
+        window = self.at()
+        self.tab_to(window, "Again-button")
+        window.press("Enter")
+        self.assert_counted(window)
+        window.ask("document.querySelectorAll('details').forEach((part) => { part.open = true; })")
+        window.ask("document.getElementById('Again-progress').hidden = false")
+        self.assertEqual(window.ask("document.documentElement.lang"), "en")
+        nodes = [node for node in window.tell("Accessibility.getFullAXTree")["nodes"] if not node["ignored"]]
+        roles = {node["role"]["value"] for node in nodes}
+        self.assertLessEqual(NAMED_ROLES, roles)
+        for node in nodes:
+            role, name = node["role"]["value"], node.get("name", {}).get("value", "")
+            with self.subTest(role=role, node=node):
+                self.assertTrue(name.strip() or role not in NAMED_ROLES)
+        live = [
+            {one["name"]: one["value"].get("value") for one in node["properties"]}
+            for node in nodes
+            if node["role"]["value"] == "status"
+        ]
+        self.assertEqual([(one["live"], one["atomic"]) for one in live], [("polite", True)] * 2)
 
 
 if __name__ == "__main__":

@@ -30,7 +30,18 @@ class Window:
         self.room = tempfile.mkdtemp(prefix="debvote-browser-")
         read, self.to_browser = os.pipe()
         from_browser, write = os.pipe()
-        words = ["bash", "-c", START, "start", str(read), str(write), str(BROWSER), *FLAGS, f"--user-data-dir={self.room}", "about:blank"]
+        words = [
+            "bash",
+            "-c",
+            START,
+            "start",
+            str(read),
+            str(write),
+            str(BROWSER),
+            *FLAGS,
+            f"--user-data-dir={self.room}",
+            "about:blank",
+        ]
         self.process = subprocess.Popen(words, pass_fds=(read, write), stderr=subprocess.DEVNULL, start_new_session=True)
         os.close(read)
         os.close(write)
@@ -39,8 +50,8 @@ class Window:
         self.session: str | None = None
         page = next(target for target in self.tell("Target.getTargets")["targetInfos"] if target["type"] == "page")
         self.session = self.tell("Target.attachToTarget", targetId=page["targetId"], flatten=True)["sessionId"]
-        scheme = {"name": "prefers-color-scheme", "value": "dark" if is_dark else "light"}
-        self.tell("Emulation.setEmulatedMedia", features=[scheme])
+        self.scheme = [{"name": "prefers-color-scheme", "value": "dark" if is_dark else "light"}]
+        self.tell("Emulation.setEmulatedMedia", features=self.scheme)
         self.tell("Emulation.setDeviceMetricsOverride", width=width, height=height, deviceScaleFactor=1, mobile=is_telephone)
         self.tell("Emulation.setTouchEmulationEnabled", enabled=is_telephone)
 
@@ -77,6 +88,10 @@ class Window:
     def open(self, page: pathlib.Path) -> None:
         self.tell("Page.navigate", url=page.as_uri())
         self.until(f"document.readyState === 'complete' && location.href.startsWith({json.dumps(page.as_uri())})")
+
+    def for_paper(self) -> None:
+        """From now on the page is shown as it is printed."""
+        self.tell("Emulation.setEmulatedMedia", media="print", features=self.scheme)
 
     def ask(self, script: str) -> Any:
         """What a script comes to in the page."""
