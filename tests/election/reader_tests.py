@@ -59,9 +59,9 @@ class Reader(CountHere):
         self.assertTrue(found["inWindow"], found)
         return found["rows"]
 
-    def assert_counted(self, window: Window) -> None:
+    def assert_counted(self, window: Window, sheet: str = "the published sheet") -> None:
         lines = self.read("result/sheet.txt").decode().count("\n")
-        self.assertEqual(self.answer(window)[0], SAME.format(lines))
+        self.assertEqual(self.answer(window)[0], SAME.format(sheet, lines))
         window.ask(CLEAR)
 
 
@@ -119,7 +119,7 @@ class ByKeys(Reader):
         for key in ("Enter", " "):
             window.ask(CLEAR)
             window.press(key)
-            self.assert_counted(window)
+            self.assert_counted(window, "the sheet that you chose")
 
     def test_a_secret_vote(self) -> None:
         self.closed()
