@@ -145,6 +145,33 @@ class ByKeys(Reader):
         self.assert_counted(window)
 
 
+@unittest.skipUnless(BROWSER, "chromium is not installed")
+class OnTelephone(Reader):
+    def test_the_own_ballot_and_the_count_by_touch(self) -> None:
+        """A finger comes to the own ballot and to the count; each answer lies in the window, and nothing is wider than it."""
+        self.closed()
+        self.done("publish", "--secret")
+        row = self.rows()[0]
+        window = self.at(is_telephone=True)
+        window.touch("document.querySelector('nav a[href=\"#Find-your-ballot\"]')")
+        window.until("location.hash === '#Find-your-ballot'")
+        for field in ("name", "code"):
+            window.touch(f"document.getElementById('{field}')")
+            window.until(f"document.activeElement.id === '{field}'")
+            window.type(row[field])
+        window.touch("document.getElementById('show')")
+        window.until("document.getElementById('answer').textContent !== ''")
+        said = window.ask("document.getElementById('answer').textContent")
+        self.assertTrue(said.startswith(f"This ballot counts for {row['name']}:"), said)
+        window.touch("document.querySelector('nav a[href=\"#Count-again-here\"]')")
+        window.touch("document.getElementById('Again-button')")
+        self.assert_counted(window)
+        window.touch("document.querySelector('#Again > details summary')")
+        window.touch("document.getElementById('Again-chosen')")
+        self.assertTrue(self.answer(window)[0].startswith("Choose poll.toml and ballots.txt"))
+        self.assertEqual(window.ask("document.documentElement.scrollWidth"), 390)
+
+
 # what is shown of the page: the first of each kind, and the colours of all
 SHOWN = """(() => {
   const style = getComputedStyle(document.body), wide = document.querySelector(".wide");
