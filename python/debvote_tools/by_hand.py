@@ -118,7 +118,12 @@ def changes_in(folder: pathlib.Path, acts: Sequence[Entry], ballots: bytes) -> C
         fewer = sum(entry.number() for entry in acts[len(until) :] if entry.act in journal.CASTING) - len(late)
         return Changes(missing, [], fewer=0 if missing else max(0, fewer), is_late=True)
     added = not_come(came, before)
-    if missing or stand_as_cast(until, len(until) if first is None else first, before, {number for number, _ in added}):
+    is_as_cast = stand_as_cast(until, len(until) if first is None else first, before, {number for number, _ in added})
+    if is_as_cast and all(entry.cast is not None for entry in journal.cast_and_not_undone(until)):
+        # an `add` that was killed before its act began has kept what came, and so has the one that was run again
+        there = collections.Counter(before)
+        missing = [line for line in missing if not there[line.text] and not there[line.kept]]
+    if missing or is_as_cast:
         # lines that were there before the first act are no edit
         return NOTHING if first is None and not missing else Changes(missing, added)
     is_same_order = stand_as_came(before, came)

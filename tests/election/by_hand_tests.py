@@ -231,6 +231,14 @@ class NothingLost(ByHandTest):
         self.assertIn("Note: line 5, `eve 1,2,3,4`, is not among what came.\n", self.done("close"))
         self.done("publish")
 
+    def test_what_a_killed_run_kept_and_its_repetition_cast(self) -> None:
+        """An `add` that was killed before its act began leaves what came in received; no act of the journal has it."""
+        kept = self.folder / "received"
+        shutil.copy(kept / "0001-monday.txt", kept / "0003-monday.txt")
+        self.write("ballots", self.came + b"cleo 4,3,2,1\n")
+        self.assertIn("`cleo 4,3,2,1`, is not among what came", self.done("close"))
+        self.assertEqual(self.election("publish").status, 0)
+
     def test_ballots_that_were_there_before_the_first_act(self) -> None:
         (self.folder / "journal").unlink()
         shutil.rmtree(self.folder / "received")

@@ -72,7 +72,7 @@ begins_with_blank_rank text = starts_with nat_eq text (codes " ") && is_rank_byt
 abbrev pub is_blank_between : List ℕ → List ℕ → Bool
 is_blank_between before rest = begins_with_blank_rank rest && has_ranks before && not (ends_with nat_eq before (codes ","))
 
--- and the line has no comma
+-- a blank stands between two ranks, and the line has no comma
 abbrev pub has_blanks : List ℕ → List ℕ → List ℕ → Bool
 has_blanks line before rest = nat_le (length line) MAX_LINE && is_blank_between before rest && not (list_any is_comma line)
 

@@ -84,7 +84,7 @@ pub record IsOutcome (poll : PollContent) (matrix : Votes) (outcome : VerdictSta
   pub defeats : (a b : ℕ) → Pairs outcome.defeats a b ↔ PairwiseDefeats (IsKept poll matrix) matrix a b
   pub rounds : AreRounds (IsKept poll matrix) matrix (PairwiseDefeats (IsKept poll matrix) matrix) outcome.rounds
 
--- An option that is alone in the final set wins, and else the casting vote decides.
+-- An option that is alone in the final set wins. The set is never empty, so else it has several, and the casting vote decides.
 -- A.5.8: "If there is only one such option, it is the winner."
 pub record IsDecision (set : List Bool) (casting : Option ℕ) (decision : Decision) : Type 0 where
   pub alone : (o : ℕ) → IsAlone set o → decision ≡ Winner o

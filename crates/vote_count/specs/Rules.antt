@@ -5,17 +5,17 @@ use Rattle.vote_poll.specs.declared.wording.Wording.{Wording}
 use Rattle.vote_poll.specs.declared.wording.Wording.TheVariants.{AtLeast, MoreThan}
 use Rattle.vote_count.specs.Votes.{Votes, votes}
 
--- `n` votes are as many as the quorum, the poll's multiple of Q.
+-- `n` votes are at least the quorum, k times half of the square root of the electors: both sides are doubled and squared, so nothing is rounded.
 -- 4.2.7: "Q is half of the square root of the number of current Developers." "Q and K need not be integers and are not rounded."
 -- A.5.2: "at least R votes ranking that option above the default option"
 abbrev pub MeetsQuorum : PollContent → ℕ → Type 0
 MeetsQuorum poll n = poll.quorum_multiple ^ 2 * elector_count poll ≤ (2 * n) ^ 2
 
--- `n` are the fewest votes that are as many as the quorum
+-- `n` are the fewest votes that meet the quorum
 abbrev pub IsQuorum : PollContent → ℕ → Type 0
 IsQuorum poll n = MeetsQuorum poll n × ((m : ℕ) → MeetsQuorum poll m → n ≤ m)
 
--- So many votes for an option and so many for the default are a majority of this ratio. In the Constitution's wording they are at least the ratio times as many, and more; in the other one they are more than the ratio times as many.
+-- So many votes for an option and so many for the default are a majority of this ratio. In the Constitution's wording they are at least the ratio times as many, and strictly more; in the other one more than the ratio times as many.
 -- A.5.3: "An option A defeats the default option D by a majority ratio N, if V(A,D) is greater or equal to N * V(D,A) and V(A,D) is strictly greater than V(D,A)."
 abbrev pub IsMajority : Wording → ℕ → ℕ → ℕ → Type 0
 IsMajority AtLeast ratio won lost = (ratio * lost ≤ won) × (lost < won)

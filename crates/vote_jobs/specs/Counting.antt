@@ -89,7 +89,7 @@ IsMade (purpose.Verification sheet) poll lines casting told =
     (verification : Verification) × IsVerification poll lines sheet.now verification × AreVerificationWords poll lines sheet.now verification told.text
     × (told.end ≡ ended_by_verification verification)
 
--- the same of the inputs
+-- what is told of a count that is made for this, of the bytes of both files
 abbrev pub IsCountFor : Purpose (Bor Text) → Inputs → Told → Type 0
 IsCountFor made_for inputs told =
     (poll : PollContent) × (poll_in inputs.poll ≡ Ok poll) × IsMade made_for poll (lines_of inputs.ballots) (casting_option poll inputs.casting) told

@@ -48,7 +48,7 @@ pub record Checks (poll_text : Text) (old new : Option Text) (stop : Option RunF
 abbrev pub EndsDone : Result Ended RunFault → Type 0
 EndsDone result = IfOk result (λ end. end ≡ ended.Done)
 
--- what a sink holds before and after a job, and how the job ends, whose votes a gate may stop at these desks
+-- what a job does: what it adds to the sink, and how it ends; `bars` says at which desks a gate may stop it
 abbrev pub Performs : (ℕ → Bool) → Job → Option Text → Option Text → Performed → Type 0
 Performs bars (work.Count poll ballots desks casting made_for) old new performed = Counts bars made_for (inputs_at poll ballots desks casting) old new performed
 Performs bars (work.List poll ballots listed) old new performed = Lists listed poll.now ballots.now old new (result_err performed.end) × EndsDone performed.end

@@ -68,7 +68,7 @@ abbrev pub IsListed : Listing → PollContent → List Text → Text → Type 0
 IsListed listing.Steps poll lines text = IsStepsText poll lines text
 IsListed listing.Standing poll lines text = text ≡ standing_text poll lines
 
--- the same of a poll file and a ballot file
+-- what is listed of a poll file and a ballot file
 abbrev pub IsListing : Listing → Text → Text → Text → Type 0
 IsListing listed poll_text ballots text = (poll : PollContent) × (poll_in poll_text ≡ Ok poll) × IsListed listed poll (lines_of ballots) text
 

@@ -51,6 +51,7 @@ abbrev pub reading_at : List (Option ℕ) → Option ℕ → Reading
 reading_at ranks None = Bad Roll
 reading_at ranks (Some place) = Ballot place ranks
 
+-- what the poll reads in a line: a ballot; or why it is none, in this order: shape, number of ranks, name that is not on the roll
 abbrev pub reading_of : PollContent → Option (List ℕ × List (Option ℕ)) → Reading
 reading_of poll None = Bad Shape
 reading_of poll (Some ballot) = if length ballot.1 == option_count poll then reading_at ballot.1 (place_of ballot.0 poll.roll) else Bad RankCount

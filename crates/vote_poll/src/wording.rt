@@ -6,7 +6,7 @@ ghost use Rattle.vote_poll.specs.PollValues.{wording_in};
 /// those who prefer the default option to it.
 #[derive(Clone, Copy, Debug, PartialEq, Eq)]
 pub enum Wording {
-    /// At least r times as many, and more than as many: so A.5 of the Constitution's Appendix A words it. A poll file says
+    /// At least r times as many, and strictly more: so A.5 of the Constitution's Appendix A words it. A poll file says
     /// `at_least`, or nothing.
     AtLeast,
     /// More than r times as many. This wording is this project's own. A poll file says `more_than`.

@@ -20,7 +20,7 @@ is_voter_name name = is_within 1 MAX_VOTER_NAME (length name) && list_all is_vot
 abbrev pub is_printable : ℕ → Bool
 is_printable b = is_within 0x20 0x7E b
 
--- one or more of these, and not too many
+-- one or more printable bytes, and not too many
 abbrev pub is_title : List ℕ → Bool
 is_title text = is_within 1 MAX_TITLE (length text) && list_all is_printable text
 
@@ -28,6 +28,6 @@ is_title text = is_within 1 MAX_TITLE (length text) && list_all is_printable tex
 abbrev pub has_outer_space : List ℕ → Bool
 has_outer_space name = slice_index name 0 == byte " " || slice_index name (length name - 1) == byte " "
 
--- the same for the name of an option, with no space at its ends
+-- one or more printable bytes, not too many, and no space at the ends
 abbrev pub is_option_name : List ℕ → Bool
 is_option_name name = is_within 1 MAX_OPTION_NAME (length name) && list_all is_printable name && not (has_outer_space name)

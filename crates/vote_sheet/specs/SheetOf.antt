@@ -10,7 +10,7 @@ use Rattle.vote_count.specs.declared.Decision.{Decision}
 use Rattle.vote_sheet.specs.LastBallots.{refused_count, valid_count, voter_count, votes_for}
 use Rattle.vote_sheet.specs.Sheet.{Sheet, Text, sheet_text}
 
--- the least quorum, what the lines are, the votes over each elector's last valid ballot, and what they come to
+-- the fewest votes that meet the quorum, what the lines are, the votes over each elector's last valid ballot, and what they come to
 pub record IsSheetOf (poll : PollContent) (lines : List Text) (casting : Option ℕ) (s : Sheet) : Type 0 where
   pub quorum : IsQuorum poll s.quorum_votes
   pub valid : s.valid ≡ valid_count poll lines

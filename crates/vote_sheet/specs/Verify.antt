@@ -48,7 +48,7 @@ common_bytes (b ∷ bs) (c ∷ cs) = if b == c then common_bytes bs cs + 1 else 
 abbrev pub common_lines : Text → Text → ℕ
 common_lines text other = feed_count (take (common_bytes text other) text)
 
--- The text is none of the sheets, one for each casting vote, of which this is one. No other has more lines in common with the text, and none with an earlier casting vote as many.
+-- The text is no sheet of the count, and of the sheets with each casting vote or none this one has the most first lines in common with it; of equals it is that of the earliest casting vote.
 pub record AgreesLongest (poll : PollContent) (IsSheetFor : Option ℕ → Text → Type 0) (text : Text) (casting : Option ℕ) (sheet : Text) : Type 0 where
   pub vote : IsCasting poll casting
   pub is_sheet : IsSheetFor casting sheet

@@ -18,7 +18,7 @@ HasSizes poll lines b = (b.options ≡ option_count poll) × (b.electors ≡ ele
 abbrev pub HasOwnReadings : PollContent → List (List ℕ) → List Step → Type 0
 HasOwnReadings poll lines steps = All (HasOwnReading (readings poll lines)) steps
 
--- each line of a poll is one step of a legal history, whose only close is the last
+-- As many casts as lines, with different stamps from 1 to their number: so each line is cast exactly once. The only close is the last step.
 pub record HoldsLines (poll : PollContent) (lines : List (List ℕ)) (b : BoxState) : Type 0 where
   pub sizes : HasSizes poll lines b
   pub casts : count_by is_cast b.steps ≡ length lines

@@ -91,7 +91,7 @@ standing_ranks last_in_time steps voter = option_and_then (λ ballot. Some ballo
 
 -- ---- the reply to a cast
 
--- the reply to a ballot, beside the ballot of its voter that stands
+-- the reply to a ballot with this stamp, where this ballot of the same voter stands, if one does
 abbrev pub reply_beside : Option Received → ℕ → Reply
 reply_beside None stamp = Counted
 reply_beside (Some ballot) stamp = if nat_lt stamp ballot.stamp then Superseded else Replaced

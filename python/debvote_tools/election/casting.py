@@ -164,13 +164,13 @@ def cast(
             keep()
         raise
     look(batch)
+    first, last = batch.ballots[0].envelope, batch.ballots[-1].envelope
+    envelopes = str(first) if first == last else f"{first}-{last}"
+    own = b"".join(ballot.text + b"\n" for ballot in batch.ballots)
+    # what is kept is cast too: an interrupt between the two would leave it in received, and no line of the journal would say so
     with uninterrupted():
         election.begin_journal()
         record = keep() or ""
-    first, last = batch.ballots[0].envelope, batch.ballots[-1].envelope
-    envelopes = str(first) if first == last else f"{first}-{last}"
-    with uninterrupted():
-        own = b"".join(ballot.text + b"\n" for ballot in batch.ballots)
         election.act(act, files, envelopes, ballots=batch.new, cast=own, record=record)
         try:
             tell(*report(election, batch))
