@@ -58,12 +58,16 @@ async function run(job) {
 </script>
 """
 
-SAME = "The same, line for line: this count comes to the published sheet, in all its {} lines."
+SAME = "The same, line for line: this count comes to {}, in all its {} lines."
+DIFFERS = (
+    "Not the same as the published sheet: line {} differs. There it is: {}. By this count it is: {}. Tell it to the other electors."
+)
+UNCOUNTED = "These files cannot be counted: {}. Tell it to the other electors."
 OTHER_PAGE = "This page shows something else than its files come to: {}. Tell it to the other electors."
 NO_SECRET_VOTE = "This is no secret vote as it is published: {}. Tell it to the other electors."
 NO_SUM = (
     "None of these is the sum that you typed. If it is that of the poll or of the ballots, and typed right, your letter speaks of other "
-    "files: ask for them. A page cannot make the sum of itself."
+    "files: ask for them. If it is that of this page: no page can make its own."
 )
 
 
@@ -101,9 +105,9 @@ class CountHere(Binding):
     def sum_of(self, name: str) -> str:
         return hashlib.sha256(self.read(f"result/{name}")).hexdigest()
 
-    def assert_same(self, found: dict, wrong: int = 0) -> None:
+    def assert_same(self, found: dict, wrong: int = 0, sheet: str = "the published sheet") -> None:
         lines = self.read("result/sheet.txt").decode()
-        self.assertEqual(found["rows"][0], SAME.format(lines.count("\n")))
+        self.assertEqual(found["rows"][0], SAME.format(sheet, lines.count("\n")))
         self.assertEqual(found["rows"][1], f"This count ends with: {lines.splitlines()[-1]}")
         self.assertEqual(found["sheet"], f"The whole sheet by this count{lines.rstrip()}")
         self.assertEqual(found["differs"], wrong, found["rows"])
@@ -128,7 +132,10 @@ class OpenPage(CountHere):
                 self.assertEqual(found["wide"], job["width"])
                 self.assertEqual((found["requests"], found["violations"], found["scripts"]), (0, [], 1))
                 self.assertEqual((found["unlabelled"], found["role"], found["small"]), (0, "status", 0))
-                said = "This page shows what its files come to: the result, the table of votes, and each of the 3 ballots."
+                said = (
+                    "This page shows what its files come to: the result, by the numbers of its options, the table of votes, and the "
+                    "ranks of each of the 3 ballots. Names and other words are not compared."
+                )
                 self.assertEqual(found["rows"][2], said)
                 self.assertEqual(found["rows"][-1], "This was a second opinion, from the same web site as the page.")
                 self.assertNotRegex(" ".join(found["rows"]), "(?i)prove|verified")
@@ -172,18 +179,18 @@ class OpenPage(CountHere):
         winner = '<p class="outcome"><b>2 Boat</b>'
         row = re.search(r"<tr[^>]*><th scope=\"row\">1 Lake.*?</tr>", self.page())[0]
         changed = {
-            "the winner of the sheet": (self.changed("Winner: 2 Boat\n</pre>", "Winner: 1 Lake\n</pre>"), 0, "Not the same: line 24 differs. The published sheet has: Winner: 1 Lake. This count has: Winner: 2 Boat."),
-            "a number of the sheet": (self.changed("\nVoters: 3\n", "\nVoters: 4\n"), 0, f"Not the same: line {at} differs. The published sheet has: Voters: 4. This count has: Voters: 3."),
-            "a line more on the sheet": (self.changed("Winner: 2 Boat\n</pre>", "Winner: 2 Boat\n1\n</pre>"), 0, "Not the same: line 25 differs. The published sheet has: 1. This count has: (end)."),
-            "a ballot of the files": (self.changed("cleo 2,1,3\n</pre>", "cleo 1,2,3\n</pre>"), 0, "Not the same: line 14 differs. The published sheet has:   1     -     1     3. This count has:   1     -     2     3."),
+            "the winner of the sheet": (self.changed("Winner: 2 Boat\n</pre>", "Winner: 1 Lake\n</pre>"), 0, DIFFERS.format(24, "Winner: 1 Lake", "Winner: 2 Boat")),
+            "a number of the sheet": (self.changed("\nVoters: 3\n", "\nVoters: 4\n"), 0, DIFFERS.format(at, "Voters: 4", "Voters: 3")),
+            "a line more on the sheet": (self.changed("Winner: 2 Boat\n</pre>", "Winner: 2 Boat\n1\n</pre>"), 0, DIFFERS.format(25, "1", "(end)")),
+            "a ballot of the files": (self.changed("cleo 2,1,3\n</pre>", "cleo 1,2,3\n</pre>"), 0, DIFFERS.format(14, "  1     -     1     3", "  1     -     2     3")),
             "a ballot that is shown": (self.changed("<b>cleo</b> <code>2,1,3<", "<b>cleo</b> <code>1,2,3<"), 2, OTHER_PAGE.format("the ballot of cleo")),
             "a ballot that is hidden": (re.sub('<li id="cleo">.*\n', "", self.page(), count=1), 2, OTHER_PAGE.format("the ballots, which are not as many")),
             "the result": (self.changed(winner, '<p class="outcome"><b>1 Lake</b>'), 2, OTHER_PAGE.format("the result")),
             "the votes": (self.changed(row, row.replace("<td>1</td>", "<td>2</td>")), 2, OTHER_PAGE.format("the table of votes")),
-            "a last envelope": (self.changed(f"{poll}</pre>", f"{poll}last_envelope = 1\n</pre>"), 0, "Not the same: line 5 differs. The published sheet has: Valid: 3. This count has: Last envelope: 1."),
-            "the quorum": (self.changed("quorum = 0\nroll", "quorum = 1\nroll"), 0, "Not the same: line 3 differs. The published sheet has: Quorum: 0Q, 0 votes. This count has: Quorum: 1Q, 1 votes."),
-            "no poll": (self.changed("quorum = 0\nroll", "quorum = 11\nroll"), 0, "These files cannot be counted: poll refused: quorum."),
-            "an elector twice": (self.changed('"cleo"]', '"ben"]'), 0, "These files cannot be counted: poll refused: voter at position 2."),
+            "a last envelope": (self.changed(f"{poll}</pre>", f"{poll}last_envelope = 1\n</pre>"), 0, DIFFERS.format(5, "Valid: 3", "Last envelope: 1")),
+            "the quorum": (self.changed("quorum = 0\nroll", "quorum = 1\nroll"), 0, DIFFERS.format(3, "Quorum: 0Q, 0 votes", "Quorum: 1Q, 1 votes")),
+            "no poll": (self.changed("quorum = 0\nroll", "quorum = 11\nroll"), 0, UNCOUNTED.format("poll refused: quorum")),
+            "an elector twice": (self.changed('"cleo"]', '"ben"]'), 0, UNCOUNTED.format("poll refused: voter at position 2")),
         }  # fmt: skip
         for (what, (_, place, said)), found in zip(changed.items(), self.press(*({"text": page} for page, _, _ in changed.values()))):
             with self.subTest(what=what):
@@ -238,15 +245,17 @@ class OpenPage(CountHere):
             {**files, "poll.toml": files["poll.toml"] + b"#" * 1_048_576},
         ]
         found = self.press(*({"files": job} for job in jobs))
-        for answer in (found[0], found[1], found[3]):
-            self.assert_same(answer)
-        self.assertTrue(found[2]["rows"][0].startswith("Not the same: line 24 differs."), found[2])
-        self.assertTrue(found[4]["rows"][0].startswith("Not the same: line 4 differs."), found[4])
+        for at, sheet in ((0, "the sheet that you chose"), (1, "the sheet of this page"), (3, "the sheet of this page")):
+            self.assert_same(found[at], sheet=sheet)
+        tell = "If the files are as they were published, tell it to the other electors."
+        for at, line in ((2, 24), (4, 4)):
+            self.assertTrue(found[at]["rows"][0].startswith(f"Not the same as the sheet that you chose: line {line} differs."), found[at])
+            self.assertTrue(found[at]["rows"][0].endswith(tell), found[at])
         self.assertIn("This page does not name it: the files are others than those from which it was made.", "".join(found[4]["rows"]))
         choose = ["Choose poll.toml and ballots.txt, by these names and one of each; sheet.txt may be with them."]
         self.assertEqual([found[at]["rows"] for at in (5, 7)], [choose, choose])
-        self.assertEqual(found[8]["rows"], ["These files cannot be counted: poll too long."])
-        self.assertEqual(found[6]["rows"], ["These files cannot be counted: poll refused: syntax."])
+        self.assertEqual(found[8]["rows"], [f"These files cannot be counted: poll too long. {tell}"])
+        self.assertEqual(found[6]["rows"], [f"These files cannot be counted: poll refused: syntax. {tell}"])
 
     def test_a_large_election(self) -> None:
         """10,000 ballots are carried; it is counted in slices, and the page gets its turn. More than 4 MB are not carried."""
@@ -263,7 +272,7 @@ class OpenPage(CountHere):
         self.assertIn("download them, and choose them here", page)
         self.assertNotIn('id="Ballots-file"', page)
         files = {name: self.read(f"result/{name}") for name in ("poll.toml", "ballots.txt")}
-        self.assert_same(self.press({"files": files})[0])
+        self.assert_same(self.press({"files": files})[0], sheet="the sheet of this page")
 
     def test_two_publications_are_the_same(self) -> None:
         self.publish()
@@ -316,7 +325,7 @@ class SecretPage(CountHere):
         for found, (what, (_, why)) in zip(answers, changed.items(), strict=True):
             with self.subTest(what=what):
                 self.assertEqual(found["rows"], [NO_SECRET_VOTE.format(why)])
-        self.assertTrue(last["rows"][0].startswith("Not the same: line "), last["rows"])
+        self.assertTrue(last["rows"][0].startswith("Not the same as the published sheet: line "), last["rows"])
         told = [row for row in last["rows"] if row.startswith("This page shows something else")]
         # whether there is another winner too depends on the codes, which are random
         self.assertTrue(told and told[0].endswith(f"the table of votes; the ballot of {alias}. Tell it to the other electors."), last)

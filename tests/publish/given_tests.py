@@ -173,7 +173,7 @@ def try_honest_words(expect, scratch):
     expect("how to verify: what is enough comes first", heads, wanted)
     own, letter, *_ = [entry.text() for entry in verify.all("li")]
     poll_sum = hashlib.sha256((room / "poll.toml").read_bytes()).hexdigest()
-    expect("how to verify: one's own ballot", own.startswith("Your own ballot. It stands under Ballots as you sent it."), True)
+    expect("how to verify: one's own ballot", own.startswith("Your own ballot. It must stand under Ballots as you sent it; the browser can"), True)
     expect("how to verify: one's own letter", letter.endswith(f"must have this sum, the poll's: {poll_sum}."), True)
     text = verify.text()
     for said in ["Ask your secretary where to get it", "It is better taken from elsewhere", "/usr/share/doc/debvote/reference.py"]:

@@ -27,6 +27,12 @@
 
   const paragraph = (...words) => element("p", sentence(...words));
 
+  // Shows an answer. It may be longer than the window, or below it; its beginning is seen.
+  function say(...nodes) {
+    answer.replaceChildren(...nodes);
+    answer.scrollIntoView({ block: "nearest" });
+  }
+
   // The bytes of a file that the page carries, as it was published.
   function carried(id) {
     const node = byId(id);
@@ -49,7 +55,7 @@
     }
   }
 
-  async function countAgain(files, isOfPage) {
+  async function countAgain(files) {
     const mine = (asked += 1);
     const isLast = () => mine === asked;
     answer.replaceChildren(paragraph("counting"));
@@ -58,43 +64,50 @@
     progress.hidden = false;
     let nodes;
     try {
-      nodes = await told(files, isOfPage, isLast);
+      nodes = await told(files, isLast);
     } catch (fault) {
-      nodes = [element("p", sentence("fault", { fault: fault.message }), "differs")];
+      nodes = [wrong(files, "fault", { fault: fault.message })];
       if (!(fault instanceof Fault)) throw fault;
     } finally {
       if (isLast()) {
         progress.hidden = true;
-        if (nodes) answer.replaceChildren(...nodes);
+        if (nodes) say(...nodes);
       }
     }
   }
 
   // What there is to say of the files, once they are counted.
-  async function told(files, isOfPage, isLast) {
+  async function told(files, isLast) {
     const poll = readPoll(files.poll);
     const tally = await inSlices(count(poll, files.ballots), isLast);
     if (tally === null) return null;
     const why = whyNotSecret(poll, tally);
-    if (why !== null) return [element("p", sentence("no_secret_vote", { why }), "differs")];
+    if (why !== null) return [wrong(files, "no_secret_vote", { why })];
     const outcome = outcomeOf(poll, tally.votes);
     const above = sheetAbove(poll, tally, outcome);
     const found = compare(poll, above, outcome.set, textOf(files.sheet));
     const { line } = decision(poll, outcome.set, found.isSame ? found.casting : null);
-    const nodes = verdict(poll, found, line, above.length + 1);
-    if (isOfPage) nodes.push(aboutPage(tally, outcome, line));
+    const nodes = verdict(files, poll, found, line, above.length + 1);
+    if (files.arePublished) nodes.push(aboutPage(files, tally, outcome, line));
     nodes.push(...(await aboutSums(poll, files)), paragraph("second"));
     if (isLast()) more.replaceChildren(sheetNode([...above, line].join("\n")));
     return nodes;
   }
 
+  // What is not as it should be, and what to do about it.
+  function wrong(files, key, places) {
+    const tell = sentence(files.arePublished ? "tell" : "tell_if_published");
+    return element("p", `${sentence(key, places)} ${tell}`, "differs");
+  }
+
   // Whether the sheet is that of the count, and what the count comes to.
-  function verdict(poll, found, line, lines) {
+  function verdict(files, poll, found, line, lines) {
+    const sheet = sentence(files.whoseSheet);
     if (!found.isSame) {
-      const places = { line: found.at + 1, given: shown(found.given), counted: shown(found.counted) };
-      return [element("p", sentence("differs", places), "differs"), paragraph("last", { line })];
+      const places = { sheet, line: found.at + 1, given: shown(found.given), counted: shown(found.counted) };
+      return [wrong(files, "differs", places), paragraph("last", { line })];
     }
-    const nodes = [element("p", sentence("same", { lines }), "found"), paragraph("last", { line })];
+    const nodes = [element("p", sentence("same", { sheet, lines }), "found"), paragraph("last", { line })];
     if (found.casting !== null) nodes.push(paragraph("casting", { option: poll.names[found.casting] }));
     return nodes;
   }
@@ -108,7 +121,7 @@
   }
 
   // Whether the page shows what its files come to: its result, its votes and its ballots.
-  function aboutPage(tally, outcome, line) {
+  function aboutPage(files, tally, outcome, line) {
     const others = [];
     const numbers = line.startsWith("Winner: ") ? [parseInt(line.slice(8), 10)] : outcome.set.map((option) => option + 1);
     const named = [...document.querySelectorAll(".outcome b")].map((node) => parseInt(node.textContent, 10));
@@ -123,7 +136,7 @@
     if (at >= 0) others.push(sentence("the_ballot", { elector: entries[at].id }));
     else if (entries.length !== ballots.length) others.push(sentence("the_ballots"));
     if (others.length === 0) return paragraph("page_same", { ballots: ballots.length });
-    return element("p", sentence("page_differs", { where: others.join("; ") }), "differs");
+    return wrong(files, "page_differs", { where: others.join("; ") });
   }
 
   async function sumOf(bytes) {
@@ -167,12 +180,12 @@
       if (found.has(kind)) return null;
       if (kind) found.set(kind, new Uint8Array(await file.slice(0, MOST_BALLOT_BYTES + 1).arrayBuffer()));
     }
-    const files = { sheet: carried("Sheet-file"), ...Object.fromEntries(found) };
+    const whoseSheet = found.has("sheet") ? "sheet_chosen" : "sheet_of_page";
+    const files = { whoseSheet, arePublished: false, sheet: carried("Sheet-file"), ...Object.fromEntries(found) };
     return files.poll && files.ballots ? files : null;
   }
 
   async function countChosen() {
-    answer.scrollIntoView({ block: "nearest" });
     let files = null;
     let key = "choose";
     try {
@@ -180,15 +193,18 @@
     } catch (error) {
       key = "unreadable";
     }
-    if (files !== null) return countAgain(files, false);
+    if (files !== null) return countAgain(files);
     asked += 1;
     progress.hidden = true;
     more.replaceChildren();
-    return answer.replaceChildren(paragraph(key));
+    return say(paragraph(key));
   }
 
-  const ofPage = () => ({ poll: carried("Poll-file"), ballots: carried("Ballots-file"), sheet: carried("Sheet-file") });
-  byId("Again-button")?.addEventListener("click", () => countAgain(ofPage(), true));
+  const ofPage = () => ({
+    whoseSheet: "sheet_published", arePublished: true,
+    poll: carried("Poll-file"), ballots: carried("Ballots-file"), sheet: carried("Sheet-file"),
+  });
+  byId("Again-button")?.addEventListener("click", () => countAgain(ofPage()));
   byId("Again-chosen").addEventListener("click", countChosen);
   byId("Again-letter").autocapitalize = "none";
   byId("Again-letter").addEventListener("keydown", (event) => {

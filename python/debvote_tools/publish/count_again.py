@@ -20,19 +20,25 @@ HEADING = "Count again here"
 CARRIED_LIMIT = 4_000_000
 
 SAID = (
-    "Your browser can count the ballots anew, by a program of its own, and compare its sheet with the published one line by line, "
-    "and this page with its files. Nothing is sent."
+    "Your browser can count the ballots anew, with another program than the one that made the published sheet. It compares both "
+    "sheets line by line, and this page with its files. Nothing is sent."
 )
 SECOND = (
     "That is a second opinion from the same web site: whoever can change this page can change this count too. For a third one, get "
     "the files from this page and a program from elsewhere, or ask somebody who did: "
     '<a href="#How-to-verify">How to verify</a> has the commands. No count shows whether the files are what the electors sent.'
 )
-NO_SCRIPT = "This browser runs no script here, so there is no button. Nothing else of the page needs one for this."
+NO_SCRIPT = (
+    "This browser runs no script here, so there is no button. "
+    '<a href="#How-to-verify">How to verify</a> has commands that count without it.'
+)
 TOO_LARGE = "The files are too large to be carried by this page: download them, and choose them here."
 
 BUTTON = "Count again here"
-LETTER = "The sum of the poll or of the ballots in a letter that came to you, to have it compared; it may be left out"
+LETTER = (
+    "To have it compared, the sum of the poll or of the ballots from a letter that came to you: 64 signs, 0 to 9 and a to f. This may "
+    "stay empty"
+)
 FROM_DISK = "Count files from your own disk"
 FILES = f"{POLL}, {BALLOTS} and {SHEET}, as you got them from here or from another elector; without a sheet, that of this page is compared"
 BUTTON_FILES = "Count these files"
@@ -42,13 +48,21 @@ PROGRESS = "How much of it is counted"
 SENTENCES = {
     "counting": "Counting.",
     "fault": "These files cannot be counted: {fault}.",
-    "no_secret_vote": "This is no secret vote as it is published: {why}. Tell it to the other electors.",
-    "same": "The same, line for line: this count comes to the published sheet, in all its {lines} lines.",
-    "differs": "Not the same: line {line} differs. The published sheet has: {given}. This count has: {counted}.",
+    "no_secret_vote": "This is no secret vote as it is published: {why}.",
+    "same": "The same, line for line: this count comes to {sheet}, in all its {lines} lines.",
+    "differs": "Not the same as {sheet}: line {line} differs. There it is: {given}. By this count it is: {counted}.",
+    "sheet_published": "the published sheet",
+    "sheet_of_page": "the sheet of this page",
+    "sheet_chosen": "the sheet that you chose",
+    "tell": "Tell it to the other electors.",
+    "tell_if_published": "If the files are as they were published, tell it to the other electors.",
     "last": "This count ends with: {line}",
     "casting": "The sheet has a casting vote for {option}. No count shows whose it was.",
-    "page_same": "This page shows what its files come to: the result, the table of votes, and each of the {ballots} ballots.",
-    "page_differs": "This page shows something else than its files come to: {where}. Tell it to the other electors.",
+    "page_same": (
+        "This page shows what its files come to: the result, by the numbers of its options, the table of votes, and the ranks of each "
+        "of the {ballots} ballots. Names and other words are not compared."
+    ),
+    "page_differs": "This page shows something else than its files come to: {where}.",
     "the_result": "the result",
     "the_votes": "the table of votes",
     "the_ballot": "the ballot of {elector}",
@@ -61,7 +75,7 @@ SENTENCES = {
     "letter_same": "Yours is the same.",
     "letter_other": (
         "None of these is the sum that you typed. If it is that of the poll or of the ballots, and typed right, your letter speaks of "
-        "other files: ask for them. A page cannot make the sum of itself."
+        "other files: ask for them. If it is that of this page: no page can make its own."
     ),
     "no_sums": "This browser makes no sums of a page that did not come by https. Compare them by the commands below.",
     "second": "This was a second opinion, from the same web site as the page.",

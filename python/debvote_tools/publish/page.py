@@ -29,12 +29,12 @@ BALLOTS_SUM = "The ballots have the sum that stands in the letter of the result:
 PAGE_SUM = "And so has this page, as it was downloaded:"
 
 OWN = (
-    '<b>Your own ballot.</b> It stands under <a href="#Ballots">Ballots</a> as you sent it. If you did not vote, you stand under '
-    '<a href="#Who-voted">Who voted</a> as one who did not.'
+    '<b>Your own ballot.</b> It must stand under <a href="#Ballots">Ballots</a> as you sent it; the browser can search the page for '
+    'your name. If you did not vote, you must stand under <a href="#Who-voted">Who voted</a> as one who did not.'
 )
 OWN_IN_SECRET = (
-    '<b>Your own ballot.</b> <a href="#Find-your-ballot">Find your ballot</a> shows it as you sent it. If you did not vote, none '
-    "counts under your alias."
+    '<b>Your own ballot.</b> <a href="#Find-your-ballot">Find your ballot</a> must show it as you sent it. If you did not vote, none '
+    "may count under your alias."
 )
 LETTER = "<b>The sum in your letter.</b> The letter of the call that came to you must have this sum, the poll's: <code>{}</code>."
 RESULT_LETTER = (

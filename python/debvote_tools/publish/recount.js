@@ -9,6 +9,10 @@
      nodejs recount.js standing --poll FILE --ballots FILE
      nodejs recount.js verify --poll FILE --ballots FILE --sheet FILE
 
+   To read how it counts, begin at "The poll" and end before "At a terminal": that is half of it.
+   The part above "The poll" reads TOML, the form of the poll file. It is as long as it is since a
+   poll may have any TOML beside its own keys.
+
    What stands in brackets are paragraphs of the Constitution of Debian, version 1.9.
 
    JavaScript computes exactly up to 2^53, and no number comes near that. There are at most 100,000
