@@ -1,12 +1,15 @@
 """What the letters say that go out."""
 
-from debvote_tools.announced import announced_in, in_words as time_in_words
+import functools
+
+from debvote_tools import announced, poll_file
+from debvote_tools.announced import in_words as time_in_words
 from debvote_tools.ballots import in_words
 from debvote_tools.election import call_words
 from debvote_tools.election.casting import right_line
 from debvote_tools.election.letters import plan, store
 from debvote_tools.letters import copied, heading, wrapped
-from debvote_tools.poll_file import document, options_of
+from debvote_tools.poll_file import document
 from debvote_tools.secret import Holder
 from debvote_tools.secret_words import BY_PYTHON, FIND
 
@@ -20,6 +23,12 @@ def greeting(who: str, name: str) -> str:
     return wrapped(f"Dear {who or name},")
 
 
+# the letters of one run are about one poll: it is read once for all of them
+once = functools.lru_cache(maxsize=1)
+options_of, announced_in = once(poll_file.options_of), once(announced.announced_in)
+
+
+@once
 def title_of(poll: bytes) -> str:
     """The title of a poll that debvote takes."""
     return str(document(poll)["title"])
@@ -27,7 +36,13 @@ def title_of(poll: bytes) -> str:
 
 def right_of(poll: bytes, name: str) -> str:
     """A right line of an elector."""
-    return f"{name} {right_line(poll, len(options_of(poll))).partition(' ')[2]}"
+    return f"{name} {right_ranks(poll)}"
+
+
+@once
+def right_ranks(poll: bytes) -> str:
+    """Ranks that a ballot may have."""
+    return right_line(poll, len(options_of(poll))).partition(" ")[2]
 
 
 def options_words(poll: bytes) -> str:
