@@ -3,9 +3,10 @@
     2026-11-25T18:04:11Z  add  13-15  <sum of poll.toml>  <sum of ballots>
 
 Its parts have a tab between them, and `-` stands for what there is not. Behind the envelopes, and a space, stands the name of the
-record that an act has, as `13-15 0004`. An act that casts lines has the sum of these lines as a sixth part. A line is written before
-the act is done, and gets its line feed after that. So where a run is killed between the two, the next act finds a line that is not ended: either the files have
-its sums, and it is ended, or the act was not done, and this is noted.
+record that an act has, as `13-15 0004`. An act that casts lines has the sum of these lines as a sixth part.
+
+A line is written before the act is done, and gets its line feed after that. So where a run is killed between the two, the next act
+finds a line that is not ended: either the files have its sums, and it is ended, or the act was not done, and this is noted.
 """
 
 import dataclasses

@@ -39,7 +39,7 @@ class PollSums:
 
     @property
     def command(self) -> str:
-        """What answers the sum as it was announced, typed in the folder, and what it answers."""
+        """What is typed in the folder to be answered the sum that was announced."""
         return WHOLE if self.is_secret else COMPARE
 
     @property
