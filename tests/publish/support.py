@@ -51,7 +51,7 @@ def run(words, path=PATH, **how):
 def publish(room, *words, **how):
     """What debvote-publish says in a folder, but for a picture that can't be drawn on this machine, and its status."""
     output, faults, status = run([sys.executable, PUBLISH, *words], cwd=room, **how)
-    return output, faults if HAS_PICTURES else faults.removesuffix(NO_PICTURE), status
+    return output, faults if HAS_PICTURES else faults.replace(NO_PICTURE, ""), status
 
 
 def publish_files(poll, ballots, folder, *more, **how):
