@@ -6,7 +6,7 @@ from collections.abc import Iterable
 
 from debvote_tools import poll_file
 from debvote_tools.election.asking import refused
-from debvote_tools.election.casting import asked_of, found_in, right_line
+from debvote_tools.election.casting import asked_of, found_in
 from debvote_tools.election.folder import Election
 from debvote_tools.election.letters.message import Letter
 from debvote_tools.election.letters.quoting import own_words
@@ -137,8 +137,3 @@ def near_of(line: Candidate, is_own: bool, hint: Finding | None) -> Near:
     else:
         why = "it is a ballot" if is_own else "it is a ballot, and stands in what is quoted, or below a signature"
     return Near(line.number, line.came.decode("utf-8", "replace").strip(), why)
-
-
-def right_of(poll: bytes, name: str, count: int) -> str:
-    """A right line of an elector."""
-    return f"{name} {right_line(poll, count).partition(' ')[2]}"
