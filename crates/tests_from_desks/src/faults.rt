@@ -4,8 +4,8 @@ use crate::inputs::assert_same;
 use std::alloc::{AllocError, Global};
 use std::test::Fail;
 use vote_desks::{AuditFault, DeskFault, EnterFault, VoteFault};
-use vote_jobs::{Ended, InputFault, RunFault, status};
-use vote_poll::{LinesFault, PollFault, PollKey};
+use vote_jobs::{Ended, InputFault, InputFile, RunFault, status};
+use vote_poll::{PollFault, PollKey};
 
 /// How runs end, and their exit statuses.
 const STATUSES: &[(Result<Ended, RunFault>, u8)] = &[
@@ -16,17 +16,34 @@ const STATUSES: &[(Result<Ended, RunFault>, u8)] = &[
     (Ok(Ended::PollRefused), 3),
     (Ok(Ended::Found), 9),
     (Ok(Ended::Differs), 9),
-    (Err(RunFault::Input(InputFault::PollUnreadable)), 3),
-    (Err(RunFault::Input(InputFault::PollTooLong)), 3),
-    (Err(RunFault::Input(InputFault::BallotsUnreadable)), 4),
-    (Err(RunFault::Input(InputFault::BallotsTooLong)), 4),
-    (Err(RunFault::Input(InputFault::SheetUnreadable)), 10),
-    (Err(RunFault::Input(InputFault::SheetTooLong)), 10),
+    (
+        Err(RunFault::Input(InputFile::Poll, InputFault::Unreadable)),
+        3,
+    ),
+    (
+        Err(RunFault::Input(InputFile::Poll, InputFault::TooLong)),
+        3,
+    ),
+    (
+        Err(RunFault::Input(InputFile::Ballots, InputFault::Unreadable)),
+        4,
+    ),
+    (
+        Err(RunFault::Input(InputFile::Ballots, InputFault::TooLong)),
+        4,
+    ),
+    (
+        Err(RunFault::Input(InputFile::Sheet, InputFault::Unreadable)),
+        10,
+    ),
+    (
+        Err(RunFault::Input(InputFile::Sheet, InputFault::TooLong)),
+        10,
+    ),
     (Err(RunFault::Poll(PollFault::Title)), 3),
     (Err(RunFault::Poll(PollFault::Memory)), 5),
     (Err(RunFault::NoSuchOption), 8),
-    (Err(RunFault::Lines(LinesFault::TooMany)), 4),
-    (Err(RunFault::Lines(LinesFault::Memory)), 5),
+    (Err(RunFault::TooManyLines), 4),
     (Err(RunFault::Vote(VoteFault::Thread)), 5),
     (Err(RunFault::Vote(VoteFault::Desk(DeskFault::Memory))), 5),
     (Err(RunFault::Vote(VoteFault::Gate(1))), 6),
@@ -54,23 +71,29 @@ fn reads_as(alloc: Global, fault: RunFault, words: &str) -> Result<bool, AllocEr
 /// Faults, and the words of their lines.
 const FAULT_LINES: &[(RunFault, &str)] = &[
     (
-        RunFault::Input(InputFault::PollUnreadable),
+        RunFault::Input(InputFile::Poll, InputFault::Unreadable),
         "poll unreadable",
     ),
-    (RunFault::Input(InputFault::PollTooLong), "poll too long"),
     (
-        RunFault::Input(InputFault::BallotsUnreadable),
+        RunFault::Input(InputFile::Poll, InputFault::TooLong),
+        "poll too long",
+    ),
+    (
+        RunFault::Input(InputFile::Ballots, InputFault::Unreadable),
         "ballots unreadable",
     ),
     (
-        RunFault::Input(InputFault::BallotsTooLong),
+        RunFault::Input(InputFile::Ballots, InputFault::TooLong),
         "ballots too long",
     ),
     (
-        RunFault::Input(InputFault::SheetUnreadable),
+        RunFault::Input(InputFile::Sheet, InputFault::Unreadable),
         "sheet unreadable",
     ),
-    (RunFault::Input(InputFault::SheetTooLong), "sheet too long"),
+    (
+        RunFault::Input(InputFile::Sheet, InputFault::TooLong),
+        "sheet too long",
+    ),
     (
         RunFault::Poll(PollFault::Key(PollKey::DefaultOption)),
         "poll refused: key default",
@@ -93,11 +116,7 @@ const FAULT_LINES: &[(RunFault, &str)] = &[
     ),
     (RunFault::Poll(PollFault::Wording), "poll refused: wording"),
     (RunFault::Poll(PollFault::Memory), "out of memory"),
-    (
-        RunFault::Lines(LinesFault::TooMany),
-        "ballots refused: too many lines",
-    ),
-    (RunFault::Lines(LinesFault::Memory), "out of memory"),
+    (RunFault::TooManyLines, "ballots refused: too many lines"),
     (RunFault::NoSuchOption, "casting option is not in the poll"),
     (RunFault::Vote(VoteFault::Memory), "out of memory"),
     (

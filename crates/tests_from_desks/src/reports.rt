@@ -8,8 +8,8 @@ use std::io;
 use std::test::Fail;
 use vote_desks::{AuditFault, DeskFault, EnterFault, VoteFault};
 use vote_job_files::report;
-use vote_jobs::{Ended, InputFault, RunFault};
-use vote_poll::{LinesFault, PollFault, PollKey};
+use vote_jobs::{Ended, InputFault, InputFile, RunFault};
+use vote_poll::{PollFault, PollKey};
 
 /// A standard error that keeps the last line, and counts them.
 #[derive(Drop)]
@@ -70,32 +70,32 @@ fn reported(alloc: Global, outcome: Result<Ended, RunFault>, line: Option<&str>)
 /// Each fault of a run, its line and its status.
 const FAULTS: &[(RunFault, &str, u8)] = &[
     (
-        RunFault::Input(InputFault::PollUnreadable),
+        RunFault::Input(InputFile::Poll, InputFault::Unreadable),
         "debvote: poll unreadable",
         3,
     ),
     (
-        RunFault::Input(InputFault::PollTooLong),
+        RunFault::Input(InputFile::Poll, InputFault::TooLong),
         "debvote: poll too long",
         3,
     ),
     (
-        RunFault::Input(InputFault::BallotsUnreadable),
+        RunFault::Input(InputFile::Ballots, InputFault::Unreadable),
         "debvote: ballots unreadable",
         4,
     ),
     (
-        RunFault::Input(InputFault::BallotsTooLong),
+        RunFault::Input(InputFile::Ballots, InputFault::TooLong),
         "debvote: ballots too long",
         4,
     ),
     (
-        RunFault::Input(InputFault::SheetUnreadable),
+        RunFault::Input(InputFile::Sheet, InputFault::Unreadable),
         "debvote: sheet unreadable",
         10,
     ),
     (
-        RunFault::Input(InputFault::SheetTooLong),
+        RunFault::Input(InputFile::Sheet, InputFault::TooLong),
         "debvote: sheet too long",
         10,
     ),
@@ -200,14 +200,9 @@ const FAULTS: &[(RunFault, &str, u8)] = &[
         8,
     ),
     (
-        RunFault::Lines(LinesFault::TooMany),
+        RunFault::TooManyLines,
         "debvote: ballots refused: too many lines",
         4,
-    ),
-    (
-        RunFault::Lines(LinesFault::Memory),
-        "debvote: out of memory",
-        5,
     ),
     (
         RunFault::Vote(VoteFault::Memory),

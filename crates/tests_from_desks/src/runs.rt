@@ -17,7 +17,7 @@ use std::test::Fail;
 use std::thread::Threads;
 use vote_desks::{Gate, NoGate, Slip, VoteFault, take_votes};
 use vote_jobs::{Ended, Job, RunFault, perform_on, sheet, split_joined, status};
-use vote_poll::{Lines, LinesFault, Poll, PollFault};
+use vote_poll::{Lines, Poll};
 use vote_work::{Listing, Purpose, Work};
 
 /// A writer in memory that takes so many bytes at once, fails once it holds as many as its limit, and counts its flushes.
@@ -201,16 +201,6 @@ fn a_gate_stops_a_count(rt: HostRuntime) -> Result<(), Fail> {
     Ok(())
 }
 
-fn is_of_memory(fault: RunFault) -> bool {
-    match fault {
-        RunFault::Poll(fault) => fault == PollFault::Memory,
-        RunFault::Lines(fault) => fault == LinesFault::Memory,
-        RunFault::Vote(fault) => fault == VoteFault::Memory,
-        RunFault::Memory => true,
-        _ => false,
-    }
-}
-
 /// The fault by which a job is refused, with nothing written and status 5, or none where it is done right.
 fn fault_of<R: Threads + Wait + Sync>(
     rt: &R,
@@ -229,8 +219,8 @@ fn fault_of<R: Threads + Wait + Sync>(
     }
 }
 
-/// Ends well where the job is done right, and says `refused` where memory was, and of what.
-fn walk<R: Threads + Wait + Abort + Sync>(
+/// Ends well where the job is done right, and says `refused` where memory was, or a thread.
+fn walk<R: Threads + Wait + Sync>(
     rt: &R,
     alloc: Global,
     job: &Job<'_>,
@@ -241,18 +231,14 @@ fn walk<R: Threads + Wait + Abort + Sync>(
 {
     match fault_of(rt, alloc, job, text, end)? {
         None => Ok(()),
-        Some(RunFault::Memory) => Err(Fail::from("refused the text")),
-        Some(RunFault::Vote(VoteFault::Memory)) => Err(Fail::from("refused the votes")),
+        Some(RunFault::Memory) => Err(Fail::from("refused")),
         Some(RunFault::Vote(VoteFault::Thread)) => Err(Fail::from("refused a thread")),
-        Some(fault) => {
-            assert!(rt; is_of_memory(fault), "{}", fault);
-            Err(Fail::from("refused"))
-        }
+        Some(_) => Err(Fail::from("another fault")),
     }
 }
 
 /// The count of the cycle at two desks.
-fn walk_count<R: Threads + Wait + Abort + Sync>(rt: &R, alloc: Global) -> Result<(), Fail> {
+fn walk_count<R: Threads + Wait + Sync>(rt: &R, alloc: Global) -> Result<(), Fail> {
     let job = Work::Count {
         poll: CYCLE.as_bytes(),
         ballots: BALLOTS.as_bytes(),

@@ -2,7 +2,6 @@
 use Rattle.std.proofs.Common.{◌≡◌, ◌+◌, ◌-◌, ◌++◌, ◌∙◌, ℕ, zero, suc, List, [], ◌∷◌, length, drop, take, refl, ap, Bool, true, false, not, arith, cond, count_by, filter, option_map, option_to_list}
 use Rattle.std.proofs.lemmas.Bool.Decides.{nat_tests}
 use Rattle.std.proofs.lemmas.List.{length-map}
-use Rattle.std.proofs.lemmas.List.Filters.{length-filter_both}
 use Rattle.std.proofs.lemmas.List.Sums.{length-filter}
 use Rattle.vote_poll.specs.PollContent.{PollContent, last_in_time}
 use Rattle.vote_poll.specs.Readings.{is_ballot, reading, readings}
@@ -14,22 +13,10 @@ use Rattle.vote_steps.specs.Casting.{HasSizes}
 use Rattle.vote_steps.specs.Standing.{CountsLines}
 use Rattle.vote_sheet.specs.LastBallots.{readings_in_time, refused_count}
 use Rattle.vote_sheet.specs.Texts.{Text}
+use Rattle.vote_sheet.proofs.Holding.{count-not, taken_and_left}
 use Rattle.vote_ballot_findings.specs.Refusals.{EachRefusalIsListed, Refusal, bad_reply, refusals_from}
 
 -- ---- in the box
--- those that pass a test and those that do not are all
-count-not : {X : Type 0} (p : X → Bool) (xs : List X) → count_by p xs + count_by (λ x. not (p x)) xs ≡ length xs
-count-not {X} p xs =
-    let q : X → Bool = λ x. not (p x) in
-    omega (arith, length-filter_both p q (λ x. refl) xs, length-filter p xs, length-filter q xs)
-
--- what the first lines read as, and the lines that are left, are all
-taken_and_left : (poll : PollContent) (lines : List Text) (n : ℕ) → length (take n (readings poll lines)) + length (drop n lines) ≡ length lines
-taken_and_left poll [] zero = omega arith
-taken_and_left poll [] (suc n) = omega arith
-taken_and_left poll (line ∷ lines) zero = omega arith
-taken_and_left poll (line ∷ lines) (suc n) = omega (arith, taken_and_left poll lines n)
-
 pub refused_are : (poll : PollContent) (lines : List Text) (b : BoxState) → HasSizes poll lines b → CountsLines (readings poll lines) b → refused b.last_in_time b.steps ≡ refused_count poll lines
 refused_are poll lines b sizes counted =
     let valid_are : valid b.last_in_time b.steps ≡ count_by is_ballot (readings_in_time poll lines) = counted.valid_is ∙ ap (λ n. count_by is_ballot (take n (readings poll lines))) sizes.3 in

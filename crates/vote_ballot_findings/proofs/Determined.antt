@@ -10,18 +10,18 @@ use Rattle.vote_sheet.specs.Texts.{Text}
 use Rattle.vote_ballot_findings.specs.Column.{IsColumnHint, column_words}
 use Rattle.vote_ballot_findings.specs.Explained.{IsExplained}
 use Rattle.vote_ballot_findings.specs.FileSigns.{advice_text, closing_text, opening_text}
-use Rattle.vote_ballot_findings.specs.Hints.{AreFindings, AreSuggested, AreSuggestedWhere, IsHint, IsStrangerHint, finding_line, left_after, not_on_roll_words}
-use Rattle.vote_ballot_findings.specs.Remarks.{name_of}
+use Rattle.vote_ballot_findings.specs.Hints.{AreRefusalFindings, AreSuggested, AreSuggestedWhere, IsHint, IsStrangerHint, finding_line, left_after, not_on_roll_words}
+use Rattle.vote_ballot_findings.specs.Remarks.{name_in}
 use Rattle.vote_ballot_findings.specs.Refusals.{Refusal, refusals}
-use Rattle.vote_ballot_findings.specs.Nearest.{AreNear, IsFound, IsNearest, as_near, has_few_letters}
+use Rattle.vote_ballot_findings.specs.Nearest.{AreNear, IsFound, IsNearestName, as_near, has_few_letters}
 use Rattle.vote_ballot_findings.proofs.LinePrefixes.{columns_are_one}
 use Rattle.vote_ballot_findings.specs.declared.TheConstants.{MOST_SEARCHES}
 
 -- ---- the nearest name
-not_before : (name : List ℕ) (roll : List (List ℕ)) (p q : ℕ) (near other : List ℕ) → IsNearest name roll p near → IsNearest name roll q other → p < q → ⊥
+not_before : (name : List ℕ) (roll : List (List ℕ)) (p q : ℕ) (near other : List ℕ) → IsNearestName name roll p near → IsNearestName name roll q other → p < q → ⊥
 not_before name roll p q near other one two before = omega (arith, two.first p near one.is_there before, one.least q other two.is_there)
 
-same_place : (name : List ℕ) (roll : List (List ℕ)) (p q : ℕ) (near other : List ℕ) → IsNearest name roll p near → IsNearest name roll q other → p ≡ q
+same_place : (name : List ℕ) (roll : List (List ℕ)) (p q : ℕ) (near other : List ℕ) → IsNearestName name roll p near → IsNearestName name roll q other → p ≡ q
 same_place name roll p q near other one two =
     elim (cases_Bool (nat_lt p q)) [
       | inl before ↦ absurd (not_before name roll p q near other one two (grind (arith, nat_tests)))
@@ -61,7 +61,7 @@ column_is_one poll bytes a b (column, is, text) (column', is', text') = text ∙
 hint_is_one : (poll : PollContent) (left : ℕ) (bytes : Text) (reply : Reply) (a b : Text) → IsHint poll left bytes reply a → IsHint poll left bytes reply b → a ≡ b
 hint_is_one poll left bytes (BadLine Shape) a b one two = column_is_one poll bytes a b one two
 hint_is_one poll left bytes (BadLine RankCount) a b one two = one ∙ sym two
-hint_is_one poll left bytes (BadLine Roll) a b one two = stranger_is_one poll left (name_of bytes) a b one two
+hint_is_one poll left bytes (BadLine Roll) a b one two = stranger_is_one poll left (name_in bytes) a b one two
 hint_is_one poll left bytes Late a b one two = one ∙ sym two
 hint_is_one poll left bytes Counted a b one two = one ∙ sym two
 hint_is_one poll left bytes Replaced a b one two = one ∙ sym two
@@ -69,7 +69,7 @@ hint_is_one poll left bytes Superseded a b one two = one ∙ sym two
 hint_is_one poll left bytes BoxClosed a b one two = one ∙ sym two
 
 -- ---- the whole
-findings_are_one : (poll : PollContent) (left : ℕ) (refusals : List Refusal) (a b : Text) → AreFindings poll left refusals a → AreFindings poll left refusals b → a ≡ b
+findings_are_one : (poll : PollContent) (left : ℕ) (refusals : List Refusal) (a b : Text) → AreRefusalFindings poll left refusals a → AreRefusalFindings poll left refusals b → a ≡ b
 findings_are_one poll left [] a b one two = one ∙ sym two
 findings_are_one poll left (refusal ∷ refusals) a b (hint, others, is, are, text) (hint', others', is', are', text') =
     text ∙ ap₂ (λ h t. finding_line refusal h ++ t) (hint_is_one poll left refusal.bytes refusal.reply hint hint' is is')

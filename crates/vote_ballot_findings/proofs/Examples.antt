@@ -1,5 +1,5 @@
 -- The ballot line that stands as an example: its text, and that it is a ballot.
-use Rattle.std.proofs.Common.{◌≡◌, ◌+◌, ◌*◌, ◌≤◌, ◌++◌, ◌∙◌, ℕ, zero, suc, inl, inr, List, [], ◌∷◌, length, map, refl, ap, ap₂, sym, Some, None, Bool, true, false, not, arith, ◌||◌, ◌&&◌, append_assoc, decimal, nat_lt, slice_get, get_or, eq-eqb, take_all, codes}
+use Rattle.std.proofs.Common.{◌≡◌, ◌+◌, ◌*◌, ◌≤◌, ◌++◌, ◌∙◌, ℕ, zero, suc, inl, inr, List, [], ◌∷◌, length, map, refl, ap, ap₂, Some, None, Bool, true, false, not, arith, ◌||◌, ◌&&◌, append_assoc, decimal, nat_lt, slice_get, get_or, eq-eqb, take_all, codes}
 use Rattle.std.specs.List.{All, flat_map, join_with_byte, list_all, position, range_with_len}
 use Rattle.std.specs.Str.{bytes_eq}
 use Rattle.std.proofs.lemmas.Bool.{and_parts, cases_Bool}
@@ -12,18 +12,13 @@ use Rattle.vote_poll.specs.Names.{first_bad, is_bad_at, place_of}
 use Rattle.vote_poll.specs.PollContent.{PollContent, option_count}
 use Rattle.vote_poll_text.specs.Names.{is_printable, is_voter_byte, is_voter_name, is_within}
 use Rattle.vote_poll_text.specs.Shown.{shown, shown_byte}
+use Rattle.vote_poll.proofs.NamesLaws.{within_bounds}
+use Rattle.vote_sheet.proofs.BallotTexts.{join_push}
 use Rattle.vote_ballot_findings.specs.FileSigns.{ExamplesAreBallots, example_ballot, example_ranks, example_text, first_elector}
 use Rattle.vote_ballot_findings.proofs.Texts.{any_at_first}
-use Rattle.vote_ballot_findings.proofs.RankTexts.{IsSpelled, rank_is_spelled, within_bounds}
+use Rattle.vote_ballot_findings.proofs.RankTexts.{IsSpelled, rank_is_spelled}
 
 -- ---- the ranks, one after another
-join_push : (comma : ℕ) (texts : List (List ℕ)) (text : List ℕ) → 1 ≤ length texts → join_with_byte comma (texts ++ text ∷ []) ≡ join_with_byte comma texts ++ comma ∷ text
-join_push comma [] text some = absurd (omega arith)
-join_push comma (first ∷ []) text some = refl
-join_push comma (first ∷ next ∷ texts) text some =
-    ap (λ t. first ++ comma ∷ t) (join_push comma (next ∷ texts) text (omega arith))
-    ∙ sym (append_assoc first (comma ∷ join_with_byte comma (next ∷ texts)) (comma ∷ text))
-
 pub one_rank_more : (n : ℕ) → 1 ≤ n
     → join_with_byte 44 (map rank_text (example_ranks (n + 1))) ≡ join_with_byte 44 (map rank_text (example_ranks n)) ++ 44 ∷ decimal (n + 1)
 one_rank_more n some =

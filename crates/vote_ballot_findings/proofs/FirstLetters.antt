@@ -7,12 +7,12 @@ use Rattle.std.proofs.lemmas.Bool.Decides.{nat_tests}
 use Rattle.vote_poll.specs.PollContent.{PollContent}
 use Rattle.vote_poll.specs.Readings.{is_space}
 use Rattle.vote_poll.specs.declared.TheConstants.{MAX_LINE}
-use Rattle.vote_ballot_findings.specs.Remarks.{is_letter, is_numbered, name_of}
+use Rattle.vote_ballot_findings.specs.Remarks.{is_letter, is_numbered, name_in}
 
 no_space : (b : ℕ) → is_letter b ≡ true → is_space b ≡ false
 no_space b letter = grind (arith, nat_tests)
 
-letter_in_name : (line : List ℕ) → is_letter (slice_index line 0) ≡ true → list_any is_letter (name_of line) ≡ true
+letter_in_name : (line : List ℕ) → is_letter (slice_index line 0) ≡ true → list_any is_letter (name_in line) ≡ true
 letter_in_name [] letter = cc
 letter_in_name (b ∷ rest) letter =
     let next : 1 + position_or_len is_space rest ≡ suc (position_or_len is_space rest) = omega arith in

@@ -9,7 +9,7 @@ use Rattle.vote_poll_text.specs.Names.{is_voter_byte, is_within}
 use Rattle.vote_poll.specs.BallotLine.{IsBallotText}
 use Rattle.vote_ballot_findings.specs.Column.{IsColumn, IsLinePrefix}
 use Rattle.vote_ballot_findings.specs.Prefixes.{AreRanks, Completes, IsIn, IsNext, IsNextState, IsReached, IsState, Part, Name, Rank, Digit, Comma, more_text}
-use Rattle.vote_ballot_findings.proofs.RankTexts.{within_bounds, within_from}
+use Rattle.vote_poll.proofs.NamesLaws.{within_bounds, within_from}
 use Rattle.vote_ballot_findings.proofs.Parts.{more_ends, ranks_from_hyphen, ranks_have_byte, named_from_space, named_from_byte}
 
 -- ---- a whole line

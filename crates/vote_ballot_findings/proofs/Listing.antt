@@ -6,15 +6,15 @@ use Rattle.vote_steps.specs.History.{is_valid}
 use Rattle.vote_steps.specs.declared.Reply.{Reply}
 use Rattle.vote_sheet.specs.Texts.{Text}
 use Rattle.vote_ballot_findings.specs.Adding.{Lists, left_after_all}
-use Rattle.vote_ballot_findings.specs.Hints.{AreFindings, IsHint, finding_head, finding_line, left_after}
+use Rattle.vote_ballot_findings.specs.Hints.{AreRefusalFindings, IsHint, finding_head, finding_line, left_after}
 use Rattle.vote_ballot_findings.specs.Refusals.{Refusal, refusal_by, refusals, refusals_from, refusing_reply}
 use Rattle.vote_ballot_findings.specs.Replies.{if_refusing, refusal}
 use Rattle.vote_ballot_findings.specs.declared.findings.Findings.{Findings}
 
 -- ---- findings, one after another
-findings_append : (poll : PollContent) (left : ℕ) (some others : List Refusal) (text rest : Text) → AreFindings poll left some text
-    → AreFindings poll (left_after_all some left) others rest → AreFindings poll left (some ++ others) (text ++ rest)
-findings_append poll left [] others text rest are more = subst (AreFindings poll left others) (sym (ap (λ t. t ++ rest) are)) more
+findings_append : (poll : PollContent) (left : ℕ) (some others : List Refusal) (text rest : Text) → AreRefusalFindings poll left some text
+    → AreRefusalFindings poll (left_after_all some left) others rest → AreRefusalFindings poll left (some ++ others) (text ++ rest)
+findings_append poll left [] others text rest are more = subst (AreRefusalFindings poll left others) (sym (ap (λ t. t ++ rest) are)) more
 findings_append poll left (refusal ∷ some) others text rest (hint, later, is, are, same) more =
     (hint, later ++ rest, is, findings_append poll (left_after refusal.reply left) some others later rest are more, ap (λ t. t ++ rest) same ∙ append_assoc (finding_line refusal hint) later rest)
 
@@ -29,7 +29,7 @@ adds_none poll findings = ([], refl, record { is_text = sym (append-nil (string_
 pub adds_append : (poll : PollContent) (some others : List Refusal) (a b c : Findings) → Lists poll some a b → Lists poll others b c → Lists poll (some ++ others) a c
 adds_append poll some others a b c (text, are, first) (rest, more, second) = (
   text ++ rest,
-  findings_append poll a.searches.left some others text rest are (subst (λ left. AreFindings poll left others rest) first.is_left more),
+  findings_append poll a.searches.left some others text rest are (subst (λ left. AreRefusalFindings poll left others rest) first.is_left more),
   record {
     is_text = second.is_text ∙ ap (λ t. t ++ rest) first.is_text ∙ append_assoc (string_bytes a.text) text rest;
     is_left = second.is_left ∙ ap (left_after_all others) first.is_left ∙ sym (left_append some others a.searches.left);

@@ -6,12 +6,7 @@ use Rattle.std.proofs.lemmas.Bool.{cases_Bool}
 use Rattle.std.proofs.lemmas.Bool.Decides.{nat_tests}
 use Rattle.vote_poll.specs.BallotLine.{IsRank, rank_text}
 use Rattle.vote_poll_text.specs.Names.{is_within}
-
-pub within_bounds : (low high n : ℕ) → is_within low high n ≡ true → (low ≤ n) × (n ≤ high)
-within_bounds low high n h = (grind (arith, nat_tests), grind (arith, nat_tests))
-
-pub within_from : (low high n : ℕ) → low ≤ n → n ≤ high → is_within low high n ≡ true
-within_from low high n least most = grind (arith, nat_tests)
+use Rattle.vote_poll.proofs.NamesLaws.{within_bounds, within_from}
 
 -- a rank has one digit, or two, or is a hyphen
 pub record IsOneDigit (text : List ℕ) : Type 0 where

@@ -9,9 +9,9 @@ use Rattle.vote_steps.specs.declared.Reply.{Reply}
 use Rattle.vote_sheet.specs.LastBallots.{refused_count, valid_count, voter_count}
 use Rattle.vote_sheet.specs.Texts.{Text}
 use Rattle.vote_steps.specs.declared.ballot_box.Totals.{Totals}
-use Rattle.vote_ballot_findings.specs.FileSigns.{example_text, has_return, is_bad_row, is_bad_shape, is_marked_shape, lacks_return, mending_lines, returns_within, table_text}
+use Rattle.vote_ballot_findings.specs.FileSigns.{example_text, has_return, is_bad_row, is_bad_shape, is_marked_shape, lacks_return, mending_lines, returns_within, csv_advice_text}
 use Rattle.vote_ballot_findings.specs.Column.{IsColumnHint}
-use Rattle.vote_ballot_findings.specs.Hints.{AreFindings, IsHint, IsStrangerHint, left_after}
+use Rattle.vote_ballot_findings.specs.Hints.{AreRefusalFindings, IsHint, IsStrangerHint, left_after}
 use Rattle.vote_ballot_findings.specs.Refusals.{Refusal}
 use Rattle.vote_ballot_findings.specs.declared.file_signs.FileSigns.{FileSigns}
 use Rattle.vote_ballot_findings.specs.declared.findings.Findings.{Findings}
@@ -46,7 +46,7 @@ AddsHint poll bytes reply before after =
 -- the findings of these lines were added
 abbrev pub Lists : PollContent → List Refusal → Findings → Findings → Type 0
 Lists poll refusals before after =
-    (findings : Text) × AreFindings poll before.searches.left refusals findings
+    (findings : Text) × AreRefusalFindings poll before.searches.left refusals findings
     × IsLonger before findings (left_after_all refusals before.searches.left) after
 
 -- ---- signs
@@ -71,7 +71,7 @@ pub record AddsSigns (unended : ℕ) (refusals : List Refusal) (before after : F
 -- what is advised by these signs, where the file may be of an old Mac, and may have a name
 abbrev pub advice_of : PollContent → Bool → FileSigns → Option Text → Text
 advice_of poll is_mac signs file =
-    example_text signs.has_bad_shape poll ++ table_text signs.has_row
+    example_text signs.has_bad_shape poll ++ csv_advice_text signs.has_row
     ++ mending_lines is_mac signs.has_return_within (signs.has_return && not signs.lacks_return) signs.is_marked file
 
 -- ---- the whole

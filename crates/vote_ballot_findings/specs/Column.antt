@@ -24,8 +24,8 @@ pub record IsColumn (line : List ℕ) (column : ℕ) : Type 0 where
 
 -- ---- what stands in a column, in words
 -- a byte by its number, in two digits of base 16
-abbrev pub number_words : ℕ → List ℕ
-number_words b = codes "byte 0x" ++ hex_digit (b / 16) ∷ hex_digit (b % 16) ∷ []
+abbrev pub hex_words : ℕ → List ℕ
+hex_words b = codes "byte 0x" ++ hex_digit (b / 16) ∷ hex_digit (b % 16) ∷ []
 
 -- a character in quotes
 abbrev pub quoted_words : ℕ → List ℕ
@@ -40,7 +40,7 @@ byte_words b =
     else if b == byte "," then codes "comma"
     else if is_within (byte "A") (byte "Z") b then codes "capital letter"
     else if is_printable b then quoted_words b
-    else number_words b
+    else hex_words b
 
 -- a letter with a mark, or else a byte
 abbrev pub letter_or_byte : Option ℕ → ℕ → List ℕ

@@ -5,13 +5,13 @@ use Rattle.std.specs.declared.string.String.{String}
 use Rattle.vote_poll.specs.PollContent.{PollContent}
 use Rattle.vote_sheet.specs.Texts.{Text}
 use Rattle.vote_ballot_findings.specs.FileSigns.{advice_text, closing_text, opening_text}
-use Rattle.vote_ballot_findings.specs.Hints.{AreFindings}
+use Rattle.vote_ballot_findings.specs.Hints.{AreRefusalFindings}
 use Rattle.vote_ballot_findings.specs.Refusals.{refusals}
 use Rattle.vote_ballot_findings.specs.declared.TheConstants.{MOST_SEARCHES}
 
 -- the findings of all lines that are refused
 abbrev pub AreAllFindings : PollContent → List Text → Text → Type 0
-AreAllFindings poll lines findings = AreFindings poll MOST_SEARCHES (refusals poll lines) findings
+AreAllFindings poll lines findings = AreRefusalFindings poll MOST_SEARCHES (refusals poll lines) findings
 
 -- what is said of the lines, of which the last may lack its line feed, and of their file, which may have a name: what the file looks
 -- like, the findings, advice, and the totals

@@ -26,13 +26,14 @@ begins_a_poll bytes = starts_with nat_eq bytes (codes "title =")
 abbrev pub look_like_poll : List Text → Bool
 look_like_poll lines = list_any begins_a_poll lines
 
+-- what is said where they may be
 unfoldable pub exchanged_text : Bool → Text
 exchanged_text true = line (codes "the ballot file looks like a poll: are the files exchanged?" ∷ [])
 exchanged_text false = []
 
 -- ---- the file may be no text of lines
-abbrev pub first_line : List Text → Text
-first_line lines = slice_index_or lines 0 []
+abbrev pub first_of_lines : List Text → Text
+first_of_lines lines = slice_index_or lines 0 []
 
 -- what a file is, by its first line
 unfoldable pub file_kind : Text → Option Text
@@ -45,19 +46,21 @@ file_kind first =
     else if starts_with nat_eq first (codes "{") || starts_with nat_eq first (codes "[") then Some (codes "JSON: write a line for each ballot\n")
     else None
 
+-- what is said of a file that is something else
 unfoldable pub kind_text : Option Text → Text
 kind_text None = []
 kind_text (Some kind) = codes "the ballot file is " ++ kind
 
 -- what is said before the findings
 abbrev pub opening_text : List Text → Text
-opening_text lines = exchanged_text (look_like_poll lines) ++ kind_text (file_kind (first_line lines))
+opening_text lines = exchanged_text (look_like_poll lines) ++ kind_text (file_kind (first_of_lines lines))
 
 -- ---- a ballot line, as an example
 abbrev pub is_of_shape : Reply → Bool
 is_of_shape (BadLine Shape) = true
 is_of_shape other = false
 
+-- a line that is refused for its shape
 abbrev pub is_bad_shape : Refusal → Bool
 is_bad_shape refusal = is_of_shape refusal.reply
 
@@ -69,6 +72,7 @@ ranks_text ranks = join_with_byte (byte ",") (map rank_text ranks)
 abbrev pub example_ranks : ℕ → List (Option ℕ)
 example_ranks options = map Some (range_with_len 1 options)
 
+-- the name at the head of the roll
 abbrev pub first_elector : PollContent → Text
 first_elector poll = slice_index_or poll.roll 0 []
 
@@ -133,7 +137,7 @@ goes_on_after_return text = list_any is_space (drop (position_or_len is_return t
 
 -- no line feed stands in the file, and behind a carriage return it goes on
 abbrev pub is_of_old_mac : List Text → Bool → Bool
-is_of_old_mac lines all_ended = length lines == 1 && not all_ended && goes_on_after_return (first_line lines)
+is_of_old_mac lines all_ended = length lines == 1 && not all_ended && goes_on_after_return (first_of_lines lines)
 
 -- how the ends of lines are mended: by this command, or behind the one that takes a byte-order mark out
 unfoldable pub ends_text : Text → Text → Text → Bool → Option Text → Text
@@ -151,6 +155,7 @@ returns_text false false false marked file = []
 abbrev pub is_mark_left : Bool → Bool → Bool → Bool → Bool
 is_mark_left mac within windows marked = marked && (not mac && (within || not windows))
 
+-- how it is taken out
 unfoldable pub mark_text : Bool → Option Text → Text
 mark_text true file = mending_text MARKED.now UNMARKED.now [] file ++ codes "\n"
 mark_text false file = []
@@ -173,11 +178,12 @@ is_row bytes = has_cells (byte ",") bytes || has_cells (byte ";") bytes || has_c
 abbrev pub is_bad_row : Refusal → Bool
 is_bad_row refusal = is_bad_shape refusal && refusal.number == 1 && is_row refusal.bytes
 
-unfoldable pub table_text : Bool → Text
-table_text true = line (
+-- what is said where one is
+unfoldable pub csv_advice_text : Bool → Text
+csv_advice_text true = line (
     codes "the file looks like a table: debvote-election add --csv takes its rows as ballots; " ∷
     codes "in a cell a hyphen stands for no rank" ∷ [])
-table_text false = []
+csv_advice_text false = []
 
 -- what is told of the ends of lines and of a byte-order mark
 abbrev pub mending_lines : Bool → Bool → Bool → Bool → Option Text → Text
@@ -186,18 +192,18 @@ mending_lines mac within windows marked file = returns_text mac within windows m
 -- what is advised: a ballot line that is one, how a table is brought in, and how carriage returns and a byte-order mark are mended
 abbrev pub advice_text : PollContent → List Text → Bool → Option Text → List Refusal → Text
 advice_text poll lines all_ended file refusals =
-    example_text (list_any is_bad_shape refusals) poll ++ table_text (list_any is_bad_row refusals)
+    example_text (list_any is_bad_shape refusals) poll ++ csv_advice_text (list_any is_bad_row refusals)
     ++ mending_lines (is_of_old_mac lines all_ended) (list_any (returns_within (unended_line lines all_ended)) refusals) (is_from_windows (unended_line lines all_ended) refusals)
     (list_any is_marked_shape refusals) file
 
 -- ---- the totals
-unfoldable pub totals_text : ℕ → ℕ → ℕ → ℕ → ℕ → ℕ → Text
-totals_text lines valid refused late voters electors = line (
+unfoldable pub totals_line : ℕ → ℕ → ℕ → ℕ → ℕ → ℕ → Text
+totals_line lines valid refused late voters electors = line (
     decimal lines ∷ codes " lines: " ∷ decimal valid ∷ codes " valid, " ∷ decimal refused ∷ codes " refused, " ∷ decimal late
     ∷ codes " of them late; " ∷ decimal voters ∷ codes " of " ∷ decimal electors ∷ codes " electors have a ballot" ∷ [])
 
 -- the numbers of the result sheet, and how many lines are late
 abbrev pub closing_text : PollContent → List Text → Text
 closing_text poll lines =
-    totals_text (length lines) (valid_count poll lines) (refused_count poll lines) (late_count poll lines) (voter_count poll lines)
+    totals_line (length lines) (valid_count poll lines) (refused_count poll lines) (late_count poll lines) (voter_count poll lines)
     (elector_count poll)

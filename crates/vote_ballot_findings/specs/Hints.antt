@@ -11,7 +11,7 @@ use Rattle.vote_sheet.specs.Steps.{reply_words}
 use Rattle.vote_sheet.specs.Texts.{Text, line}
 use Rattle.vote_ballot_findings.specs.Column.{IsColumnHint}
 use Rattle.vote_ballot_findings.specs.Nearest.{AreNear, has_few_letters}
-use Rattle.vote_ballot_findings.specs.Remarks.{name_of}
+use Rattle.vote_ballot_findings.specs.Remarks.{name_in}
 use Rattle.vote_ballot_findings.specs.Refusals.{Refusal}
 use Rattle.vote_ballot_findings.specs.declared.TheConstants.{MOST_SHOWN}
 
@@ -19,9 +19,11 @@ use Rattle.vote_ballot_findings.specs.declared.TheConstants.{MOST_SHOWN}
 abbrev pub rank_count : Text → ℕ
 rank_count bytes = count_by (λ b. b == byte ",") bytes + 1
 
+-- of a wrong number of ranks
 unfoldable pub rank_count_words : ℕ → ℕ → Text
 rank_count_words ranks options = concat (decimal ranks ∷ codes " ranks, the poll has " ∷ decimal options ∷ codes " options" ∷ [])
 
+-- of a late line
 unfoldable pub last_words : ℕ → Text
 last_words last = codes "the last envelope is " ++ decimal last
 
@@ -30,10 +32,12 @@ abbrev pub AreSuggestedWhere : Bool → PollContent → Text → List Text → T
 AreSuggestedWhere true poll name near = near ≡ []
 AreSuggestedWhere false poll name near = AreNear name poll.roll near
 
+-- and where none is left, nothing
 abbrev pub AreSuggested : PollContent → ℕ → Text → List Text → Type 0
 AreSuggested poll zero name near = near ≡ []
 AreSuggested poll (suc left) name near = AreSuggestedWhere (has_few_letters name) poll name near
 
+-- one name, two, or three
 abbrev pub one_words : Text → Text
 one_words name = concat (codes "; did you mean " ∷ shown MOST_SHOWN name ∷ codes "?" ∷ [])
 
@@ -55,6 +59,7 @@ suggestion_words (name ∷ other ∷ last ∷ more) = three_words name other las
 unfoldable pub not_on_roll_words : Text → List Text → Text
 not_on_roll_words name near = concat (shown MOST_SHOWN name ∷ codes " is not on the roll" ∷ suggestion_words near ∷ [])
 
+-- the hint on a name that is not on the roll, where so many searches are left
 abbrev pub IsStrangerHint : PollContent → ℕ → Text → Text → Type 0
 IsStrangerHint poll left name hint = (near : List Text) × AreSuggested poll left name near × (hint ≡ not_on_roll_words name near)
 
@@ -62,7 +67,7 @@ IsStrangerHint poll left name hint = (near : List Text) × AreSuggested poll lef
 abbrev pub IsHint : PollContent → ℕ → Text → Reply → Text → Type 0
 IsHint poll left bytes (BadLine Shape) hint = IsColumnHint poll bytes hint
 IsHint poll left bytes (BadLine RankCount) hint = hint ≡ rank_count_words (rank_count bytes) (option_count poll)
-IsHint poll left bytes (BadLine Roll) hint = IsStrangerHint poll left (name_of bytes) hint
+IsHint poll left bytes (BadLine Roll) hint = IsStrangerHint poll left (name_in bytes) hint
 IsHint poll left bytes Late hint = hint ≡ last_words (last_in_time poll)
 IsHint poll left bytes other hint = hint ≡ []
 
@@ -70,6 +75,7 @@ IsHint poll left bytes other hint = hint ≡ []
 unfoldable pub finding_head : ℕ → Reply → Text
 finding_head number reply = concat (codes "ballots:" ∷ decimal number ∷ codes ": " ∷ reply_words reply ∷ codes ": " ∷ [])
 
+-- all of it
 unfoldable pub finding_line : Refusal → Text → Text
 finding_line refusal hint = line (finding_head refusal.number refusal.reply ∷ hint ∷ [])
 
@@ -79,8 +85,8 @@ left_after (BadLine Roll) left = left - 1
 left_after other left = left
 
 -- a line for each refusal, in their order, with a hint, where so many searches are left
-abbrev pub AreFindings : PollContent → ℕ → List Refusal → Text → Type 0
-AreFindings poll left [] text = text ≡ []
-AreFindings poll left (refusal ∷ refusals) text =
+abbrev pub AreRefusalFindings : PollContent → ℕ → List Refusal → Text → Type 0
+AreRefusalFindings poll left [] text = text ≡ []
+AreRefusalFindings poll left (refusal ∷ refusals) text =
     (hint : Text) × (others : Text) × IsHint poll left refusal.bytes refusal.reply hint
-    × AreFindings poll (left_after refusal.reply left) refusals others × (text ≡ finding_line refusal hint ++ others)
+    × AreRefusalFindings poll (left_after refusal.reply left) refusals others × (text ≡ finding_line refusal hint ++ others)

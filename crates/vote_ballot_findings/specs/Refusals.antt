@@ -16,6 +16,7 @@ pub record Refusal : Type 0 where
   pub bytes : Text
   pub reply : Reply
 
+-- a line that is no ballot is refused for its fault
 abbrev pub bad_reply : Reading → Option Reply
 bad_reply (Bad fault) = Some (BadLine fault)
 bad_reply (Ballot voter ranks) = None
@@ -34,6 +35,7 @@ refusals_from poll number [] = []
 refusals_from poll number (bytes ∷ lines) =
     refusal_by number bytes (refusing_reply (last_in_time poll) number (reading poll bytes)) ++ refusals_from poll (number + 1) lines
 
+-- those of a whole file
 abbrev pub refusals : PollContent → List Text → List Refusal
 refusals poll lines = refusals_from poll 1 lines
 

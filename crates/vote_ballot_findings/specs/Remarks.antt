@@ -30,8 +30,8 @@ abbrev pub has_ranks : List ℕ → Bool
 has_ranks before = not (ends_with nat_eq before (codes " ")) && list_any is_space before
 
 -- the text before the first space of a line
-abbrev pub name_of : List ℕ → List ℕ
-name_of line = before_first is_space line
+abbrev pub name_in : List ℕ → List ℕ
+name_in line = before_first is_space line
 
 -- ---- a number or bullet before a ballot
 -- the text after the first space
@@ -41,8 +41,8 @@ behind_name line = drop (position_or_len is_space line + 1) line
 -- before the first space stands a text without a letter that is no name of the roll, and after it a ballot of the poll
 abbrev pub is_numbered : PollContent → List ℕ → Bool
 is_numbered poll line =
-    nat_le (length line) MAX_LINE && not (list_any is_letter (name_of line)) && not (length (name_of line) == 0)
-    && is_none (place_of (name_of line) poll.roll) && is_ballot (reading poll (behind_name line))
+    nat_le (length line) MAX_LINE && not (list_any is_letter (name_in line)) && not (length (name_in line) == 0)
+    && is_none (place_of (name_in line) poll.roll) && is_ballot (reading poll (behind_name line))
 
 -- ---- two ballots on a line
 -- the text from its first byte on that a voter's name may have
@@ -59,8 +59,8 @@ may_hold_two poll before rest = has_ranks before && begins_with_elector poll (fr
 
 -- Where a name goes on at once nobody knows which of its bytes are of the last rank before it: so no place is told at which the line
 -- can be parted.
-abbrev pub two_words : List ℕ → List ℕ
-two_words rest =
+abbrev pub two_ballots_words : List ℕ → List ℕ
+two_ballots_words rest =
     if is_voter_byte (slice_index rest 0) then TWO_FILES.now
     else codes "; two ballots on one line? each stands on a line of its own"
 
@@ -104,6 +104,7 @@ is_behind_hyphen before rest = is_rank_byte (slice_index rest 0) && ends_with na
 unfoldable pub hyphen_words : ℕ → List ℕ
 hyphen_words column = concat (codes "; the hyphen of column " ∷ decimal column ∷ codes " stands alone, for an option that is not ranked" ∷ [])
 
+-- where a rank follows one at once
 unfoldable pub hyphen_remark : List ℕ → List ℕ → List ℕ
 hyphen_remark before rest = if is_behind_hyphen before rest then hyphen_words (length before) else []
 
@@ -114,7 +115,7 @@ plain_remark poll line before rest =
     if ends_after_comma before rest then Some (codes " after a comma")
     else if is_numbered poll line then Some (codes "; a number or bullet before the ballot?")
     else if has_blanks line before rest then Some (codes "; blanks in place of commas?")
-    else if may_hold_two poll before rest then Some (two_words rest)
+    else if may_hold_two poll before rest then Some (two_ballots_words rest)
     else if is_blank_between before rest then Some (blank_words poll before)
     else if is_zero_rank before rest then Some (codes "; 0 is no rank: ranks begin at 1, and who does not rank an option writes a hyphen")
     else if is_return_within rest then Some (codes " within the line")

@@ -43,7 +43,7 @@ fn totals_of(poll: &Poll, lines: &Lines<'_>, ballot_box: &BallotBox) -> Totals
 }
 
 /// Adds how many lines are valid, refused and late, and how many electors have a ballot.
-#[tactic(auto, unfolding(crate::specs::FileSigns::totals_text))]
+#[tactic(auto, unfolding(crate::specs::FileSigns::totals_line))]
 fn push_totals(
     text: &mut String,
     poll: &Poll,

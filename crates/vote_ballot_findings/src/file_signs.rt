@@ -4,7 +4,7 @@ ghost use Rattle.std.specs.Prelude.{◌≡◌, ℕ, ◌≤◌, ◌&&◌, ◌==�
 ghost use Rattle.std.specs.List.{before_first, list_all, list_any, position, position_or_len};
 ghost use Rattle.vote_poll_text.specs.Adding.{Adds};
 ghost use Rattle.vote_ballot_findings.specs.Adding.{AddsSigns, AreSigns, advice_of};
-ghost use Rattle.vote_ballot_findings.specs.FileSigns.{ExamplesAreBallots, ends_text, example_ranks, example_text, exchanged_text, file_kind, first_elector, first_line, goes_on_after_return, has_cells, has_return_within, is_cell_byte, is_mark_left, is_of_old_mac, is_of_shape, is_return, is_row, kind_text, look_like_poll, mark_text, opening_text, ranks_text, returns_text, table_text, unended_line};
+ghost use Rattle.vote_ballot_findings.specs.FileSigns.{ExamplesAreBallots, ends_text, example_ranks, example_text, exchanged_text, file_kind, first_elector, first_of_lines, goes_on_after_return, has_cells, has_return_within, is_cell_byte, is_mark_left, is_of_old_mac, is_of_shape, is_return, is_row, kind_text, look_like_poll, mark_text, opening_text, ranks_text, returns_text, csv_advice_text, unended_line};
 ghost use Rattle.vote_ballot_findings.specs.Replies.{refusal};
 
 use crate::MOST_SHOWN;
@@ -217,9 +217,9 @@ fn file_kind(first: &[u8]) -> Option<&'static str>
 /// Adds what the file is, if it is no text of lines.
 #[tactic(auto, unfolding(crate::specs::FileSigns::kind_text))]
 fn push_kind(text: &mut String, lines: &Lines<'_>) -> Result<(), AllocError>
-    ensures { Adds result text.old (kind_text (file_kind (first_line lines.now))) text.new }
+    ensures { Adds result text.old (kind_text (file_kind (first_of_lines lines.now))) text.new }
 {
-    let Some(kind) = file_kind(first_line(lines)) else {
+    let Some(kind) = file_kind(first_of_lines(lines)) else {
         return Ok(());
     };
     text.push_str("the ballot file is ")?;
@@ -283,9 +283,9 @@ fn push_example(text: &mut String, poll: &Poll, has_bad_shape: bool) -> Result<(
 }
 
 /// Adds how a table is brought in, if the first line looks like a row of one.
-#[tactic(auto, unfolding(crate::specs::FileSigns::table_text))]
+#[tactic(auto, unfolding(crate::specs::FileSigns::csv_advice_text))]
 fn push_table(text: &mut String, has_row: bool) -> Result<(), AllocError>
-    ensures { Adds result text.old (table_text has_row) text.new }
+    ensures { Adds result text.old (csv_advice_text has_row) text.new }
 {
     if !has_row {
         return Ok(());
@@ -296,8 +296,8 @@ fn push_table(text: &mut String, has_row: bool) -> Result<(), AllocError>
 }
 
 /// The first line, or an empty text where there is none.
-fn first_line<'l>(lines: &Lines<'l>) -> &'l [u8]
-    ensures { result.now ≡ first_line lines.now }
+fn first_of_lines<'l>(lines: &Lines<'l>) -> &'l [u8]
+    ensures { result.now ≡ first_of_lines lines.now }
 {
     if lines.len() == 0 {
         return b"";
@@ -309,7 +309,7 @@ fn first_line<'l>(lines: &Lines<'l>) -> &'l [u8]
 fn is_of_old_mac(lines: &Lines<'_>, all_ended: bool) -> bool
     ensures { result ≡ is_of_old_mac lines.now all_ended }
 {
-    lines.len() == 1 && !all_ended && goes_on_after_return(first_line(lines))
+    lines.len() == 1 && !all_ended && goes_on_after_return(first_of_lines(lines))
 }
 
 /// The place of the first carriage return of a text.

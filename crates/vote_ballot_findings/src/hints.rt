@@ -5,7 +5,7 @@ ghost use Rattle.std.specs.List.{position, position_or_len};
 ghost use Rattle.vote_poll_text.specs.Adding.{Adds};
 ghost use Rattle.vote_poll.specs.Readings.{is_space};
 ghost use Rattle.vote_ballot_findings.specs.Hints.{last_words, rank_count, rank_count_words};
-ghost use Rattle.vote_ballot_findings.specs.Remarks.{name_of};
+ghost use Rattle.vote_ballot_findings.specs.Remarks.{name_in};
 
 use std::alloc::AllocError;
 
@@ -33,8 +33,8 @@ pub(crate) fn end_of_name(line: &[u8]) -> usize
 
 /// The text before the first space of a line.
 #[tactic(auto, using(crate::proofs::Texts::first_is_within))]
-pub(crate) fn name_of(line: &[u8]) -> &[u8]
-    ensures { result.now ≡ name_of line.now }
+pub(crate) fn name_in(line: &[u8]) -> &[u8]
+    ensures { result.now ≡ name_in line.now }
 {
     &line[..end_of_name(line)]
 }

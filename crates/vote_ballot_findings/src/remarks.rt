@@ -9,7 +9,7 @@ ghost use Rattle.vote_poll_text.specs.Names.{is_voter_byte};
 ghost use Rattle.vote_ballot_findings.specs.Remarks.{begins_with_blank_rank, begins_with_elector, behind_name, column_remark, ends_after_comma, from_first_name, has_blanks, has_ranks, hyphen_remark, hyphen_words, is_behind_hyphen, is_blank_between, is_comma, is_letter, is_letter_in_name, is_numbered, is_rank_byte, is_return_within, is_zero, is_zero_rank, may_hold_two, plain_remark};
 
 use crate::LOOK_AHEAD;
-use crate::hints::{end_of_name, first_space, name_of};
+use crate::hints::{end_of_name, first_space, name_in};
 use crate::words::{from_column, push_decimal};
 use std::alloc::AllocError;
 use vote_poll::{MAX_LINE, Poll, Reading, is_voter_byte, read_line};
@@ -181,7 +181,7 @@ fn is_numbered(poll: &Poll, line: &[u8]) -> bool
     if line.len() > MAX_LINE {
         return false;
     }
-    let name = name_of(line);
+    let name = name_in(line);
     !has_letter(name)
         && !name.is_empty()
         && poll.voter_of(name).is_none()

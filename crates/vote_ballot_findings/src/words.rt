@@ -3,7 +3,7 @@
 ghost use Rattle.std.specs.Prelude.{◌≡◌, ◌<◌, ◌-◌, ◌≤◌, ◌+◌, OnOk, decimal, drop, length};
 ghost use Rattle.vote_poll_text.specs.Adding.{Adds};
 ghost use Rattle.vote_ballot_findings.specs.Adding.{AddsColumn};
-ghost use Rattle.vote_ballot_findings.specs.Column.{byte_words, first_words, number_words, quoted_words};
+ghost use Rattle.vote_ballot_findings.specs.Column.{byte_words, first_words, hex_words, quoted_words};
 
 use crate::characters::character_name;
 use crate::prefixes::column;
@@ -15,7 +15,7 @@ use vote_poll_text::{letter_place, push_letter};
 
 /// Adds a byte by its number, as `byte 0x0B`.
 fn push_number(text: &mut String, byte: u8) -> Result<(), AllocError>
-    ensures { Adds result text.old (number_words byte) text.new }
+    ensures { Adds result text.old (hex_words byte) text.new }
 {
     text.push_str("byte 0x")?;
     text.push(hex_digit(byte / 16) as char)?;

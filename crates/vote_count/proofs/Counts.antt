@@ -1,5 +1,5 @@
 -- How many elements of a list pass a test.
-use Rattle.std.proofs.Common.{◌≡◌, ℕ, Bool, true, false, cond, count_by, ◌≤◌, List, [], ◌∷◌, inl, inr, refl, arith}
+use Rattle.std.proofs.Common.{◌≡◌, ℕ, Bool, true, false, cond, count_by, ◌+◌, ◌≤◌, List, [], ◌∷◌, inl, inr, refl, arith}
 use Rattle.std.specs.Prelude.{IsTrue}
 use Rattle.std.specs.List.{All, AllZip}
 use Rattle.std.proofs.lemmas.Bool.{cases_Bool}
@@ -9,6 +9,13 @@ use Rattle.std.proofs.lemmas.List.Sums.{sum_by-cons}
 -- what an element adds to the count
 abbrev pub one : Bool → ℕ
 one passes = cond passes 1 0
+
+pub count-cons : {X : Type 0} (p : X → Bool) (x : X) (xs : List X) → count_by p (x ∷ xs) ≡ one (p x) + count_by p xs
+count-cons p x xs = sum_by-cons (λ y. one (p y)) x xs
+
+pub one_at_most : (passes : Bool) → one passes ≤ 1
+one_at_most true = omega arith
+one_at_most false = omega arith
 
 pub one_of : (b : Bool) → 1 ≤ one b → b ≡ true
 one_of true h = refl

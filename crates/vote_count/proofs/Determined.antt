@@ -10,7 +10,8 @@ use Rattle.vote_count.specs.declared.rounds.Round.{Round}
 use Rattle.vote_count.specs.Laws.{DecisionsAreDetermined, HaveSameVotes, OutcomesAreDetermined}
 use Rattle.vote_count.specs.Votes.{Votes, votes}
 use Rattle.vote_count.specs.Sets.{In, IsAlone, Pairs, size}
-use Rattle.vote_count.specs.Rules.{IsKept, IsMajority, IsWeaker, IsWeakest, MeetsMajority, MeetsQuorum, PairwiseDefeats, Without}
+use Rattle.vote_count.specs.Rules.{IsKept, IsMajority, IsWeaker, IsWeakest, MeetsMajority, MeetsQuorum, PairwiseDefeats}
+use Rattle.vote_count.proofs.Closure.{Without}
 use Rattle.vote_count.specs.Rounds.{AreRounds, AreSameRounds, HasCause, IsByCasting, IsDecision, IsOutcome, IsRound, VerdictState, cause_of}
 use Rattle.vote_count.proofs.RoundLemmas.{rounds_kept, rounds_same, rounds_unique}
 use Rattle.vote_count.proofs.Schulze.{kept_option, other_kept}

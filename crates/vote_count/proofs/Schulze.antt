@@ -6,10 +6,10 @@ use Rattle.vote_poll.specs.Options.{IsOption}
 use Rattle.vote_poll.specs.PollContent.{PollContent, option_count}
 use Rattle.vote_count.specs.Votes.{Votes, votes}
 use Rattle.vote_count.specs.Sets.{In, Pairs, has, has_pair}
-use Rattle.vote_count.specs.Rules.{IsKept, PairwiseDefeats, EachDefeatsNext, TransitivelyDefeats, InSchwartzSet, IsWeaker, Within, Without}
-use Rattle.vote_count.specs.Rounds.{IsRound, RemovesNothing, AreRounds, final_set}
+use Rattle.vote_count.specs.Rules.{IsKept, PairwiseDefeats, EachDefeatsNext, TransitivelyDefeats, InSchwartzSet, IsWeaker, Within}
+use Rattle.vote_count.specs.Rounds.{IsRound, AreRounds, final_set}
 use Rattle.vote_count.specs.Laws.{ReachesBy, IsSchulzeWinner}
-use Rattle.vote_count.proofs.Closure.{transitive, monotone, first_defeat}
+use Rattle.vote_count.proofs.Closure.{Without, transitive, monotone, first_defeat}
 use Rattle.vote_count.proofs.RoundLemmas.{final_kept}
 use Rattle.vote_count.proofs.Strengths.{Strong, as_strong, below_or_not, not_below_transitive, no_weakest, weakest_of_chain}
 
@@ -64,7 +64,7 @@ module _ (K : ℕ → Type 0) (m : Votes) (E : ℕ → ℕ → Type 0) (into : (
   chain_within a c inside chain = (chain.0, chain_in a c chain.0 inside chain.1)
 
   -- a round that removes nothing has no defeat within its set
-  nothing_within : RemovesNothing r → (a b : ℕ) → ¬ Within (In r.set) E a b
+  nothing_within : ((a b : ℕ) → ¬ Pairs r.removed a b) → (a b : ℕ) → ¬ Within (In r.set) E a b
   nothing_within nothing =
       no_weakest m (Within (In r.set) E) (λ a b w. (into a b w.0).2) (λ a b w none_weaker. nothing a b ((is.removed a b).1 (w, none_weaker)))
 

@@ -5,10 +5,10 @@ use Rattle.vote_count.specs.declared.rounds.Round.{Round}
 use Rattle.vote_count.specs.Laws.{IsCondorcetWinner, IsDominant}
 use Rattle.vote_count.specs.declared.rounds.Decision.TheVariants.{Winner}
 use Rattle.vote_count.specs.Rounds.{IsRound, AreRounds, IsByCasting, IsDecision, final_set}
-use Rattle.vote_count.specs.Rules.{PairwiseDefeats, EachDefeatsNext, TransitivelyDefeats, Without}
+use Rattle.vote_count.specs.Rules.{PairwiseDefeats, EachDefeatsNext, TransitivelyDefeats}
 use Rattle.vote_count.specs.Sets.{has, In, Pairs, IsAlone, size}
 use Rattle.vote_count.specs.Votes.{Votes, votes}
-use Rattle.vote_count.proofs.Closure.{last_defeat}
+use Rattle.vote_count.proofs.Closure.{Without, last_defeat}
 use Rattle.vote_count.proofs.Sizes.{alone_from_size, size-alone, size_some}
 
 module _ (K : ℕ → Type 0) (m : Votes) (winner : ℕ) (wins : IsCondorcetWinner K m winner) where

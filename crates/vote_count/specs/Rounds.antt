@@ -7,7 +7,7 @@ use Rattle.vote_count.specs.declared.rounds.Cause.TheVariants.{Quorum, Majority}
 use Rattle.vote_count.specs.declared.rounds.Decision.{Decision}
 use Rattle.vote_count.specs.declared.rounds.Decision.TheVariants.{Winner, Tie, CastingOutside}
 use Rattle.vote_poll.specs.Options.{IsOption, at_option}
-use Rattle.vote_count.specs.Rules.{MeetsQuorum, MeetsMajority, IsKept, PairwiseDefeats, TransitivelyDefeats, InSchwartzSet, IsWeakest, Without}
+use Rattle.vote_count.specs.Rules.{MeetsQuorum, MeetsMajority, IsKept, PairwiseDefeats, TransitivelyDefeats, InSchwartzSet, IsWeakest}
 use Rattle.vote_count.specs.Sets.{In, IsAlone, Pairs}
 use Rattle.vote_count.specs.Votes.{Votes, votes}
 
@@ -18,19 +18,14 @@ pub record IsRound (options : ℕ → Type 0) (matrix : Votes) (defeats : ℕ �
   pub set : (a : ℕ) → In round.set a ↔ InSchwartzSet options (TransitivelyDefeats defeats) a
   pub removed : (a b : ℕ) → Pairs round.removed a b ↔ IsWeakest matrix (In round.set) defeats a b
 
-abbrev pub RemovesNothing : Round → Type 0
-RemovesNothing round = (a b : ℕ) → ¬ Pairs round.removed a b
-
-abbrev pub RemovesSome : Round → Type 0
-RemovesSome round = (a : ℕ) × (b : ℕ) × Pairs round.removed a b
-
 -- The rounds of a count: the last removes nothing, and each round before it something, which the next goes without.
 -- A.5.7: "we drop the weakest such defeats from the list of pairwise defeats, and return to step 5."
 abbrev pub AreRounds : (ℕ → Type 0) → Votes → (ℕ → ℕ → Type 0) → List Round → Type 0
 AreRounds options matrix defeats [] = ⊥
-AreRounds options matrix defeats (round ∷ []) = IsRound options matrix defeats round × RemovesNothing round
+AreRounds options matrix defeats (round ∷ []) = IsRound options matrix defeats round × ((a b : ℕ) → ¬ Pairs round.removed a b)
 AreRounds options matrix defeats (round ∷ next ∷ later) =
-    IsRound options matrix defeats round × RemovesSome round × AreRounds options matrix (Without defeats (Pairs round.removed)) (next ∷ later)
+    IsRound options matrix defeats round × ((a : ℕ) × (b : ℕ) × Pairs round.removed a b)
+    × AreRounds options matrix (λ a b. defeats a b × ¬ Pairs round.removed a b) (next ∷ later)
 
 -- The set of the last round.
 -- A.5.8: "If there are no defeats within the Schwartz set, then the winner is chosen from the options in the Schwartz set."
@@ -63,7 +58,6 @@ RoundsAreDetermined =
     let defeats = PairwiseDefeats (IsKept poll matrix) matrix in
     AreRounds (IsKept poll matrix) matrix defeats rounds → AreRounds (IsKept poll matrix) matrix defeats others → AreSameRounds rounds others
 
--- Where no option is alone in the set, the casting vote decides.
 -- A.5.8: "If there are multiple options, the elector with the casting vote chooses which of those options wins."
 abbrev pub IsByCasting : List Bool → Option ℕ → Decision → Type 0
 IsByCasting set None decision = decision ≡ Tie

@@ -38,44 +38,36 @@ AreAhead poll matrix set = (o : ℕ) → set o → o ≢ option_count poll → I
 
 -- A defeats the default option by A's majority ratio, in the poll's wording
 abbrev pub MeetsMajority : PollContent → Votes → ℕ → Type 0
-MeetsMajority poll matrix a =
-    let default = option_count poll in
-    IsMajority poll.wording (ratio_of poll a) (votes matrix a default) (votes matrix default a)
+MeetsMajority poll matrix a = IsMajority poll.wording (ratio_of poll a) (votes matrix a (option_count poll)) (votes matrix (option_count poll) a)
 
 -- A is not dropped: it is the default option, or it meets the quorum and its majority.
 -- A.5.2: "If the ballot has a quorum requirement R any options other than the default option which do not receive at least R votes ranking that option above the default option are dropped from consideration."
 -- A.5.3: "Any (non-default) option which does not defeat the default option by its required majority ratio is dropped from consideration."
 abbrev pub IsKept : PollContent → Votes → ℕ → Type 0
 IsKept poll matrix a =
-    let default = option_count poll in
-    (a ≡ default) ⊎ ((1 ≤ a) × (a < default) × MeetsQuorum poll (votes matrix a default) × MeetsMajority poll matrix a)
+    (a ≡ option_count poll) ⊎ ((1 ≤ a) × (a < option_count poll) × MeetsQuorum poll (votes matrix a (option_count poll)) × MeetsMajority poll matrix a)
 
--- A is one of the options and defeats B, which is another of them.
 -- A.5.4: "From the list of undropped options, we generate a list of pairwise defeats." "An option A defeats an option B, if V(A,B) is strictly greater than V(B,A)."
 abbrev pub PairwiseDefeats : (ℕ → Type 0) → Votes → ℕ → ℕ → Type 0
 PairwiseDefeats options matrix a b = options a × options b × (votes matrix b a < votes matrix a b)
 
 -- each option of a list defeats the next one
 abbrev pub EachDefeatsNext : (ℕ → ℕ → Type 0) → List ℕ → Type 0
-EachDefeatsNext defeats [] = ⊤
-EachDefeatsNext defeats (a ∷ []) = ⊤
 EachDefeatsNext defeats (a ∷ b ∷ rest) = defeats a b × EachDefeatsNext defeats (b ∷ rest)
+EachDefeatsNext defeats other = ⊤
 
 -- A transitively defeats C: there is a list of options, from A to C, each of which defeats the next one.
 -- A.5.5: "An option A transitively defeats an option C if A defeats C or if there is some other option B where A defeats B AND B transitively defeats C."
 abbrev pub TransitivelyDefeats : (ℕ → ℕ → Type 0) → ℕ → ℕ → Type 0
 TransitivelyDefeats defeats a c = (between : List ℕ) × EachDefeatsNext defeats (a ∷ between ++ c ∷ [])
 
--- A is in the Schwartz set.
 -- A.5.6: "An option A is in the Schwartz set if for all options B, either A transitively defeats B, or B does not transitively defeat A."
 abbrev pub InSchwartzSet : (ℕ → Type 0) → (ℕ → ℕ → Type 0) → ℕ → Type 0
 InSchwartzSet options transitively_defeats a = options a × ((b : ℕ) → options b → transitively_defeats a b ⊎ ¬ transitively_defeats b a)
 
--- The defeat (A,X) is weaker than the defeat (B,Y).
 -- A.5.7: "A defeat (A,X) is weaker than a defeat (B,Y) if V(A,X) is less than V(B,Y). Also, (A,X) is weaker than (B,Y) if V(A,X) is equal to V(B,Y) and V(X,A) is greater than V(Y,B)."
 abbrev pub IsWeaker : Votes → ℕ → ℕ → ℕ → ℕ → Type 0
-IsWeaker matrix a x b y =
-    (votes matrix a x < votes matrix b y) ⊎ ((votes matrix a x ≡ votes matrix b y) × (votes matrix y b < votes matrix x a))
+IsWeaker matrix a x b y = (votes matrix a x < votes matrix b y) ⊎ ((votes matrix a x ≡ votes matrix b y) × (votes matrix y b < votes matrix x a))
 
 -- the defeats between options of a set
 abbrev pub Within : (ℕ → Type 0) → (ℕ → ℕ → Type 0) → ℕ → ℕ → Type 0
@@ -89,7 +81,3 @@ IsWeakest matrix set defeats a b = Within set defeats a b × ((x y : ℕ) → Wi
 -- these are all the weakest defeats between options of a set
 abbrev pub AreWeakest : Votes → (ℕ → Type 0) → (ℕ → ℕ → Type 0) → (ℕ → ℕ → Type 0) → Type 0
 AreWeakest matrix set defeats weakest = (a b : ℕ) → weakest a b ↔ IsWeakest matrix set defeats a b
-
--- the defeats that are left without the removed ones
-abbrev pub Without : (ℕ → ℕ → Type 0) → (ℕ → ℕ → Type 0) → ℕ → ℕ → Type 0
-Without defeats removed a b = defeats a b × ¬ removed a b

@@ -8,7 +8,6 @@ pub record Votes : Type 0 where
   pub options : ℕ
   pub rows : List (List ℕ)
 
--- V(A,B).
 -- A.5.3: "Given two options A and B, V(A,B) is the number of voters who prefer option A over option B."
 abbrev pub votes : Votes → ℕ → ℕ → ℕ
 votes matrix a b = at_option (at_option matrix.rows a []) b 0

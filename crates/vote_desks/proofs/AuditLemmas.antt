@@ -16,11 +16,11 @@ use Rattle.vote_steps.specs.declared.Step.TheVariants.{Cast, Close}
 use Rattle.vote_steps.specs.History.{is_close, is_closed, before_close}
 use Rattle.vote_steps.specs.Boxes.{BoxState, IsLegal, MayFollow}
 use Rattle.vote_steps.specs.Recasts.{HasOwnReading}
-use Rattle.vote_desks_box.specs.Slips.{slips}
+use Rattle.vote_steps.proofs.HistoryLemmas.{casts_before}
+use Rattle.vote_desks_box.specs.Slips.{slips_from}
 use Rattle.vote_desks_box.specs.Desks.{sheet_at}
 use Rattle.vote_desks.specs.Comparing.{HasDesk, HasEnvelope}
-use Rattle.vote_steps.specs.Casting.{HasOwnReadings}
-use Rattle.vote_desks.specs.Audit.{HasSlips, IsAudited, DiffersFirst, PartAt, SheetDiffers, IsEarlyClose, IsFaultOf}
+use Rattle.vote_desks.specs.Audit.{HasOwnReadings, HasSlips, IsAudited, DiffersFirst, PartAt, SheetDiffers, IsEarlyClose, IsFaultOf}
 
 -- lists
 
@@ -125,21 +125,21 @@ no_part sheet other p h same = h.differ (ap (λ xs. slice_get xs h.before) same)
 one_desk : (steps : List Step) (sheets : List (List Slip)) (d p e q : ℕ) → SheetDiffers steps sheets d p → SheetDiffers steps sheets e q → d ≡ e
 one_desk steps sheets d p e q h g =
     ⊎_elim
-    (λ (lt : d < e). absurd (no_part (sheet_at sheets d) (slips steps d) p h.part (g.others d h.is_desk.0 lt)))
+    (λ (lt : d < e). absurd (no_part (sheet_at sheets d) (slips_from 1 steps d) p h.part (g.others d h.is_desk.0 lt)))
     (λ (ge : e ≤ d).
     ⊎_elim
-    (λ (lt : e < d). absurd (no_part (sheet_at sheets e) (slips steps e) q g.part (h.others e g.is_desk.0 lt)))
+    (λ (lt : e < d). absurd (no_part (sheet_at sheets e) (slips_from 1 steps e) q g.part (h.others e g.is_desk.0 lt)))
     (λ (le : d ≤ e). omega arith)
     (cases_lt e d))
     (cases_lt d e)
 
 one_slip : (steps : List Step) (sheets : List (List Slip)) (d p e q : ℕ) → SheetDiffers steps sheets d p → SheetDiffers steps sheets e q → p ≡ q
 one_slip steps sheets d p e q h g =
-    let P : ℕ → Type 0 = λ k. PartAt (sheet_at sheets k) (slips steps k) p in
-    one_place (sheet_at sheets e) (slips steps e) p q (subst P (one_desk steps sheets d p e q h g) h.part) g.part
+    let P : ℕ → Type 0 = λ k. PartAt (sheet_at sheets k) (slips_from 1 steps k) p in
+    one_place (sheet_at sheets e) (slips_from 1 steps e) p q (subst P (one_desk steps sheets d p e q h g) h.part) g.part
 
 no_slip : (steps : List Step) (sheets : List (List Slip)) (d p : ℕ) → SheetDiffers steps sheets d p → HasSlips steps sheets → ⊥
-no_slip steps sheets d p h all = no_part (sheet_at sheets d) (slips steps d) p h.part (all d h.is_desk.0 h.is_desk.1)
+no_slip steps sheets d p h all = no_part (sheet_at sheets d) (slips_from 1 steps d) p h.part (all d h.is_desk.0 h.is_desk.1)
 
 -- the close
 
@@ -182,7 +182,7 @@ not_early steps n h last =
 
 pub sound : (poll : PollContent) (lines : List (List ℕ)) (b : BoxState) (sheets : List (List Slip)) (f : AuditFault) → IsAudited poll lines b sheets → IsFaultOf poll lines b sheets f → ⊥
 sound poll lines b sheets SizeDiffers a h = h a.holds.sizes
-sound poll lines b sheets CountDiffers a h = h.1 a.holds.casts
+sound poll lines b sheets CountDiffers a h = h.1 (casts_before b.steps a.holds.closed_last ∙ a.holds.casts)
 sound poll lines b sheets (StepDiffers n) a h = no_step poll lines b.steps n h.2 a.holds.own_readings
 sound poll lines b sheets (SlipDiffers d p) a h = no_slip b.steps sheets d p h.3 a.sheets_are
 sound poll lines b sheets (ClosedEarly n) a h = not_early b.steps n h.4 a.holds.closed_last

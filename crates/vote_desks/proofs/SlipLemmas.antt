@@ -13,7 +13,7 @@ use Rattle.vote_desks.specs.declared.sheets.Compared.{Compared}
 use Rattle.vote_steps.specs.declared.Reply.{Reply}
 use Rattle.vote_steps.specs.declared.Step.{Step}
 use Rattle.vote_steps.specs.declared.Step.TheVariants.{Cast, Close}
-use Rattle.vote_desks_box.specs.Slips.{slip_of, slips_from, slips}
+use Rattle.vote_desks_box.specs.Slips.{slip_of, slips_from}
 use Rattle.vote_desks_box.specs.Desks.{sheet_at}
 use Rattle.vote_desks.specs.Comparing.{AgreesWith, AgreeWith, compared_at}
 
@@ -50,10 +50,10 @@ slips_from-push n (x ∷ xs) step desk =
     ∙ cons_option-append (slip_of desk n x) (slips_from (n + 1) xs desk) (cons_option (slip_of desk (n + suc (length xs)) step) [])
 
 pub slips-push : (before : List Step) (step : Step) (desk number : ℕ) → length before + 1 ≡ number
-    → slips (before ++ step ∷ []) desk ≡ slips before desk ++ cons_option (slip_of desk number step) []
+    → slips_from 1 (before ++ step ∷ []) desk ≡ slips_from 1 before desk ++ cons_option (slip_of desk number step) []
 slips-push before step desk number is =
     let at : 1 + length before ≡ number = omega (arith, is) in
-    slips_from-push 1 before step desk ∙ ap (λ m. slips before desk ++ cons_option (slip_of desk m step) []) at
+    slips_from-push 1 before step desk ∙ ap (λ m. slips_from 1 before desk ++ cons_option (slip_of desk m step) []) at
 
 -- one slip more beside a sheet
 
@@ -98,7 +98,7 @@ parts_here sheet casts slip at alike other h =
 
 pub close_compared : (sheets : List (List Slip)) (before : List Step) (compared : List Compared) → AgreeWith sheets before compared → AgreeWith sheets (before ++ Close ∷ []) compared
 close_compared sheets before compared h desk low high =
-    subst (λ xs. AgreesWith (sheet_at sheets desk) xs (compared_at compared desk)) (sym (slips-push before Close desk (length before + 1) refl ∙ append-nil (slips before desk))) (h desk low high)
+    subst (λ xs. AgreesWith (sheet_at sheets desk) xs (compared_at compared desk)) (sym (slips-push before Close desk (length before + 1) refl ∙ append-nil (slips_from 1 before desk))) (h desk low high)
 
 pub cast_compared : (sheets : List (List Slip)) (before : List Step) (compared : List Compared) (sheet : List Slip) (was at : Compared) (place desk stamp number : ℕ) (reading : Reading) (reply : Reply)
     → 1 ≤ desk → desk ≤ length compared → length before + 1 ≡ number → sheet ≡ sheet_at sheets desk → was ≡ compared_at compared desk → place ≡ desk - 1
@@ -109,20 +109,20 @@ cast_compared sheets before compared sheet was at place desk stamp number readin
     let step : Step = Cast desk stamp reading reply in
     let new : List Compared = set compared place at in
     let none : Compared = record { alike = 0; differs = false } in
-    let given : Bool → List Slip = λ t. slips before other ++ cons_option (cond {A = Option Slip} t (Some slip) None) [] in
+    let given : Bool → List Slip = λ t. slips_from 1 before other ++ cons_option (cond {A = Option Slip} t (Some slip) None) [] in
     ⊎_elim
     (λ (same : desk ≡ other).
-    let noted : slips before desk ++ slip ∷ [] ≡ slips (before ++ step ∷ []) other =
-    ap (λ d. slips before d ++ slip ∷ []) same ∙ sym (slips-push before step other number is ∙ ap given (eq-eqb desk other same)) in
+    let noted : slips_from 1 before desk ++ slip ∷ [] ≡ slips_from 1 (before ++ step ∷ []) other =
+    ap (λ d. slips_from 1 before d ++ slip ∷ []) same ∙ sym (slips-push before step other number is ∙ ap given (eq-eqb desk other same)) in
     let new_at : at ≡ compared_at new other = sym (get_or-set_at compared place (other - 1) at none (omega (arith, here, same)) (omega (arith, here, last, first))) in
-    let so_far : AgreesWith sheet (slips before desk) was =
-    subst (λ c. AgreesWith sheet (slips before desk) c) (sym was_so) (subst (λ s. AgreesWith s (slips before desk) (compared_at compared desk)) (sym its_sheet) (h desk first (omega (arith, high, same)))) in
-    subst (λ c. AgreesWith (sheet_at sheets other) (slips (before ++ step ∷ []) other) c) new_at
+    let so_far : AgreesWith sheet (slips_from 1 before desk) was =
+    subst (λ c. AgreesWith sheet (slips_from 1 before desk) c) (sym was_so) (subst (λ s. AgreesWith s (slips_from 1 before desk) (compared_at compared desk)) (sym its_sheet) (h desk first (omega (arith, high, same)))) in
+    subst (λ c. AgreesWith (sheet_at sheets other) (slips_from 1 (before ++ step ∷ []) other) c) new_at
     (subst (λ xs. AgreesWith (sheet_at sheets other) xs at) noted
-    (subst (λ s. AgreesWith s (slips before desk ++ slip ∷ []) at) (its_sheet ∙ ap (sheet_at sheets) same) (one (slips before desk) so_far))))
+    (subst (λ s. AgreesWith s (slips_from 1 before desk ++ slip ∷ []) at) (its_sheet ∙ ap (sheet_at sheets) same) (one (slips_from 1 before desk) so_far))))
     (λ (apart : desk ≡ other → ⊥).
-    let none_noted : slips before other ≡ slips (before ++ step ∷ []) other = sym (slips-push before step other number is ∙ ap given (ne_eqb desk other apart) ∙ append-nil (slips before other)) in
+    let none_noted : slips_from 1 before other ≡ slips_from 1 (before ++ step ∷ []) other = sym (slips-push before step other number is ∙ ap given (ne_eqb desk other apart) ∙ append-nil (slips_from 1 before other)) in
     let same_at : compared_at compared other ≡ compared_at new other = sym (get_or-set_other compared place (other - 1) at none (λ e. apart (omega (arith, e, here, first, low)))) in
-    subst (λ c. AgreesWith (sheet_at sheets other) (slips (before ++ step ∷ []) other) c) same_at
+    subst (λ c. AgreesWith (sheet_at sheets other) (slips_from 1 (before ++ step ∷ []) other) c) same_at
     (subst (λ xs. AgreesWith (sheet_at sheets other) xs (compared_at compared other)) none_noted (h other low high)))
     (cases_eq desk other)

@@ -6,8 +6,7 @@ use Rattle.vote_poll.specs.PollContent.{PollContent}
 use Rattle.vote_poll.specs.Readings.{readings}
 use Rattle.vote_steps.specs.declared.Step.{Step}
 use Rattle.vote_steps.specs.Recasts.{HasOwnReading}
-use Rattle.vote_steps.specs.Casting.{HasOwnReadings}
-use Rattle.vote_desks.specs.Audit.{DiffersFirst}
+use Rattle.vote_desks.specs.Audit.{HasOwnReadings, DiffersFirst}
 
 pub own_in_both : (poll : PollContent) (lines : List (List ℕ)) (steps front back : List Step) → steps ≡ front ++ back
     → HasOwnReadings poll lines front → HasOwnReadings poll lines back → HasOwnReadings poll lines steps

@@ -1,5 +1,5 @@
 -- What an audit finds.
-use Rattle.std.specs.Prelude.{◌≡◌, ◌≢◌, ℕ, ◌+◌, ◌<◌, ◌≤◌, ◌↔◌, List, ◌∷◌, ◌++◌, Option, Result, Err, MatchOption, length, take, slice_get, count_by}
+use Rattle.std.specs.Prelude.{◌≡◌, ◌≢◌, ℕ, ◌+◌, ◌<◌, ◌≤◌, ◌↔◌, List, ◌∷◌, ◌++◌, Option, Result, Err, All, MatchOption, length, take, slice_get, count_by}
 use Rattle.vote_poll.specs.PollContent.{PollContent}
 use Rattle.vote_poll.specs.Readings.{readings}
 use Rattle.vote_desks_box.specs.declared.Slip.{Slip}
@@ -10,13 +10,13 @@ use Rattle.vote_steps.specs.declared.Step.{Step}
 use Rattle.vote_steps.specs.History.{is_cast, before_close}
 use Rattle.vote_steps.specs.Boxes.{BoxState}
 use Rattle.vote_steps.specs.Recasts.{HasOwnReading}
-use Rattle.vote_steps.specs.Casting.{HasOwnReadings, HasSizes, HoldsLines}
-use Rattle.vote_desks_box.specs.Slips.{slips}
+use Rattle.vote_steps.specs.Casting.{HasSizes, HoldsLines}
+use Rattle.vote_desks_box.specs.Slips.{slips_from}
 use Rattle.vote_desks_box.specs.Desks.{SealedState, sheet_at}
 
 -- the sheet of each desk is the slips of its casts
 abbrev pub HasSlips : List Step → List (List Slip) → Type 0
-HasSlips steps sheets = (desk : ℕ) → 1 ≤ desk → desk ≤ MAX_DESKS → sheet_at sheets desk ≡ slips steps desk
+HasSlips steps sheets = (desk : ℕ) → 1 ≤ desk → desk ≤ MAX_DESKS → sheet_at sheets desk ≡ slips_from 1 steps desk
 
 -- the box holds the lines of the poll, and the sheets are those of its desks
 pub record IsAudited (poll : PollContent) (lines : List (List ℕ)) (b : BoxState) (sheets : List (List Slip)) : Type 0 where
@@ -26,6 +26,10 @@ pub record IsAudited (poll : PollContent) (lines : List (List ℕ)) (b : BoxStat
 -- a sealed box is audited for a poll and its lines
 abbrev pub IsAuditedFor : PollContent → List (List ℕ) → SealedState → Type 0
 IsAuditedFor poll lines s = IsAudited poll lines s.ballot_box s.sheets
+
+-- each cast has what the poll reads in the line with its stamp
+abbrev pub HasOwnReadings : PollContent → List (List ℕ) → List Step → Type 0
+HasOwnReadings poll lines steps = All (HasOwnReading (readings poll lines)) steps
 
 -- the step of this number is the first cast with another reading than its line
 pub record DiffersFirst (poll : PollContent) (lines : List (List ℕ)) (steps : List Step) (number : ℕ) : Type 0 where
@@ -51,8 +55,8 @@ pub record PartAt (sheet other : List Slip) (place : ℕ) : Type 0 where
 -- the first desk whose sheet is not the slips of its casts, and the first place where they differ
 pub record SheetDiffers (steps : List Step) (sheets : List (List Slip)) (desk place : ℕ) : Type 0 where
   pub is_desk : (1 ≤ desk) × (desk ≤ MAX_DESKS)
-  pub others : (other : ℕ) → 1 ≤ other → other < desk → sheet_at sheets other ≡ slips steps other
-  pub part : PartAt (sheet_at sheets desk) (slips steps desk) place
+  pub others : (other : ℕ) → 1 ≤ other → other < desk → sheet_at sheets other ≡ slips_from 1 steps other
+  pub part : PartAt (sheet_at sheets desk) (slips_from 1 steps desk) place
 
 -- each sheet is the slips of its desk's casts, or this is the first desk where it is not, with the first place where they differ
 abbrev pub FindsSheet : Option (ℕ × ℕ) → List Step → List (List Slip) → Type 0

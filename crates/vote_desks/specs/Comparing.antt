@@ -5,7 +5,7 @@ use Rattle.vote_desks.specs.declared.sheets.Compared.{Compared}
 use Rattle.vote_steps.specs.declared.TheConstants.{MAX_DESKS}
 use Rattle.vote_steps.specs.declared.Step.{Step}
 use Rattle.vote_steps.specs.declared.Step.TheVariants.{Cast, Close}
-use Rattle.vote_desks_box.specs.Slips.{slips}
+use Rattle.vote_desks_box.specs.Slips.{slips_from}
 use Rattle.vote_desks_box.specs.Desks.{sheet_at}
 use Rattle.vote_desks.specs.Audit.{PartAt}
 
@@ -48,7 +48,7 @@ AreWithin sheets compared = (desk : ℕ) → 1 ≤ desk → desk ≤ MAX_DESKS �
 
 -- the sheets were compared with the slips of these steps
 abbrev pub AgreeWith : List (List Slip) → List Step → List Compared → Type 0
-AgreeWith sheets steps compared = (desk : ℕ) → 1 ≤ desk → desk ≤ MAX_DESKS → AgreesWith (sheet_at sheets desk) (slips steps desk) (compared_at compared desk)
+AgreeWith sheets steps compared = (desk : ℕ) → 1 ≤ desk → desk ≤ MAX_DESKS → AgreesWith (sheet_at sheets desk) (slips_from 1 steps desk) (compared_at compared desk)
 
 -- whatever steps were compared so far, what is known of them is known with this step too, which has this number
 abbrev pub AgreeWithOneMore : List (List Slip) → List Compared → ℕ → Step → List Compared → Type 0

@@ -1,4 +1,5 @@
 pub mod ClosingLemmas
+pub mod Fronts
 pub mod Ranges
 pub mod Numbered
 pub mod SheetSums

@@ -15,14 +15,10 @@ abbrev pub slip_of : ℕ → ℕ → Step → Option Slip
 slip_of desk number Close = None
 slip_of desk number (Cast d stamp reading reply) = if d == desk then Some (record { number = number; stamp = stamp; reply = reply }) else None
 
--- the slips of a desk, where the next step has this number
+-- the slips that the casts of a desk give, in order, where the first step has this number
 abbrev pub slips_from : ℕ → List Step → ℕ → List Slip
 slips_from number [] desk = []
 slips_from number (step ∷ steps) desk = cons_option (slip_of desk number step) (slips_from (number + 1) steps desk)
-
--- the slips that the casts of a desk give, in order
-abbrev pub slips : List Step → ℕ → List Slip
-slips steps desk = slips_from 1 steps desk
 
 -- how many slips say that the line is a valid ballot
 abbrev pub valid_slips : List Slip → ℕ

@@ -1,13 +1,24 @@
 -- What is done for a task, once its files are read.
-use Rattle.std.proofs.Common.{◌≡◌, ℕ, Bor, IfSome, List, Option, inr, subst, sym}
+use Rattle.std.proofs.Common.{◌≡◌, ℕ, Bor, IfSome, List, Option, inr, refl, subst, sym}
 use Rattle.vote_files.specs.Device.{IsWhole}
+use Rattle.vote_files.specs.declared.ReadFault.{ReadFault}
+use Rattle.vote_files.specs.declared.ReadFault.TheVariants as read
+use Rattle.vote_jobs.specs.Status.{unread}
+use Rattle.vote_jobs.specs.declared.InputFile.{InputFile}
 use Rattle.vote_jobs.specs.declared.Performed.{Performed}
 use Rattle.vote_job_words.specs.Order.{Task}
 use Rattle.vote_job_files.specs.Doing.{EndsTask, IsDone, IsTaskDone, Written}
 use Rattle.vote_job_files.specs.Jobs.{AreReadOf}
+use Rattle.vote_job_files.specs.Unread.{IsUnread}
 use Rattle.vote_job_files.specs.declared.inputs.Inputs.{Inputs}
 use Rattle.vote_work.specs.Asked.{DesksFit, ballot_file, poll_file, sheet_file, work_on}
 use Rattle.vote_work.specs.declared.Work.TheVariants as work
+
+-- why a file was not read is of that file
+pub is_unread : (file : InputFile) (fault : ReadFault) → IsUnread file (unread file fault)
+is_unread file read.Device = refl
+is_unread file read.TooLong = refl
+is_unread file read.Memory = refl
 
 -- other files leave the number of desks
 pub desks_stay : (asked : Task) (poll ballots sheet : Bor (List ℕ)) → DesksFit asked → DesksFit (work_on asked poll ballots sheet)

@@ -7,13 +7,13 @@ use Rattle.vote_work.specs.Asked.{work_on}
 use Rattle.vote_work.specs.declared.Listing.TheVariants as listing
 use Rattle.vote_work.specs.declared.Work.TheVariants as work
 use Rattle.vote_job_words.specs.Order.{Task}
-use Rattle.vote_jobs.specs.Joined.{joined_parts}
+use Rattle.vote_jobs.specs.Joined.{AreParts}
 use Rattle.vote_jobs.specs.Performing.{Job, Performs}
-use Rattle.vote_jobs.specs.Status.{ballots_unread}
+use Rattle.vote_jobs.specs.declared.InputFile.TheVariants as file
 use Rattle.vote_jobs.specs.declared.Performed.{Performed}
 use Rattle.vote_jobs.specs.declared.RunFault.{RunFault}
 use Rattle.vote_job_files.specs.Jobs.{AreFilesOf, IsJobOf}
-use Rattle.vote_job_files.specs.Unread.{IsFaultBy, IsUnread}
+use Rattle.vote_job_files.specs.Unread.{IsOneUnread, IsUnread}
 use Rattle.vote_job_files.specs.declared.inputs.Inputs.{Inputs}
 
 -- what the output holds before and after a run, if it tells its bytes; and whether it has passed on all of it then
@@ -41,15 +41,11 @@ IsTaskDone asked inputs written performed = (job : Job) × IsJobOf asked inputs 
 -- a file that the task names was not read; or its job is done on the bytes that are told of their names
 abbrev pub EndsTask : (List ℕ → Option (List ℕ)) → Task → Written → Performed → Type 0
 EndsTask file_bytes asked written performed =
-    StopsUnread (IsUnread asked) written performed
+    StopsUnread (IsOneUnread asked) written performed
     ⊎ ((poll ballots sheet : Bor (List ℕ)) × AreFilesOf file_bytes asked poll.now ballots.now sheet.now × IsDone (work_on asked poll ballots sheet) written performed)
 
--- the replies to a joined input are written
-abbrev pub IsJoinedDone : List ℕ → Written → Performed → Type 0
-IsJoinedDone input written performed =
-    (poll ballots : Bor (List ℕ)) × ((poll.now, ballots.now) ≡ joined_parts input) × IsDone (work.List poll ballots listing.Steps) written performed
-
--- standard input was not read; or so ends the joined input that is told of it
+-- standard input was not read; or the replies are written to the ballots of the joined input that is told of it
 abbrev pub EndsJoined : Option (List ℕ) → Written → Performed → Type 0
 EndsJoined standard_bytes written performed =
-    StopsUnread (IsFaultBy ballots_unread) written performed ⊎ ((input : List ℕ) × IsWhole standard_bytes input × IsJoinedDone input written performed)
+    StopsUnread (IsUnread file.Ballots) written performed
+    ⊎ ((input : List ℕ) × (poll ballots : Bor (List ℕ)) × IsWhole standard_bytes input × AreParts input poll.now ballots.now × IsDone (work.List poll ballots listing.Steps) written performed)

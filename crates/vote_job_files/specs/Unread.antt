@@ -1,21 +1,18 @@
--- Which fault a file of a task gives that could not be read.
-use Rattle.std.specs.Prelude.{◌≡◌, ◌⊎◌, IsSome, Result, Ok, Err}
+-- Which fault a file of a task gives that was not read.
+use Rattle.std.specs.Prelude.{◌≡◌, ◌⊎◌, IsSome}
 use Rattle.vote_job_words.specs.Order.{Task}
-use Rattle.vote_files.specs.declared.ReadFault.{ReadFault}
-use Rattle.vote_jobs.specs.Status.{ballots_unread, poll_unread, sheet_unread}
+use Rattle.vote_jobs.specs.declared.InputFile.{InputFile}
+use Rattle.vote_jobs.specs.declared.InputFile.TheVariants as file
 use Rattle.vote_jobs.specs.declared.RunFault.{RunFault}
+use Rattle.vote_jobs.specs.declared.RunFault.TheVariants as run
 use Rattle.vote_work.specs.Asked.{ballot_file, sheet_file}
 
--- the bytes that were read; or the fault of an input that was not, by the fault of its device, its length or memory
-abbrev pub IsReadOr : {T : Type 0} → (ReadFault → RunFault) → Result T ReadFault → Result T RunFault → Type 0
-IsReadOr unread (Ok bytes) result = result ≡ Ok bytes
-IsReadOr unread (Err fault) result = result ≡ Err (unread fault)
+-- this file was not read, or there was no memory for it
+abbrev pub IsUnread : InputFile → RunFault → Type 0
+IsUnread unread (run.Input told fault) = told ≡ unread
+IsUnread unread fault = fault ≡ run.Memory
 
--- this is the fault of an input that was not read
-abbrev pub IsFaultBy : (ReadFault → RunFault) → RunFault → Type 0
-IsFaultBy unread fault = (read : ReadFault) × (fault ≡ unread read)
-
--- one of the files that the task names was not read
-abbrev pub IsUnread : Task → RunFault → Type 0
-IsUnread asked fault =
-    IsFaultBy poll_unread fault ⊎ (IsSome (ballot_file asked) × IsFaultBy ballots_unread fault) ⊎ (IsSome (sheet_file asked) × IsFaultBy sheet_unread fault)
+-- one of the files that the task names
+abbrev pub IsOneUnread : Task → RunFault → Type 0
+IsOneUnread asked fault =
+    IsUnread file.Poll fault ⊎ (IsSome (ballot_file asked) × IsUnread file.Ballots fault) ⊎ (IsSome (sheet_file asked) × IsUnread file.Sheet fault)

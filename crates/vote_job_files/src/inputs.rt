@@ -1,16 +1,17 @@
 //! The inputs of the program, read whole up to their limits.
 
-ghost use Rattle.std.specs.Prelude.{◌≡◌, ◌≤◌, [], IfErr, IfOk, IfSome, IsSome, vec_len};
+ghost use Rattle.std.specs.Prelude.{◌≡◌, ◌≤◌, [], Ok, Err, IfErr, IfOk, IfSome, IsSome, vec_len};
 ghost use Rattle.vote_files.specs.Device.{IsWhole};
-ghost use Rattle.vote_jobs.specs.Status.{ballots_unread, poll_unread, sheet_unread};
+ghost use Rattle.vote_files.specs.declared.ReadFault.{ReadFault};
+ghost use Rattle.vote_jobs.specs.Status.{unread};
 ghost use Rattle.vote_work.specs.Asked.{ballot_file, poll_file, sheet_file};
 ghost use Rattle.vote_job_files.specs.Jobs.{AreReadOf};
-ghost use Rattle.vote_job_files.specs.Unread.{IsFaultBy, IsReadOr, IsUnread};
+ghost use Rattle.vote_job_files.specs.Unread.{IsOneUnread, IsUnread};
 
 use std::alloc::Global;
 use vote_files::{ReadFault, Sources};
 use vote_job_words::Task;
-use vote_jobs::{RunFault, ballots_unread, poll_unread, sheet_unread};
+use vote_jobs::{InputFile, RunFault, unread};
 
 /// The most bytes of a poll file.
 pub(crate) const POLL_LIMIT: usize = 1_048_576;
@@ -24,33 +25,16 @@ pub(crate) const BALLOTS_LIMIT: usize = 33_554_432;
 /// The most bytes of a joined input: both files and the line between them.
 pub(crate) const JOINED_LIMIT: usize = 34_603_011;
 
-/// What was read of a poll file.
-fn of_poll(read: Result<Vec<u8>, ReadFault>) -> Result<Vec<u8>, RunFault>
-    ensures { IsReadOr poll_unread read result }
+/// What was read of this file, or why it was not.
+#[tactic(auto, using(crate::proofs::OnFiles::is_unread))]
+fn of_file(file: InputFile, read: Result<Vec<u8>, ReadFault>) -> Result<Vec<u8>, RunFault>
+    ensures bytes { IfOk result (λ bytes. read ≡ Ok bytes) }
+    ensures told { IfErr result (λ told. (fault : ReadFault) × (read ≡ Err fault) × (told ≡ unread file fault)) }
+    ensures unread { IfErr result (IsUnread file) }
 {
     match read {
         Ok(bytes) => Ok(bytes),
-        Err(fault) => Err(poll_unread(fault)),
-    }
-}
-
-/// What was read of a ballot file or a joined input.
-fn of_ballots(read: Result<Vec<u8>, ReadFault>) -> Result<Vec<u8>, RunFault>
-    ensures { IsReadOr ballots_unread read result }
-{
-    match read {
-        Ok(bytes) => Ok(bytes),
-        Err(fault) => Err(ballots_unread(fault)),
-    }
-}
-
-/// What was read of a published sheet.
-fn of_sheet(read: Result<Vec<u8>, ReadFault>) -> Result<Vec<u8>, RunFault>
-    ensures { IsReadOr sheet_unread read result }
-{
-    match read {
-        Ok(bytes) => Ok(bytes),
-        Err(fault) => Err(sheet_unread(fault)),
+        Err(fault) => Err(unread(file, fault)),
     }
 }
 
@@ -58,9 +42,12 @@ fn of_sheet(read: Result<Vec<u8>, ReadFault>) -> Result<Vec<u8>, RunFault>
 fn read_poll<S: Sources>(sources: &S, alloc: Global, task: &Task<'_>) -> Result<Vec<u8>, RunFault>
     ensures whole { IfOk result (λ bytes. IsWhole (S.file_bytes sources.now (poll_file task.now).now) bytes.items) }
     ensures within { IfOk result (λ bytes. vec_len bytes ≤ POLL_LIMIT) }
-    ensures fault { IfErr result (IsFaultBy poll_unread) }
+    ensures fault { IfErr result (IsUnread InputFile.Poll) }
 {
-    of_poll(sources.read_file(alloc, task.poll(), POLL_LIMIT))
+    of_file(
+        InputFile::Poll,
+        sources.read_file(alloc, task.poll(), POLL_LIMIT),
+    )
 }
 
 /// All bytes of a task's ballot file, or none if it names none.
@@ -72,10 +59,13 @@ fn read_ballots<S: Sources>(
     ensures whole { IfOk result (λ bytes. IfSome (ballot_file task.now) (λ name. IsWhole (S.file_bytes sources.now name.now) bytes.items)) }
     ensures within { IfOk result (λ bytes. vec_len bytes ≤ BALLOTS_LIMIT) }
     ensures unnamed { ¬ IsSome (ballot_file task.now) → IfOk result (λ bytes. bytes.items ≡ []) }
-    ensures fault { IfErr result (λ fault. IsSome (ballot_file task.now) × IsFaultBy ballots_unread fault) }
+    ensures fault { IfErr result (λ fault. IsSome (ballot_file task.now) × IsUnread InputFile.Ballots fault) }
 {
     match task.ballots() {
-        Some(name) => of_ballots(sources.read_file(alloc, name, BALLOTS_LIMIT)),
+        Some(name) => of_file(
+            InputFile::Ballots,
+            sources.read_file(alloc, name, BALLOTS_LIMIT),
+        ),
         None => Ok(Vec::new(alloc)),
     }
 }
@@ -85,10 +75,13 @@ fn read_sheet<S: Sources>(sources: &S, alloc: Global, task: &Task<'_>) -> Result
     ensures whole { IfOk result (λ bytes. IfSome (sheet_file task.now) (λ name. IsWhole (S.file_bytes sources.now name.now) bytes.items)) }
     ensures within { IfOk result (λ bytes. vec_len bytes ≤ SHEET_LIMIT) }
     ensures unnamed { ¬ IsSome (sheet_file task.now) → IfOk result (λ bytes. bytes.items ≡ []) }
-    ensures fault { IfErr result (λ fault. IsSome (sheet_file task.now) × IsFaultBy sheet_unread fault) }
+    ensures fault { IfErr result (λ fault. IsSome (sheet_file task.now) × IsUnread InputFile.Sheet fault) }
 {
     match task.sheet() {
-        Some(name) => of_sheet(sources.read_file(alloc, name, SHEET_LIMIT)),
+        Some(name) => of_file(
+            InputFile::Sheet,
+            sources.read_file(alloc, name, SHEET_LIMIT),
+        ),
         None => Ok(Vec::new(alloc)),
     }
 }
@@ -113,7 +106,7 @@ pub fn read_inputs<S: Sources>(
     ensures sheet { IfOk result (λ inputs. vec_len inputs.sheet ≤ SHEET_LIMIT) }
     ensures no_ballots { ¬ IsSome (ballot_file task.now) → IfOk result (λ inputs. inputs.ballots.items ≡ []) }
     ensures no_sheet { ¬ IsSome (sheet_file task.now) → IfOk result (λ inputs. inputs.sheet.items ≡ []) }
-    ensures fault { IfErr result (IsUnread task.now) }
+    ensures fault { IfErr result (IsOneUnread task.now) }
 {
     let poll = match read_poll(sources, alloc, task) {
         Ok(poll) => poll,
@@ -138,7 +131,10 @@ pub fn read_inputs<S: Sources>(
 pub fn read_joined<S: Sources>(sources: &S, alloc: Global) -> Result<Vec<u8>, RunFault>
     ensures whole { IfOk result (λ bytes. IsWhole (S.standard_bytes sources.now) bytes.items) }
     ensures within { IfOk result (λ bytes. vec_len bytes ≤ JOINED_LIMIT) }
-    ensures fault { IfErr result (IsFaultBy ballots_unread) }
+    ensures fault { IfErr result (IsUnread InputFile.Ballots) }
 {
-    of_ballots(sources.read_standard_input(alloc, JOINED_LIMIT))
+    of_file(
+        InputFile::Ballots,
+        sources.read_standard_input(alloc, JOINED_LIMIT),
+    )
 }

@@ -9,9 +9,13 @@ use Rattle.std.proofs.lemmas.List.Elements.{All-cons, All-contains, All-from_get
 use Rattle.std.proofs.lemmas.List.Splits.{join_with_byte-slice_split, length-slice_split, slice_split-cons_no, slice_split-cons_yes}
 use Rattle.std.proofs.lemmas.Slice.Eq.{bytes_eq-Decides, ends_is}
 use Rattle.vote_poll_text.specs.Lines.{line_feed, lines_of}
-use Rattle.vote_jobs.specs.Joined.{AreParts, EndsALine, InputsArePartedAtSeparator, IsJoined, LacksSeparator, PartsAreUnique, begins_line, is_separator_at, joined_parts, parts_at, separator}
+use Rattle.vote_jobs.specs.Joined.{AreParts, EndsALine, InputsArePartedAtSeparator, IsJoined, LacksSeparator, PartsAreUnique, begins_line, is_separator_at, joined_parts, parts_at}
 use Rattle.vote_jobs.proofs.FirstPlace.{first_or_none, first_place, no_place}
 use Rattle.vote_sheet.specs.Texts.{Text}
+
+-- the line between the poll and the ballots
+abbrev separator : Text
+separator = codes "%%"
 
 -- ---- the lines of a text and its pieces between line feeds
 abbrev pieces_of : Text → List Text
@@ -212,7 +216,7 @@ joined_at poll behind (rest, begins, inl none) =
     inr (ap (λ t. poll ++ t) (begins ∙ ap (λ t. separator ++ t) none), ap (drop 3) (begins ∙ ap (λ t. separator ++ t) none))
 joined_at poll behind (rest, begins, inr (more, feed)) =
     let whole : behind ≡ separator ++ (line_feed ++ more) = begins ∙ ap (λ t. separator ++ t) feed in
-    inl (ap (λ t. poll ++ t) (whole ∙ ap (λ t. separator ++ (line_feed ++ t)) (sym (ap (drop 3) whole))) ∙ simp append_assoc)
+    inl (ap (λ t. poll ++ t) (whole ∙ ap (λ t. separator ++ (line_feed ++ t)) (sym (ap (drop 3) whole))) ∙ sym (append_assoc poll (codes "%%\n") (drop 3 behind)))
 
 pub inputs_are_parted : InputsArePartedAtSeparator
 unfolding seen_is_line
@@ -220,20 +224,20 @@ inputs_are_parted input =
     let AtPlace = λ (place : Option ℕ). AreParts input (parts_at input place).0 (parts_at input place).1 in
     elim (first_or_none (is_separator_at input) (length input)) [
       | inl nowhere ↦ subst AtPlace (sym (no_place (is_separator_at input) (length input) nowhere))
-          (inl (record { no_separator = lacks_from_nowhere input nowhere; all_poll = refl; no_ballots = refl }))
+          (inl (lacks_from_nowhere input nowhere, refl, refl))
       | inr (at, within, before, here) ↦ subst AtPlace (sym (first_place (is_separator_at input) (length input) at within before here))
           (let found = seen_is_line input at within here in
           let long : length (take at input) ≡ at = length-take-le at input (omega arith) in
-          inr (record {
-            first = lacks_from_nowhere (take at input) (λ k inside.
-                sym (seen_in_front (take at input) (drop at input) k inside found.at_line) ∙ ap (λ t. is_separator_at t k) (take-append-drop at input) ∙ before k (omega arith));
-            at_line = found.at_line;
-            joined = subst (λ t. IsJoined t (take at input) (drop 3 (drop at input))) (take-append-drop at input) (joined_at (take at input) (drop at input) found.begins);
-          }))
+          inr (
+            lacks_from_nowhere (take at input) (λ k inside.
+                sym (seen_in_front (take at input) (drop at input) k inside found.at_line) ∙ ap (λ t. is_separator_at t k) (take-append-drop at input) ∙ before k (omega arith)),
+            found.at_line,
+            subst (λ t. IsJoined t (take at input) (drop 3 (drop at input))) (take-append-drop at input) (joined_at (take at input) (drop at input) found.begins),
+          ))
     ]
 
 behind_poll : (input poll ballots : Text) → IsJoined input poll ballots → (behind : Text) × (input ≡ poll ++ behind) × BeginsWithSeparator behind × (drop 3 behind ≡ ballots)
-behind_poll input poll ballots (inl joined) = (separator ++ (line_feed ++ ballots), joined ∙ simp append_assoc, (line_feed ++ ballots, refl, inr (ballots, refl)), refl)
+behind_poll input poll ballots (inl joined) = (separator ++ (line_feed ++ ballots), joined ∙ append_assoc poll (codes "%%\n") ballots, (line_feed ++ ballots, refl, inr (ballots, refl)), refl)
 behind_poll input poll ballots (inr (joined, none)) = (separator, joined, ([], refl, inl refl), sym none)
 
 parted_at : (poll behind : Text) → LacksSeparator poll → EndsALine poll → BeginsWithSeparator behind → joined_parts (poll ++ behind) ≡ (poll, drop 3 behind)
@@ -247,8 +251,8 @@ parted_at poll behind lacks at_line begins =
     ap (parts_at input) found ∙ rw (front, rest) refl
 
 pub parts_are_one : PartsAreUnique
-parts_are_one input poll ballots (inl alone) =
-    rw (alone.all_poll, alone.no_ballots) (ap (parts_at input) (sym (no_place (is_separator_at input) (length input) (nowhere_from_lacks input alone.no_separator))))
-parts_are_one input poll ballots (inr parted) =
-    let (behind, joined, begins, same) = behind_poll input poll ballots parted.joined in
-    sym (ap joined_parts joined ∙ parted_at poll behind parted.first parted.at_line begins ∙ ap (λ (t : Text). let pair : Text × Text = (poll, t) in pair) same)
+parts_are_one input poll ballots (inl (lacks, all_poll, no_ballots)) =
+    rw (all_poll, no_ballots) (ap (parts_at input) (sym (no_place (is_separator_at input) (length input) (nowhere_from_lacks input lacks))))
+parts_are_one input poll ballots (inr (first, at_line, parted)) =
+    let (behind, joined, begins, same) = behind_poll input poll ballots parted in
+    sym (ap joined_parts joined ∙ parted_at poll behind first at_line begins ∙ ap (λ (t : Text). let pair : Text × Text = (poll, t) in pair) same)

@@ -1,3 +1,4 @@
 pub mod FirstPlace
 pub mod HeldLines
 pub mod JoinedLaws
+pub mod Stopping

@@ -12,7 +12,7 @@ use Rattle.vote_desks_box.specs.Desks.{SealedState}
 use Rattle.vote_desks_box.specs.Slips.{Rises}
 use Rattle.vote_desks.specs.Audit.{IsAuditedFor}
 use Rattle.vote_desks.specs.Faults.{CanStopVotes, IsOfDesk}
-use Rattle.vote_desks.specs.declared.VoteFault.{VoteFault}
+use Rattle.vote_desks.specs.declared.VoteFault.TheVariants as vote
 use Rattle.vote_sheet.specs.Picture.{IsPictureAndDecision}
 use Rattle.vote_sheet.specs.SheetOf.{IsSheetAndDecision}
 use Rattle.vote_sheet.specs.Texts.{Text}
@@ -20,9 +20,8 @@ use Rattle.vote_sheet.specs.Verify.{AreVerificationWords, IsVerification}
 use Rattle.vote_sheet.specs.declared.Verification.{Verification}
 use Rattle.vote_sheet.specs.declared.Verification.TheVariants as found
 use Rattle.vote_jobs.specs.Inputs.{Inputs}
-use Rattle.vote_jobs.specs.Runs.{AnswersLines, AnswersPoll}
+use Rattle.vote_jobs.specs.Runs.{GoesThrough, StopsAtLines, StopsAtPoll, StopsWhere}
 use Rattle.vote_jobs.specs.Told.{Told}
-use Rattle.vote_jobs.specs.declared.fault.InputFault.{InputFault}
 use Rattle.vote_jobs.specs.declared.fault.Ended.{Ended}
 use Rattle.vote_jobs.specs.declared.fault.Ended.TheVariants as ended
 use Rattle.vote_work.specs.declared.Purpose.{Purpose}
@@ -46,20 +45,16 @@ pub record IsNamed (poll : PollContent) (named : Option Text) (option : Option �
   pub option_is : option ≡ casting_option poll named
   pub range : IfSome option (IsOption (option_count poll))
 
--- once the poll is read, the casting vote is refused exactly when it names no option
-abbrev pub AnswersCasting : Inputs → Option RunFault → Type 0
-AnswersCasting inputs (Some (run.Poll fault)) = Unit {0}
-AnswersCasting inputs (Some run.NoSuchOption) = (poll : PollContent) × (poll_in inputs.poll ≡ Ok poll) × NamesNoOption poll inputs.casting
-AnswersCasting inputs stop = (poll : PollContent) × (poll_in inputs.poll ≡ Ok poll) × ¬ NamesNoOption poll inputs.casting
+-- the votes are taken; or a fault of theirs stops them that they can have at so many desks, by a gate that may stop these of them
+abbrev pub StopsAtVotes : (ℕ → Bool) → ℕ → Option RunFault → Type 0
+StopsAtVotes bars desks (Some (run.Vote fault)) = (fault ≢ vote.Memory) × CanStopVotes bars fault × IsOfDesk desks fault
+StopsAtVotes bars desks stop = GoesThrough stop
 
--- the inputs are refused exactly when they are to be, in their order, memory aside; their votes are stopped only by a fault that they
--- can have at so many desks, by a gate that may stop these of them; and no input is told to be unread
-pub record AnswersInputs (bars : ℕ → Bool) (inputs : Inputs) (stop : Option RunFault) : Type 0 where
-  pub poll : AnswersPoll inputs.poll stop
-  pub casting : AnswersCasting inputs stop
-  pub lines : AnswersLines (lines_of inputs.ballots) stop
-  pub votes : (fault : VoteFault) → stop ≡ Some (run.Vote fault) → CanStopVotes bars fault × IsOfDesk inputs.desks fault
-  pub input : (fault : InputFault) → stop ≢ Some (run.Input fault)
+-- a count is stopped by its poll, by a casting vote that names no option, by too many lines, and else by its votes
+abbrev pub StopsCount : (ℕ → Bool) → Inputs → Option RunFault → Type 0
+StopsCount bars inputs =
+    StopsAtPoll (poll_in inputs.poll) (λ poll.
+    StopsWhere (NamesNoOption poll inputs.casting) run.NoSuchOption (StopsAtLines inputs.ballots (StopsAtVotes bars inputs.desks)))
 
 -- how a count ends that is decided so
 abbrev pub ended_by_decision : Decision → Ended

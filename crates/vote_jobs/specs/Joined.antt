@@ -5,13 +5,9 @@ use Rattle.std.specs.Str.{bytes_eq}
 use Rattle.vote_poll_text.specs.Lines.{line_feed, lines_of}
 use Rattle.vote_sheet.specs.Texts.{Text}
 
--- the line between the poll and the ballots
-abbrev pub separator : Text
-separator = codes "%%"
-
 -- none of the lines of the text is `%%`
 abbrev pub LacksSeparator : Text → Type 0
-LacksSeparator text = All (λ line. line ≢ separator) (lines_of text)
+LacksSeparator text = All (λ line. line ≢ codes "%%") (lines_of text)
 
 -- the text ends where a line ends: it is empty, or its last byte is a line feed
 abbrev pub EndsALine : Text → Type 0
@@ -19,23 +15,12 @@ EndsALine text = (text ≡ []) ⊎ ((front : Text) × (text ≡ front ++ line_fe
 
 -- the input is the poll, `%%` and a line feed, and the ballots; or it is the poll and `%%`, and there are no ballots
 abbrev pub IsJoined : Text → Text → Text → Type 0
-IsJoined input poll ballots = (input ≡ poll ++ separator ++ line_feed ++ ballots) ⊎ ((input ≡ poll ++ separator) × (ballots ≡ []))
+IsJoined input poll ballots = (input ≡ poll ++ codes "%%\n" ++ ballots) ⊎ ((input ≡ poll ++ codes "%%") × (ballots ≡ []))
 
--- the input has no line `%%`, and all of it is the poll
-pub record IsPollAlone (input poll ballots : Text) : Type 0 where
-  pub no_separator : LacksSeparator input
-  pub all_poll : poll ≡ input
-  pub no_ballots : ballots ≡ []
-
--- poll and ballots stand before and after the first line `%%` of the input
-pub record IsPartedAtSeparator (input poll ballots : Text) : Type 0 where
-  pub first : LacksSeparator poll
-  pub at_line : EndsALine poll
-  pub joined : IsJoined input poll ballots
-
--- these are the poll and the ballots of the input
+-- the input has no line `%%`, so all of it is the poll; or poll and ballots stand before and after its first line `%%`
 abbrev pub AreParts : Text → Text → Text → Type 0
-AreParts input poll ballots = IsPollAlone input poll ballots ⊎ IsPartedAtSeparator input poll ballots
+AreParts input poll ballots =
+    (LacksSeparator input × (poll ≡ input) × (ballots ≡ [])) ⊎ (LacksSeparator poll × EndsALine poll × IsJoined input poll ballots)
 
 -- ---- the same as a function
 -- a line begins where a text begins, and after each line feed

@@ -1,16 +1,16 @@
 -- The votes of the inputs, taken: what each run that counts begins with.
-use Rattle.std.specs.Prelude.{◌≡◌, ◌≢◌, ◌≤◌, ℕ, Bool, List, All, Some, IfSome, Ok, length}
-use Rattle.vote_poll_text.specs.Lines.{lines_of}
+use Rattle.std.specs.Prelude.{◌≡◌, ◌≢◌, ℕ, Bool, List, All, Some, IfSome, Ok, length}
+use Rattle.vote_poll_text.specs.Lines.{HasTooManyLines, lines_of}
 use Rattle.vote_poll.specs.Options.{IsOption}
 use Rattle.vote_poll.specs.PollContent.{PollContent, option_count}
 use Rattle.vote_poll.specs.PollFile.{poll_in}
-use Rattle.vote_poll_text.specs.declared.lines.TheConstants.{MAX_LINES}
 use Rattle.vote_desks_box.specs.Slips.{Rises}
 use Rattle.vote_desks.specs.Audit.{IsAudited}
 use Rattle.vote_desks.specs.declared.Audited.{Audited}
 use Rattle.vote_sheet.specs.Texts.{Text}
-use Rattle.vote_jobs.specs.Counting.{AnswersInputs, IsNamed}
+use Rattle.vote_jobs.specs.Counting.{IsNamed, StopsCount}
 use Rattle.vote_jobs.specs.Inputs.{Inputs}
+use Rattle.vote_jobs.specs.Runs.{Stops}
 use Rattle.vote_jobs.specs.declared.fault.RunFault.{RunFault}
 use Rattle.vote_jobs.specs.declared.fault.RunFault.TheVariants as run
 use Rattle.vote_jobs.specs.declared.taking.Taken.{Taken}
@@ -24,7 +24,7 @@ pub record CanBeCounted (taken : Taken) : Type 0 where
 -- stamps rise
 pub record AreBallotsTaken (poll : PollContent) (inputs : Inputs) (taken : List Text × Audited) : Type 0 where
   pub lines : taken.0 ≡ lines_of inputs.ballots
-  pub few : length (lines_of inputs.ballots) ≤ MAX_LINES
+  pub few : ¬ HasTooManyLines inputs.ballots
   pub audited : IsAudited poll taken.0 taken.1.ballot_box taken.1.sheets
   pub at : length taken.1.sheets ≡ inputs.desks
   pub rising : All Rises taken.1.sheets
@@ -37,5 +37,5 @@ pub record AreTaken (inputs : Inputs) (taken : Taken) : Type 0 where
 
 -- the votes of the inputs are not taken, for this fault, and nothing was written
 pub record StopsTaking (bars : ℕ → Bool) (inputs : Inputs) (fault : RunFault) : Type 0 where
-  pub answers : AnswersInputs bars inputs (Some fault)
+  pub stops : Stops (StopsCount bars inputs) (Some fault)
   pub unwritten : fault ≢ run.Output

@@ -3,9 +3,10 @@
 ghost use Rattle.std.specs.Prelude.{◌≡◌, ◌≢◌, ◌<◌, ◌↔◌, true, Err, IfOk, IsErrOf, OnOk};
 ghost use Rattle.std.specs.Result.{result_err};
 ghost use Rattle.vote_steps.specs.Desks.{AreDesks};
-ghost use Rattle.vote_jobs.specs.Counting.{AnswersInputs, IsCountFor, IsCountedIn, IsMade, ended_by_decision, ended_by_verification};
+ghost use Rattle.vote_jobs.specs.Counting.{IsCountFor, IsCountedIn, IsMade, StopsCount, ended_by_decision, ended_by_verification};
 ghost use Rattle.vote_jobs.specs.Inputs.{inputs_at};
 ghost use Rattle.vote_jobs.specs.Performing.{Counts};
+ghost use Rattle.vote_jobs.specs.Runs.{Stops};
 ghost use Rattle.vote_jobs.specs.Taking.{CanBeCounted};
 
 use crate::fault::{Ended, RunFault};
@@ -88,7 +89,7 @@ fn count_inputs<G: Gate + Sync, R: Threads + Wait + Sync>(
     requires { AreDesks inputs.now.desks }
     ensures counted { IfOk result (λ counted. IsCountFor purpose.entry inputs.now counted.0) }
     ensures desks { IfOk result (λ counted. IsCountedIn inputs.now counted.1) }
-    ensures answers { AnswersInputs G.bars inputs.now (result_err result) }
+    ensures stops { Stops (StopsCount G.bars inputs.now) (result_err result) }
     ensures unwritten { result ≢ Err RunFault.Output }
 {
     let taken = match take_inputs(rt, alloc, inputs, gate) {
@@ -101,6 +102,7 @@ fn count_inputs<G: Gate + Sync, R: Threads + Wait + Sync>(
 
 /// Takes the votes of a ballot file at so many desks, each in a thread of its own, and writes what they are taken for, with the
 /// option that the casting vote names. Nothing is written before the text is whole.
+#[tactic(auto, using(crate::proofs::Stopping::stops_at_output))]
 pub fn count_for<G: Gate + Sync, W: Sink, R: Threads + Wait + Sync>(
     rt: &R,
     alloc: Global,

@@ -1,15 +1,18 @@
 //! The command `explain`.
 
-ghost use Rattle.std.specs.Prelude.{◌≡◌, ◌<◌, ◌↔◌, true, Ok, IfErr, IfOk, IsErrOf, None, OnOk, option_copied, string_bytes, ◌++◌};
+ghost use Rattle.std.specs.Prelude.{◌≡◌, ◌≢◌, ◌<◌, ◌↔◌, true, Ok, Err, IfOk, IsErrOf, None, OnOk, option_copied, string_bytes, ◌++◌};
 ghost use Rattle.vote_poll.specs.PollFile.{poll_in};
-ghost use Rattle.vote_jobs.specs.Explaining.{AnswersGiven, Explains, IsExplainFault, IsExplanation, IsGivenFault, IsSaid, IsSaidOfLines, ended_by_findings};
+ghost use Rattle.std.specs.Result.{result_err};
+ghost use Rattle.vote_jobs.specs.Explaining.{Explains, IsExplanation, IsSaid, IsSaidOfLines, StopsExplanation, ended_by_findings};
+ghost use Rattle.vote_jobs.specs.Runs.{Stops};
 
 use crate::fault::{Ended, RunFault};
 use crate::output::{RunText, write_run};
+use crate::reading::lines_of_file;
 use std::alloc::{AllocError, Global};
 use vote_ballot_findings::{Explained, explain_ballots};
 use vote_files::Sink;
-use vote_poll::{Lines, Poll, PollFault};
+use vote_poll::{Lines, Poll};
 use vote_poll_findings::{ExplainedPoll, explain_poll};
 use vote_sheet::check_text;
 
@@ -68,6 +71,7 @@ fn with_lines(
 }
 
 /// The findings of a poll in order, and after them all that is said of its ballots, or the line of `check` if none are given.
+#[tactic(auto, using(crate::proofs::Stopping::stops_at_lines))]
 fn with_rest(
     alloc: Global,
     poll: &Poll,
@@ -76,15 +80,15 @@ fn with_rest(
     found: String,
 ) -> Result<RunText, RunFault>
     ensures ok { IfOk result (IsSaid poll.now (option_copied ballots.entry) (option_copied file.entry) (string_bytes found)) }
-    ensures lines { AnswersGiven (Ok poll.now) (option_copied ballots.entry) result }
-    ensures fault { IfErr result IsGivenFault }
+    ensures stops { Stops (StopsExplanation (Ok poll.now) (option_copied ballots.entry)) (result_err result) }
+    ensures unwritten { result ≢ Err RunFault.Output }
 {
     let Some(ballots) = ballots else {
         return Ok(with_sizes(alloc, poll, found)?);
     };
-    match Lines::split(alloc, ballots) {
+    match lines_of_file(alloc, ballots) {
         Ok(lines) => Ok(with_lines(alloc, poll, &lines, ballots.ends_with(b"\n"), file, found)?),
-        Err(fault) => Err(RunFault::Lines(fault)),
+        Err(fault) => Err(fault),
     }
 }
 
@@ -97,12 +101,12 @@ fn explanation(
     poll_file: Option<&str>,
 ) -> Result<RunText, RunFault>
     ensures told { IfOk result (IsExplanation poll_text.now (option_copied ballots.entry) (option_copied file.entry)) }
-    ensures lines { AnswersGiven (poll_in poll_text.now) (option_copied ballots.entry) result }
-    ensures fault { IfErr result IsExplainFault }
+    ensures stops { Stops (StopsExplanation (poll_in poll_text.now) (option_copied ballots.entry)) (result_err result) }
+    ensures unwritten { result ≢ Err RunFault.Output }
 {
     let ExplainedPoll { findings, outcome } = match explain_poll(alloc, poll_text, poll_file) {
         Ok(explained) => explained,
-        Err(AllocError) => return Err(RunFault::Poll(PollFault::Memory)),
+        Err(AllocError) => return Err(RunFault::Memory),
     };
     match outcome {
         Ok(poll) => with_rest(alloc, &poll, ballots, file, findings),

@@ -1,7 +1,7 @@
 //! How a run ends, and the exit status that says so.
 
 ghost use Rattle.std.specs.Prelude.{◌≡◌, ◌≢◌, ◌↔◌, IsErrOf};
-ghost use Rattle.vote_jobs.specs.Status.{ballots_unread, fault_status, poll_unread, sheet_unread, status};
+ghost use Rattle.vote_jobs.specs.Status.{fault_status, status, unread};
 
 use std::alloc::AllocError;
 use std::fmt;
@@ -29,41 +29,61 @@ pub enum Ended {
     Differs,
 }
 
-/// Why an input was not read. The ballots stand for a joined input too.
+/// A file that a run reads.
+#[derive(Clone, Copy, Debug, PartialEq, Eq)]
+pub enum InputFile {
+    /// The poll file.
+    Poll,
+    /// The ballot file, or the joined input.
+    Ballots,
+    /// The published sheet.
+    Sheet,
+}
+
+/// Why a file was not read.
 #[derive(Clone, Copy, Debug, PartialEq, Eq, Error)]
 pub enum InputFault {
-    /// The poll file can't be opened, or its device failed.
-    PollUnreadable,
-    /// The poll file has more bytes than its limit.
-    PollTooLong,
-    /// The ballot file can't be opened, or its device or that of the joined input failed.
-    BallotsUnreadable,
-    /// The ballot file or the joined input has more bytes than its limit.
-    BallotsTooLong,
-    /// The published sheet can't be opened, or its device failed.
-    SheetUnreadable,
-    /// The published sheet has more bytes than its limit.
-    SheetTooLong,
+    /// It can't be opened, or its device failed.
+    Unreadable,
+    /// It has more bytes than its limit.
+    TooLong,
 }
 
 /// Why a run did not come to its end: the first of these that holds, where `Memory` can take the place of any that would come
 /// later. Its `Display` is the program's fault line.
+///
+/// Want of memory is `Memory` wherever it comes: no run returns one of the faults of a poll or of votes that says it too.
 #[derive(Clone, Copy, Debug, PartialEq, Eq, Error)]
 pub enum RunFault {
-    /// An input was not read. Nothing was written.
-    Input(InputFault),
-    /// The poll file is refused, or memory ran out while it was read. Nothing was written.
+    /// A file was not read. Nothing was written.
+    Input(InputFile, InputFault),
+    /// The poll file is refused. Nothing was written.
     Poll(PollFault),
     /// The casting vote names no option of the poll. Nothing was written.
     NoSuchOption,
-    /// The ballot file is refused, or memory ran out while it was split. Nothing was written.
-    Lines(LinesFault),
-    /// The votes were not taken, or memory ran out meanwhile. Nothing was written.
+    /// The ballot file has too many lines. Nothing was written.
+    TooManyLines,
+    /// The votes were not taken. Nothing was written.
     Vote(VoteFault),
     /// Memory ran out. Nothing was written.
     Memory,
     /// The output failed or took no bytes. What was written is a prefix of the text.
     Output,
+}
+
+impl fmt::Display for InputFile {
+    ghost use Rattle.std.specs.Prelude.{Some};
+    ghost use Rattle.vote_jobs.specs.Words.{file_words};
+
+    ghost output = { λ file. Some (file_words file) };
+
+    fn fmt<W: fmt::Write>(&self, f: &mut fmt::Formatter<W>) -> fmt::Result {
+        f.write_str(match self {
+            InputFile::Poll => "poll",
+            InputFile::Ballots => "ballots",
+            InputFile::Sheet => "sheet",
+        })
+    }
 }
 
 impl fmt::Display for InputFault {
@@ -74,12 +94,8 @@ impl fmt::Display for InputFault {
 
     fn fmt<W: fmt::Write>(&self, f: &mut fmt::Formatter<W>) -> fmt::Result {
         f.write_str(match self {
-            InputFault::PollUnreadable => "poll unreadable",
-            InputFault::PollTooLong => "poll too long",
-            InputFault::BallotsUnreadable => "ballots unreadable",
-            InputFault::BallotsTooLong => "ballots too long",
-            InputFault::SheetUnreadable => "sheet unreadable",
-            InputFault::SheetTooLong => "sheet too long",
+            InputFault::Unreadable => "unreadable",
+            InputFault::TooLong => "too long",
         })
     }
 }
@@ -92,10 +108,10 @@ impl fmt::Display for RunFault {
 
     fn fmt<W: fmt::Write>(&self, f: &mut fmt::Formatter<W>) -> fmt::Result {
         match self {
-            RunFault::Input(fault) => fault.fmt(f),
+            RunFault::Input(file, fault) => write!(f, "{file} {fault}"),
             RunFault::Poll(fault) => fault.fmt(f),
             RunFault::NoSuchOption => f.write_str("casting option is not in the poll"),
-            RunFault::Lines(fault) => fault.fmt(f),
+            RunFault::TooManyLines => LinesFault::TooMany.fmt(f),
             RunFault::Vote(fault) => fault.fmt(f),
             RunFault::Memory => f.write_str("out of memory"),
             RunFault::Output => f.write_str("output failed"),
@@ -125,47 +141,67 @@ impl From<AllocError> for RunFault {
     }
 }
 
-/// Why a poll file was not read.
-pub fn poll_unread(fault: ReadFault) -> RunFault
-    ensures { result ≡ poll_unread fault }
+impl From<PollFault> for RunFault {
+    ghost use Rattle.std.specs.Prelude.{◌≡◌};
+    ghost use Rattle.vote_jobs.specs.Words.{poll_refused};
+
+    ghost from_gives = { λ fault e. e ≡ poll_refused fault };
+
+    fn from(fault: PollFault) -> RunFault {
+        match fault {
+            PollFault::Memory => RunFault::Memory,
+            _ => RunFault::Poll(fault),
+        }
+    }
+}
+
+impl From<LinesFault> for RunFault {
+    ghost use Rattle.std.specs.Prelude.{◌≡◌};
+    ghost use Rattle.vote_jobs.specs.Words.{lines_refused};
+
+    ghost from_gives = { λ fault e. e ≡ lines_refused fault };
+
+    fn from(fault: LinesFault) -> RunFault {
+        match fault {
+            LinesFault::Memory => RunFault::Memory,
+            LinesFault::TooMany => RunFault::TooManyLines,
+        }
+    }
+}
+
+impl From<VoteFault> for RunFault {
+    ghost use Rattle.std.specs.Prelude.{◌≡◌};
+    ghost use Rattle.vote_jobs.specs.Words.{votes_stopped};
+
+    ghost from_gives = { λ fault e. e ≡ votes_stopped fault };
+
+    fn from(fault: VoteFault) -> RunFault {
+        match fault {
+            VoteFault::Memory => RunFault::Memory,
+            _ => RunFault::Vote(fault),
+        }
+    }
+}
+
+/// Why this file was not read.
+pub fn unread(file: InputFile, fault: ReadFault) -> RunFault
+    ensures { result ≡ unread file fault }
 {
     match fault {
-        ReadFault::Device => RunFault::Input(InputFault::PollUnreadable),
-        ReadFault::TooLong => RunFault::Input(InputFault::PollTooLong),
+        ReadFault::Device => RunFault::Input(file, InputFault::Unreadable),
+        ReadFault::TooLong => RunFault::Input(file, InputFault::TooLong),
         ReadFault::Memory => RunFault::Memory,
     }
 }
 
-/// Why a ballot file or a joined input was not read.
-pub fn ballots_unread(fault: ReadFault) -> RunFault
-    ensures { result ≡ ballots_unread fault }
-{
-    match fault {
-        ReadFault::Device => RunFault::Input(InputFault::BallotsUnreadable),
-        ReadFault::TooLong => RunFault::Input(InputFault::BallotsTooLong),
-        ReadFault::Memory => RunFault::Memory,
-    }
-}
-
-/// Why a published sheet was not read.
-pub fn sheet_unread(fault: ReadFault) -> RunFault
-    ensures { result ≡ sheet_unread fault }
-{
-    match fault {
-        ReadFault::Device => RunFault::Input(InputFault::SheetUnreadable),
-        ReadFault::TooLong => RunFault::Input(InputFault::SheetTooLong),
-        ReadFault::Memory => RunFault::Memory,
-    }
-}
-
-fn input_status(fault: &InputFault) -> u8
-    ensures status { result ≡ fault_status (RunFault.Input fault.now) }
+fn input_status(file: InputFile) -> u8
+    ensures status { (fault : InputFault) → result ≡ fault_status (RunFault.Input file fault) }
     ensures other { result ≢ 7 }
 {
-    match fault {
-        InputFault::PollUnreadable | InputFault::PollTooLong => 3,
-        InputFault::BallotsUnreadable | InputFault::BallotsTooLong => 4,
-        InputFault::SheetUnreadable | InputFault::SheetTooLong => 10,
+    match file {
+        InputFile::Poll => 3,
+        InputFile::Ballots => 4,
+        InputFile::Sheet => 10,
     }
 }
 
@@ -188,11 +224,11 @@ pub fn fault_status(fault: &RunFault) -> u8
     ensures output { (result ≡ 7) ↔ (fault.now ≡ RunFault.Output) }
 {
     match fault {
-        RunFault::Input(fault) => input_status(fault),
-        RunFault::Poll(PollFault::Memory) | RunFault::Lines(LinesFault::Memory) => 5,
+        RunFault::Input(file, _) => input_status(*file),
+        RunFault::Poll(PollFault::Memory) => 5,
         RunFault::Poll(_) => 3,
         RunFault::NoSuchOption => 8,
-        RunFault::Lines(LinesFault::TooMany) => 4,
+        RunFault::TooManyLines => 4,
         RunFault::Vote(fault) => vote_status(fault),
         RunFault::Memory => 5,
         RunFault::Output => 7,

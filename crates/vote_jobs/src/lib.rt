@@ -11,15 +11,15 @@
 //!   ([`Performed`]).
 //! - [`sheet`] is the result sheet of an audited box, for callers of the library.
 //! - [`status`] and [`fault_status`] are the exit status of a run, by how it ended ([`Ended`]) or why it did not ([`RunFault`],
-//!   whose `Display` is the program's fault line). [`poll_unread`], [`ballots_unread`] and [`sheet_unread`] name the fault of an
-//!   input that was not read.
+//!   whose `Display` is the program's fault line). [`unread`] names the fault of a file that was not read.
 //!
 //! **What is promised.** A run writes the text that is meant, once, and nothing else; if its output fails, a prefix of that
 //! text; and after any other fault nothing. It returns each fault exactly when it holds, in the order of the inputs; but memory
-//! may be refused at any growth, and a thread at any start. When it returns Ok, its sink was flushed.
+//! may be refused at any growth, and then it returns [`RunFault::Memory`] in place of what would come later; and a thread at any
+//! start. When it returns Ok, its sink was flushed.
 //! The clauses hold over every [`Sink`](vote_files::Sink), whatever it does and whenever it fails.
 //!
-//! The modules: `joined` parts a joined input, and [`laws`] says what its parts are; `taking` takes the votes of two files, and
+//! The modules: `joined` parts a joined input, and [`laws`] says what its parts are; `reading` reads poll and lines; `taking` takes the votes of two files, and
 //! `counting` makes of them what they are taken for; `listing`, `checking` and `explaining` are the other runs, `jobs` does
 //! whichever is asked for, `audited` has the sheet of an audited box, `output` writes the text of a run, and `fault` says how a
 //! run ends.
@@ -36,15 +36,14 @@ pub mod laws;
 mod listing;
 mod output;
 mod performed;
+mod reading;
 mod taking;
 
 pub use audited::sheet;
 pub use checking::check_poll;
 pub use counting::{count_for, run};
 pub use explaining::explain;
-pub use fault::{
-    Ended, InputFault, RunFault, ballots_unread, fault_status, poll_unread, sheet_unread, status,
-};
+pub use fault::{Ended, InputFault, InputFile, RunFault, fault_status, status, unread};
 pub use jobs::{Job, perform, perform_on};
 pub use joined::split_joined;
 pub use listing::{print_listing, print_steps, steps_joined};

@@ -1,17 +1,18 @@
 //! The commands that list something of the ballots: `steps` and `standing`.
 
-ghost use Rattle.std.specs.Prelude.{◌≡◌, ◌≢◌, ◌<◌, ◌↔◌, true, Err, IfErr, IfOk, IsErrOf, OnOk};
+ghost use Rattle.std.specs.Prelude.{◌≡◌, ◌≢◌, ◌<◌, ◌↔◌, true, Err, IfOk, IsErrOf, OnOk};
 ghost use Rattle.std.specs.Result.{result_err};
 ghost use Rattle.vote_poll_text.specs.Lines.{lines_of};
-ghost use Rattle.vote_jobs.specs.Explaining.{IsGivenFault};
+ghost use Rattle.vote_poll.specs.PollFile.{poll_in};
 ghost use Rattle.vote_jobs.specs.Joined.{joined_parts};
 ghost use Rattle.vote_jobs.specs.Performing.{Lists};
-ghost use Rattle.vote_jobs.specs.Runs.{AnswersFiles, AnswersLines, IsListed, IsListing, IsText};
+ghost use Rattle.vote_jobs.specs.Runs.{GoesThrough, IsListed, IsListing, IsText, Stops, StopsAtLines, StopsAtPoll};
 ghost use Rattle.vote_work.specs.declared.Listing.TheVariants.{Steps};
 
 use crate::fault::RunFault;
 use crate::joined::split_joined;
 use crate::output::write_run;
+use crate::reading::{lines_of_file, poll_of_file};
 use std::alloc::{AllocError, Global};
 use vote_files::Sink;
 use vote_poll::{Lines, Poll};
@@ -34,6 +35,7 @@ fn list_lines(
 }
 
 /// The text of a listing of a poll and a ballot file.
+#[tactic(auto, using(crate::proofs::Stopping::stops_at_lines))]
 fn list_ballots(
     alloc: Global,
     poll: &Poll,
@@ -41,16 +43,17 @@ fn list_ballots(
     listing: Listing,
 ) -> Result<String, RunFault>
     ensures listed { IfOk result (IsText (IsListed listing poll.now (lines_of ballots.now))) }
-    ensures lines { AnswersLines (lines_of ballots.now) (result_err result) }
-    ensures fault { IfErr result IsGivenFault }
+    ensures stops { Stops (StopsAtLines ballots.now GoesThrough) (result_err result) }
+    ensures unwritten { result ≢ Err RunFault.Output }
 {
-    match Lines::split(alloc, ballots) {
+    match lines_of_file(alloc, ballots) {
         Ok(lines) => Ok(list_lines(alloc, poll, &lines, listing)?),
-        Err(fault) => Err(RunFault::Lines(fault)),
+        Err(fault) => Err(fault),
     }
 }
 
 /// The text of a listing of a poll file and a ballot file.
+#[tactic(auto, using(crate::proofs::Stopping::stops_at_poll))]
 fn list_files(
     alloc: Global,
     poll_text: &[u8],
@@ -58,12 +61,12 @@ fn list_files(
     listing: Listing,
 ) -> Result<String, RunFault>
     ensures listed { IfOk result (IsText (IsListing listing poll_text.now ballots.now)) }
-    ensures answers { AnswersFiles poll_text.now ballots.now (result_err result) }
+    ensures stops { Stops (StopsAtPoll (poll_in poll_text.now) (λ poll. StopsAtLines ballots.now GoesThrough)) (result_err result) }
     ensures unwritten { result ≢ Err RunFault.Output }
 {
-    let poll = match Poll::from_text(alloc, poll_text) {
+    let poll = match poll_of_file(alloc, poll_text) {
         Ok(poll) => poll,
-        Err(fault) => return Err(RunFault::Poll(fault)),
+        Err(fault) => return Err(fault),
     };
     list_ballots(alloc, &poll, ballots, listing)
 }

@@ -7,6 +7,7 @@ ghost use Rattle.vote_jobs.specs.Counting.{IsNamed, NamesNoOption};
 ghost use Rattle.vote_jobs.specs.Taking.{AreBallotsTaken, AreTaken, StopsTaking};
 
 use crate::fault::RunFault;
+use crate::reading::{lines_of_file, poll_of_file};
 use std::alloc::Global;
 use std::marker::Model;
 use std::sync::Wait;
@@ -59,6 +60,7 @@ fn named_option(poll: &Poll, casting: Option<&[u8]>) -> Option<Option<u8>>
 }
 
 /// The poll of the poll file, and the option of it that the casting vote names, if there is one.
+#[tactic(auto, using(crate::proofs::Stopping::count_without_poll, crate::proofs::Stopping::count_without_option))]
 fn read_poll<G: Gate>(
     alloc: Global,
     inputs: &CountInputs<'_>,
@@ -67,9 +69,9 @@ fn read_poll<G: Gate>(
     ensures casting { IfOk result (λ read. IsNamed read.0 inputs.now.casting read.1) }
     ensures stopped { IfErr result (StopsTaking G.bars inputs.now) }
 {
-    let poll = match Poll::from_text(alloc, inputs.poll) {
+    let poll = match poll_of_file(alloc, inputs.poll) {
         Ok(poll) => poll,
-        Err(fault) => return Err(RunFault::Poll(fault)),
+        Err(fault) => return Err(fault),
     };
     let Some(casting) = named_option(&poll, inputs.casting) else {
         return Err(RunFault::NoSuchOption);
@@ -92,13 +94,13 @@ fn take_ballots<'t, G: Gate + Sync, R: Threads + Wait + Sync>(
     ensures taken { IfOk result (AreBallotsTaken poll.now inputs.now) }
     ensures stopped { IfErr result (StopsTaking G.bars inputs.now) }
 {
-    let lines = match Lines::split(alloc, inputs.ballots) {
+    let lines = match lines_of_file(alloc, inputs.ballots) {
         Ok(lines) => lines,
-        Err(fault) => return Err(RunFault::Lines(fault)),
+        Err(fault) => return Err(fault),
     };
     let audited = match take_votes(rt, alloc, poll, &lines, inputs.desks, gate) {
         Ok(audited) => audited,
-        Err(fault) => return Err(RunFault::Vote(fault)),
+        Err(fault) => return Err(RunFault::from(fault)),
     };
     Ok((lines, audited))
 }

@@ -1,5 +1,6 @@
 -- The function that reads a line finds what the grammar of a ballot line says.
 use Rattle.std.proofs.Common.{◌≡◌, ◌+◌, ◌-◌, ◌*◌, ◌/◌, ◌%◌, ◌^◌, ◌<◌, ◌≤◌, ◌++◌, ℕ, List, [], ◌∷◌, map, refl, ap, sym, subst, ◌∙◌, length, take, drop, get_or, Option, Some, None, arith, Bool, true, false, cond, ◌==◌, ◌&&◌, ◌⊎◌, inl, inr, nat_le, nat_lt, append_assoc, length-append}
+use Rattle.std.specs.Prelude.{unwrap_or}
 use Rattle.std.specs.Option.{option_map}
 use Rattle.std.specs.Fmt.{decimal}
 use Rattle.std.specs.List.{All, slice_split, join_with_byte, before_first, after_first, position_or_len}
@@ -14,7 +15,7 @@ use Rattle.vote_poll.specs.declared.reading.Reading.{Reading}
 use Rattle.vote_poll.specs.declared.reading.Reading.TheVariants.{Bad, Ballot}
 use Rattle.std.specs.Str.{bytes_eq}
 use Rattle.std.proofs.lemmas.List.Quantifiers.{position-Some}
-use Rattle.vote_poll.specs.declared.reading.LineFault.TheVariants.{RankCount}
+use Rattle.vote_poll.specs.declared.reading.LineFault.TheVariants.{RankCount, Roll}
 use Rattle.std.proofs.lemmas.List.Elements.{All-nil, All-cons, All-head, All-tail, All-weaker}
 use Rattle.std.proofs.lemmas.List.Splits.{length-slice_split, join_with_byte-slice_split, slice_split_none, slice_split_at}
 use Rattle.vote_poll.specs.Names.{place_of}
@@ -22,7 +23,7 @@ use Rattle.vote_poll_text.specs.Names.{is_within, is_voter_byte, is_voter_name}
 use Rattle.vote_poll.proofs.NamesLaws.{voter_bytes, within_bounds}
 use Rattle.vote_poll.specs.BallotLine.{IsRank, rank_text, line_text, IsBallotLine}
 use Rattle.vote_poll_keys.specs.Lists.{all_some}
-use Rattle.vote_poll.specs.Readings.{rank_in, ranks_in, ballot_in, reading, reading_of, reading_at, IsReading, ReadingFits, is_space}
+use Rattle.vote_poll.specs.Readings.{rank_in, ranks_in, ballot_in, reading, reading_of, IsReading, ReadingFits, is_space}
 use Rattle.vote_poll.specs.declared.TheConstants.{MAX_LINE}
 
 -- ---- a rank
@@ -262,6 +263,10 @@ ballot_in-complete line name ranks h =
     ap ballot_in spelled ∙ read_parts name (join_with_byte 44 (map rank_text ranks)) ranks h.is_name (ranks_in-join ranks h.has_rank h.are_ranks) short
 
 -- ---- the reading
+-- a ballot with these ranks, where its voter is on the roll
+abbrev reading_at : List (Option ℕ) → Option ℕ → Reading
+reading_at ranks place = unwrap_or (option_map (λ voter. Ballot voter ranks) place) (Bad Roll)
+
 reading_at_place : (poll : PollContent) (line : List ℕ) (ballot : List ℕ × List (Option ℕ)) (place : Option ℕ) → IsBallotLine line ballot.0 ballot.1 → length ballot.1 ≡ length poll.options
     → place_of ballot.0 poll.roll ≡ place → IsReading poll line (reading_at ballot.1 place)
 reading_at_place poll line ballot None h same is = (ballot.0, ballot.1, h, same, is)

@@ -5,7 +5,7 @@ mod BallotLaws
 mod FirstBad
 mod FirstFound
 mod GrammarLaws
-mod NamesLaws
+pub mod NamesLaws
 mod OneReading
 mod SortKeys
 mod PollFaultsLaws

@@ -4,12 +4,11 @@ use Rattle.std.specs.List.{list_any, range_with_len}
 use Rattle.std.specs.Str.{bytes_eq}
 use Rattle.vote_poll_text.specs.Names.{is_voter_name}
 
--- the name is malformed, or equals an earlier one
-abbrev pub is_bad_after : (List ℕ → Bool) → List (List ℕ) → List ℕ → Bool
-is_bad_after has_shape earlier name = not (has_shape name) || list_any (bytes_eq name) earlier
-
+-- the name at a place, from 0, is malformed, or equals an earlier one
 abbrev pub is_bad_at : (List ℕ → Bool) → List (List ℕ) → ℕ → Bool
-is_bad_at has_shape names place = is_bad_after has_shape (take place names) (slice_index_or names place [])
+is_bad_at has_shape names place =
+    let name = slice_index_or names place [] in
+    not (has_shape name) || list_any (bytes_eq name) (take place names)
 
 -- the least place of such a name
 abbrev pub first_bad : (List ℕ → Bool) → List (List ℕ) → Option ℕ

@@ -10,8 +10,7 @@ use Rattle.vote_poll.specs.declared.TheConstants.{MAX_OPTIONS, MAX_ELECTORS, MAX
 use Rattle.vote_poll_text.specs.declared.lines.TheConstants.{MAX_LINES}
 use Rattle.vote_poll.specs.declared.wording.Wording.{Wording}
 
--- The default option is the last one. The options but the default have a ratio each. Where there is a last envelope, those
--- with a greater number are late.
+-- The default option is the last one, and each other has a ratio. Where there is a last envelope, those with a greater number are late.
 pub record PollContent : Type 0 where
   pub title : List ℕ
   pub options : List (List ℕ)

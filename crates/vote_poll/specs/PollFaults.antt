@@ -58,6 +58,7 @@ of_wording f = where_found f.wording (λ wording. fault_unless (is_some (wording
 
 -- ---- the file
 
+-- the faults of what the keys say, in their order
 unfoldable pub of_contents : FoundKeys → List PollFault
 of_contents f =
     of_title f
@@ -70,6 +71,7 @@ of_contents f =
     ++ of_last_envelope f
     ++ of_wording f
 
+-- all faults of a poll file, whose table was read or not; where it was, those of keys come first
 abbrev pub faults_in : Result Members PollFault → List PollFault
 faults_in (Ok table) = of_keys table (found_in table) ++ of_contents (found_in table)
 faults_in (Err e) = e ∷ []

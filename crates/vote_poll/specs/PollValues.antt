@@ -23,5 +23,6 @@ quorum_in z = number_within 0 MAX_QUORUM_MULTIPLE z
 abbrev pub last_envelope_in : ℤ → Option ℕ
 last_envelope_in z = number_within 0 MAX_LINES z
 
+-- the wording that a text names
 abbrev pub wording_in : List ℕ → Option Wording
 wording_in text = if bytes_eq text (codes "at_least") then Some AtLeast else (if bytes_eq text (codes "more_than") then Some MoreThan else None)

@@ -1,5 +1,5 @@
 -- What a poll reads in a line.
-use Rattle.std.specs.Prelude.{◌≡◌, ◌≢◌, ℕ, ◌<◌, List, [], ◌∷◌, length, map, Bool, true, false, ◌==◌, ◌&&◌, nat_le, if◌then◌else◌, Option, Some, None, option_map, ◌*◌, ◌+◌, ◌-◌}
+use Rattle.std.specs.Prelude.{◌≡◌, ◌≢◌, ℕ, ◌<◌, List, [], ◌∷◌, length, map, Bool, true, false, ◌==◌, ◌&&◌, nat_le, if◌then◌else◌, Option, Some, None, option_map, unwrap_or, ◌*◌, ◌+◌, ◌-◌}
 use Rattle.std.specs.List.{slice_split, before_first, after_first}
 use Rattle.std.specs.Str.{byte}
 use Rattle.vote_poll.specs.Names.{place_of}
@@ -29,10 +29,9 @@ ReadingFits options electors (Ballot voter ranks) = (voter < electors) × (lengt
 
 -- the rank that a text spells
 abbrev pub rank_in : List ℕ → Option (Option ℕ)
-rank_in [] = None
 rank_in (a ∷ []) = if a == byte "-" then Some None else (if is_within (byte "1") (byte "9") a then Some (Some (a - byte "0")) else None)
 rank_in (a ∷ b ∷ []) = if is_within (byte "1") (byte "9") a && is_within (byte "0") (byte "9") b then Some (Some (10 * (a - byte "0") + (b - byte "0"))) else None
-rank_in (a ∷ b ∷ c ∷ rest) = None
+rank_in other = None
 
 -- the ranks that a text lists
 abbrev pub ranks_in : List ℕ → Option (List (Option ℕ))
@@ -47,14 +46,11 @@ ballot_in line =
     if nat_le (length line) MAX_LINE && is_voter_name (before_first is_space line)
     then option_map (λ ranks. (before_first is_space line, ranks)) (ranks_in (after_first is_space line)) else None
 
-abbrev pub reading_at : List (Option ℕ) → Option ℕ → Reading
-reading_at ranks None = Bad Roll
-reading_at ranks (Some place) = Ballot place ranks
-
 -- what the poll reads in a line: a ballot; or why it is none, in this order: shape, number of ranks, name that is not on the roll
 abbrev pub reading_of : PollContent → Option (List ℕ × List (Option ℕ)) → Reading
 reading_of poll None = Bad Shape
-reading_of poll (Some ballot) = if length ballot.1 == option_count poll then reading_at ballot.1 (place_of ballot.0 poll.roll) else Bad RankCount
+reading_of poll (Some ballot) =
+    if length ballot.1 == option_count poll then unwrap_or (option_map (λ voter. Ballot voter ballot.1) (place_of ballot.0 poll.roll)) (Bad Roll) else Bad RankCount
 
 abbrev pub reading : PollContent → List ℕ → Reading
 reading poll line = reading_of poll (ballot_in line)

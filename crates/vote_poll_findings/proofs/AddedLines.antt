@@ -5,7 +5,7 @@ use Rattle.std.proofs.lemmas.List.Splits.{length-slice_split}
 use Rattle.vote_poll_text.specs.Lines.{line_feed, parts_of}
 use Rattle.vote_poll_text.specs.Shown.{shown}
 use Rattle.vote_poll.specs.BallotLine.{IsBallotText}
-use Rattle.vote_poll_findings.specs.Syntax.{IsSyntaxFinding, column_number, exchanged_text, first_line, last_line, last_of, line_number, line_shown, part_text}
+use Rattle.vote_poll_findings.specs.Syntax.{IsSyntaxFinding, column_number, exchanged_poll_text, first_line, last_line, last_of, line_number, line_shown, part_text}
 use Rattle.vote_poll_findings.proofs.FindingLaws.{shown_unbroken}
 
 -- ---- the last of the parts between line feeds
@@ -23,7 +23,7 @@ text_by a b c d e f g h t0 t1 t2 t3 t4 e0 e1 e2 e3 e4 = rw (e4, e3, e2, e1, e0) 
 
 pub on_syntax : {X E : Type 0} (r : Result X E) (text : List ℕ) (place line column : ℕ) (exchanged : Bool) (hint t0 t1 t2 t3 t4 : List ℕ) → place ≤ length text
     → IsTrue exchanged ↔ IsBallotText (first_line text) → line ≡ line_number (take place text) → column ≡ column_number (last_line (take place text)) → t0 ≡ []
-    → t1 ≡ t0 ++ exchanged_text exchanged → t2 ≡ t1 ++ (codes "poll:" ++ decimal line ++ codes ":" ++ decimal column) → t3 ≡ t2 ++ (codes ": " ++ shown (length hint) hint ++ line_feed)
+    → t1 ≡ t0 ++ exchanged_poll_text exchanged → t2 ≡ t1 ++ (codes "poll:" ++ decimal line ++ codes ":" ++ decimal column) → t3 ≡ t2 ++ (codes ": " ++ shown (length hint) hint ++ line_feed)
     → OnOk r (t4 ≡ t3 ++ part_text (line_shown text place) (length (last_line (take place text)))) → OnOk r (IsSyntaxFinding text t4)
 on_syntax (Ok x) text place line column exchanged hint t0 t1 t2 t3 t4 within is at from e0 e1 e2 e3 added = record {
   place = place;
@@ -33,7 +33,7 @@ on_syntax (Ok x) text place line column exchanged hint t0 t1 t2 t3 t4 within is 
   message = shown (length hint) hint;
   unbroken = shown_unbroken (length hint) hint;
   is_text = rw (sym at, sym from)
-      (text_by (exchanged_text exchanged) (codes "poll:") (decimal line) (codes ":") (decimal column) (shown (length hint) hint) line_feed
+      (text_by (exchanged_poll_text exchanged) (codes "poll:") (decimal line) (codes ":") (decimal column) (shown (length hint) hint) line_feed
       (part_text (line_shown text place) (length (last_line (take place text)))) t0 t1 t2 t3 t4 e0 e1 e2 e3 added);
 }
 on_syntax (Err x) text place line column exchanged hint t0 t1 t2 t3 t4 within is at from e0 e1 e2 e3 added = tt

@@ -25,6 +25,7 @@ AreFindings (e ∷ es) text = (hint : List ℕ) × (rest : List ℕ) × IsUnbrok
 abbrev pub key_line : List ℕ → List ℕ → List ℕ
 key_line path remark = codes "poll: key " ++ shown MAX_SHOWN path ++ codes " is not read" ++ remark ++ line_feed
 
+-- the line of the key at a place, with what is remarked of it
 pub record IsKeyLine (file : Members) (place : Place) (text : List ℕ) : Type 0 where
   pub remark : List ℕ
   pub is_remark : IsRemark file place remark

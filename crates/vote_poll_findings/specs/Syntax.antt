@@ -14,6 +14,7 @@ abbrev pub first_of : List (List ℕ) → List ℕ
 first_of [] = []
 first_of (part ∷ parts) = part
 
+-- the last one; of none it is empty
 abbrev pub last_of : List (List ℕ) → List ℕ
 last_of [] = []
 last_of (part ∷ []) = part
@@ -27,9 +28,9 @@ abbrev pub last_line : List ℕ → List ℕ
 last_line text = last_of (parts_of text)
 
 -- whether the files may be exchanged
-unfoldable pub exchanged_text : Bool → List ℕ
-exchanged_text true = codes "the poll file looks like ballots: are the files exchanged?\n"
-exchanged_text false = []
+unfoldable pub exchanged_poll_text : Bool → List ℕ
+exchanged_poll_text true = codes "the poll file looks like ballots: are the files exchanged?\n"
+exchanged_poll_text false = []
 
 -- ---- the line and the column after a text, from 1
 abbrev pub line_number : List ℕ → ℕ
@@ -59,13 +60,15 @@ file_remark text =
 abbrev pub shown_width : List ℕ → ℕ
 shown_width bytes = length bytes + 3 * count_by (λ b. not (is_printable b)) bytes
 
-abbrev pub mark_text : ℕ → List ℕ
-mark_text width = shown width SPACES ++ codes "^\n"
+-- a mark below the place, behind so many spaces
+abbrev pub caret_text : ℕ → List ℕ
+caret_text width = shown width SPACES ++ codes "^\n"
 
 -- from half of the bytes that are shown before the place on, or from as few before it as leave so many after it
 abbrev pub part_begin : List ℕ → ℕ → ℕ
 part_begin line at = min (at - 30) (length line - MAX_SHOWN)
 
+-- what of that stands before the place
 abbrev pub part_before : List ℕ → ℕ → List ℕ
 part_before line at = take (min at (length line) - part_begin line at) (drop (part_begin line at) line)
 
@@ -73,7 +76,7 @@ part_before line at = take (min at (length line) - part_begin line at) (drop (pa
 abbrev pub part_text : List ℕ → ℕ → List ℕ
 part_text line at =
     if nat_le (length line) MAX_SHOWN then []
-    else (shown MAX_SHOWN (drop (part_begin line at) line) ++ line_feed) ++ mark_text (shown_width (part_before line at))
+    else (shown MAX_SHOWN (drop (part_begin line at) line) ++ line_feed) ++ caret_text (shown_width (part_before line at))
 
 -- the line in which the place stands; nothing of what is no text
 abbrev pub line_shown : List ℕ → ℕ → List ℕ
@@ -91,6 +94,6 @@ pub record IsSyntaxFinding (text finding : List ℕ) : Type 0 where
   pub is_exchanged : IsTrue exchanged ↔ IsBallotText (first_line text)
   pub message : List ℕ
   pub unbroken : IsUnbroken message
-  pub is_text : finding ≡ exchanged_text exchanged ++ codes "poll:" ++ decimal (line_number (take place text)) ++ codes ":"
+  pub is_text : finding ≡ exchanged_poll_text exchanged ++ codes "poll:" ++ decimal (line_number (take place text)) ++ codes ":"
       ++ decimal (column_number (last_line (take place text))) ++ codes ": " ++ message ++ line_feed
       ++ part_text (line_shown text place) (length (last_line (take place text)))

@@ -7,7 +7,7 @@ use Rattle.toml.specs.View.{table_view}
 use Rattle.vote_poll_keys.specs.declared.fault.PollKey.{PollKey}
 use Rattle.vote_poll_keys.specs.declared.fault.PollFault.{PollFault}
 use Rattle.vote_poll_findings.specs.Findings.{AddsLines}
-use Rattle.vote_poll_findings.specs.UnreadKeys.{IsRemark, Line, Place, edits, holds_name, is_key_name, is_missing, unread_at, unread_in, unread_keys}
+use Rattle.vote_poll_findings.specs.UnreadKeys.{IsRemark, Line, Place, key_edits, holds_name, is_key_name, is_missing, unread_at, unread_in, unread_keys}
 use Rattle.vote_poll_findings.specs.declared.TheConstants.{MAX_EDITS, MAX_SHOWN}
 use Rattle.vote_poll_findings.specs.declared.path.Path.{Path}
 use Rattle.vote_poll_findings.specs.declared.path.UnreadKey.{UnreadKey}
@@ -30,7 +30,7 @@ line_of above = record { name = above.name.now; is_list = above.is_list }
 -- the number of edits to a missing key where they are few, or else a number above them
 abbrev pub AreFewEdits : Members → List ℕ → PollKey → ℕ → Type 0
 AreFewEdits file name key number =
-    ((is_missing file key ≡ true) × (number ≡ edits name key)) ⊎ ((MAX_EDITS < number) × (is_missing file key ≡ true → MAX_EDITS < edits name key))
+    ((is_missing file key ≡ true) × (number ≡ key_edits name key)) ⊎ ((MAX_EDITS < number) × (is_missing file key ≡ true → MAX_EDITS < key_edits name key))
 
 -- ---- what is noted
 -- the file, and the places of its keys that were noted

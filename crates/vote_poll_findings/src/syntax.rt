@@ -6,7 +6,7 @@ ghost use Rattle.vote_poll_text.specs.Adding.{Adds};
 ghost use Rattle.vote_poll_text.specs.Lines.{line_feed};
 ghost use Rattle.vote_poll_text.specs.Shown.{shown};
 ghost use Rattle.vote_poll_findings.specs.declared.TheConstants.{MAX_SHOWN};
-ghost use Rattle.vote_poll_findings.specs.Syntax.{IsSyntaxFinding, begins_character, column_number, exchanged_text, file_remark, first_line, last_line, line_number, line_shown, mark_text, part_before, part_begin, part_text, shown_width};
+ghost use Rattle.vote_poll_findings.specs.Syntax.{IsSyntaxFinding, begins_character, column_number, exchanged_poll_text, file_remark, first_line, last_line, line_number, line_shown, caret_text, part_before, part_begin, part_text, shown_width};
 
 use crate::MAX_SHOWN;
 use crate::findings::push_hint;
@@ -231,9 +231,9 @@ fn push_remark(
 }
 
 /// Adds the question whether the files are exchanged, if the first line is a ballot line.
-#[tactic(auto, unfolding(crate::specs::Syntax::exchanged_text))]
+#[tactic(auto, unfolding(crate::specs::Syntax::exchanged_poll_text))]
 fn push_exchanged(text: &mut String, is_exchanged: bool) -> Result<(), AllocError>
-    ensures { Adds result text.old (exchanged_text is_exchanged) text.new }
+    ensures { Adds result text.old (exchanged_poll_text is_exchanged) text.new }
 {
     if !is_exchanged {
         return Ok(());
@@ -262,7 +262,7 @@ const SPACES: [u8; 4 * MAX_SHOWN] = [b' '; 4 * MAX_SHOWN];
 
 /// Adds so many spaces, and a mark.
 fn push_mark(text: &mut String, width: usize) -> Result<(), AllocError>
-    ensures { Adds result text.old (mark_text width) text.new }
+    ensures { Adds result text.old (caret_text width) text.new }
 {
     push_shown(text, &SPACES, width)?;
     text.push_str("^\n")

@@ -1,3 +1,3 @@
 pub mod Gives
 mod KeyLaws
-mod KeysLaws
+pub mod KeysLaws

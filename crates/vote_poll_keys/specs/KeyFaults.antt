@@ -21,6 +21,7 @@ pub record FoundKeys : Type 0 where
   pub last_envelope : Option ℤ
   pub wording : Option (List ℕ)
 
+-- what a table has at the keys
 abbrev pub found_in : Members → FoundKeys
 found_in table = record {
   title = found key.Title as_str table;
@@ -39,6 +40,7 @@ names_of_options f = option_map (λ options. options ++ option_to_list f.default
 
 -- ---- one fault
 
+-- the fault, if it is not right
 abbrev pub fault_unless : Bool → PollFault → List PollFault
 fault_unless right e = if right then [] else e ∷ []
 

@@ -13,6 +13,7 @@ use Rattle.vote_poll_keys.specs.declared.fault.PollFault.TheVariants as fault
 
 -- ---- the keys
 
+-- the items of an array of TOML
 abbrev pub items_list : Items → List Data
 items_list no_items = []
 items_list (item value values) = value ∷ items_list values

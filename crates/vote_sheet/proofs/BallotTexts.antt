@@ -18,7 +18,7 @@ use Rattle.vote_poll.proofs.OptionLaws.{at_option-next}
 use Rattle.vote_sheet.specs.Standing.{ballot_line, ballot_lines}
 
 -- one more text after a comma
-join_push : (comma : ℕ) (texts : List (List ℕ)) (text : List ℕ) → 1 ≤ length texts → join_with_byte comma (texts ++ text ∷ []) ≡ join_with_byte comma texts ++ comma ∷ text
+pub join_push : (comma : ℕ) (texts : List (List ℕ)) (text : List ℕ) → 1 ≤ length texts → join_with_byte comma (texts ++ text ∷ []) ≡ join_with_byte comma texts ++ comma ∷ text
 join_push comma [] text some = absurd (omega arith)
 join_push comma (first ∷ []) text some = refl
 join_push comma (first ∷ next ∷ texts) text some =

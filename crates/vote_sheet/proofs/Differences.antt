@@ -1,28 +1,22 @@
 -- The line with the first byte at which two texts differ is the first line in which they differ.
-use Rattle.std.proofs.Common.{◌≡◌, ◌≢◌, ℕ, ◌+◌, ◌==◌, Bool, cond, List, [], ◌∷◌, ◌++◌, length, take, add-one, inl, inr, refl, sym, ap, ap₂, ◌∙◌, subst, arith}
+use Rattle.std.proofs.Common.{◌≡◌, ◌≢◌, ℕ, ◌+◌, ◌==◌, Bool, List, [], ◌∷◌, ◌++◌, length, take, add-one, inl, inr, refl, sym, ap, ap₂, ◌∙◌, subst, arith}
 use Rattle.std.specs.Prelude.{count_by}
 use Rattle.std.specs.List.{All}
 use Rattle.std.proofs.lemmas.Bool.{cases_eq, eq-eqb, ne_eqb}
 use Rattle.std.proofs.lemmas.List.Elements.{All-cons, All-head, All-nil, All-tail}
-use Rattle.std.proofs.lemmas.List.Sums.{sum_by-cons}
 use Rattle.vote_poll_text.specs.Lines.{IsUnbroken, text_of_lines}
+use Rattle.vote_count.proofs.Counts.{count-cons, one}
 use Rattle.vote_sheet.specs.Sheet.{Text}
 use Rattle.vote_sheet.specs.Verify.{DifferFirstAfter, NamesTheFirstLine, common_bytes, common_lines, first_line}
 
 abbrev is_feed : ℕ → Bool
 is_feed byte = byte == 10
 
-abbrev one : Bool → ℕ
-one t = cond {A = ℕ} t 1 0
-
-count-cons : (b : ℕ) (bs : Text) → count_by is_feed (b ∷ bs) ≡ one (is_feed b) + count_by is_feed bs
-count-cons b bs = sum_by-cons (λ y. one (is_feed y)) b bs
-
 -- the first byte is the same
 pub common_more : (b : ℕ) (bs cs : Text) → common_lines (b ∷ bs) (b ∷ cs) ≡ one (is_feed b) + common_lines bs cs
 common_more b bs cs =
     let agree : common_bytes (b ∷ bs) (b ∷ cs) ≡ common_bytes bs cs + 1 = rw (eq-eqb b b refl) refl in
-    ap (λ m. count_by is_feed (take m (b ∷ bs))) agree ∙ rw add-one (count-cons b (take (common_bytes bs cs) bs))
+    ap (λ m. count_by is_feed (take m (b ∷ bs))) agree ∙ rw add-one (count-cons is_feed b (take (common_bytes bs cs) bs))
 
 line_of_feed : (b : ℕ) (bs : Text) → b ≡ 10 → first_line (b ∷ bs) ≡ b ∷ []
 line_of_feed b bs is = rw (eq-eqb b 10 is) refl
@@ -94,7 +88,7 @@ names_the_first_line (b ∷ bs) (c ∷ cs) apart =
           let n = common_lines bs cs in
           let later = names_the_first_line bs cs (λ e. apart (ap₂ ◌∷◌ same e)) in
           let agree : common_bytes (b ∷ bs) (c ∷ cs) ≡ k + 1 = rw (eq-eqb b c same) refl in
-          let count : common_lines (b ∷ bs) (c ∷ cs) ≡ one (is_feed b) + n = ap (λ m. count_by is_feed (take m (b ∷ bs))) agree ∙ rw add-one (count-cons b (take k bs)) in
+          let count : common_lines (b ∷ bs) (c ∷ cs) ≡ one (is_feed b) + n = ap (λ m. count_by is_feed (take m (b ∷ bs))) agree ∙ rw add-one (count-cons is_feed b (take k bs)) in
           elim (cases_eq b 10) [
             | inl feed ↦
                 let here : common_lines (b ∷ bs) (c ∷ cs) ≡ n + 1 = omega (arith, count, ap one (eq-eqb b 10 feed)) in

@@ -1,5 +1,5 @@
 -- Files that differ in refused lines, in outdated lines, in one ballot, or in the names of the electors.
-use Rattle.std.proofs.Common.{◌≡◌, ◌≢◌, ℕ, ◌<◌, ◌≤◌, ◌⊎◌, suc, zero, Bool, true, false, cond, eqb, List, [], ◌∷◌, ◌++◌, Option, None, Some, length, length-append, take, map, refl, sym, ap, ◌∙◌, inl, inr, arith}
+use Rattle.std.proofs.Common.{◌≡◌, ◌≢◌, ℕ, ◌<◌, ◌≤◌, ◌⊎◌, suc, zero, Bool, false, cond, eqb, List, [], ◌∷◌, ◌++◌, Option, None, Some, length, length-append, take, map, refl, sym, ap, ◌∙◌, inl, inr, arith}
 use Rattle.std.specs.Prelude.{count_by, is_some, slice_get}
 use Rattle.std.specs.List.{AllZip, range_with_len}
 use Rattle.std.specs.Option.{option_or}
@@ -12,29 +12,26 @@ use Rattle.vote_poll.specs.declared.Reading.TheVariants.{Bad, Ballot}
 use Rattle.vote_count.specs.Ballots.{entry_prefers}
 use Rattle.vote_count.specs.Votes.{votes}
 use Rattle.vote_steps.specs.History.{ranks_read}
-use Rattle.vote_steps.specs.Recasts.{last_ballot, last_ballots}
+use Rattle.vote_steps.specs.Recasts.{last_ballot}
 use Rattle.vote_sheet.specs.ElectorLaws.{AreSameOrNoBallots, IsBallotFrom, IsWithinOne, OneBallotMovesEachCountByOne, OnlyTheLastBallotCounts, RefusedLinesAreOnlyCounted, RefusedLinesHaveNoInfluence}
 use Rattle.vote_sheet.specs.LastBallots.{last_valid_ballots, readings_in_time, voter_count, votes_for}
 use Rattle.vote_sheet.specs.Sheet.{Text}
 use Rattle.vote_sheet.proofs.ElectorSums.{entry_count, valid-refused}
 use Rattle.vote_sheet.proofs.SameSheets.{from_last_ballots, same_sheets_here}
-use Rattle.vote_sheet.proofs.StandingLemmas.{Entry, count-cons, one}
+use Rattle.vote_count.proofs.Counts.{count-cons, one, one_at_most}
+use Rattle.vote_sheet.proofs.StandingLemmas.{Entry}
 
 map_same : {X : Type 0} (f g : ℕ → X) (ns : List ℕ) → ((n : ℕ) → f n ≡ g n) → map f ns ≡ map g ns
 map_same f g [] same = refl
 map_same f g (n ∷ ns) same = ap (λ x. x ∷ map f ns) (same n) ∙ ap (λ xs. g n ∷ xs) (map_same f g ns same)
 
 -- the same last ballot of each place, and so the same last ballots
-same_last : (rs ss : List Reading) (n : ℕ) → ((v : ℕ) → last_ballot rs v ≡ last_ballot ss v) → last_ballots rs n ≡ last_ballots ss n
+same_last : (rs ss : List Reading) (n : ℕ) → ((v : ℕ) → last_ballot rs v ≡ last_ballot ss v) → map (last_ballot rs) (range_with_len 0 n) ≡ map (last_ballot ss) (range_with_len 0 n)
 same_last rs ss n same = map_same (last_ballot rs) (last_ballot ss) (range_with_len 0 n) same
 
 pub no_ballot : (v : ℕ) (r : Reading) → is_ballot r ≡ false → ranks_read v r ≡ None
 no_ballot v (Bad fault) no_one = refl
 no_ballot v (Ballot u ranks) is = cc
-
-either_none : (o : Entry) → option_or o None ≡ o
-either_none None = refl
-either_none (Some ranks) = refl
 
 -- ---- refused lines
 module _ (poll : PollContent) where
@@ -88,9 +85,9 @@ refused_lines poll lines others differ =
     same_sheets_here poll lines others
     (from_last_ballots poll lines others differ.as_long
     (ap (count_by is_ballot) there ∙ sym (valid_but_refused poll (take n lines) (take n others) differ.in_time) ∙ ap (count_by is_ballot) (sym here))
-    (ap (λ rs. last_ballots rs (elector_count poll)) there
+    (ap (λ rs. map (last_ballot rs) (range_with_len 0 (elector_count poll))) there
     ∙ same_last (readings poll (take n others)) (readings poll (take n lines)) (elector_count poll) (λ v. sym (last_but_refused poll (take n lines) (take n others) differ.in_time v))
-    ∙ ap (λ rs. last_ballots rs (elector_count poll)) (sym here)))
+    ∙ ap (λ rs. map (last_ballot rs) (range_with_len 0 (elector_count poll))) (sym here)))
 
 -- ---- a refused line at the end
 module _ (poll : PollContent) (line : Text) where
@@ -220,6 +217,9 @@ outdated_lines poll elector before between after line other later is_line is_oth
     (λ v. sym (last_outdated poll elector between after line other later is_line is_other is_later n v before short))))
 
 -- ---- one ballot
+some_same : (a b : Entry) → Some a ≡ Some b → a ≡ b
+some_same a b is = cc
+
 count_at_all : (p : Entry → Bool) (xs ys : List Entry) → length ys ≡ length xs → ((v : ℕ) → slice_get ys v ≡ slice_get xs v) → count_by p ys ≡ count_by p xs
 count_at_all p [] [] long same = refl
 count_at_all p [] (y ∷ ys) long same = absurd (omega (arith, long))
@@ -227,13 +227,6 @@ count_at_all p (x ∷ xs) [] long same = absurd (omega (arith, long))
 count_at_all p (x ∷ xs) (y ∷ ys) long same =
     let first : y ≡ x = some_same y x (same 0) in
     omega (arith, count-cons p x xs, count-cons p y ys, ap (λ e. one (p e)) first, count_at_all p xs ys (omega (arith, long)) (λ v. same (suc v)))
-  where
-    some_same : (a b : Entry) → Some a ≡ Some b → a ≡ b
-    some_same a b is = cc
-
-one_at_most : (t : Bool) → one t ≤ 1
-one_at_most true = omega arith
-one_at_most false = omega arith
 
 count_but_one : (p : Entry → Bool) (e : ℕ) (xs ys : List Entry) → length ys ≡ length xs → ((v : ℕ) → v ≢ e → slice_get ys v ≡ slice_get xs v) → IsWithinOne (count_by p xs) (count_by p ys)
 count_but_one p e [] [] long same = (omega arith, omega arith)
@@ -253,9 +246,6 @@ count_but_one p (suc e) (x ∷ xs) (y ∷ ys) long same =
     let there = count-cons p y ys in
     let equal = ap (λ z. one (p z)) first in
     (omega arith, omega arith)
-  where
-    some_same : (a b : Entry) → Some a ≡ Some b → a ≡ b
-    some_same a b is = cc
 
 moved : (n m k l : ℕ) → n ≡ k → m ≡ l → IsWithinOne k l → IsWithinOne n m
 moved n m k l is_n is_m within = (omega (arith, within.0), omega (arith, within.1))

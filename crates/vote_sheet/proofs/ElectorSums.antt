@@ -1,5 +1,5 @@
 -- That the sums of a sheet show that nobody counts twice.
-use Rattle.std.proofs.Common.{◌≡◌, ℕ, ◌+◌, ◌≤◌, Bool, true, false, List, [], ◌∷◌, Option, None, Some, length, ltb, ap, inl, inr, arith}
+use Rattle.std.proofs.Common.{◌≡◌, ℕ, ◌+◌, ◌≤◌, List, [], ◌∷◌, Option, None, Some, length, ltb, ap, inl, inr, arith}
 use Rattle.std.specs.Prelude.{count_by, is_some}
 use Rattle.std.proofs.lemmas.Bool.{cases_lt, le-ltb, lt-ltb}
 use Rattle.std.proofs.lemmas.List.FromFn.{length-map-range_with_len}
@@ -15,7 +15,8 @@ use Rattle.vote_sheet.specs.ElectorLaws.{NobodyCountsTwice}
 use Rattle.vote_sheet.specs.LastBallots.{last_valid_ballots, readings_in_time, refused_count, valid_count}
 use Rattle.vote_sheet.specs.Sheet.{Text}
 use Rattle.vote_sheet.proofs.Holding.{count-not, taken_and_left}
-use Rattle.vote_sheet.proofs.StandingLemmas.{Entry, bad_hits, ballots_of, count-cons, hits, hits_once, no_lines, one, one_line_more}
+use Rattle.vote_count.proofs.Counts.{count-cons, one, one_at_most}
+use Rattle.vote_sheet.proofs.StandingLemmas.{Entry, bad_hits, ballots_of, hits, hits_once, no_lines, one_line_more}
 
 -- ---- a ballot is for one of two options at most
 of_two_ranks : (r s : ℕ) → one (ltb r s) + one (ltb s r) ≤ 1
@@ -24,10 +25,6 @@ of_two_ranks r s =
       | inl below ↦ omega (arith, ap one (lt-ltb r s below), ap one (le-ltb s r (omega arith)))
       | inr at ↦ omega (arith, ap one (le-ltb r s at), one_at_most (ltb s r))
     ]
-  where
-    one_at_most : (t : Bool) → one t ≤ 1
-    one_at_most true = omega arith
-    one_at_most false = omega arith
 
 of_two : (o p : Option ℕ) → one (is_preferred o p) + one (is_preferred p o) ≤ 1
 of_two None None = omega arith

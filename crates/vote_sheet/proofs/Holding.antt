@@ -1,6 +1,7 @@
 -- What a box that holds the lines of a poll says of them, in the words of the sheet.
-use Rattle.std.proofs.Common.{◌≡◌, ℕ, ◌+◌, zero, suc, not, List, [], ◌∷◌, length, take, drop, refl, ap, ◌∙◌, arith}
+use Rattle.std.proofs.Common.{◌≡◌, ℕ, ◌+◌, zero, suc, not, List, [], ◌∷◌, length, map, take, drop, refl, ap, ◌∙◌, arith}
 use Rattle.std.specs.Prelude.{Bool, count_by, is_some}
+use Rattle.std.specs.List.{range_with_len}
 use Rattle.std.proofs.lemmas.List.{length-map}
 use Rattle.std.proofs.lemmas.List.Filters.{length-filter_both}
 use Rattle.std.proofs.lemmas.List.Sums.{length-filter}
@@ -9,7 +10,7 @@ use Rattle.vote_poll.specs.Readings.{is_ballot, reading, readings}
 use Rattle.vote_count.specs.Ballots.{entry_prefers}
 use Rattle.vote_steps.specs.History.{refused, standing_votes, valid, voters}
 use Rattle.vote_steps.specs.Boxes.{BoxState}
-use Rattle.vote_steps.specs.Recasts.{last_ballots}
+use Rattle.vote_steps.specs.Recasts.{last_ballot}
 use Rattle.vote_steps.specs.Standing.{CountsLines}
 use Rattle.vote_steps.specs.Casting.{HasSizes}
 use Rattle.vote_sheet.specs.LastBallots.{readings_in_time, refused_count, valid_count, voter_count, votes_for}
@@ -31,14 +32,14 @@ module _ (poll : PollContent) (lines : List (List ℕ)) (b : BoxState) (sizes : 
   pub votes_are : (x y : ℕ) → standing_votes b.last_in_time b.steps b.electors x y ≡ votes_for poll lines x y
   votes_are x y =
       counted.votes_are x y
-      ∙ (ap (λ n. count_by (entry_prefers x y) (last_ballots (take n (readings poll lines)) b.electors)) sizes.3
-      ∙ ap (λ n. count_by (entry_prefers x y) (last_ballots (readings_in_time poll lines) n)) sizes.1)
+      ∙ (ap (λ n. count_by (entry_prefers x y) (map (last_ballot (take n (readings poll lines))) (range_with_len 0 b.electors))) sizes.3
+      ∙ ap (λ n. count_by (entry_prefers x y) (map (last_ballot (readings_in_time poll lines)) (range_with_len 0 n))) sizes.1)
 
   pub voters_are : voters b.last_in_time b.steps b.electors ≡ voter_count poll lines
   voters_are =
       counted.voters_are
-      ∙ (ap (λ n. count_by is_some (last_ballots (take n (readings poll lines)) b.electors)) sizes.3
-      ∙ ap (λ n. count_by is_some (last_ballots (readings_in_time poll lines) n)) sizes.1)
+      ∙ (ap (λ n. count_by is_some (map (last_ballot (take n (readings poll lines))) (range_with_len 0 b.electors))) sizes.3
+      ∙ ap (λ n. count_by is_some (map (last_ballot (readings_in_time poll lines)) (range_with_len 0 n))) sizes.1)
 
   pub valid_are : valid b.last_in_time b.steps ≡ valid_count poll lines
   valid_are = counted.valid_is ∙ ap (λ n. count_by is_ballot (take n (readings poll lines))) sizes.3

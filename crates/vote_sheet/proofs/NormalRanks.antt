@@ -13,7 +13,7 @@ use Rattle.vote_poll.specs.BallotLine.{IsRank}
 use Rattle.vote_poll.specs.Options.{at_option}
 use Rattle.vote_poll.specs.Ranks.{is_preferred, prefers, rank_of}
 use Rattle.vote_sheet.specs.Publishing.{KeepsTheOrder, gives_rank, is_number, normal_ranks, place_of}
-use Rattle.vote_sheet.proofs.StandingLemmas.{count-cons, one}
+use Rattle.vote_count.proofs.Counts.{count-cons, one}
 
 -- ---- how many numbers of a stretch a ballot gives
 abbrev pub given : List (Option ℕ) → ℕ → ℕ → ℕ

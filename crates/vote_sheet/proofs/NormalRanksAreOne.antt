@@ -1,18 +1,15 @@
 -- Where two ballots order the options alike, and give the same options a rank, their ranks in normal form are the same: a rank has as many below it in the one as in the other, counted down from one to the next.
-use Rattle.std.proofs.Common.{◌≡◌, ℕ, zero, suc, ◌+◌, ◌-◌, ◌<◌, ◌≤◌, ◌⊎◌, Bool, true, false, cond, eqb, ltb, List, [], ◌∷◌, Option, None, Some, get_or, length, map, inl, inr, refl, sym, ap, ◌∙◌, subst, arith}
+use Rattle.std.proofs.Common.{◌≡◌, ℕ, zero, suc, ◌+◌, ◌-◌, ◌<◌, ◌≤◌, ◌⊎◌, Bool, true, false, eqb, ltb, List, [], ◌∷◌, Option, None, Some, get_or, length, inl, inr, refl, sym, ap, ◌∙◌, subst, arith}
 use Rattle.std.specs.Prelude.{◌||◌, is_some, option_map}
 use Rattle.std.specs.List.{All}
 use Rattle.std.proofs.lemmas.Bool.{cases_lt, eqb-true, lt-ltb, ltb-true}
 use Rattle.std.proofs.lemmas.List.{get_or_default, length-map, same_lists}
-use Rattle.std.proofs.lemmas.List.FromFn.{length-range_with_len}
 use Rattle.std.proofs.Math.ListN.{get_or-eq_default, get_or-map}
 use Rattle.vote_poll.specs.BallotLine.{IsRank}
-use Rattle.vote_poll.specs.Options.{IsOption}
 use Rattle.vote_poll.specs.Ranks.{is_preferred, prefers, rank_of}
-use Rattle.vote_sheet.specs.ElectorLaws.{OrderAlike}
 use Rattle.vote_sheet.specs.Publishing.{NormalRanksTellTheOrderAlone, SayTheSameOrder, gives_rank, normal_ranks, place_of}
-use Rattle.vote_sheet.proofs.NormalRanks.{IsOf, given, given-and, is_of, place-less, rank_at}
-use Rattle.vote_sheet.proofs.StandingLemmas.{count-cons, one}
+use Rattle.vote_sheet.proofs.NormalRanks.{given, given-and, is_of, place-less, rank_at}
+use Rattle.vote_count.proofs.Counts.{count-cons, one}
 
 -- ---- the ranks of a ballot by their places
 -- the ballot gives the option at this place this rank

@@ -34,7 +34,8 @@ use Rattle.vote_sheet.proofs.LastBallotsDecide.{entry_at, entry_or_none}
 use Rattle.vote_sheet.proofs.ElectorLaws.{some_ranks}
 use Rattle.vote_sheet.proofs.Renaming.{same_order}
 use Rattle.vote_sheet.proofs.ElectorSums.{entry_count, valid-refused}
-use Rattle.vote_sheet.proofs.StandingLemmas.{EachLineIsRead, Entry, OfEachLine, count-cons, each_line, has_line, last_of, one, spell}
+use Rattle.vote_count.proofs.Counts.{count-cons, one}
+use Rattle.vote_sheet.proofs.StandingLemmas.{EachLineIsRead, Entry, OfEachLine, each_line, has_line, last_of, spell}
 
 -- ---- how long a ballot line is
 rank_is_short : (rank : Option ℕ) → IsRank rank → length (rank_text rank) ≤ 2

@@ -20,7 +20,8 @@ use Rattle.vote_sheet.specs.Sheet.{Text}
 use Rattle.vote_sheet.proofs.ElectorLaws.{no_ballot}
 use Rattle.vote_sheet.proofs.Holding.{count-not}
 use Rattle.vote_sheet.proofs.SameSheets.{CountTheSame, VoteTheSame, same_sheets_there}
-use Rattle.vote_sheet.proofs.StandingLemmas.{EachLineIsRead, Entry, count-cons, one}
+use Rattle.vote_count.proofs.Counts.{count-cons, one}
+use Rattle.vote_sheet.proofs.StandingLemmas.{EachLineIsRead, Entry}
 
 -- ---- how many places pass a test
 abbrev tally : (ℕ → Bool) → ℕ → ℕ → ℕ

@@ -11,7 +11,7 @@ use Rattle.std.proofs.lemmas.List.{length-map, take_all, drop_at}
 use Rattle.std.proofs.lemmas.List.Elements.{All-nil, All-cons, All-head, All-tail, All-append, All-push, All-weaker}
 use Rattle.std.proofs.lemmas.List.FromFn.{fill_by_all, length-map-range_with_len}
 use Rattle.std.proofs.lemmas.List.Quantifiers.{position-Some}
-use Rattle.std.proofs.lemmas.List.Sums.{sum_by-cons, AllPass-from_list_all}
+use Rattle.std.proofs.lemmas.List.Sums.{AllPass-from_list_all}
 use mathlib.Core.List.{append-nil}
 use Rattle.vote_poll.specs.BallotLine.{IsBallotLine, IsRank, line_text, rank_text}
 use Rattle.vote_poll_text.specs.Lines.{AreLines, IsUnbroken, line_feed, text_of_lines, with_last_feed}
@@ -20,9 +20,10 @@ use Rattle.vote_poll.specs.PollContent.{PollContent, elector_count, last_in_time
 use Rattle.vote_poll.specs.Readings.{IsReading, is_ballot, reading, readings}
 use Rattle.vote_poll.specs.declared.Reading.{Reading}
 use Rattle.vote_poll.specs.declared.Reading.TheVariants.{Ballot, Bad}
+use Rattle.vote_count.proofs.Counts.{count-cons, one}
 use Rattle.vote_poll_text.specs.declared.TheConstants.{MAX_VOTER_NAME}
 use Rattle.vote_steps.specs.History.{ranks_read}
-use Rattle.vote_steps.specs.Recasts.{last_ballot, last_ballots}
+use Rattle.vote_steps.specs.Recasts.{last_ballot}
 use Rattle.vote_sheet.specs.LastBallots.{last_valid_ballots, readings_in_time, voter_count}
 use Rattle.vote_sheet.specs.Standing.{SaysTheSame, StandingSaysTheSame, ballot_line, ballot_lines, standing_lines, standing_text}
 
@@ -31,12 +32,6 @@ EachLineIsRead = (poll : PollContent) (line : List ℕ) → IsReading poll line 
 
 abbrev pub Entry : Type 0
 Entry = Option (List (Option ℕ))
-
-abbrev pub one : Bool → ℕ
-one t = cond {A = ℕ} t 1 0
-
-pub count-cons : {X : Type 0} (p : X → Bool) (x : X) (xs : List X) → count_by p (x ∷ xs) ≡ one (p x) + count_by p xs
-count-cons p x xs = sum_by-cons (λ y. one (p y)) x xs
 
 -- ---- what a list of ballots reads as, the first being that of the elector at this place
 abbrev read_from : ℕ → List Entry → List Reading
@@ -52,7 +47,7 @@ read_before a v (Some ranks ∷ entries) below =
     let apart : eqb a v ≡ false = ne_eqb a v (omega arith) in
     rw (read_before (a + 1) v entries (omega arith), apart)
 
-either_none : (o : Entry) → option_or o None ≡ o
+pub either_none : (o : Entry) → option_or o None ≡ o
 either_none None = refl
 either_none (Some ranks) = refl
 
@@ -234,16 +229,13 @@ read_one : (poll : PollContent) (a : ℕ) (voter : List ℕ) (entry : Entry) →
 read_one poll a voter None h rest entries is = is
 read_one poll a voter (Some ranks) h rest entries is = ap₂ ◌∷◌ (h ranks refl) is
 
-abbrev Reads : PollContent → ℕ → List (Option ℕ) → List ℕ → Type 0
-Reads poll v ranks line = reading poll line ≡ Ballot v ranks
-
 -- the lines read as the ballots
-readings_are : (poll : PollContent) (f : ℕ → Entry) (a : ℕ) (voters : List (List ℕ)) → OfEachLine f a voters (Reads poll)
+readings_are : (poll : PollContent) (f : ℕ → Entry) (a : ℕ) (voters : List (List ℕ)) → OfEachLine f a voters (IsLineOf poll)
     → readings poll (spell f a voters) ≡ read_from a (map f (range_with_len a (length voters)))
 readings_are poll f a [] h = refl
 readings_are poll f a (voter ∷ voters) h =
-    read_one poll a voter (f a) (first_line f a voter voters (Reads poll) h) (spell f (a + 1) voters) (map f (range_with_len (a + 1) (length voters)))
-    (readings_are poll f (a + 1) voters (later_lines f a voter voters (Reads poll) h))
+    read_one poll a voter (f a) (first_line f a voter voters (IsLineOf poll) h) (spell f (a + 1) voters) (map f (range_with_len (a + 1) (length voters)))
+    (readings_are poll f (a + 1) voters (later_lines f a voter voters (IsLineOf poll) h))
 
 -- a fact of the line of each elector is one of each line
 one_of_each : (P : List ℕ → Type 0) (voter : List ℕ) (entry : Entry) → ((ranks : List (Option ℕ)) → entry ≡ Some ranks → P (line_text voter ranks))
@@ -346,7 +338,7 @@ standing_are_lines read poll lines =
     (of_place read poll lines (λ v ranks line. IsUnbroken line) (λ v ranks is. line_has_no_feed (line_text (get_or poll.roll v []) ranks) (get_or poll.roll v []) ranks is.line)))
 
 standing_readings : EachLineIsRead → (poll : PollContent) (lines : List (List ℕ)) → readings poll (standing_lines poll lines) ≡ read_from 0 (last_valid_ballots poll lines)
-standing_readings read poll lines = readings_are poll (last_of poll lines) 0 poll.roll (of_place read poll lines (Reads poll) (λ v ranks is. is.reads))
+standing_readings read poll lines = readings_are poll (last_of poll lines) 0 poll.roll (of_place read poll lines (IsLineOf poll) (λ v ranks is. is.reads))
 
 standing_count : EachLineIsRead → (poll : PollContent) (lines : List (List ℕ)) → length (standing_lines poll lines) ≡ voter_count poll lines
 standing_count read poll lines =
@@ -364,7 +356,7 @@ read_in_time read poll lines =
 same_last : EachLineIsRead → (poll : PollContent) (lines : List (List ℕ)) → last_valid_ballots poll (standing_lines poll lines) ≡ last_valid_ballots poll lines
 same_last read poll lines =
     let entries = last_valid_ballots poll lines in
-    ap (λ rs. last_ballots rs (elector_count poll)) (read_in_time read poll lines)
+    ap (λ rs. map (last_ballot rs) (range_with_len 0 (elector_count poll))) (read_in_time read poll lines)
     ∙ sym (fill_by_all (last_ballot (read_from 0 entries)) entries (elector_count poll) None (length-map-range_with_len (last_of poll lines) 0 (elector_count poll))
     (λ k below. sym (read_at 0 k k entries (omega arith))))
 

@@ -1,11 +1,12 @@
 -- The votes over each voter's last valid ballot. They depend on the poll and its lines alone. A line is late where its number
 -- is above the poll's last envelope, and a late line is no valid ballot.
-use Rattle.std.specs.Prelude.{ℕ, ◌+◌, not, List, Option, is_some, count_by, length, take, drop}
+use Rattle.std.specs.Prelude.{ℕ, ◌+◌, not, List, Option, is_some, count_by, length, map, take, drop}
+use Rattle.std.specs.List.{range_with_len}
 use Rattle.vote_poll.specs.PollContent.{PollContent, elector_count, last_in_time}
 use Rattle.vote_poll.specs.Readings.{is_ballot, readings}
 use Rattle.vote_poll.specs.declared.Reading.{Reading}
 use Rattle.vote_count.specs.Ballots.{entry_prefers}
-use Rattle.vote_steps.specs.Recasts.{last_ballots}
+use Rattle.vote_steps.specs.Recasts.{last_ballot}
 
 -- what the poll reads in the lines that are not late
 abbrev pub readings_in_time : PollContent → List (List ℕ) → List Reading
@@ -17,12 +18,11 @@ valid_count poll lines = count_by is_ballot (readings_in_time poll lines)
 
 -- how many lines are refused: they are no ballot, or late
 abbrev pub refused_count : PollContent → List (List ℕ) → ℕ
-refused_count poll lines =
-    count_by (λ reading. not (is_ballot reading)) (readings_in_time poll lines) + length (drop (last_in_time poll) lines)
+refused_count poll lines = count_by (λ reading. not (is_ballot reading)) (readings_in_time poll lines) + length (drop (last_in_time poll) lines)
 
 -- of each elector, in the order of the roll, the ranks of the last line that is a valid ballot of that elector, if there is one
 abbrev pub last_valid_ballots : PollContent → List (List ℕ) → List (Option (List (Option ℕ)))
-last_valid_ballots poll lines = last_ballots (readings_in_time poll lines) (elector_count poll)
+last_valid_ballots poll lines = map (last_ballot (readings_in_time poll lines)) (range_with_len 0 (elector_count poll))
 
 -- how many electors have a valid ballot
 abbrev pub voter_count : PollContent → List (List ℕ) → ℕ

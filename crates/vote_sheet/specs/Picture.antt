@@ -8,7 +8,7 @@ use Rattle.vote_count.specs.Rounds.{VerdictState, cause_of, final_set}
 use Rattle.vote_count.specs.declared.Round.{Round}
 use Rattle.vote_count.specs.declared.Cause.{Cause}
 use Rattle.vote_count.specs.declared.Decision.{Decision}
-use Rattle.vote_count.specs.declared.Decision.TheVariants.{Winner, Tie, CastingOutside}
+use Rattle.vote_count.specs.declared.Decision.TheVariants.{Winner}
 use Rattle.vote_poll.specs.PollContent.{PollContent}
 use Rattle.vote_sheet.specs.Sheet.{Sheet, cause_name, each, name_of, when}
 use Rattle.vote_sheet.specs.SheetOf.{IsSheetOf}
@@ -44,8 +44,7 @@ dropped_style (Some cause) = codes ", style=dotted"
 -- the winner has a double border, and in a tie each option of the final set a bold one
 abbrev pub decided_style : List Bool → Decision → ℕ → Text
 decided_style set (Winner winner) o = when (o == winner) (codes ", peripheries=2")
-decided_style set Tie o = when (has set o) (codes ", style=bold")
-decided_style set (CastingOutside casting) o = when (has set o) (codes ", style=bold")
+decided_style set other o = when (has set o) (codes ", style=bold")
 
 -- the number and the name, and why the option is dropped, if it is
 unfoldable pub label_text : List Text → VerdictState → ℕ → Text
@@ -87,6 +86,7 @@ edge_lines matrix outcome = each matrix.options (edges_by matrix outcome)
 
 -- ---- the whole
 
+-- the whole picture, as Graphviz reads it
 abbrev pub picture_text : PollContent → Sheet → Text
 picture_text poll s = concat (
     graph_head poll.title

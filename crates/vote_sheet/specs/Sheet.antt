@@ -46,6 +46,7 @@ abbrev pub or_none : Text → Text
 or_none [] = line (codes "  none" ∷ [])
 or_none (byte ∷ bytes) = byte ∷ bytes
 
+-- the name of an option
 abbrev pub name_of : List Text → ℕ → Text
 name_of names o = at_option names o []
 
@@ -193,6 +194,7 @@ counted_text n matrix outcome = concat (
 unfoldable pub count_text : List Text → Votes → VerdictState → Decision → Text
 count_text names matrix outcome decision = counted_text (length names) matrix outcome ++ decision_text names (final_set outcome.rounds) decision
 
+-- the whole sheet
 abbrev pub sheet_text : PollContent → List Text → Sheet → Text
 sheet_text poll lines s = concat (
     head_text poll.title (elector_count poll) poll.quorum_multiple s.quorum_votes poll.wording

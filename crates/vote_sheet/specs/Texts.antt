@@ -1,6 +1,7 @@
 -- Texts are lists of bytes.
 use Rattle.std.specs.Prelude.{ℕ, List, [], ◌∷◌, ◌++◌, codes}
 
+-- a text is its bytes
 abbrev pub Text : Type 0
 Text = List ℕ
 

@@ -33,16 +33,14 @@ IsCasting poll casting = IfSome casting (IsOption (option_count poll))
 
 -- no casting vote comes before that of any option, and the casting votes of options come in the order of their numbers
 abbrev pub ComesBefore : Option ℕ → Option ℕ → Type 0
-ComesBefore None None = ⊥
+ComesBefore earlier None = ⊥
 ComesBefore None (Some o) = Unit {0}
-ComesBefore (Some p) None = ⊥
 ComesBefore (Some p) (Some o) = p < o
 
 -- how many bytes the common prefix of two texts has
 abbrev pub common_bytes : Text → Text → ℕ
-common_bytes [] other = 0
-common_bytes (b ∷ bs) [] = 0
 common_bytes (b ∷ bs) (c ∷ cs) = if b == c then common_bytes bs cs + 1 else 0
+common_bytes text other = 0
 
 -- how many lines the common prefix of two texts has, each with its line feed
 abbrev pub common_lines : Text → Text → ℕ

@@ -1,6 +1,6 @@
 -- The history in which desk 1 casts lines in their order.
 use Rattle.std.proofs.Common.{◌≡◌, ℕ, zero, suc, ◌+◌, ◌-◌, ◌<◌, ◌≤◌, false, ◌||◌, eqb, List, [], ◌∷◌, ◌++◌, Some, length, get_or, refl, inl, inr, sym, ap, ◌∙◌, subst, length-append, take, drop, arith}
-use Rattle.std.specs.Prelude.{All, count_by, slice_get}
+use Rattle.std.specs.Prelude.{All, slice_get}
 use Rattle.std.proofs.lemmas.Bool.{cases_lt, ne_eqb}
 use Rattle.std.proofs.lemmas.List.{take_at}
 use Rattle.std.proofs.lemmas.List.Elements.{All-nil, All-push}
@@ -14,12 +14,12 @@ use Rattle.vote_poll.specs.declared.LineFault.TheVariants.{Shape}
 use Rattle.vote_steps.specs.declared.step.Reply.{Reply}
 use Rattle.vote_steps.specs.declared.step.Step.{Step}
 use Rattle.vote_steps.specs.declared.step.Step.TheVariants.{Cast, Close}
-use Rattle.vote_steps.specs.History.{before_close, is_cast, is_closed, is_used, reply_to}
+use Rattle.vote_steps.specs.History.{before_close, is_closed, is_used, reply_to}
 use Rattle.vote_steps.specs.Boxes.{BoxState, IsLegal}
 use Rattle.vote_steps.specs.Recasts.{HasOwnReading}
-use Rattle.vote_steps.proofs.HistoryLemmas.{before_close-append_open, count_by-cast, is_closed-append, is_used-cast}
+use Rattle.vote_steps.proofs.HistoryLemmas.{before_close-append_open, is_closed-append, is_used-cast}
 use Rattle.vote_steps.specs.Casting.{AreCastInOrder, HasSizes, HoldsLines, OrderLeavesNoChoice}
-use Rattle.vote_steps.proofs.LineLemmas.{count-cons, take_next}
+use Rattle.vote_steps.proofs.LineLemmas.{take_next}
 use Rattle.vote_steps.proofs.StandingLemmas.{as_long}
 
 abbrev reading_at : List Reading → ℕ → Reading
@@ -50,13 +50,6 @@ casts_of_next last readings k (suc m) r h e =
     let is = get_or_from_slice_get readings k r (Bad Shape) h in
     ap (λ x. casts_of last readings k ++ Cast 1 (suc m) x (reply_to last (casts_of last readings k) (suc m) x) ∷ []) (sym is)
     ∙ ap (λ j. casts_of last readings j ++ Cast 1 (suc m) (reading_at readings j) (reply_to last (casts_of last readings j) (suc m) (reading_at readings j)) ∷ []) same
-
-casts_of_count : (last : ℕ) (readings : List Reading) (k : ℕ) → count_by is_cast (casts_of last readings k) ≡ k
-unfolding casts_of
-casts_of_count last readings zero = refl
-casts_of_count last readings (suc k) =
-    let step = Cast 1 (suc k) (reading_at readings k) (reply_to last (casts_of last readings k) (suc k) (reading_at readings k)) in
-    omega (arith, count_by-cast (casts_of last readings k) step, casts_of_count last readings k)
 
 pub casts_of_length : (last : ℕ) (readings : List Reading) (k : ℕ) → length (casts_of last readings k) ≡ k
 unfolding casts_of
@@ -141,11 +134,12 @@ pub holds_lines : (poll : PollContent) (lines : List (List ℕ)) (b : BoxState) 
 holds_lines poll lines b sizes steps legal =
     let xs = casts_of (last_in_time poll) (readings poll lines) (length lines) in
     let open_is = casts_of_open (last_in_time poll) (readings poll lines) (length lines) in
+    let front_is : before_close b.steps ≡ xs = ap before_close steps ∙ (before_close-append_open xs (Close ∷ []) open_is ∙ append-nil xs) in
     record {
       sizes = sizes;
-      casts = omega (arith, ap (count_by is_cast) steps, count_by-cast xs Close, casts_of_count (last_in_time poll) (readings poll lines) (length lines));
+      casts = ap length front_is ∙ casts_of_length (last_in_time poll) (readings poll lines) (length lines);
       legal = legal;
-      closed_last = steps ∙ ap (λ front. front ++ Close ∷ []) (sym (ap before_close steps ∙ (before_close-append_open xs (Close ∷ []) open_is ∙ append-nil xs)));
+      closed_last = steps ∙ ap (λ front. front ++ Close ∷ []) (sym front_is);
       own_readings =
           let P : List Step → Type 0 = All (HasOwnReading (readings poll lines)) in
           subst P (sym steps) (All-push (HasOwnReading (readings poll lines)) xs Close (casts_of_own (last_in_time poll) (readings poll lines) (length lines) (omega (arith, as_long poll lines))) tt);
@@ -156,12 +150,6 @@ split_at : (steps : List Step) (k : ℕ) (step : Step) → slice_get steps k ≡
 split_at [] k step h = cc
 split_at (x ∷ xs) zero step h = let same : x ≡ step = cc in ap (λ y. y ∷ xs) same
 split_at (x ∷ xs) (suc k) step h = ap (λ ys. x ∷ ys) (split_at xs k step h)
-
-only_casts : (steps : List Step) → count_by is_cast (before_close steps) ≡ length (before_close steps)
-only_casts [] = refl
-only_casts (Close ∷ steps) = refl
-only_casts (Cast desk stamp reading reply ∷ steps) =
-    omega (arith, count-cons is_cast (Cast desk stamp reading reply) (before_close steps), only_casts steps)
 
 module _ (poll : PollContent) (lines : List (List ℕ)) (b : BoxState) (held : HoldsLines poll lines b) (in_turn : AreCastInOrder (readings poll lines) b.steps) where
   so_far : (k : ℕ) → k ≤ length lines → take k b.steps ≡ casts_of (last_in_time poll) (readings poll lines) k
@@ -182,7 +170,7 @@ module _ (poll : PollContent) (lines : List (List ℕ)) (b : BoxState) (held : H
   history_is : b.steps ≡ casts_of (last_in_time poll) (readings poll lines) (length lines) ++ Close ∷ []
   history_is =
       let xs = before_close b.steps in
-      let long : length lines ≡ length xs = omega (arith, held.casts, ap (count_by is_cast) held.closed_last, count_by-cast xs Close, only_casts b.steps) in
+      let long : length lines ≡ length xs = sym held.casts in
       held.closed_last
       ∙ ap (λ front. front ++ Close ∷ [])
       (sym (take_at xs (Close ∷ []) (length lines) (sym long)) ∙ (sym (ap (take (length lines)) held.closed_last) ∙ so_far (length lines) (omega arith)))

@@ -8,17 +8,22 @@ use Rattle.std.proofs.lemmas.List.{ext_get_or, get_or-set_same, get_or-set_other
 use Rattle.std.proofs.lemmas.List.Elements.{filter_map-append}
 use Rattle.std.proofs.lemmas.List.Folds.{list_any-append}
 use Rattle.std.proofs.lemmas.List.FromFn.{length-map-range_with_len, get_or-map-range_with_len}
-use Rattle.std.proofs.lemmas.List.Sums.{sum_by-cons, sum_by_push}
+use Rattle.std.proofs.lemmas.List.Sums.{sum_by_push}
 use Rattle.vote_poll.specs.declared.LineFault.{LineFault}
 use Rattle.vote_poll.specs.declared.Reading.{Reading}
 use Rattle.vote_poll.specs.declared.Reading.TheVariants.{Ballot, Bad}
+use Rattle.vote_count.proofs.Counts.{count-cons}
 use Rattle.vote_steps.specs.declared.step.Received.{Received}
 use Rattle.vote_steps.specs.declared.step.Reply.{Reply}
 use Rattle.vote_steps.specs.declared.step.Reply.TheVariants.{BoxClosed, Late, Superseded, Replaced}
 use Rattle.vote_steps.specs.declared.step.Step.{Step}
 use Rattle.vote_steps.specs.declared.step.Step.TheVariants.{Cast, Close}
 use Rattle.vote_steps.specs.Receiving.{after_ballot}
-use Rattle.vote_steps.specs.History.{is_close, is_cast, is_ballot, is_refused, is_closed, before_close, after_close, stamp_of, stamps, is_used, is_late, ranks_read, ballot_of, ballots, later, latest, standing, reply_beside, reply_in_time, reply_to, is_valid, roll, valid, refused}
+use Rattle.vote_steps.specs.History.{is_close, is_cast, is_ballot, is_refused, is_closed, before_close, after_close, stamp_of, stamps, is_used, is_late, ranks_read, ballot_of, later, latest, standing, reply_beside, reply_in_time, reply_to, is_valid, roll, valid, refused}
+
+-- the ballots of a voter that came before the close and are not late
+abbrev pub ballots : ℕ → List Step → ℕ → List Received
+ballots last_in_time steps voter = filter_map (ballot_of last_in_time voter) (before_close steps)
 
 -- an open history is all before its close
 pub before_close-append_open : (steps more : List Step) → is_closed steps ≡ false → before_close (steps ++ more) ≡ steps ++ before_close more
@@ -100,6 +105,16 @@ count_by-push test steps step = sum_by_push (λ x. cond (test x) 1 0) steps step
 pub count_by-cast : (steps : List Step) (step : Step) → count_by is_cast (steps ++ step ∷ []) ≡ count_by is_cast steps + cond (is_cast step) 1 0
 count_by-cast steps step = count_by-push is_cast steps step
 
+only_casts : (steps : List Step) → count_by is_cast (before_close steps) ≡ length (before_close steps)
+only_casts [] = refl
+only_casts (Close ∷ steps) = refl
+only_casts (Cast desk stamp reading reply ∷ steps) =
+    omega (arith, count-cons is_cast (Cast desk stamp reading reply) (before_close steps), only_casts steps)
+
+-- where the only close is the last step, all others are casts
+pub casts_before : (steps : List Step) → steps ≡ before_close steps ++ Close ∷ [] → count_by is_cast steps ≡ length (before_close steps)
+casts_before steps last = omega (arith, ap (count_by is_cast) last, count_by-cast (before_close steps) Close, only_casts steps)
+
 pub valid-append_open : (last : ℕ) (steps : List Step) (step : Step) → is_closed steps ≡ false → valid last (steps ++ step ∷ []) ≡ valid last steps + cond (is_ballot last step) 1 0
 valid-append_open last steps (Cast d n r p) h =
     rw (before_close-append_open steps (Cast d n r p ∷ []) h, before_close_open steps h) (count_by-push (is_ballot last) steps (Cast d n r p))
@@ -122,9 +137,6 @@ refused-append_closed last steps step h =
     (omega (arith, count_by-push is_cast (after_close steps) step))
 
 -- each cast is valid or refused
-count_by-cons : (test : Step → Bool) (step : Step) (steps : List Step) → count_by test (step ∷ steps) ≡ cond (test step) 1 0 + count_by test steps
-count_by-cons test step steps = sum_by-cons (λ x. cond (test x) 1 0) step steps
-
 not_or : (t : Bool) → cond {A = ℕ} (not t) 1 0 + cond {A = ℕ} t 1 0 ≡ 1
 not_or true = refl
 not_or false = refl
@@ -137,13 +149,13 @@ ballot_or_refused last (Cast d n (Ballot v r) p) = not_or (ltb last n)
 ballots_and_refused : (last : ℕ) (steps : List Step) → count_by (is_ballot last) steps + count_by (is_refused last) steps ≡ count_by is_cast steps
 ballots_and_refused last [] = refl
 ballots_and_refused last (step ∷ steps) =
-    omega (arith, count_by-cons (is_ballot last) step steps, count_by-cons (is_refused last) step steps, count_by-cons is_cast step steps, ballot_or_refused last step, ballots_and_refused last steps)
+    omega (arith, count-cons (is_ballot last) step steps, count-cons (is_refused last) step steps, count-cons is_cast step steps, ballot_or_refused last step, ballots_and_refused last steps)
 
 casts_around : (steps : List Step) → count_by is_cast (before_close steps) + count_by is_cast (after_close steps) ≡ count_by is_cast steps
 casts_around [] = refl
-casts_around (Close ∷ steps) = omega (arith, count_by-cons is_cast Close steps)
+casts_around (Close ∷ steps) = omega (arith, count-cons is_cast Close steps)
 casts_around (Cast d n r p ∷ steps) =
-    omega (arith, count_by-cons is_cast (Cast d n r p) steps, count_by-cons is_cast (Cast d n r p) (before_close steps), casts_around steps)
+    omega (arith, count-cons is_cast (Cast d n r p) steps, count-cons is_cast (Cast d n r p) (before_close steps), casts_around steps)
 
 pub valid-refused : (last : ℕ) (steps : List Step) → valid last steps + refused last steps ≡ count_by is_cast steps
 valid-refused last steps = omega (arith, ballots_and_refused last (before_close steps), casts_around steps)

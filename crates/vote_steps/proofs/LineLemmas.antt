@@ -7,11 +7,12 @@ use Rattle.std.proofs.lemmas.List.{take_all}
 use Rattle.std.proofs.Math.Bool.{or-false}
 use Rattle.std.proofs.Math.Seq.{take-suc}
 use Rattle.std.proofs.lemmas.List.Elements.{recursion_from_All}
-use Rattle.std.proofs.lemmas.List.Sums.{sum_by-cons, sum_by_push}
+use Rattle.std.proofs.lemmas.List.Sums.{sum_by_push}
 use Rattle.std.proofs.lemmas.Option.{get_or_from_slice_get, slice_get_within, slice_get-get_or}
 use Rattle.vote_poll.specs.declared.Reading.{Reading}
 use Rattle.vote_poll.specs.declared.Reading.TheVariants.{Ballot, Bad}
 use Rattle.vote_poll.specs.Readings.{is_ballot as is_ballot_reading, readings}
+use Rattle.vote_count.proofs.Counts.{count-cons, one}
 use Rattle.vote_count.specs.Ballots.{entry_prefers}
 use Rattle.vote_steps.specs.declared.step.Received.{Received}
 use Rattle.vote_steps.specs.declared.step.Step.{Step}
@@ -19,19 +20,13 @@ use Rattle.vote_steps.specs.declared.step.Step.TheVariants.{Cast, Close}
 use Rattle.vote_steps.specs.History.{is_ballot, is_late, is_used, is_for, before_close, standing, standing_ranks, valid}
 use Rattle.vote_steps.specs.Boxes.{BoxState, IsLegal}
 use Rattle.vote_steps.specs.Recasts.{HasOwnReading, last_ballot}
-use Rattle.vote_steps.proofs.HistoryLemmas.{valid-refused, is_used-cast, is_used-close}
+use Rattle.vote_steps.proofs.HistoryLemmas.{casts_before, valid-refused, is_used-cast, is_used-close}
 use Rattle.vote_steps.proofs.LegalLemmas.{each_stamp_is_used_lem}
 use Rattle.vote_steps.specs.Standing.{LinesAreCounted}
 use Rattle.vote_steps.proofs.StandingLemmas.{as_long, last_lines_stand_lem}
 
 pub take_next : {X : Type 0} (xs : List X) (n : ℕ) (x : X) → slice_get xs n ≡ Some x → take (suc n) xs ≡ take n xs ++ x ∷ []
 take_next xs n x h = take-suc xs n x (slice_get_within xs n x h) ∙ ap (λ y. take n xs ++ y ∷ []) (get_or_from_slice_get xs n x x h)
-
-abbrev pub one : Bool → ℕ
-one t = cond {A = ℕ} t 1 0
-
-pub count-cons : {X : Type 0} (p : X → Bool) (x : X) (xs : List X) → count_by p (x ∷ xs) ≡ one (p x) + count_by p xs
-count-cons p x xs = sum_by-cons (λ y. one (p y)) x xs
 
 -- each envelope is cast once
 
@@ -238,14 +233,14 @@ lines_are_counted_lem poll lines b held =
     let limit = held.sizes.2 in
     let own = recursion_from_All (HasOwnReading rs) b.steps held.own_readings in
     let once : (n : ℕ) → n < length rs → casts_of (suc n) b.steps ≡ 1 = λ n low.
-    (let used = each_stamp_is_used_lem b held.legal (held.casts ∙ sym held.sizes.2) (suc n) (omega arith) (omega (arith, low, long, limit)) in
+    (let used = each_stamp_is_used_lem b held.legal (casts_before b.steps held.closed_last ∙ held.casts ∙ sym held.sizes.2) (suc n) (omega arith) (omega (arith, low, long, limit)) in
     omega (arith, at_most_once b held.legal (suc n) [] b.steps refl, used_is_cast (suc n) b.steps used)) in
     let before : count_by (is_ballot b.last_in_time) b.steps ≡ valid b.last_in_time b.steps =
     ap (count_by (is_ballot b.last_in_time)) held.closed_last ∙ sum_by_push (λ s. one (is_ballot b.last_in_time s)) (before_close b.steps) Close ∙ omega arith in
     let standing_there = standing b.last_in_time b.steps in
     record {
       valid_is = sym before ∙ valid_lines b.last_in_time rs b.steps own once;
-      refused_is = valid-refused b.last_in_time b.steps ∙ held.casts ∙ sym long;
+      refused_is = valid-refused b.last_in_time b.steps ∙ casts_before b.steps held.closed_last ∙ held.casts ∙ sym long;
       voters_are = count-maps is_some is_some standing_there (last_ballot early) (range_with_len 0 b.electors) (λ voter. has_ranks (standing_there voter) ∙ ap is_some (stand voter));
       votes_are = λ x y. count-maps (is_for x y) (entry_prefers x y) standing_there (last_ballot early) (range_with_len 0 b.electors) (λ voter. prefers_alike x y (standing_there voter) ∙ ap (entry_prefers x y) (stand voter));
     }

@@ -10,7 +10,7 @@ use Rattle.vote_steps.specs.Boxes.{BoxState}
 use Rattle.vote_steps.specs.Recasts.{HasOwnReading, CastsLines}
 use Rattle.vote_steps.specs.Casting.{HoldsLines}
 use Rattle.vote_steps.specs.Standing.{LastLinesStand}
-use Rattle.vote_steps.proofs.HistoryLemmas.{is_used-close}
+use Rattle.vote_steps.proofs.HistoryLemmas.{casts_before, is_used-close}
 use Rattle.vote_steps.proofs.LegalLemmas.{each_stamp_is_used_lem}
 use Rattle.vote_steps.proofs.RecastLemmas.{order_does_not_matter_lem}
 
@@ -29,7 +29,7 @@ casts_lines poll lines b held =
       all_cast = λ stamp low high.
           let limit = held.sizes.2 in
           let many = as_long poll lines in
-          let used = each_stamp_is_used_lem b held.legal (held.casts ∙ sym held.sizes.2) stamp low (omega arith) in
+          let used = each_stamp_is_used_lem b held.legal (casts_before b.steps held.closed_last ∙ held.casts ∙ sym held.sizes.2) stamp low (omega arith) in
           sym (ap (λ ys. is_used ys stamp) last ∙ is_used-close xs stamp) ∙ used;
     }
 

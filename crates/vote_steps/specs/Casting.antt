@@ -1,12 +1,12 @@
 -- What it means that a ballot box holds the lines of a poll.
-use Rattle.std.specs.Prelude.{◌≡◌, ℕ, ◌+◌, List, [], ◌∷◌, ◌++◌, length, count_by, All, Some, slice_get}
+use Rattle.std.specs.Prelude.{◌≡◌, ℕ, ◌+◌, List, [], ◌∷◌, ◌++◌, length, All, Some, slice_get}
 use Rattle.vote_poll.specs.PollContent.{PollContent, elector_count, last_in_time, option_count}
 use Rattle.vote_poll.specs.declared.Reading.{Reading}
 use Rattle.vote_poll.specs.Readings.{readings}
 use Rattle.vote_steps.specs.declared.step.Reply.{Reply}
 use Rattle.vote_steps.specs.declared.step.Step.{Step}
 use Rattle.vote_steps.specs.declared.step.Step.TheVariants.{Cast, Close}
-use Rattle.vote_steps.specs.History.{before_close, is_cast}
+use Rattle.vote_steps.specs.History.{before_close}
 use Rattle.vote_steps.specs.Boxes.{BoxState, IsLegal}
 use Rattle.vote_steps.specs.Recasts.{HasOwnReading}
 
@@ -14,17 +14,13 @@ use Rattle.vote_steps.specs.Recasts.{HasOwnReading}
 abbrev pub HasSizes : PollContent → List (List ℕ) → BoxState → Type 0
 HasSizes poll lines b = (b.options ≡ option_count poll) × (b.electors ≡ elector_count poll) × (b.limit ≡ length lines) × (b.last_in_time ≡ last_in_time poll)
 
--- each cast has what the poll reads in the line with its stamp
-abbrev pub HasOwnReadings : PollContent → List (List ℕ) → List Step → Type 0
-HasOwnReadings poll lines steps = All (HasOwnReading (readings poll lines)) steps
-
--- As many casts as lines, with different stamps from 1 to their number: so each line is cast exactly once. The only close is the last step.
+-- The only close is the last step. Before it are as many casts as lines, with different stamps from 1 to their number: so each line is cast exactly once.
 pub record HoldsLines (poll : PollContent) (lines : List (List ℕ)) (b : BoxState) : Type 0 where
   pub sizes : HasSizes poll lines b
-  pub casts : count_by is_cast b.steps ≡ length lines
+  pub casts : length (before_close b.steps) ≡ length lines
   pub legal : IsLegal b
   pub closed_last : b.steps ≡ before_close b.steps ++ Close ∷ []
-  pub own_readings : HasOwnReadings poll lines b.steps
+  pub own_readings : All (HasOwnReading (readings poll lines)) b.steps
 
 -- desk 1 cast the lines in their order: the step at each line's place is the cast of that line
 abbrev pub AreCastInOrder : List Reading → List Step → Type 0

@@ -64,12 +64,7 @@ ranks_read voter (Ballot v ranks) = if v == voter then Some ranks else None
 -- the ballot that a step gives a voter: a late cast gives nobody one
 abbrev pub ballot_of : ℕ → ℕ → Step → Option Received
 ballot_of last_in_time voter Close = None
-ballot_of last_in_time voter (Cast desk stamp reading reply) =
-    if is_late last_in_time stamp then None else option_map (λ ranks. record { stamp = stamp; ranks = ranks }) (ranks_read voter reading)
-
--- the ballots of a voter that came before the close and are not late
-abbrev pub ballots : ℕ → List Step → ℕ → List Received
-ballots last_in_time steps voter = filter_map (ballot_of last_in_time voter) (before_close steps)
+ballot_of last_in_time voter (Cast desk stamp reading reply) = if is_late last_in_time stamp then None else option_map (λ ranks. record { stamp = stamp; ranks = ranks }) (ranks_read voter reading)
 
 -- of two ballots the one with the greater stamp
 abbrev pub later : Received → Option Received → Option Received
@@ -83,7 +78,7 @@ latest (ballot ∷ others) = later ballot (latest others)
 
 -- the ballot of a voter that stands: of those before the close that are not late the one with the greatest stamp
 abbrev pub standing : ℕ → List Step → ℕ → Option Received
-standing last_in_time steps voter = latest (ballots last_in_time steps voter)
+standing last_in_time steps voter = latest (filter_map (ballot_of last_in_time voter) (before_close steps))
 
 -- the ranks of the ballot that stands
 abbrev pub standing_ranks : ℕ → List Step → ℕ → Option (List (Option ℕ))

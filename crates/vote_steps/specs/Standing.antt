@@ -1,12 +1,13 @@
 -- What a box that holds the lines of a poll says of the voters: it is what the lines say, whatever the order in which they were cast.
-use Rattle.std.specs.Prelude.{◌≡◌, ℕ, ◌+◌, List, is_some, length, take, count_by}
+use Rattle.std.specs.Prelude.{◌≡◌, ℕ, ◌+◌, List, is_some, length, map, take, count_by}
+use Rattle.std.specs.List.{range_with_len}
 use Rattle.vote_poll.specs.PollContent.{PollContent}
 use Rattle.vote_poll.specs.declared.Reading.{Reading}
 use Rattle.vote_poll.specs.Readings.{is_ballot, readings}
 use Rattle.vote_count.specs.Ballots.{entry_prefers}
 use Rattle.vote_steps.specs.History.{standing_ranks, standing_votes, valid, refused, voters}
 use Rattle.vote_steps.specs.Boxes.{BoxState}
-use Rattle.vote_steps.specs.Recasts.{last_ballot, last_ballots}
+use Rattle.vote_steps.specs.Recasts.{last_ballot}
 use Rattle.vote_steps.specs.Casting.{HoldsLines}
 
 -- of each voter the ranks of the last line stand that reads as a ballot and is not late
@@ -20,8 +21,8 @@ LastLinesStand =
 pub record CountsLines (readings : List Reading) (b : BoxState) : Type 0 where
   pub valid_is : valid b.last_in_time b.steps ≡ count_by is_ballot (take b.last_in_time readings)
   pub refused_is : valid b.last_in_time b.steps + refused b.last_in_time b.steps ≡ length readings
-  pub voters_are : voters b.last_in_time b.steps b.electors ≡ count_by is_some (last_ballots (take b.last_in_time readings) b.electors)
-  pub votes_are : (a c : ℕ) → standing_votes b.last_in_time b.steps b.electors a c ≡ count_by (entry_prefers a c) (last_ballots (take b.last_in_time readings) b.electors)
+  pub voters_are : voters b.last_in_time b.steps b.electors ≡ count_by is_some (map (last_ballot (take b.last_in_time readings)) (range_with_len 0 b.electors))
+  pub votes_are : (a c : ℕ) → standing_votes b.last_in_time b.steps b.electors a c ≡ count_by (entry_prefers a c) (map (last_ballot (take b.last_in_time readings)) (range_with_len 0 b.electors))
 
 abbrev pub LinesAreCounted : Type 0
 LinesAreCounted = (poll : PollContent) (lines : List (List ℕ)) (b : BoxState) → HoldsLines poll lines b → CountsLines (readings poll lines) b

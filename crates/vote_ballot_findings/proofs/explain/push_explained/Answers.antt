@@ -5,7 +5,7 @@ use Rattle.vote_sheet.specs.Texts.{Text}
 use Rattle.vote_ballot_findings.specs.Adding.{AreSigns, advice_of}
 use Rattle.vote_ballot_findings.specs.Explained.{AreAllFindings, IsExplained}
 use Rattle.vote_ballot_findings.specs.FileSigns.{advice_text, closing_text, is_of_old_mac, opening_text, unended_line}
-use Rattle.vote_ballot_findings.specs.Hints.{AreFindings}
+use Rattle.vote_ballot_findings.specs.Hints.{AreRefusalFindings}
 use Rattle.vote_ballot_findings.specs.Refusals.{refusals}
 use Rattle.vote_ballot_findings.specs.declared.file_signs.FileSigns.{FileSigns}
 use Rattle.vote_ballot_findings.proofs.Signs.{advice_is}
@@ -37,6 +37,6 @@ returns c =
     let P = string_bytes c.push_totals.new.text ≡ string_bytes c.push_advice.new.text ++ closing_text c.args.poll.now c.args.lines.now in
     on_ok c.push_totals.result (λ (is : P). says_all poll lines c.args.ended (option_copied c.args.file) c.unended_line.result c.in_ok-signs.signs added.0
     (string_bytes c.args.findings.now.text) (string_bytes c.push_opening.new.text) (string_bytes c.add_all.new.self.text) (string_bytes c.push_advice.new.text) (string_bytes c.push_totals.new.text)
-    (subst (λ left. AreFindings poll left (refusals poll lines) added.0) c.requires.unsaid.left added.1) c.unended_line.ensures c.in_ok-signs.ensures.signs
+    (subst (λ left. AreRefusalFindings poll left (refusals poll lines) added.0) c.requires.unsaid.left added.1) c.unended_line.ensures c.in_ok-signs.ensures.signs
     c.requires.unsaid.text c.in_ok-push_opening.ensures added.2.is_text c.in_ok-push_advice.ensures is)
     c.push_totals.ensures

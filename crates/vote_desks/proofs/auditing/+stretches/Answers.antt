@@ -1,8 +1,7 @@
 use Rattle.std.proofs.Common.{subst, arith}
 use Rattle.std.proofs.lemmas.Grind.{common_steps, elements, moves, pieces}
 use Rattle.std.specs.Prelude.{MatchOption}
-use Rattle.vote_steps.specs.Casting.{HasOwnReadings}
-use Rattle.vote_desks.specs.Audit.{DiffersFirst}
+use Rattle.vote_desks.specs.Audit.{HasOwnReadings, DiffersFirst}
 use Rattle.vote_desks.proofs.StretchLemmas.{own_in_both, differs_in_back}
 use Rattle.vote_desks.proofs.auditing.+stretches.Goals as goal
 

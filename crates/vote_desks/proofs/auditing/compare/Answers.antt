@@ -1,12 +1,14 @@
+-- On each way out all tests before it passed: what is returned is the first fault, or there is none and the box is audited.
 use Rattle.std.proofs.Common.{◌≡◌, ◌+◌, List, [], ◌∷◌, ◌++◌, Ok, Err, length, map, vec_items, sym, ap, ◌∙◌, subst, arith}
 use Rattle.std.specs.List.{All}
-use Rattle.vote_desks.specs.declared.fault.AuditFault.TheVariants.{StepDiffers, SlipDiffers, ClosedEarly}
+use Rattle.vote_desks.specs.declared.fault.AuditFault.TheVariants.{CountDiffers, StepDiffers, SlipDiffers, ClosedEarly}
 use Rattle.vote_steps.specs.declared.Step.{Step}
 use Rattle.vote_steps.specs.declared.Step.TheVariants.{Close}
 use Rattle.vote_steps.specs.History.{before_close}
-use Rattle.vote_steps.specs.Casting.{HasOwnReadings, HoldsLines}
-use Rattle.vote_desks.specs.Audit.{DiffersFirst, SheetDiffers, HasSlips, IsAudited}
+use Rattle.vote_steps.specs.Casting.{HoldsLines}
+use Rattle.vote_desks.specs.Audit.{HasOwnReadings, DiffersFirst, SheetDiffers, HasSlips, IsAudited}
 use Rattle.vote_desks.specs.Comparing.{HasDesk, HasEnvelope}
+use Rattle.vote_steps.proofs.HistoryLemmas.{casts_before}
 use Rattle.vote_desks.proofs.AuditLemmas.{legal_desks, legal_envelopes, Found, ok_exact, fault_exact, close_found, closed_last_at, early_at}
 use Rattle.vote_desks.proofs.auditing.compare.Goals as goal
 
@@ -20,6 +22,16 @@ first_other_reading_by-requires-after_bounds g c =
 pub first_other_sheet-requires-clause-desks : goal.first_other_sheet-requires-clause-desks
 first_other_sheet-requires-clause-desks g c =
     subst (λ (xs : List Step). All HasDesk xs) (sym c.steps-steps.ensures.steps) (legal_desks c.args.ballot_box.now c.steps-steps.ensures.legal)
+
+pub returns-then-count_casts-len-clause-ok : goal.returns-then-count_casts-len-clause-ok
+returns-then-count_casts-len-clause-ok g c =
+    let poll = c.args.poll.now in
+    let lines = c.args.lines.now in
+    let b = c.args.ballot_box.now in
+    let sheets = map vec_items c.args.sheets.now in
+    let sizes = c.has_sizes.ensures.0 c.if-not-has_sizes.false in
+    let found : Found poll lines b sheets (Err CountDiffers) = (sizes, λ same. c.if-count_casts-len.true (c.count_casts.ensures ∙ same ∙ sym c.len.ensures.number)) in
+    ok_exact poll lines b sheets (Err CountDiffers) found
 
 pub returns-in-Some : goal.returns-in-Some
 returns-in-Some g c =
@@ -76,7 +88,7 @@ returns-in_default-close_place g c =
     let at = sym c.in-Some-close_place.ensures in
     let long = ap length here in
     let last = closed_last_at b.steps c.in-Some-close_place.place c.requires.closed at (omega (arith, long, c.if-place-steps.false)) in
-    let found : Found poll lines b sheets (Ok tt) = (let held : HoldsLines poll lines b = record { sizes = sizes; casts = casts; legal = c.steps-steps.ensures.legal; closed_last = last; own_readings = readings } in let a : IsAudited poll lines b sheets = record { holds = held; sheets_are = slips } in a) in
+    let found : Found poll lines b sheets (Ok tt) = (let held : HoldsLines poll lines b = record { sizes = sizes; casts = sym (casts_before b.steps last) ∙ casts; legal = c.steps-steps.ensures.legal; closed_last = last; own_readings = readings } in let a : IsAudited poll lines b sheets = record { holds = held; sheets_are = slips } in a) in
     record { ok = ok_exact poll lines b sheets (Ok tt) found; fault = fault_exact poll lines b sheets (Ok tt) found }
 
 pub returns-in_default-close_place-2 : goal.returns-in_default-close_place-2
@@ -92,5 +104,5 @@ returns-in_default-close_place-2 g c =
     let slips = subst (λ (xs : List Step). HasSlips xs sheets) here c.in_default-first_other_sheet.ensures in
     let at = sym c.in_default-close_place.ensures in
     let last : b.steps ≡ before_close b.steps ++ Close ∷ [] = absurd (close_found b.steps at c.requires.closed) in
-    let found : Found poll lines b sheets (Ok tt) = (let held : HoldsLines poll lines b = record { sizes = sizes; casts = casts; legal = c.steps-steps.ensures.legal; closed_last = last; own_readings = readings } in let a : IsAudited poll lines b sheets = record { holds = held; sheets_are = slips } in a) in
+    let found : Found poll lines b sheets (Ok tt) = (let held : HoldsLines poll lines b = record { sizes = sizes; casts = sym (casts_before b.steps last) ∙ casts; legal = c.steps-steps.ensures.legal; closed_last = last; own_readings = readings } in let a : IsAudited poll lines b sheets = record { holds = held; sheets_are = slips } in a) in
     record { ok = ok_exact poll lines b sheets (Ok tt) found; fault = fault_exact poll lines b sheets (Ok tt) found }

@@ -1,3 +1,4 @@
+-- The desks come back in the order of their passes, so each pass can be joined to those before it.
 use Rattle.std.proofs.Common.{◌≡◌, ◌+◌, ◌-◌, length, map, ◌∷◌, [], ◌++◌, sym, ap, ◌∙◌, subst, arith}
 use Rattle.std.specs.Vec.Iter.{into_iter_items}
 use Rattle.vote_tray.specs.Passes.{PassState}

@@ -1,17 +1,13 @@
-use Rattle.std.proofs.Common.{◌≡◌, ℕ, ◌<◌, Bool, true, List, [], ◌∷◌, ◌++◌, length, map, sym, ap, ◌∙◌, subst, append_assoc, arith}
-use Rattle.std.specs.Prelude.{◌==◌, slice_index_or, vec_len}
-use Rattle.std.specs.List.{AllByRecursion, remove}
+use Rattle.std.proofs.Common.{◌≡◌, ℕ, Bool, true, List, [], ◌∷◌, ◌++◌, length, map, sym, ap, ◌∙◌, subst, append_assoc, arith}
+use Rattle.std.specs.Prelude.{◌==◌, vec_len}
+use Rattle.std.specs.List.{AllByRecursion}
 use Rattle.std.proofs.lemmas.Bool.{eqb-true}
 use Rattle.std.proofs.lemmas.List.{append-nil, length-map, map-append}
 use Rattle.vote_tray.specs.Passes.{PassState}
 use Rattle.vote_desks_box.specs.Desks.{DeskState}
 use Rattle.vote_desks.specs.Work.{IsFresh, IsUnused}
+use Rattle.vote_desks_box.proofs.Fronts.{first_of}
 use Rattle.vote_desks.proofs.work.start_all.Goals as goal
-
--- what was taken off the front, and what is left
-first_of : {X : Type 0} (xs ys : List X) (x : X) → 0 < length xs → x ≡ slice_index_or xs 0 x → ys ≡ remove xs 0 → xs ≡ x ∷ ys
-first_of [] ys x some is rest = absurd (omega arith)
-first_of (z ∷ xs) ys x some is rest = let first : x ≡ z = is in let others : ys ≡ xs = rest in cc
 
 -- the first of those that are left goes to the end of those that are done
 moved : {H Z : Type 0} (f : H → Z) (done more : List H) (handle : H) (left rest all : List Z) (first : Z) → left ≡ first ∷ rest → more ≡ done ++ handle ∷ [] → f handle ≡ first

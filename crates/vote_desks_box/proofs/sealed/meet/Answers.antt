@@ -1,15 +1,9 @@
-use Rattle.std.proofs.Common.{◌≡◌, ℕ, ◌+◌, ◌<◌, List, [], ◌∷◌, length, sum_by, sym, ap, ◌∙◌, arith}
-use Rattle.std.specs.Prelude.{slice_index_or}
-use Rattle.std.specs.List.{remove}
+use Rattle.std.proofs.Common.{◌≡◌, ℕ, ◌+◌, List, ◌∷◌, sum_by, sym, ap, ◌∙◌, arith}
 use Rattle.std.proofs.lemmas.List.Sums.{sum_by-cons}
 use Rattle.vote_steps.specs.History.{valid, refused}
 use Rattle.vote_desks_box.specs.Desks.{DeskState, HeldState}
+use Rattle.vote_desks_box.proofs.Fronts.{first_of}
 use Rattle.vote_desks_box.proofs.sealed.meet.Goals as goal
-
--- what was taken off the front, and what is left
-first_of : {X : Type 0} (xs ys : List X) (x : X) → 0 < length xs → x ≡ slice_index_or xs 0 x → ys ≡ remove xs 0 → xs ≡ x ∷ ys
-first_of [] ys x some is rest = absurd (omega arith)
-first_of (z ∷ xs) ys x some is rest = let first : x ≡ z = is in let others : ys ≡ xs = rest in cc
 
 -- what the desks have is what the first of them has, with what the others have
 in_all : (f : DeskState → ℕ) (all others : List DeskState) (first : DeskState) (mine whole counted : ℕ)

@@ -1,12 +1,11 @@
-use Rattle.std.proofs.Common.{◌≡◌, ℕ, ◌+◌, ◌<◌, ◌++◌, List, [], ◌∷◌, length, map, sum_by, vec_items, sym, ap, ◌∙◌, append_assoc, arith}
-use Rattle.std.specs.Prelude.{slice_index_or}
-use Rattle.std.specs.List.{remove}
+use Rattle.std.proofs.Common.{◌≡◌, ℕ, ◌+◌, ◌++◌, List, [], ◌∷◌, map, sum_by, vec_items, sym, ap, ◌∙◌, append_assoc, arith}
 use Rattle.std.proofs.lemmas.Bool.{eqb-true}
 use Rattle.std.proofs.lemmas.List.{nil_from_length, append-nil, map-append}
 use Rattle.std.proofs.lemmas.List.Sums.{sum_by-cons, sum_by-append}
 use Rattle.vote_desks_box.specs.declared.slip.Slip.{Slip}
 use Rattle.vote_desks_box.specs.Slips.{valid_slips, refused_slips}
 use Rattle.vote_desks_box.specs.Desks.{DeskState}
+use Rattle.vote_desks_box.proofs.Fronts.{first_of}
 use Rattle.vote_desks_box.proofs.sealed.merge_each.Goals as goal
 
 pub returns-clause-valid : goal.returns-clause-valid
@@ -27,11 +26,6 @@ returns-clause-sheets g c =
     let none : left.items ≡ [] = nil_from_length left.items (sym left.ok.0 ∙ eqb-true _ 0 (sym c.is_empty.ensures ∙ c.loop-desks-test.false)) in
     let sheets = map vec_items c.loop-desks.sheets.items in
     sym (append-nil sheets) ∙ ap (λ (ds : List DeskState). sheets ++ map (λ (d : DeskState). d.slips) ds) (sym none) ∙ c.loop-desks.invariant.sheets
-
--- what was taken off the front, and what is left
-first_of : {X : Type 0} (xs ys : List X) (x : X) → 0 < length xs → x ≡ slice_index_or xs 0 x → ys ≡ remove xs 0 → xs ≡ x ∷ ys
-first_of [] ys x some is rest = absurd (omega arith)
-first_of (z ∷ xs) ys x some is rest = let first : x ≡ z = is in let others : ys ≡ xs = rest in cc
 
 -- what the first desk has goes over to what was merged
 merged : (f : DeskState → ℕ) (left rest : List DeskState) (desk : DeskState) (old new mine total : ℕ)
