@@ -9,14 +9,37 @@ import datetime
 
 from debvote_tools import poll_file
 from debvote_tools.faults import Fault
+from debvote_tools.language import ENGLISH, Language
+from debvote_tools.sentences import marked
 
 DEADLINE, WORDS, ADDRESS, SECRET, EXTENDED = "deadline", "deadline_words", "address", "secret", "extended_to"
 KEYS = (DEADLINE, WORDS, ADDRESS, SECRET, EXTENDED)
 
 EXAMPLE = "2026-12-04T18:00:00+01:00"
 
-DAYS = ("Monday", "Tuesday", "Wednesday", "Thursday", "Friday", "Saturday", "Sunday")
-MONTHS = ("January", "February", "March", "April", "May", "June", "July", "August", "September", "October", "November", "December")
+DAYS = (
+    marked("Monday"),
+    marked("Tuesday"),
+    marked("Wednesday"),
+    marked("Thursday"),
+    marked("Friday"),
+    marked("Saturday"),
+    marked("Sunday"),
+)
+MONTHS = (
+    marked("January"),
+    marked("February"),
+    marked("March"),
+    marked("April"),
+    marked("May"),
+    marked("June"),
+    marked("July"),
+    marked("August"),
+    marked("September"),
+    marked("October"),
+    marked("November"),
+    marked("December"),
+)
 
 
 @dataclasses.dataclass(frozen=True)
@@ -34,15 +57,14 @@ class Announced:
         """The time until which one can vote, where it is known as a time."""
         return self.deadline if self.extended_to is None else self.extended_to
 
-    @property
-    def first_words(self) -> str | None:
+    def first_words(self, language: Language = ENGLISH) -> str | None:
         """Until when one can vote, as it was announced first."""
-        return self.words if self.deadline is None else in_words(self.deadline)
+        return self.words if self.deadline is None else time_in_words(self.deadline, language)
 
 
-def announced_in(poll: bytes) -> Announced:
+def announced_in(poll_bytes: bytes) -> Announced:
     """What a poll says, which can be read as TOML. A value of another kind is a fault."""
-    said = poll_file.document(poll)
+    said = poll_file.document(poll_bytes)
     texts = {key: text_at(said, key) for key in (DEADLINE, WORDS, ADDRESS, EXTENDED)}
     if said.get(SECRET, True) is not True:
         raise wrong(SECRET, "it has to be `secret = true`, or not to be there")
@@ -65,12 +87,12 @@ def time_at(key: str, text: str | None) -> datetime.datetime | None:
     if text is None:
         return None
     try:
-        found = datetime.datetime.fromisoformat(text)
+        time = datetime.datetime.fromisoformat(text)
     except ValueError:
-        found = None
-    if found is None or found.tzinfo is None:
+        time = None
+    if time is None or time.tzinfo is None:
         raise wrong(key, f'it has to be a time with its offset, as {key} = "{EXAMPLE}"')
-    return found
+    return time
 
 
 def wrong(key: str, why: str) -> Fault:
@@ -84,13 +106,28 @@ def now() -> datetime.datetime:
 
 def minute_of(time: datetime.datetime, other: datetime.datetime) -> str:
     """A time in words, to the minute, with the offset of another time beside which it is told."""
-    return in_words(time.astimezone(other.tzinfo).replace(second=0))
+    return time_in_words(time.astimezone(other.tzinfo).replace(second=0))
 
 
-def in_words(time: datetime.datetime) -> str:
+def time_in_words(time: datetime.datetime, language: Language = ENGLISH) -> str:
     """A time in words, with its offset, as `Friday, 4 December 2026, 18:00 (UTC+01:00)`."""
     clock = time.strftime("%H:%M:%S" if time.second else "%H:%M")
-    return f"{DAYS[time.weekday()]}, {time.day} {MONTHS[time.month - 1]} {time.year}, {clock} ({offset_in_words(time)})"
+    weekday = language.say(DAYS[time.weekday()])
+    return language.say(
+        "{weekday}, {date}, {clock} ({offset})",
+        weekday=weekday,
+        date=date_in_words(time, language),
+        clock=clock,
+        offset=offset_in_words(time),
+    )
+
+
+def date_in_words(date: datetime.date, language: Language = ENGLISH) -> str:
+    """A day, as `4 December 2026`. Some languages write the first of a month otherwise than the other days."""
+    month = language.say(MONTHS[date.month - 1])
+    if date.day == 1:
+        return language.say("1 {month} {year}", month=month, year=date.year)
+    return language.say("{day} {month} {year}", day=date.day, month=month, year=date.year)
 
 
 def offset_in_words(time: datetime.datetime) -> str:

@@ -3,7 +3,7 @@
 import dataclasses
 from collections.abc import Sequence
 
-from debvote_tools.pages import joined
+from debvote_tools.language import ENGLISH, Language
 
 UNRANKED = "-"
 
@@ -27,25 +27,34 @@ def preferences(ranks: str) -> Preferences:
 
 def in_normal_form(ranks: str) -> str:
     """The ranks 1, 2 and so on that say the same: equal ones stay equal, and what is not ranked stays so."""
-    found = preferences(ranks)
-    rank_of = {option: str(rank) for rank, step in enumerate(found.steps, start=1) for option in step}
-    rank_of |= dict.fromkeys(found.unranked, UNRANKED)
+    preferred = preferences(ranks)
+    rank_of = {option: str(rank) for rank, step in enumerate(preferred.steps, start=1) for option in step}
+    rank_of |= dict.fromkeys(preferred.unranked, UNRANKED)
     return ",".join(rank_of[option] for option in sorted(rank_of))
 
 
-def in_words(ranks: str, names: Sequence[str]) -> str:
+def ranks_in_words(ranks: str, names: Sequence[str], language: Language = ENGLISH) -> str:
     """A valid ballot in words without markup: "At the lake, then Further discussion, then ..".
 
     The names are those of the options in the order of their numbers, the default option last.
     """
     found = preferences(ranks)
     if not found.steps:
-        return "no option is ranked, so nothing is preferred"
-    steps = [named(step, names) + (" equally" if step[1:] else "") for step in found.steps]
-    behind = f"; not ranked, and so behind all others: {named(found.unranked, names)}" if found.unranked else ""
-    return ", then ".join(steps) + behind
+        return language.say("no option is ranked, so nothing is preferred")
+    steps = [step_in_words(step, names, language) for step in found.steps]
+    said = language.between("{before}, then {step}").join(steps)
+    if not found.unranked:
+        return said
+    unranked = named(found.unranked, names, language)
+    return language.say("{ranked}; not ranked, and so behind all others: {unranked}", ranked=said, unranked=unranked)
 
 
-def named(options: list[int], names: Sequence[str]) -> str:
+def step_in_words(step: list[int], names: Sequence[str], language: Language) -> str:
+    """The options that have one rank."""
+    options = named(step, names, language)
+    return language.say("{options} equally", options=options) if step[1:] else options
+
+
+def named(options: list[int], names: Sequence[str], language: Language) -> str:
     """The names of some options, as they stand in a sentence."""
-    return joined(names[option - 1] for option in options)
+    return language.joined(names[option - 1] for option in options)

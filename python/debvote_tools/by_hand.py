@@ -9,42 +9,26 @@ was done to them since.
 import collections
 import dataclasses
 import pathlib
-import re
 from collections.abc import Sequence
 
 from debvote_tools import journal
-from debvote_tools.closed import KEPT, beyond, lines_of, number_of
+from debvote_tools.closed import BALLOTS_COPY, beyond, number_of
 from debvote_tools.faults import Doubt
 from debvote_tools.files import sum_of
 from debvote_tools.journal import Entry
-from debvote_tools.lines import lines_in
+from debvote_tools.language import ENGLISH
+from debvote_tools.lines import ballot_file, ballot_lines
+from debvote_tools.received import BALLOT, ReceivedLine, lines_received, lines_taken_back
+from debvote_tools.sentences import Sentence, marked, numbered, sentence
 from debvote_tools.signs import shown_line
-
-# what came, in the folder of the election
-RECEIVED = "received"
-
-# the end of the name under which the lines are kept that the rows of a table have made
-OF_TABLE = ".lines"
-
-# what has the shape of a ballot: a row of a table has not
-BALLOT = re.compile(rb"[^\s,;]+ (?:-|\d{1,2})(?:,(?:-|\d{1,2}))*")
 
 # so many lines of each kind are told, each with its text
 MOST = 5
 
-# how the name ends under which lines are kept that an act has taken back, and a file of which the first lines came before: the lines
-# behind them are kept as those of a table are
-TAKEN_BACK = ".taken-back"
-IN_PART = ".in-part"
-
-
-@dataclasses.dataclass(frozen=True)
-class Came:
-    """A line that came: where it is kept, such as `received/0001-monday.txt:3`, and its text as it goes in, or went in."""
-
-    where: str
-    text: bytes
-    kept: bytes
+OTHERS_BEFORE = marked("The ballots were changed by hand before the close")
+OTHERS_AFTER = marked("The ballots were changed by hand after the close")
+REORDERED_BEFORE = marked("The order of lines that came was changed by hand before the close")
+REORDERED_AFTER = marked("The order of lines that came was changed by hand after the close")
 
 
 @dataclasses.dataclass(frozen=True)
@@ -54,7 +38,7 @@ class Changes:
     how many late ones are gone of which nothing is kept.
     """
 
-    missing: list[Came]
+    missing: list[ReceivedLine]
     added: list[tuple[int, bytes]]
     is_reordered: bool = False
     is_other: bool = False
@@ -67,79 +51,109 @@ class Changes:
         """Whether something that came does not count as it came, or, where it came late, does not stand there."""
         return bool(self.missing) or self.is_reordered or self.is_other or self.fewer > 0
 
-    def lines(self) -> list[str]:
-        """A sentence for each line that differs, of many the first ones."""
-        found = [f"`{shown_line(came.text)}` came ({came.where}), and is not among the ballots" for came in self.missing[:MOST]]
-        found += more(len(self.missing) - MOST, "came, and not among the ballots")
-        found += [f"line {number}, `{shown_line(line)}`, is not among what came" for number, line in self.added[:MOST]]
-        found += more(len(self.added) - MOST, "not among what came")
-        found += ["the lines stand in another order than that in which they came"] if self.is_reordered else []
-        found += ["the lines are not those that were added, by their sums in the journal"] if self.is_other else []
+    def sentences(self) -> list[str]:
+        """A sentence for each line that differs, of many the first ones, as it is told at the terminal."""
+        return [ENGLISH.of(said) for said in self.said()]
+
+    def said(self) -> tuple[Sentence, ...]:
+        """The same, as they may be said in any language."""
+        missing, added = len(self.missing) - MOST, len(self.added) - MOST
+        found = [
+            sentence("`{line}` came ({where}), and is not among the ballots", line=shown_line(came.changed), where=came.where)
+            for came in self.missing[:MOST]
+        ]
+        if missing > 0:
+            found.append(
+                numbered(
+                    "and {number} more came, and is not among the ballots",
+                    "and {number} more came, and are not among the ballots",
+                    missing,
+                )
+            )
+        found += [
+            sentence("line {number}, `{line}`, is not among what came", number=number, line=shown_line(line))
+            for number, line in self.added[:MOST]
+        ]
+        if added > 0:
+            found.append(numbered("and {number} more is not among what came", "and {number} more are not among what came", added))
+        if self.is_reordered:
+            found.append(sentence("the lines stand in another order than that in which they came"))
+        if self.is_other:
+            found.append(sentence("the lines are not those that were added, by their sums in the journal"))
         if self.fewer:
             found.append(
-                f"{self.fewer} {'line' if self.fewer == 1 else 'lines'} came after the close and {is_or_are(self.fewer)} gone"
+                numbered(
+                    "{number} line came after the close and is gone", "{number} lines came after the close and are gone", self.fewer
+                )
             )
-        return found
+        return tuple(found)
 
 
 NOTHING = Changes([], [])
 
 
-def is_or_are(number: int) -> str:
-    return "is" if number == 1 else "are"
-
-
-def more(number: int, what: str) -> list[str]:
-    return [] if number <= 0 else [f"and {number} more {'is' if number == 1 else 'are'} {what}"]
-
-
 # ---------------------------------------------------------------- what was changed
-def changes_in(folder: pathlib.Path, acts: Sequence[Entry], ballots: bytes) -> Changes:
+def changes_in(folder: pathlib.Path, acts: Sequence[Entry], ballots_bytes: bytes) -> Changes:
     """What was done by hand to the ballots of the election in this folder: before the close, or else to those that came late.
 
     The acts are those that were done. Where the journal says that nobody has edited the ballots, and its acts make them what they
     are, nothing more is read.
     """
-    before, late = parted(folder, acts, ballots)
-    until = acts_until_close(acts)
-    now = {sum_of(b"".join(line + b"\n" for line in before)), sum_of(ballots), *([] if ballots else [journal.NONE])}
-    first, is_late = first_edit(until, now), False
-    if first is None:
-        is_late = is_edited_since(acts[len(until) - 1 :], ballots)
-        if not is_late and stand_as_cast(until, len(until), before, set()):
-            return NOTHING
+    lines, late_lines = parted(folder, acts, ballots_bytes)
+    acts_in_time = acts_until_close(acts)
+    sums = {sum_of(ballot_file(lines)), sum_of(ballots_bytes), *([] if ballots_bytes else [journal.NONE])}
+    edit = first_edit(acts_in_time, sums)
+    if edit is not None:
+        return changes_before_close(folder, acts, edit, lines, late_lines)
+    if is_edited_since(acts[len(acts_in_time) - 1 :], ballots_bytes):
         # without its copy nobody knows which lines were in time at the close; that is told where they are compared
-        if is_late and not (folder / KEPT).is_file() and now.isdisjoint({until[-1].sums.ballots}):
-            return NOTHING
-    came = not_taken_back(came_in(folder), taken_back_in(folder, acts))
-    there = collections.Counter(before + late)
-    missing = [line for line in came if not taken(there, line)]
-    if is_late:
-        fewer = sum(entry.number() for entry in acts[len(until) :] if entry.act in journal.CASTING) - len(late)
-        return Changes(missing, [], fewer=0 if missing else max(0, fewer), is_late=True)
-    added = not_come(came, before)
-    is_as_cast = stand_as_cast(until, len(until) if first is None else first, before, {number for number, _ in added})
-    if is_as_cast and all(entry.cast is not None for entry in journal.cast_and_not_undone(until)):
+        is_known = (folder / BALLOTS_COPY).is_file() or acts_in_time[-1].sums.ballots in sums
+        return changes_after_close(folder, acts, lines, late_lines) if is_known else NOTHING
+    if stand_as_entered(acts_in_time, len(acts_in_time), lines, set()):
+        return NOTHING
+    return changes_before_close(folder, acts, None, lines, late_lines)
+
+
+def changes_before_close(
+    folder: pathlib.Path, acts: Sequence[Entry], edit: int | None, lines: list[bytes], late_lines: list[bytes]
+) -> Changes:
+    """What was done before the close, or while the election is open; `edit` is the place of the first edit among the acts."""
+    acts_in_time = acts_until_close(acts)
+    came = lines_that_came(folder, acts)
+    missing = missing_of(came, lines + late_lines)
+    added = not_come(came, lines)
+    first_edit_place = len(acts_in_time) if edit is None else edit
+    is_as_entered = stand_as_entered(acts_in_time, first_edit_place, lines, {number for number, _ in added})
+    if is_as_entered and all(entry.lines_sum is not None for entry in journal.entered_and_not_undone(acts_in_time)):
         # an `add` that was killed before its act began has kept what came, and so has the one that was run again
-        there = collections.Counter(before)
-        missing = [line for line in missing if not there[line.text] and not there[line.kept]]
-    if missing or is_as_cast:
+        there = set(lines)
+        missing = [line for line in missing if line.changed not in there and line.bare not in there]
+    if missing or is_as_entered:
         # lines that were there before the first act are no edit
-        return NOTHING if first is None and not missing else Changes(missing, added)
-    is_same_order = stand_as_came(before, came)
+        return NOTHING if edit is None and not missing else Changes(missing, added)
+    is_same_order = stand_as_came(lines, came)
     return Changes(missing, added, is_reordered=not is_same_order, is_other=is_same_order)
 
 
-def parted(folder: pathlib.Path, acts: Sequence[Entry], ballots: bytes) -> tuple[list[bytes], list[bytes]]:
+def changes_after_close(folder: pathlib.Path, acts: Sequence[Entry], lines: list[bytes], late_lines: list[bytes]) -> Changes:
+    """What was done after the close alone: late lines that came and are gone."""
+    missing = missing_of(lines_that_came(folder, acts), lines + late_lines)
+    late_acts = acts[len(acts_until_close(acts)) :]
+    entered = sum(entry.envelope_count() for entry in late_acts if entry.act in journal.ENTERING)
+    fewer = 0 if missing else max(0, entered - len(late_lines))
+    return Changes(missing, [], fewer=fewer, is_late=True)
+
+
+def parted(folder: pathlib.Path, acts: Sequence[Entry], ballots_bytes: bytes) -> tuple[list[bytes], list[bytes]]:
     """The lines at the close, as their copy has them, and the others; all of them where the election is open."""
     close = journal.last(list(acts), "close")
-    lines = lines_of(ballots)
+    lines = ballot_lines(ballots_bytes)
     number = None if close is None else number_of(close)
     if number is None:
         return lines, []
-    kept = folder / KEPT
-    before = lines_of(kept.read_bytes()) if kept.is_file() else lines[:number]
-    return before, [line for _, line in beyond(lines, before)]
+    copy_path = folder / BALLOTS_COPY
+    closed_lines = ballot_lines(copy_path.read_bytes()) if copy_path.is_file() else lines[:number]
+    return closed_lines, [line for _, line in beyond(lines, closed_lines)]
 
 
 def acts_until_close(acts: Sequence[Entry]) -> list[Entry]:
@@ -158,115 +172,106 @@ def first_edit(acts: Sequence[Entry], now: set[str]) -> int | None:
     return None if not acts or is_closed or acts[-1].sums.ballots in now else len(acts)
 
 
-def is_edited_since(acts: Sequence[Entry], ballots: bytes) -> bool:
+def is_edited_since(acts: Sequence[Entry], ballots_bytes: bytes) -> bool:
     """Whether somebody has edited the ballots since the first of these acts, which is a close; not where it is none."""
     if not acts or acts[0].act != "close":
         return False
     sums = [entry.sums.ballots for entry in acts]
     is_found = any(entry.act == journal.FOUND and entry.sums.ballots != sums[at] for at, entry in enumerate(acts[1:]))
-    return is_found or sums[-1] not in {sum_of(ballots), *([] if ballots else [journal.NONE])}
+    return is_found or sums[-1] not in {sum_of(ballots_bytes), *([] if ballots_bytes else [journal.NONE])}
 
 
-def came_in(folder: pathlib.Path) -> list[Came]:
-    """The lines of ballots that came, of all files that are kept."""
-    place = folder / RECEIVED
-    names = sorted(file.name for file in place.iterdir() if re.match(r"\d+-", file.name)) if place.is_dir() else []
-    names = [name for name in names if not name.endswith((TAKEN_BACK, IN_PART))]
-    found = []
-    for name in names:
-        if (place / name).is_file():
-            lines = lines_in((place / name).read_bytes(), f"{RECEIVED}/{name}")
-            found += [Came(line.where, line.changed, line.kept) for line in lines if BALLOT.fullmatch(line.changed)]
-    return found
-
-
-def taken_back_in(folder: pathlib.Path, acts: Sequence[Entry]) -> list[bytes]:
-    """The lines that acts have taken back: they came, and are not among the ballots."""
-    files = [folder / RECEIVED / f"{entry.record}{TAKEN_BACK}" for entry in acts if entry.act == journal.UNDO and entry.record]
-    return [line for file in files if file.is_file() for line in lines_of(file.read_bytes())]
-
-
-def not_taken_back(came: list[Came], back: list[bytes]) -> list[Came]:
+def lines_that_came(folder: pathlib.Path, acts: Sequence[Entry]) -> list[ReceivedLine]:
     """The lines that came but for those that acts have taken back; of equal ones these are the last."""
-    left = collections.Counter(back)
-    found = [line for line in reversed(came) if not taken(left, line)]
-    return found[::-1]
+    taken_back = collections.Counter(lines_taken_back(folder, acts))
+    others = [line for line in reversed(lines_received(folder)) if not is_taken(taken_back, line)]
+    return others[::-1]
 
 
-def taken(there: collections.Counter[bytes], line: Came) -> bool:
+def missing_of(came: list[ReceivedLine], lines: list[bytes]) -> list[ReceivedLine]:
+    """Those that came and are not among these lines; a line that came twice has to stand there twice."""
+    there = collections.Counter(lines)
+    return [line for line in came if not is_taken(there, line)]
+
+
+def is_taken(left: collections.Counter[bytes], line: ReceivedLine) -> bool:
     """Whether a line that came is among those that are left, and takes it away."""
-    text = next((text for text in (line.text, line.kept) if there[text] > 0), None)
+    text = next((text for text in (line.changed, line.bare) if left[text] > 0), None)
     if text is not None:
-        there[text] -= 1
+        left[text] -= 1
     return text is not None
 
 
-def not_come(came: list[Came], lines: list[bytes]) -> list[tuple[int, bytes]]:
+def not_come(came: list[ReceivedLine], lines: list[bytes]) -> list[tuple[int, bytes]]:
     """The lines, each with its number, that have the shape of a ballot, and stand more often here than they came."""
-    texts = [text for line in came for text in {line.text, line.kept}]
+    texts = [text for line in came for text in {line.changed, line.bare}]
     return [(number, line) for number, line in beyond(lines, texts) if BALLOT.fullmatch(line)]
 
 
-def stand_as_cast(acts: Sequence[Entry], first: int, lines: list[bytes], left_out: set[int]) -> bool:
-    """Whether the lines, but for these, are those that the acts have cast, in their order.
+def stand_as_entered(acts: Sequence[Entry], first: int, lines: list[bytes], left_out: set[int]) -> bool:
+    """Whether the lines, but for these, are those that the acts have entered, in their order.
 
     Where an act has no sum of its own lines, they have to begin with what stood there before the first edit.
     """
     own = [line for number, line in enumerate(lines, start=1) if number not in left_out]
-    casts = journal.cast_and_not_undone(acts)
+    entering = journal.entered_and_not_undone(acts)
     # lines that were there before the first act, or before a journal that was lost, may be left out or not
-    there = casts[0].first() - 1 if casts else 0
+    there = entering[0].first_envelope() - 1 if entering else 0
     starts = {0, max(0, there), max(0, there - sum(number <= there for number in left_out))}
-    if not any(follow(casts, own[start:]) for start in starts):
+    if not any(follow(entering, own[start:]) for start in starts):
         return False
-    last = next(reversed(journal.cast_and_not_undone(acts[:first])), None)
-    if last is None or all(entry.cast is not None for entry in casts):
+    last = next(reversed(journal.entered_and_not_undone(acts[:first])), None)
+    if last is None or all(entry.lines_sum is not None for entry in entering):
         return True
-    return sum_of_lines(own[: last.last()]) == last.sums.ballots
+    return sum_of(ballot_file(own[: last.last_envelope()])) == last.sums.ballots
 
 
-def follow(casts: list[Entry], lines: list[bytes]) -> bool:
-    """Whether the lines begin with those that the acts have cast, as far as these have a sum of them."""
+def follow(entering: list[Entry], lines: list[bytes]) -> bool:
+    """Whether the lines begin with those that the acts have entered, as far as these have a sum of them."""
     place = 0
-    for entry in casts:
-        end = place + entry.number()
-        if entry.cast is not None and entry.cast != sum_of_lines(lines[place:end]):
+    for entry in entering:
+        end = place + entry.envelope_count()
+        if entry.lines_sum is not None and entry.lines_sum != sum_of(ballot_file(lines[place:end])):
             return False
         place = end
     return True
 
 
-def stand_as_came(lines: list[bytes], came: list[Came]) -> bool:
+def stand_as_came(lines: list[bytes], came: list[ReceivedLine]) -> bool:
     """Whether the lines that came stand in the order in which they are kept."""
-    texts = {text for line in came for text in (line.text, line.kept)}
+    texts = {text for line in came for text in (line.changed, line.bare)}
     there = [line for line in lines if line in texts]
-    return len(there) == len(came) and all(line in (kept.text, kept.kept) for line, kept in zip(there, came))
-
-
-def sum_of_lines(lines: list[bytes]) -> str:
-    return sum_of(b"".join(line + b"\n" for line in lines))
+    return len(there) == len(came) and all(line in (came_line.changed, came_line.bare) for line, came_line in zip(there, came))
 
 
 # ---------------------------------------------------------------- the publication
-def doubts_about(changes: Changes, ballots: str) -> list[Doubt]:
+def doubts_about(changes: Changes, ballots_path: str) -> list[Doubt]:
     """That lines which came do not count as they came: in an open vote which."""
     if not changes.is_loss:
         return []
-    many = len(changes.missing) or changes.fewer
-    was = "was" if many <= 1 else "were"
-    when = "after the close" if changes.is_late else "before the close"
-    if many:
-        lines = f"{many} {'line' if many == 1 else 'lines'} that came"
-        reason = (
-            f"{lines} {when} {was} changed or taken out by hand"
-            if changes.is_late
-            else f"{lines} {was} changed or taken out by hand {when}"
-        )
-    elif changes.is_other:
-        reason = f"the ballots were changed by hand {when}"
-    else:
-        reason = f"the order of lines that came was changed by hand {when}"
+    said = what_was_done(changes)
     cure = "look who did it, and why; what came is kept in received"
-    said = f"{reason[0].upper()}{reason[1:]}."
-    which = "; ".join(changes.lines())
-    return [Doubt(ballots, f"{reason}: {which}", cure, f"{said[:-1]}: {which}.", said)]
+    told = ENGLISH.of(said)
+    which = sentence("{what}: {which}.", what=said, which=changes.said())
+    reason = f"{told[0].lower()}{told[1:]}: {'; '.join(changes.sentences())}"
+    return [Doubt(ballots_path, reason, cure, which, sentence("{what}.", what=said))]
+
+
+def what_was_done(changes: Changes) -> Sentence:
+    """What was done, without the lines."""
+    many = len(changes.missing) or changes.fewer
+    if many and changes.is_late:
+        return numbered(
+            "{number} line that came after the close was changed or taken out by hand",
+            "{number} lines that came after the close were changed or taken out by hand",
+            many,
+        )
+    if many:
+        return numbered(
+            "{number} line that came was changed or taken out by hand before the close",
+            "{number} lines that came were changed or taken out by hand before the close",
+            many,
+        )
+    if changes.is_other:
+        return sentence(OTHERS_AFTER if changes.is_late else OTHERS_BEFORE)
+    return sentence(REORDERED_AFTER if changes.is_late else REORDERED_BEFORE)

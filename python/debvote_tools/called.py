@@ -9,11 +9,11 @@ import pathlib
 import re
 
 from debvote_tools import journal, poll_file
-from debvote_tools.announced import announced_in, in_words
+from debvote_tools.announced import announced_in, time_in_words
 from debvote_tools.files import POLL_LIMIT, read_at_most, sum_of
 
 # the poll that was called, in the folder of the election
-KEPT = pathlib.Path("backup", "poll.toml.called")
+POLL_COPY = pathlib.Path("backup", "poll.toml.called")
 
 FOLDER = "call"
 
@@ -40,61 +40,61 @@ class Called:
 
     time: str | None
     latest: frozenset[str]
-    poll: bytes | None
+    poll_bytes: bytes | None
 
-    def is_of(self, poll: bytes) -> bool:
+    def is_of(self, poll_bytes: bytes) -> bool:
         """Whether this is the poll that was called, but for the lines that it may get later."""
-        if self.poll is None:
-            return self.is_latest(poll)
-        return poll_file.as_announced(self.poll) == poll_file.as_announced(poll) and not self.has_other_time(poll)
+        if self.poll_bytes is None:
+            return self.is_latest(poll_bytes)
+        return poll_file.as_announced(self.poll_bytes) == poll_file.as_announced(poll_bytes) and not self.has_other_time(poll_bytes)
 
-    def is_latest(self, poll: bytes) -> bool:
+    def is_latest(self, poll_bytes: bytes) -> bool:
         """Whether the journal has this poll, its last envelope aside, with the latest time that was called."""
-        return not self.latest.isdisjoint((sum_of(poll), sum_of(poll_file.without_last_envelope(poll))))
+        return not self.latest.isdisjoint((sum_of(poll_bytes), sum_of(poll_file.without_last_envelope(poll_bytes))))
 
-    def has_other_time(self, poll: bytes) -> bool:
+    def has_other_time(self, poll_bytes: bytes) -> bool:
         """Whether the poll says another later time than this call, or none: the sum of the call leaves that line out.
 
         The copy may be another one than that of the latest call: of a call that was killed the journal alone has the time.
         """
-        kept = self.poll or poll
-        is_same = announced_in(kept).extended_to == announced_in(poll).extended_to
-        return not (is_same and (not self.latest or self.is_latest(kept))) and not self.is_latest(poll)
+        called_poll = self.poll_bytes or poll_bytes
+        is_same = announced_in(called_poll).extended_to == announced_in(poll_bytes).extended_to
+        return not (is_same and (not self.latest or self.is_latest(called_poll))) and not self.is_latest(poll_bytes)
 
-    def change_in(self, poll: bytes) -> str:
+    def change_in(self, poll_bytes: bytes) -> str:
         """How a poll that is another one differs from the one that was called."""
-        if self.poll is None:
-            return f"the journal has another sum of the poll that was called, and no copy of that one is in {KEPT}"
-        before, now = poll_file.as_announced(self.poll), poll_file.as_announced(poll)
-        return difference(before, now) if before != now else times_that_differ(self.poll, poll)
+        if self.poll_bytes is None:
+            return f"the journal has another sum of the poll that was called, and no copy of that one is in {POLL_COPY}"
+        before, now = poll_file.as_announced(self.poll_bytes), poll_file.as_announced(poll_bytes)
+        return difference(before, now) if before != now else times_that_differ(self.poll_bytes, poll_bytes)
 
 
-def times_that_differ(called: bytes, poll: bytes) -> str:
+def times_that_differ(called: bytes, poll_bytes: bytes) -> str:
     """What a poll says of a later time, and what the poll that was called says of it."""
-    then, now = (announced_in(data).extended_to for data in (called, poll))
+    then, now = (announced_in(data).extended_to for data in (called, poll_bytes))
     if then is not None and (now is None or now < then):
-        return f"the vote was extended until {in_words(then)}, and the poll does not say so any more"
+        return f"the vote was extended until {time_in_words(then)}, and the poll does not say so any more"
     if now is None or now == then:
-        return f"what it says of a later time is not what the journal has, and the copy {KEPT} is another one, too"
-    said = "no call has extended the vote" if then is None else f"the vote was extended until {in_words(then)}"
-    return f"{said}, and the poll says that one can vote until {in_words(now)}"
+        return f"what it says of a later time is not what the journal has, and the copy {POLL_COPY} is another one, too"
+    said = "no call has extended the vote" if then is None else f"the vote was extended until {time_in_words(then)}"
+    return f"{said}, and the poll says that one can vote until {time_in_words(now)}"
 
 
 def call_of(folder: pathlib.Path) -> Called | None:
     """The call of the election in this folder; none where there was none, or where it was taken back. Raises OSError."""
-    acts = [tuple(part.decode("ascii", "replace") for part in found) for found in LINE.findall(journal_of(folder))]
+    acts = [tuple(part.decode("ascii", "replace") for part in parts) for parts in LINE.findall(journal_of(folder))]
     if acts and acts[-1][1] == TAKEN_BACK:
         return None
-    kept = read_at_most(folder / KEPT, POLL_LIMIT) if (folder / KEPT).is_file() else None
-    if not acts and kept is None:
+    copy = read_at_most(folder / POLL_COPY, POLL_LIMIT) if (folder / POLL_COPY).is_file() else None
+    if not acts and copy is None:
         return None
     ours = acts[max((at for at, act in enumerate(acts, start=1) if act[1] == TAKEN_BACK), default=0) :]
     # of an extension that is not ended yet either poll may be there
     latest = ours[max((at for at, act in enumerate(ours) if act[1] == LATER and act[3]), default=0) :]
     sums, of_latest = (frozenset(act[2] for act in some) for some in (ours, latest))
-    is_called = not sums or (kept is not None and not sums.isdisjoint((sum_of(kept), sum_of(poll_file.as_announced(kept)))))
+    is_called = not sums or (copy is not None and not sums.isdisjoint((sum_of(copy), sum_of(poll_file.as_announced(copy)))))
     time = next((act[0] for act in reversed(ours) if act[1] == MADE), None)
-    return Called(time, of_latest, kept if is_called else None)
+    return Called(time, of_latest, copy if is_called else None)
 
 
 def journal_of(folder: pathlib.Path) -> bytes:

@@ -12,6 +12,10 @@ from debvote_tools.faults import Fault, Status
 from debvote_tools.signs import written
 
 
+# what is said where a question is answered otherwise
+YES_OR_NO = "Type y for yes, or n for no."
+
+
 class OutputFailed(Fault):
     """Standard output takes nothing more. What was told before is done."""
 

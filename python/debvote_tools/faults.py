@@ -3,11 +3,14 @@
 import dataclasses
 import enum
 
+from debvote_tools.sentences import Sentence, sentence
+
 
 class Status(enum.IntEnum):
     """The exit statuses: those of debvote, and that of a shell where there is no debvote. No two have one number."""
 
-    DECIDED = 0
+    # all was done; of a count: it has a winner
+    DONE = 0
     TIE = 1
     BAD_WORDS = 2
     BAD_POLL = 3
@@ -51,7 +54,7 @@ def other_format(what: str) -> Fault:
 
 
 # what the page of a secret vote says of a doubt that would tell a name, a line or a number of a line
-UNNAMED = "There is a doubt about the files of this vote; what it is would tell more than a secret vote may."
+UNNAMED = sentence("There is a doubt about the files of this vote; what it is would tell more than a secret vote may.")
 
 
 @dataclasses.dataclass(frozen=True)
@@ -61,9 +64,10 @@ class Doubt:
     file: str
     reason: str
     cure: str
-    sentence: str
+    sentence: Sentence
     # the sentence on the page of a secret vote; it is the general one unless the doubt names nobody
-    in_secret: str = UNNAMED
+    in_secret: Sentence = UNNAMED
 
-    def line(self) -> str:
+    def told(self) -> str:
+        """The doubt for the one who publishes."""
         return f"{self.file}: {self.reason}; {self.cure}"

@@ -153,9 +153,9 @@ def end_of_lines(handle: int) -> int:
     place = os.fstat(handle).st_size
     while place > 0:
         start = max(0, place - 4096)
-        found = os.pread(handle, place - start, start).rfind(b"\n")
-        if found >= 0:
-            return start + found + 1
+        feed = os.pread(handle, place - start, start).rfind(b"\n")
+        if feed >= 0:
+            return start + feed + 1
         place = start
     return 0
 
@@ -163,7 +163,7 @@ def end_of_lines(handle: int) -> int:
 def write_new(folder: pathlib.Path, name: str, data: bytes, mode: int = 0o644) -> pathlib.Path:
     """Writes a file into a folder of numbered files, as `0007-poll.toml`, whole; the folder is made where it is not there."""
     folder.mkdir(exist_ok=True)
-    numbers = [int(found[1]) for file in folder.iterdir() if (found := re.match(r"(\d+)-", file.name))]
+    numbers = [int(number[1]) for file in folder.iterdir() if (number := re.match(r"(\d+)-", file.name))]
     file = folder / f"{max(numbers, default=0) + 1:04}-{name}"
     write_whole(file, data, mode)
     return file

@@ -2,8 +2,8 @@
 
     2026-11-25T18:04:11Z  add  13-15  <sum of poll.toml>  <sum of ballots>
 
-Its parts have a tab between them, and `-` stands for what there is not. Behind the envelopes, and a space, stands the name of the
-record that an act has, as `13-15 0004`. An act that casts lines has the sum of these lines as a sixth part.
+Its parts have a tab between them, and `-` stands for what there is not. Behind the envelopes, and a space, stands the
+record that an act has, as `13-15 0004`. An act that enters lines has the sum of these lines as a sixth part.
 
 A line is written before the act is done, and gets its line feed after that. So where a run is killed between the two, the next act
 finds a line that is not ended: either the files have its sums, and it is ended, or the act was not done, and this is noted.
@@ -20,8 +20,8 @@ from debvote_tools.files import append_whole, sum_of
 
 NAME = "journal"
 
-# the acts that cast lines, and the one that takes back what the last of them has cast
-CASTING = ("add", "cast", "enter")
+# the acts that enter lines, of `add`, of a desk (`cast`) and of `held`, and the one that takes back what the last of them has entered
+ENTERING = ("add", "cast", "enter")
 UNDO = "undo"
 
 # the act by which the next run notes that the one before was cut off before it was done
@@ -53,45 +53,46 @@ class Sums:
 @dataclasses.dataclass(frozen=True)
 class Entry:
     """A line of the journal: the time in UTC, the act, the envelopes as `13-15`, the sums after the act, and the sum of the lines
-    that it cast, each with its line feed; other acts, and those of earlier versions, have none.
+    that it entered, each with its line feed; other acts, and those of earlier versions, have none.
 
-    An act about letters, or one that takes lines back, has a record: the name by which the file begins that says which.
+    The record of an act about letters, or of one that takes lines back, is the name by which the file begins that says which. Other acts
+    have another one: `new` the language, those of a keyring and of a web form a sum.
     """
 
     time: str
     act: str
     envelopes: str
     sums: Sums
-    cast: str | None = None
+    lines_sum: str | None = None
     record: str = ""
 
     def line(self) -> str:
-        cast = () if self.cast is None else (self.cast,)
+        lines_sum = () if self.lines_sum is None else (self.lines_sum,)
         what = f"{self.envelopes} {self.record}".rstrip()
-        return "\t".join((self.time, self.act, what, self.sums.poll, self.sums.ballots, *cast)) + "\n"
+        return "\t".join((self.time, self.act, what, self.sums.poll, self.sums.ballots, *lines_sum)) + "\n"
 
-    def first(self) -> int:
+    def first_envelope(self) -> int:
         """The first of its envelopes; 0 where it has none."""
-        return self.ends()[0]
+        return self.first_and_last()[0]
 
-    def last(self) -> int:
+    def last_envelope(self) -> int:
         """The last of its envelopes; 0 where it has none."""
-        return self.ends()[1]
+        return self.first_and_last()[1]
 
-    def number(self) -> int:
+    def envelope_count(self) -> int:
         """How many envelopes it has."""
-        first, last = self.ends()
+        first, last = self.first_and_last()
         return last - first + 1 if last else 0
 
-    def ends(self) -> tuple[int, int]:
+    def first_and_last(self) -> tuple[int, int]:
         """Both; 0 where it has none."""
-        found = re.fullmatch(r"(\d{1,9})(?:-(\d{1,9}))?", self.envelopes)
-        return (0, 0) if found is None else (int(found[1]), int(found[2] or found[1]))
+        numbers = re.fullmatch(r"(\d{1,9})(?:-(\d{1,9}))?", self.envelopes)
+        return (0, 0) if numbers is None else (int(numbers[1]), int(numbers[2] or numbers[1]))
 
     @property
-    def lines(self) -> int | None:
-        """How many lines the ballots have after an act that casts some, or takes some back; none of any other act."""
-        if self.act in CASTING:
+    def lines_after(self) -> int | None:
+        """How many lines the ballots have after an act that enters some, or takes some back; none of any other act."""
+        if self.act in ENTERING:
             return int(self.envelopes.rpartition("-")[2])
         return int(self.envelopes.partition("-")[0]) - 1 if self.act == UNDO else None
 
@@ -126,7 +127,7 @@ def last_entries(file: pathlib.Path) -> list[Entry]:
     return entries if done(entries) else entries_in(file)
 
 
-def in_words(time: str) -> str:
+def act_time_in_words(time: str) -> str:
     """A time of the journal, as a person writes it."""
     return time.replace("T", " ").replace("Z", " UTC")
 
@@ -158,15 +159,15 @@ def last(entries: list[Entry], act: str) -> Entry | None:
     return next((entry for entry in reversed(done(entries)) if entry.act == act), None)
 
 
-def cast_and_not_undone(acts: Sequence[Entry]) -> list[Entry]:
-    """Of the acts that were done those that cast lines which no later act has taken back, first to last."""
-    found: list[Entry] = []
+def entered_and_not_undone(acts: Sequence[Entry]) -> list[Entry]:
+    """Of the acts that were done those that entered lines which no later act has taken back, first to last."""
+    entering: list[Entry] = []
     for entry in acts:
-        if entry.act in CASTING:
-            found.append(entry)
+        if entry.act in ENTERING:
+            entering.append(entry)
         elif entry.act == UNDO:
-            del found[-1:]
-    return found
+            del entering[-1:]
+    return entering
 
 
 def acts_done(file: pathlib.Path, now: Sums) -> list[Entry]:
@@ -180,9 +181,9 @@ def note(file: pathlib.Path, act: str, envelopes: str, sums: Sums) -> None:
     append_whole(file, line_now(act, envelopes, sums) + b"\n", has_lines=True)
 
 
-def begin(file: pathlib.Path, act: str, envelopes: str, sums: Sums, cast: str | None = None, record: str = "") -> None:
+def begin(file: pathlib.Path, act: str, envelopes: str, sums: Sums, lines_sum: str | None = None, record: str = "") -> None:
     """Notes that an act begins. Raises OSError, and then nothing is noted."""
-    append_whole(file, line_now(act, envelopes, sums, cast, record), has_lines=True)
+    append_whole(file, line_now(act, envelopes, sums, lines_sum, record), has_lines=True)
 
 
 def end(file: pathlib.Path) -> None:
@@ -195,7 +196,7 @@ def end_undone(file: pathlib.Path, sums: Sums) -> None:
     append_whole(file, b"\n" + line_now(UNDONE, NONE, sums) + b"\n")
 
 
-def line_now(act: str, envelopes: str, sums: Sums, cast: str | None = None, record: str = "") -> bytes:
+def line_now(act: str, envelopes: str, sums: Sums, lines_sum: str | None = None, record: str = "") -> bytes:
     """The line of an act at this time, without its line feed."""
     time = datetime.datetime.now(datetime.UTC).strftime("%Y-%m-%dT%H:%M:%SZ")
-    return Entry(time, act, envelopes, sums, cast, record).line().removesuffix("\n").encode("ascii")
+    return Entry(time, act, envelopes, sums, lines_sum, record).line().removesuffix("\n").encode("ascii")

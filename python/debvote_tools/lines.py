@@ -1,14 +1,17 @@
-"""The lines that come, and what may be changed of one before it is cast.
+"""The lines that come, and what may be changed of one before it is entered.
 
 Changed is what can mean one thing only: the byte-order mark at the start, carriage returns at line ends, spaces and tabs at either
 end, around commas and between name and ranks, capital letters of the name; and what mail programs and word processors put there:
 quotation marks around the line, asterisks for bold letters, a full stop at its end, semicolons for commas, a colon behind the name,
-no-break spaces, and a dash for a hyphen. Nothing else is, and nothing is guessed: no rank, no name, no order.
+no-break spaces, and a dash for a hyphen. Of the cells of a web form `forms.py` changes less: blanks at either end of each, line feeds
+within it, capital letters of the name and, where the call says so, an empty cell to a hyphen. Nothing else is changed, and nothing is
+guessed: no rank, no name, no order.
 """
 
 import codecs
 import dataclasses
 import re
+from collections.abc import Iterable
 
 MARK = codecs.BOM_UTF8
 
@@ -65,10 +68,10 @@ class Line:
     """A line that came, at the place that `where` names, such as `more.txt:3`."""
 
     where: str
-    # with the mark and the carriage return that it came with
-    came: bytes
-    # without mark and line end, as it goes in where debvote refuses it
-    kept: bytes
+    # as it came: that of a file with its mark and its carriage return, that of a row with the line feeds in its cells
+    whole: bytes
+    # without them, as it goes in where debvote refuses it
+    bare: bytes
     # after all changes that are allowed
     changed: bytes
 
@@ -77,29 +80,42 @@ class Line:
         return not self.changed
 
     @property
-    def frame(self) -> tuple[bool, bool]:
-        """Whether the mark before it, and the carriage return behind it, are all that was taken off as it was read."""
-        marked = self.came.startswith(MARK) and not self.kept.startswith(MARK)
-        bare = self.came.removeprefix(MARK) if marked else self.came
-        return (marked, bare != self.kept) if bare.removesuffix(b"\r") == self.kept else (False, False)
+    def had_mark(self) -> bool:
+        """Whether it came with a mark, which was taken off. Where more than mark and carriage return was, neither is said of it."""
+        return not self.bare.startswith(MARK) and self.whole.removesuffix(b"\r") == MARK + self.bare
 
     @property
-    def inner(self) -> bytes:
-        """The line as it came, without what is told of the whole file."""
-        return self.kept if any(self.frame) else self.came
+    def had_return(self) -> bool:
+        """Whether it came with a carriage return, which was taken off."""
+        return self.whole == self.bare + b"\r" or (self.had_mark and self.whole.endswith(b"\r"))
+
+    @property
+    def without_frame(self) -> bytes:
+        """The line as it came, but without such a mark and such a carriage return: these are told of the whole file."""
+        return self.bare if self.had_mark or self.had_return else self.whole
 
 
 def lines_in(data: bytes, name: str, first: int = 1) -> list[Line]:
     """The lines of a file; `first` is the number of the first one. A byte-order mark is taken out where it is at line 1."""
-    found, number = [], first
+    lines, number = [], first
     for part in PART.finditer(data):
         if part.start() == len(data):
             break
-        came = part[1] + (b"\r" if part[2].startswith(b"\r") else b"")
-        kept = part[1].removeprefix(MARK) if number == 1 else part[1]
-        found.append(Line(f"{name}:{number}", came, kept, changed(kept)))
+        whole = part[1] + (b"\r" if part[2].startswith(b"\r") else b"")
+        bare = part[1].removeprefix(MARK) if number == 1 else part[1]
+        lines.append(Line(f"{name}:{number}", whole, bare, changed(bare)))
         number += 1
-    return found
+    return lines
+
+
+def ballot_lines(ballots_bytes: bytes) -> list[bytes]:
+    """The lines of a ballot file; a last one that is not ended is one."""
+    return ballots_bytes.removesuffix(b"\n").split(b"\n") if ballots_bytes else []
+
+
+def ballot_file(lines: Iterable[bytes]) -> bytes:
+    """A ballot file of these lines, each with its line feed."""
+    return b"".join(line + b"\n" for line in lines)
 
 
 def changed(line: bytes) -> bytes:
@@ -144,9 +160,9 @@ def unquoted(text: str) -> str:
 
 def differences(before: bytes, after: bytes) -> list[str]:
     """What was changed, by its names."""
-    found = [name for name, signs in SIGNS.items() if any(before.count(sign) > after.count(sign) for sign in signs)]
-    if before.count(b"-") < after.count(b"-") and "dashes" not in found:
-        found.append("empty cells")
+    names = [name for name, signs in SIGNS.items() if any(before.count(sign) > after.count(sign) for sign in signs)]
+    if before.count(b"-") < after.count(b"-") and "dashes" not in names:
+        names.append("empty cells")
     if len(CAPITALS.findall(before)) > len(CAPITALS.findall(after)):
-        found.append("capital letters")
-    return found
+        names.append("capital letters")
+    return names

@@ -3,10 +3,9 @@
 import pathlib
 import re
 
-from debvote_tools import journal, poll_file
-from debvote_tools.by_hand import RECEIVED
-from debvote_tools.called import FOLDER, KEPT as CALLED, LETTER
-from debvote_tools.closed import KEPT as CLOSED
+from debvote_tools import journal, poll_file, received
+from debvote_tools.called import FOLDER, LETTER, POLL_COPY
+from debvote_tools.closed import BALLOTS_COPY
 
 # the act that is noted first in a journal which begins anew in the place of one that was lost
 ACT = "lost"
@@ -21,10 +20,9 @@ KEPT_COPY = re.compile(r"\d{4,}-poll\.toml")
 
 def trace_in(folder: pathlib.Path) -> str | None:
     """A file of a folder by which one sees that an election is held there, wherever its journal is."""
-    received, backup = folder / RECEIVED, folder / BACKUP
-    numbered = [file for file in received.iterdir() if re.match(r"\d{4,}-", file.name)] if received.is_dir() else []
+    backup = folder / BACKUP
     copies = [file for file in backup.iterdir() if KEPT_COPY.fullmatch(file.name)] if backup.is_dir() else []
-    there = [folder / CLOSED, folder / CALLED, folder / FOLDER / LETTER, *sorted(numbered), *sorted(copies)]
+    there = [folder / BALLOTS_COPY, folder / POLL_COPY, folder / FOLDER / LETTER, *received.numbered_files(folder), *sorted(copies)]
     return next((str(file.relative_to(folder)) for file in there if file.is_file()), None)
 
 
@@ -32,14 +30,14 @@ def is_emptied(folder: pathlib.Path) -> bool:
     """Whether the journal is empty although acts were done: a run that was killed in the first act leaves no call, and not both the
     poll that was called and what came.
     """
-    file, received = folder / journal.NAME, folder / RECEIVED
+    file = folder / journal.NAME
     if not file.is_file() or file.stat().st_size:
         return False
-    has_come = received.is_dir() and any(re.match(r"\d{4,}-", came.name) for came in received.iterdir())
-    return (folder / FOLDER / LETTER).is_file() or ((folder / CALLED).is_file() and has_come)
+    has_come = bool(received.numbered_files(folder))
+    return (folder / FOLDER / LETTER).is_file() or ((folder / POLL_COPY).is_file() and has_come)
 
 
-def lost_in(folder: pathlib.Path, poll: bytes) -> str | None:
+def lost_in(folder: pathlib.Path, poll_bytes: bytes) -> str | None:
     """What shows that the journal of the election in this folder was lost, or its close; none where neither was. A close that was
     cut off has written no last envelope into the poll.
     """
@@ -51,10 +49,10 @@ def lost_in(folder: pathlib.Path, poll: bytes) -> str | None:
         return f"the journal is lost: {trace_in(folder)} is there, and the journal is empty"
     noted = NOTED.search(file.read_bytes())
     if noted is not None:
-        return f"the journal was lost before {journal.in_words(noted[1].decode('ascii', 'replace'))}"
-    is_kept = (folder / CLOSED).is_file()
-    if is_kept and poll_file.has_last_envelope(poll) and journal.last(journal.entries_in(file), "close") is None:
+        return f"the journal was lost before {journal.act_time_in_words(noted[1].decode('ascii', 'replace'))}"
+    is_kept = (folder / BALLOTS_COPY).is_file()
+    if is_kept and poll_file.has_last_envelope(poll_bytes) and journal.last(journal.entries_in(file), "close") is None:
         begun = journal.begun(file)
         if begun is None or begun.act != "close":
-            return f"{CLOSED} is there, and the journal has no close: it was lost, or changed by hand"
+            return f"{BALLOTS_COPY} is there, and the journal has no close: it was lost, or changed by hand"
     return None

@@ -14,6 +14,10 @@ from debvote_tools.tables import DELIMITERS, MARKS, Kind, kind_of, mark_of
 
 COLUMNS = ("name", "who", "mail")
 
+# a column that may be there: the fingerprint of the key with which a member signs
+KEY = "key"
+FINGERPRINT = re.compile(r"[0-9A-F]{40}")
+
 # the longest name that a roll allows
 LONGEST_NAME = 32
 
@@ -65,6 +69,8 @@ class Member:
     name: str
     who: str
     mail: str
+    # the fingerprint of a key of OpenPGP, in capital letters
+    key: str = ""
 
     @property
     def line(self) -> int:
@@ -161,8 +167,8 @@ def table_of(file: pathlib.Path, text: str) -> tuple[str, list[Row]]:
     if first is None:
         raise doubt(file, "it is empty", f"write the head line name,who,mail and a line for each member, {AGAIN}")
     head = first[0].casefold()
-    found = {mark: len(set(COLUMNS) & {title.strip(' "') for title in head.split(mark)}) for mark in DELIMITERS}
-    delimiter = max(DELIMITERS, key=lambda mark: (found[mark], head.count(mark)))
+    columns = {mark: len(set(COLUMNS) & {title.strip(' "') for title in head.split(mark)}) for mark in DELIMITERS}
+    delimiter = max(DELIMITERS, key=lambda mark: (columns[mark], head.count(mark)))
     return delimiter, [row for row in rows_in(file, text, delimiter) if not row.is_blank()]
 
 
@@ -173,21 +179,21 @@ def rows_in(file: pathlib.Path, text: str, delimiter: str) -> Iterable[Row]:
     while place < len(text):
         start, cells = place, []
         while True:
-            found = cell.match(text, place)
+            parts = cell.match(text, place)
             # the second kind of a cell may be empty, so each place begins one
-            assert found is not None
-            if found[1] is None and found[2].lstrip(" ").startswith('"'):
+            assert parts is not None
+            if parts[1] is None and parts[2].lstrip(" ").startswith('"'):
                 at = line + line_feeds(text[start:place])
                 raise doubt(
                     file,
-                    f"the quotation mark before {shown_text(found[2].strip()[1:])} has none that ends the cell",
+                    f"the quotation mark before {shown_text(parts[2].strip()[1:])} has none that ends the cell",
                     f"put it right, {AGAIN}",
                     at,
                 )
-            value = found[2] if found[1] is None else found[1].replace('""', '"')
-            cells.append(Cell(found.start(), found.end(), value.strip()))
-            place = found.end() + 1
-            if text[found.end() : place] != delimiter:
+            value = parts[2] if parts[1] is None else parts[1].replace('""', '"')
+            cells.append(Cell(parts.start(), parts.end(), value.strip()))
+            place = parts.end() + 1
+            if text[parts.end() : place] != delimiter:
                 break
         if text[place - 1 : place + 1] == "\r\n":
             place += 1
@@ -203,7 +209,8 @@ def line_feeds(text: str) -> int:
 def places_of(file: pathlib.Path, head: Row, delimiter: str) -> dict[str, int]:
     """The place of each column that is read, by the head line."""
     titles = [cell.value.casefold() for cell in head.cells]
-    for column in COLUMNS:
+    there = (*COLUMNS, KEY) if KEY in titles else COLUMNS
+    for column in there:
         if column not in titles:
             said = ", ".join(shown_text(cell.value) for cell in head.cells if cell.value)
             raise doubt(
@@ -214,7 +221,7 @@ def places_of(file: pathlib.Path, head: Row, delimiter: str) -> dict[str, int]:
             )
         if titles.count(column) > 1:
             raise doubt(file, f"the head line has the column `{column}` twice", f"name one of them otherwise, {AGAIN}", head.line)
-    return {column: titles.index(column) for column in COLUMNS}
+    return {column: titles.index(column) for column in there}
 
 
 def member_of(file: pathlib.Path, row: Row, head: Row, places: dict[str, int]) -> Member:
@@ -242,7 +249,20 @@ def member_of(file: pathlib.Path, row: Row, head: Row, places: dict[str, int]) -
                 f"take it out, {AGAIN}",
                 row.line,
             )
-    return Member(row, **read)
+    return Member(row, **(read | {KEY: fingerprint_of(file, row, read)} if KEY in read else read))
+
+
+def fingerprint_of(file: pathlib.Path, row: Row, read: dict[str, str]) -> str:
+    """The fingerprint of a member's key, without its spaces; an empty text where the member has none."""
+    key = "".join(read[KEY].split()).upper()
+    if key and not FINGERPRINT.fullmatch(key):
+        raise doubt(
+            file,
+            f"the key of {shown_text(read['name'] or read['who'] or read['mail'])} is no fingerprint: `{shown_text(read[KEY])}`",
+            "write all 40 digits of it (0 to 9 and A to F; spaces may stand between), as gpg --fingerprint shows them",
+            row.line,
+        )
+    return key
 
 
 # ---------------------------------------------------------------- names
@@ -271,16 +291,16 @@ def proposals(members: list[Member]) -> dict[int, str]:
     numbers: dict[str, int] = collections.defaultdict(int)
     # behind one who has the bare name already comes the second
     numbers.update({member.name: 1 for member in members if member.name})
-    found: dict[int, str] = {}
+    proposed_names: dict[int, str] = {}
     for line, name in bare.items():
         proposed = name
         while proposed in taken:
             numbers[name] += 1
             proposed = numbered(name, numbers[name])
         if name:
-            found[line] = proposed
+            proposed_names[line] = proposed
             taken.add(proposed)
-    return found
+    return proposed_names
 
 
 def numbered(name: str, number: int) -> str:

@@ -41,18 +41,18 @@ KEY = re.compile(r"""[ \t]*(?:"((?:[^"\\\n]|\\.)*)"|'([^'\n]*)'|([A-Za-z0-9_-]+)
 
 def statements(text: str) -> list[Statement]:
     """The statements of a TOML text, in their order, each up to the next line; comments and empty lines are none."""
-    found, place = [], 0
+    statements_found, place = [], 0
     while place < len(text):
         end = end_of_statement(text, place)
         line = text[place:end]
         head = line.lstrip(f" \t{MARK}")
         if head.startswith("["):
-            found.append(Statement(None, place, end))
+            statements_found.append(Statement(None, place, end))
         elif head.strip() and not head.startswith("#"):
             key = KEY.match(line.removeprefix(MARK))
-            found.append(Statement(next(filter(None, key.groups()), "") if key else "", place, end))
+            statements_found.append(Statement(next(filter(None, key.groups()), "") if key else "", place, end))
         place = end
-    return found
+    return statements_found
 
 
 def end_of_statement(text: str, start: int) -> int:
@@ -88,10 +88,10 @@ def options_of(data: bytes) -> list[str]:
 
 def texts_at(said: dict[str, object], key: str) -> list[str]:
     """The texts of a list. Raises KeyError where there is none, and TypeError where it is no list."""
-    found = said[key]
-    if not isinstance(found, list):
+    texts = said[key]
+    if not isinstance(texts, list):
         raise TypeError(key)
-    return [str(text) for text in found]
+    return [str(text) for text in texts]
 
 
 class BadPoll(Fault):
@@ -142,17 +142,17 @@ def with_key(data: bytes, key: str, value: str) -> bytes:
 
 def with_line(text: str, key: str, value: str) -> str:
     """The text in which a line sets the key: where the key stands above all tables, or else behind the last one there."""
-    found = statements(text)
-    above = list(itertools.takewhile(lambda statement: statement.key is not None, found))
+    all_statements = statements(text)
+    above = list(itertools.takewhile(lambda statement: statement.key is not None, all_statements))
     old = next((statement for statement in above if statement.key == key), None)
     feed = "\r\n" if "\r\n" in text else "\n"
     line = f"{key} = {value}{feed}"
     if old is not None:
         return text[: old.start] + line + text[old.end :]
-    if above or not found:
-        place = above[-1].end if found[len(above) :] else len(text)
+    if above or not all_statements:
+        place = above[-1].end if all_statements[len(above) :] else len(text)
     else:
-        place = found[0].start
+        place = all_statements[0].start
     # a last line that has no line feed gets one alone, as grep ends it, so that the sum without the last envelope stays
     end = "\n" if text[:place] and not text[:place].endswith("\n") else ""
     return text[:place] + end + line + text[place:]

@@ -56,16 +56,16 @@ class Findings:
 class Debvote:
     """The program debvote, which runs in a folder: the files that it is given are named from there."""
 
-    def __init__(self, folder: pathlib.Path, beside: pathlib.Path | None = None) -> None:
-        """`beside` is the folder of the program that asks: debvote may lie beside it."""
-        found = (shutil.which("debvote", path=str(beside)) if beside else None) or shutil.which("debvote")
-        if found is None:
+    def __init__(self, folder: pathlib.Path, program_folder: pathlib.Path | None = None) -> None:
+        """`program_folder` is that of the program that runs it: debvote may lie beside it."""
+        path = (shutil.which("debvote", path=str(program_folder)) if program_folder else None) or shutil.which("debvote")
+        if path is None:
             words = "the program is neither beside this one nor in the PATH"
             raise Fault("debvote", words, "install the package debvote", Status.NOT_FOUND)
-        self.path = os.path.abspath(found)
+        self.path = os.path.abspath(path)
         self.folder = folder
 
-    def ask(self, *words: str | os.PathLike[str], given: bytes | None = None) -> Answer:
+    def run(self, *words: str | os.PathLike[str], given: bytes | None = None) -> Answer:
         """Runs debvote with these words, and with these bytes as its standard input."""
         if given is not None and not os.path.isdir(OWN_FILES):
             raise Fault(
@@ -76,7 +76,7 @@ class Debvote:
                 "nothing was counted",
             )
         try:
-            ended = self.run([self.path, *(os.fspath(word) for word in words)], given)
+            ended = self.ended([self.path, *(os.fspath(word) for word in words)], given)
         except OSError as error:
             raise Fault(
                 self.path,
@@ -89,15 +89,15 @@ class Debvote:
         answer = Answer(ended.stdout.decode("ascii", "replace"), ended.stderr.decode("utf-8", "replace"), status)
         return without_announced(answer) if words[:1] == ("explain",) else answer
 
-    def run(self, words: list[str], given: bytes | None) -> subprocess.CompletedProcess[bytes]:
-        """Runs a program in the folder. Raises OSError where it can't be started."""
+    def ended(self, words: list[str], given: bytes | None) -> subprocess.CompletedProcess[bytes]:
+        """How a program ended that was run in the folder. Raises OSError where it can't be started."""
         if given is None:
             return subprocess.run(words, cwd=self.folder, capture_output=True, stdin=subprocess.DEVNULL)
         return subprocess.run(words, cwd=self.folder, capture_output=True, input=given)
 
     def version(self) -> str:
         """The line of `--version`, as `debvote 1.1.0`."""
-        return self.ask("--version").text.strip()
+        return self.run("--version").text.strip()
 
 
 # what `explain` of a debvote says that does not know the keys by which a poll announces more than is counted
@@ -107,12 +107,12 @@ UNREAD = re.compile(rf"poll: key (?:{'|'.join(announced.KEYS)}) is not read(?:; 
 def without_announced(answer: Answer) -> Answer:
     """What `explain` says of all else than these keys."""
     lines = answer.text.splitlines(keepends=True)
-    kept = [line for line in lines if not UNREAD.fullmatch(line.rstrip("\n"))]
-    if len(kept) == len(lines):
+    other_lines = [line for line in lines if not UNREAD.fullmatch(line.rstrip("\n"))]
+    if len(other_lines) == len(lines):
         return answer
-    has_more = any(re.match("poll:|ballots:", line) for line in kept)
-    status = Status.DECIDED if answer.status == Status.DOUBT and not has_more else answer.status
-    return Answer("".join(kept), answer.faults, status)
+    has_more = any(re.match("poll:|ballots:", line) for line in other_lines)
+    status = Status.DONE if answer.status == Status.DOUBT and not has_more else answer.status
+    return Answer("".join(other_lines), answer.faults, status)
 
 
 def casting_words(name: str | None) -> list[str]:
@@ -134,7 +134,7 @@ def findings_in(text: str) -> Findings:
     totals = TOTALS.fullmatch(lines[-1]) if lines else None
     if totals is None:
         raise other_format("what this debvote explains")
-    refused = [Finding(int(found[1]), found[2], found[3]) for found in map(FINDING.fullmatch, lines) if found]
+    refused = [Finding(int(parts[1]), parts[2], parts[3]) for parts in map(FINDING.fullmatch, lines) if parts]
     unread = [line.removeprefix("poll: ") for line in lines if line.startswith("poll: ")]
     is_windows = any(line.startswith(WINDOWS) for line in lines)
     return Findings(unread, refused, is_windows, Totals(*map(int, totals.groups())))

@@ -20,6 +20,7 @@ from debvote_tools import announced, called, journal, poll_file
 from debvote_tools.ballots import in_normal_form
 from debvote_tools.faults import Doubt, Fault, Status
 from debvote_tools.files import TABLE_LIMIT
+from debvote_tools.sentences import sentence
 
 # the folder of what is secret, in that of the election, and its files
 PRIVATE = "private"
@@ -94,20 +95,20 @@ def is_secret(folder: pathlib.Path) -> bool:
     return acts.is_file() and journal.last(journal.entries_in(acts), ACT) is not None
 
 
-def says_secret(poll: bytes) -> bool:
+def says_secret(poll_bytes: bytes) -> bool:
     """Whether a poll says that its vote is secret."""
-    return SAYS_SECRET.search(poll) is not None or TELLS_SECRET in b" ".join(re.split(rb"[\s#]+", poll))
+    return SAYS_SECRET.search(poll_bytes) is not None or TELLS_SECRET in b" ".join(re.split(rb"[\s#]+", poll_bytes))
 
 
-def saying_secret(poll: bytes) -> bytes:
+def saying_secret(poll_bytes: bytes) -> bytes:
     """The poll with the line `secret = true`, above all tables."""
-    return poll if poll_file.document(poll).get("secret") is True else poll_file.with_key(poll, "secret", "true")
+    return poll_bytes if poll_file.document(poll_bytes).get("secret") is True else poll_file.with_key(poll_bytes, "secret", "true")
 
 
-def has_aliases(poll: bytes) -> bool:
+def has_aliases(poll_bytes: bytes) -> bool:
     """Whether the roll of a poll has aliases alone, so that it tells no name."""
     try:
-        roll = poll_file.document(poll).get("roll")
+        roll = poll_file.document(poll_bytes).get("roll")
     except Fault:
         return False
     return isinstance(roll, list) and all(isinstance(name, str) and DIGITS.fullmatch(name) for name in roll)
@@ -144,14 +145,14 @@ def holder_of(file: pathlib.Path, number: int, row: list[str]) -> Holder:
     """The elector of a row; its alias has to be the one that name and code make."""
     if len(row) != len(COLUMNS):
         raise damaged(file, f"row {number} has not the five cells {','.join(COLUMNS)}")
-    found = Holder(*row)
+    holder = Holder(*row)
     # whoever writes it by a slip types the gaps that stand there
-    found = dataclasses.replace(found, code=found.code.replace(" ", ""))
-    if not DIGITS.fullmatch(found.code):
-        raise damaged(file, f"row {number}: the code of {found.name} is not 32 digits of 0-9 and a-f")
-    if alias_of(found.name, found.code) != found.alias:
-        raise damaged(file, f"row {number}: the alias of {found.name} is not the one that name and code make")
-    return found
+    holder = dataclasses.replace(holder, code=holder.code.replace(" ", ""))
+    if not DIGITS.fullmatch(holder.code):
+        raise damaged(file, f"row {number}: the code of {holder.name} is not 32 digits of 0-9 and a-f")
+    if alias_of(holder.name, holder.code) != holder.alias:
+        raise damaged(file, f"row {number}: the alias of {holder.name} is not the one that name and code make")
+    return holder
 
 
 def demand_different(file: pathlib.Path, holders: list[Holder], column: str) -> None:
@@ -186,20 +187,20 @@ def private_bytes(file: pathlib.Path) -> bytes:
     return data
 
 
-def demand_private(file: pathlib.Path, mode: int, found: os.stat_result | None = None) -> None:
+def demand_private(file: pathlib.Path, mode: int, status: os.stat_result | None = None) -> None:
     """Stops where others than the owner may read a file, look into a folder, or write there."""
     try:
-        found = file.stat() if found is None else found
+        status = file.stat() if status is None else status
     except OSError as error:
         raise Fault(file, error.strerror, "put the file of codes that was made for this vote there", Status.DOUBT) from None
-    if stat.S_ISDIR(found.st_mode) != (mode == FOLDER_MODE) or not (stat.S_ISDIR(found.st_mode) or stat.S_ISREG(found.st_mode)):
+    if stat.S_ISDIR(status.st_mode) != (mode == FOLDER_MODE) or not (stat.S_ISDIR(status.st_mode) or stat.S_ISREG(status.st_mode)):
         raise Fault(file, f"it is no {'folder' if mode == FOLDER_MODE else 'file'}", "move it away", Status.DOUBT)
-    if found.st_uid != os.geteuid() and os.geteuid() != 0:
+    if status.st_uid != os.geteuid() and os.geteuid() != 0:
         raise Fault(file, "it belongs to somebody else", "what is secret has to be yours alone", Status.DOUBT)
-    if found.st_mode & 0o077:
+    if status.st_mode & 0o077:
         raise Fault(
             file,
-            f"others than you may use it (mode {found.st_mode & 511:o}), and who sees what is in it knows who voted what",
+            f"others than you may use it (mode {status.st_mode & 511:o}), and who sees what is in it knows who voted what",
             f"make it yours alone: chmod {mode:o} {file}",
             Status.DOUBT,
         )
@@ -221,12 +222,12 @@ def some(names: list[str]) -> str:
     return ", ".join(names[:SHOWN]) + (f" and {len(names) - SHOWN} more" if len(names) > SHOWN else "")
 
 
-def poll_of(poll: bytes, aliases: dict[str, str]) -> bytes:
+def poll_of(poll_bytes: bytes, aliases: dict[str, str]) -> bytes:
     """The poll with the roll of aliases in the order of their bytes, and without a last envelope.
 
     It is written anew: what else stands in the poll, as a comment, might tell a name.
     """
-    said = poll_file.document(poll) | {"roll": sorted(aliases.values())}
+    said = poll_file.document(poll_bytes) | {"roll": sorted(aliases.values())}
     return "".join(f"{key} = {json.dumps(said[key], ensure_ascii=False)}\n" for key in KEYS if key in said).encode("utf-8")
 
 
@@ -243,33 +244,33 @@ def is_taken_back(codes: pathlib.Path) -> bool:
     return (codes.parent / CALLED).exists() and called.call_of(codes.parent.parent) is None
 
 
-def copy_is_gone(codes: pathlib.Path, poll: bytes) -> Doubt | None:
+def copy_is_gone(codes: pathlib.Path, poll_bytes: bytes) -> Doubt | None:
     """That the copy of the poll under aliases is gone, by which a code that was changed since the call is found. The poll is the
     one with the names; one without the key `secret` was called by version 1.0.0, which kept no such copy.
     """
-    kept, said = codes.parent / CALLED, poll_file.document(poll).get("secret")
-    if kept.exists() or said is not True or called.call_of(codes.parent.parent) is None:
+    copy_path, is_secret = codes.parent / CALLED, poll_file.document(poll_bytes).get("secret")
+    if copy_path.exists() or is_secret is not True or called.call_of(codes.parent.parent) is None:
         return None
     reason = "the poll under aliases that was called is gone, so whether a code was changed since the call is not known"
     cure = f"put it back; it is the file {POLL_OF_CALL} of the call, as it was sent out"
-    sentence = "The copy of the poll that was called is gone, so whether an alias was changed since the call is not known."
-    return Doubt(str(kept), reason, cure, sentence, sentence)
+    said = sentence("The copy of the poll that was called is gone, so whether an alias was changed since the call is not known.")
+    return Doubt(str(copy_path), reason, cure, said, said)
 
 
-def demand_called(codes: pathlib.Path, poll: bytes, *, is_published: bool = False) -> None:
+def demand_called(codes: pathlib.Path, poll_bytes: bytes, *, is_published: bool = False) -> None:
     """Stops where the poll under aliases is not the one that was called, which lies beside the codes.
 
     Where the call was taken back, another poll may be called, and none may be published.
     """
-    kept = codes.parent / CALLED
-    if not kept.exists() or (is_taken_back(codes) and not is_published):
+    copy_path = codes.parent / CALLED
+    if not copy_path.exists() or (is_taken_back(codes) and not is_published):
         return
-    before = private_bytes(kept)
-    if before == poll:
+    before = private_bytes(copy_path)
+    if before == poll_bytes:
         return
-    then, now = (set(poll_file.roll_of(data)) for data in (before, poll))
+    then, now = (set(poll_file.roll_of(data)) for data in (before, poll_bytes))
     if then == now:
-        raise Fault(kept, "it is not the poll of this vote under aliases", "find out who changed it", Status.DOUBT)
+        raise Fault(copy_path, "it is not the poll of this vote under aliases", "find out who changed it", Status.DOUBT)
     who = [holder.name for holder in holders_in(codes) if holder.alias in now - then]
     words = f"the alias of {some(who)} is not on the roll that was called" if who else "an alias that was called is missing"
     cure = "call again, if nobody has seen the earlier call; whoever compares two calls sees whose alias is new"

@@ -2,8 +2,8 @@
 
 import re
 
+from debvote_tools.language import ENGLISH
 from debvote_tools.lines import BLANKS
-from debvote_tools.pages import joined
 from debvote_tools.program import Finding
 
 # in bytes; no ballot line is longer
@@ -43,9 +43,9 @@ def plain_words(line: bytes) -> str | None:
     if len(line) > LONGEST:
         return f"it has {len(line)} bytes, and no ballot has more than {LONGEST}"
     text = line.strip(BLANKS).decode("utf-8", "replace")
-    found = next((words for pattern, words in WHOLE if re.fullmatch(pattern, text)), None)
+    of_whole_line = next((words for pattern, words in WHOLE if re.fullmatch(pattern, text)), None)
     named = NAMED.fullmatch(text)
-    return found or (words_of_ranks([cell.strip() for cell in named[2].split(",")]) if named else None)
+    return of_whole_line or (words_of_ranks([cell.strip() for cell in named[2].split(",")]) if named else None)
 
 
 def plainly(line: bytes, finding: Finding) -> str:
@@ -56,10 +56,10 @@ def plainly(line: bytes, finding: Finding) -> str:
 
 def at_column(line: bytes, finding: Finding) -> str | None:
     """What stands at the column where a line leaves the shape of a ballot, and what is written in its place."""
-    found = re.match(r"column (\d+): ", finding.hint)
-    if found is None:
+    column = re.match(r"column (\d+): ", finding.hint)
+    if column is None:
         return None
-    place = int(found[1]) - 1
+    place = int(column[1]) - 1
     sign = line[place : place + 1].decode("latin-1")
     if sign not in SIGNS:
         return None
@@ -88,7 +88,7 @@ def words_of_ranks(cells: list[str]) -> str | None:
 def missing_words(places: list[int]) -> str:
     """Which ranks are missing."""
     words = [f"the {FIRST[place - 1] if place <= len(FIRST) else f'{place}{ending(place)}'}" for place in places]
-    return f"{joined(words)} rank {'is' if len(words) == 1 else 'are'} missing"
+    return f"{ENGLISH.joined(words)} rank {'is' if len(words) == 1 else 'are'} missing"
 
 
 def ending(number: int) -> str:

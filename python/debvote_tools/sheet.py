@@ -21,6 +21,14 @@ class Round:
 
 
 @dataclasses.dataclass(frozen=True)
+class Winner:
+    """The option that wins, and whether the casting vote made it win."""
+
+    option: int
+    is_by_casting: bool
+
+
+@dataclasses.dataclass(frozen=True)
 class Sheet:
     """A result sheet. Options are numbered from 1, and the last is the default option."""
 
@@ -50,19 +58,19 @@ class Sheet:
     def default(self) -> int:
         return len(self.names)
 
-    def winner(self) -> tuple[int, bool] | None:
-        """The option that wins, and whether by the casting vote; none where it is a tie."""
-        found = re.fullmatch(r"Winner: (\d+) (.*)", self.last_line)
-        if found is None:
+    def winner(self) -> Winner | None:
+        """The option that wins; none where it is a tie."""
+        parts = re.fullmatch(r"Winner: (\d+) (.*)", self.last_line)
+        if parts is None:
             return None
         # a name may end with the words that tell a casting vote
-        return int(found[1]), found[2] != self.names[int(found[1])]
+        return Winner(int(parts[1]), parts[2] != self.names[int(parts[1])])
 
     def casting_outside(self) -> int | None:
         """The option of a casting vote that is for none of the options that are left."""
         # the name of an option that wins may have these words
-        found = re.fullmatch(r"Tie: [\d ]+, casting option (\d+) is not among them", self.last_line)
-        return int(found[1]) if found else None
+        option = re.fullmatch(r"Tie: [\d ]+, casting option (\d+) is not among them", self.last_line)
+        return int(option[1]) if option else None
 
     def final_set(self) -> list[int]:
         """The options that are left."""
@@ -110,26 +118,26 @@ def sheet_of(lines: list[str]) -> Sheet:
 
 def rounds_in(lines: list[str]) -> list[Round]:
     """The rounds; behind the line of each stand the defeats that it removes."""
-    found: list[Round] = []
+    rounds: list[Round] = []
     for line in lines:
         if line.startswith("Round "):
-            found.append(Round([int(option) for option in line.split(": ")[1].split()], []))
+            rounds.append(Round([int(option) for option in line.split(": ")[1].split()], []))
         else:
-            found[-1].removed.append(pair_in(line))
-    return found
+            rounds[-1].removed.append(pair_in(line))
+    return rounds
 
 
 def pair_in(line: str) -> Pair:
     """The two options of a line such as `1 over 2 by 4 to 2`."""
-    found = DEFEAT.search(line)
-    if found is None:
+    pair = DEFEAT.search(line)
+    if pair is None:
         raise ValueError(line)
-    return int(found[1]), int(found[2])
+    return int(pair[1]), int(pair[2])
 
 
 def parts_of(pattern: re.Pattern[str], line: str) -> tuple[str, ...]:
     """The parts of a line that has to fit; one that is not there is empty."""
-    found = pattern.fullmatch(line)
-    if found is None:
+    parts = pattern.fullmatch(line)
+    if parts is None:
         raise ValueError(line)
-    return found.groups("")
+    return parts.groups("")

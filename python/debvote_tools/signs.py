@@ -27,13 +27,13 @@ KNOWN = {"\r": "\\r", "\n": "\\n", "\t": "\\t"}
 
 def written(text: str) -> str:
     """A text in which each such sign is written by its number, as U+202E."""
-    return STEERING.sub(lambda found: number_of(found[0]), text)
+    return STEERING.sub(lambda sign: number_of(sign[0]), text)
 
 
 def steering(text: str) -> str | None:
     """The number of the first such sign; none where there is none."""
-    found = STEERING.search(text)
-    return None if found is None else number_of(found[0])
+    sign = STEERING.search(text)
+    return None if sign is None else number_of(sign[0])
 
 
 def odd_sign(text: str, *, allowed: str = "", refused: str = "") -> str | None:

@@ -9,12 +9,14 @@
   const UNRANKED = "-";
   // what an elector has in a secret vote, and does not send
   const CODE = /^[0-9a-f]{32}$/;
-  const CODE_TYPED = "This looks like a code. Type the name that stands with it, and send the code to nobody.";
   // so many names that are near a typed one are shown
   const NEAR_LIMIT = 5;
 
   const byId = (id) => document.getElementById(id);
   const form = byId("ballot");
+  // the sentences, in the language of the page, with their places in braces
+  const words = JSON.parse(form.dataset.words);
+  const sentence = (key, places = {}) => words[key].replace(/\{([a-z]+)\}/g, (all, place) => places[place]);
   const nameInput = byId("name");
   const isSecret = "secret" in form.dataset;
   const selects = [...form.querySelectorAll("select")];
@@ -24,8 +26,8 @@
   // ---------------------------------------------------------------- the name
   // What is put right in a name, and the sentence that says so.
   const repairs = [
-    [(text) => text.trim(), "Spaces before or behind the name are left out."],
-    [(text) => text.replace(/[A-Z]/g, (letter) => letter.toLowerCase()), "Capital letters of the name are made small."],
+    [(text) => text.trim(), sentence("spaces")],
+    [(text) => text.replace(/[A-Z]/g, (letter) => letter.toLowerCase()), sentence("capitals")],
   ];
 
   // The name as it stands in the line, with the sentences on what was put right.
@@ -62,28 +64,24 @@
   // A question for the names that are near, or nothing.
   function question(name) {
     const found = near(name).slice(0, NEAR_LIMIT);
-    if (found.length < 2) return found.map((other) => `Did you mean ${other}?`).join("");
-    return `Did you mean ${found.slice(0, -1).join(", ")} or ${found[found.length - 1]}?`;
+    if (found.length < 2) return found.map((other) => sentence("did_you_mean", { name: other })).join("");
+    return sentence("did_you_mean_one_of", { names: found.slice(0, -1).join(", "), last: found[found.length - 1] });
   }
 
   // Why this is no name on the roll, with those that are near; nothing where it is one, or may be one since the page has no roll.
   function faultOf(name) {
     if (keys.has(name)) return "";
-    const missing = `${name} is not on the roll of this poll; the names on the roll stand below.`;
-    const fault = oddity(name) || (keys.size > 0 ? missing : "");
+    const fault = oddity(name) || (keys.size > 0 ? sentence("not_on_roll", { name }) : "");
     return [fault, question(name)].filter(Boolean).join(" ");
   }
 
   // Why no elector can have this name, or nothing.
   function oddity(name) {
-    if (name === "") return `Type your name as it stands ${form.dataset.place}.`;
-    if (isSecret && CODE.test(name.replace(/[\s-]/g, ""))) return CODE_TYPED;
+    if (name === "") return sentence("type_name");
+    if (isSecret && CODE.test(name.replace(/[\s-]/g, ""))) return sentence("code_typed");
     const odd = [...name].find((character) => !/[a-z0-9.-]/.test(character));
-    if (odd !== undefined) {
-      const shown = /\s/.test(odd) ? "a space" : `“${odd}”`;
-      return `The name has ${shown}. Names on the roll have only small letters without accents, digits, points and hyphens.`;
-    }
-    if (name.length > NAME_LIMIT) return `The name has ${name.length} characters. Names on the roll have at most ${NAME_LIMIT}.`;
+    if (odd !== undefined) return /\s/.test(odd) ? sentence("has_space") : sentence("has_sign", { sign: odd });
+    if (name.length > NAME_LIMIT) return sentence("too_long", { number: name.length, most: NAME_LIMIT });
     return "";
   }
 
@@ -106,28 +104,31 @@
     return node;
   }
 
+  // A sentence with lists of nodes at its places, as texts and these nodes.
+  function nodesOf(key, places) {
+    return words[key].split(/(\{[a-z]+\})/).flatMap((part) => (part.startsWith("{") ? places[part.slice(1, -1)] : [part]));
+  }
+
   // Some options in a sentence: "1 A, 2 B and 3 C".
   function joined(options) {
-    return options.flatMap((option, place) => {
-      const before = place === 0 ? [] : [place === options.length - 1 ? " and " : ", "];
-      return [...before, optionNode(option)];
-    });
+    const nodes = options.map(optionNode);
+    const last = nodes.pop();
+    if (nodes.length === 0) return [last];
+    const entries = nodes.flatMap((node, place) => (place === 0 ? [node] : [", ", node]));
+    return nodesOf("and", { entries, last: [last] });
   }
 
   // The sentences that say what the ranks prefer to what, each a list of texts and names.
   function sentencesOf({ ranked, unranked }) {
     const sentences = ranked
       .slice(1)
-      .map((lower, place) => ["You prefer ", ...joined(ranked[place]), " to ", ...joined(lower), "."]);
-    if (ranked.length === 1 && unranked.length > 0) {
-      sentences.push(["You prefer ", ...joined(ranked[0]), " to all others."]);
-    }
+      .map((lower, place) => nodesOf("prefer", { upper: joined(ranked[place]), lower: joined(lower) }));
+    if (ranked.length === 1 && unranked.length > 0) sentences.push(nodesOf("prefer_to_all", { upper: joined(ranked[0]) }));
     for (const equal of ranked.filter((options) => options.length > 1)) {
-      sentences.push(["You rank ", ...joined(equal), " equally: none of them is preferred to another."]);
+      sentences.push(nodesOf("equal", { options: joined(equal) }));
     }
     if (unranked.length > 0) {
-      const they = unranked.length === 1 ? "it is" : "they are";
-      sentences.push(["You rank ", ...joined(unranked), ` not at all, so ${they} behind all others.`]);
+      sentences.push(nodesOf(unranked.length === 1 ? "unranked" : "unranked_options", { options: joined(unranked) }));
     }
     return sentences;
   }
@@ -150,9 +151,11 @@
     if (node.textContent !== text) node.textContent = text;
   }
 
+  // In a letter that has to be signed the title stands below the ballot.
   function mailTo(line) {
-    const subject = encodeURIComponent(`Ballot: ${form.dataset.title}`);
-    return `${form.dataset.to}?subject=${subject}&body=${encodeURIComponent(`${line}\r\n`)}`;
+    const subject = encodeURIComponent(sentence("subject", { title: form.dataset.title }));
+    const lines = "signed" in form.dataset ? [line, form.dataset.title] : [line];
+    return `${form.dataset.to}?subject=${subject}&body=${encodeURIComponent(lines.map((text) => `${text}\r\n`).join(""))}`;
   }
 
   function showLine(line) {
@@ -174,8 +177,8 @@
     const isRanked = ranks.some((rank) => rank !== UNRANKED);
     byId("words").replaceChildren(...(isRanked ? [listOf(sentencesOf(groupsOf(ranks)))] : []));
     byId("meaning").hidden = !isRanked;
-    const nameMissing = fault && isTyped ? "The name has to be put right." : fault;
-    const rankMissing = isRanked ? "" : "Give at least one option a rank.";
+    const nameMissing = fault && isTyped ? sentence("name_missing") : fault;
+    const rankMissing = isRanked ? "" : sentence("rank_missing");
     say("missing", [nameMissing, rankMissing].filter(Boolean).join(" "));
     say("copied", "");
     showLine(fault === "" && isRanked ? `${name} ${ranks.join(",")}` : "");
@@ -188,13 +191,13 @@
     const selection = window.getSelection();
     selection.removeAllRanges();
     selection.addRange(range);
-    say("copied", "The line is selected. Copy it with Ctrl+C, or Cmd+C on a Mac.");
+    say("copied", sentence("selected"));
   }
 
   async function copyLine() {
     try {
       await navigator.clipboard.writeText(byId("line").textContent);
-      say("copied", "The line is copied.");
+      say("copied", sentence("copied"));
     } catch {
       // a browser gives no clipboard to a page that did not come by https
       selectLine();

@@ -4,9 +4,9 @@ import re
 
 from debvote_tools import poll_file
 from debvote_tools.console import tell, tell_as_it_is
-from debvote_tools.election.asking import NO_BALLOTS, command, explained, refused
 from debvote_tools.election.folder import Election
-from debvote_tools.election.record import Files
+from debvote_tools.election.record import PollAndBallots
+from debvote_tools.election.running import NO_BALLOTS, explanation_of, refusal
 from debvote_tools.faults import Fault, Status
 from debvote_tools.members import plain
 from debvote_tools.sheet import Sheet, sheet_in
@@ -25,39 +25,39 @@ ABOUT = {
 }
 
 
-def checked(election: Election, files: Files) -> Sheet:
-    """Prints what debvote says of the poll, and gives its sheet without ballots. It stops where a key is refused or not read."""
-    answer = explained(election, files.poll)
+def check_poll(election: Election, counted: PollAndBallots) -> Sheet:
+    """Tells what debvote says of the poll, and returns its sheet without ballots. It stops where a key is refused or not read."""
+    answer = explanation_of(election, counted.poll_bytes)
     tell_as_it_is(answer.text)
     if answer.status == Status.BAD_POLL:
-        tell(*replacements(answer.text, files.poll))
-        reason, cure = what_to_do(election, files.poll, answer.text.splitlines())
-        raise Fault(election.poll, reason, cure, Status.BAD_POLL)
-    if answer.status != Status.DECIDED:
-        again = f"or put a # before it, then run: {command(election, 'check')}"
+        tell(*replacements(answer.text, counted.poll_bytes))
+        reason, cure = what_to_do(election, counted.poll_bytes, answer.text.splitlines())
+        raise Fault(election.poll_path, reason, cure, Status.BAD_POLL)
+    if answer.status != Status.DONE:
+        again = f"or put a # before it, then run: {election.command('check')}"
         raise Fault(
-            election.poll,
+            election.poll_path,
             "a line of it is not read, which is mostly a slip",
             f"put it right, move it above every line that begins with [, {again}",
             answer.status,
         )
-    counted = election.debvote.ask("count", "--poll", "/dev/stdin", "--ballots", NO_BALLOTS, given=files.poll)
-    if not counted.text:
-        raise refused(election, counted)
-    return sheet_in(counted.text)
+    answer = election.debvote.run("count", "--poll", "/dev/stdin", "--ballots", NO_BALLOTS, given=counted.poll_bytes)
+    if not answer.text:
+        raise refusal(election, answer)
+    return sheet_in(answer.text)
 
 
-def replacements(said: str, poll: bytes) -> list[str]:
+def replacements(said: str, poll_bytes: bytes) -> list[str]:
     """What is written in place of each letter that is no plain character, where debvote refuses one."""
     # debvote names a letter that it knows, and of any other its first byte
     if not re.search(r" has the (?:byte 0x|letter )", said):
         return []
     try:
-        found = poll_file.document(poll)
+        keys = poll_file.document(poll_bytes)
     except Fault:
         return []
-    listed = found.get("options")
-    texts = [found.get("title"), *(listed if isinstance(listed, list) else []), found.get("default")]
+    listed = keys.get("options")
+    texts = [keys.get("title"), *(listed if isinstance(listed, list) else []), keys.get("default")]
     signs = dict.fromkeys(sign for text in texts if isinstance(text, str) for sign in text if not sign.isascii())
     return [replacement(sign) for sign in signs]
 
@@ -70,40 +70,40 @@ def replacement(sign: str) -> str:
     return f"{written(sign)} is no plain character; {write}; the page can show {written(sign)} by a label"
 
 
-def what_to_do(election: Election, poll: bytes, findings: list[str]) -> tuple[str, str]:
+def what_to_do(election: Election, poll_bytes: bytes, findings: list[str]) -> tuple[str, str]:
     """Why debvote refuses the poll, and what the secretary does."""
-    again = f"then run: {command(election, 'check')}"
+    again = f"then run: {election.command('check')}"
     syntax = re.match(r"poll:(\d+):", findings[0])
     if syntax is not None:
         return f"line {syntax[1]} can't be read", f"put it right with an editor, {again}"
-    lines = lines_about(poll, findings)
+    lines = lines_about(poll_bytes, findings)
     by_hand = [line for line in lines if line != "roll"]
     steps = []
     if by_hand:
         steps.append(f"fill in or put right with an editor: {', '.join(by_hand)}")
     if "roll" in lines:
-        steps.append(f"write the members into {election.members.name} and run: {command(election, 'roll')}")
+        steps.append(f"write the members into {election.members_path.name} and run: {election.command('roll')}")
     return "it is not in order yet", "; ".join([*steps, again])
 
 
-def lines_about(poll: bytes, findings: list[str]) -> list[str]:
+def lines_about(poll_bytes: bytes, findings: list[str]) -> list[str]:
     """The lines of the poll that the findings are about."""
-    found = set()
-    default = f"name of option {len(options_as_written(poll)) + 1}"
+    keys = set()
+    default = f"name of option {len(options_as_written(poll_bytes)) + 1}"
     for finding in findings:
         said = re.match(r"poll: (?:key )?([^:]+): ", finding)
         words = said[1] if said else ""
         if words == default:
-            found.add("default")
+            keys.add("default")
         else:
-            found.add(ABOUT.get(re.sub(r" \d+$", "", words), words))
-    return [line for line in LINES if line in found]
+            keys.add(ABOUT.get(re.sub(r" \d+$", "", words), words))
+    return [line for line in LINES if line in keys]
 
 
-def options_as_written(poll: bytes) -> list[object]:
+def options_as_written(poll_bytes: bytes) -> list[object]:
     """The options of a poll that may be out of order."""
     try:
-        listed = poll_file.document(poll).get("options")
+        listed = poll_file.document(poll_bytes).get("options")
     except Fault:
         return []
     return listed if isinstance(listed, list) else []

@@ -14,7 +14,7 @@ from debvote_tools.files import Written
 
 PROGRAM = "debvote-election"
 
-# the modules of the commands, in the order in which an election needs them; each has `NAME`, `HELP`, `options` and `run`
+# the modules of the commands, in the order in which an election needs them; each has `HELP`, `add_arguments` and `run`
 COMMANDS = (
     "new",
     "roll",
@@ -64,28 +64,28 @@ def parser(words: Sequence[str] = COMMANDS) -> argparse.ArgumentParser:
             continue
         module = importlib.import_module(f"debvote_tools.election.commands.{name}")
         command = commands.add_parser(name, help=module.HELP, description=f"{module.HELP}.", allow_abbrev=False, parents=[folder])
-        module.options(command)
+        module.add_arguments(command)
         command.set_defaults(run=module.run)
     return top
 
 
-def main(beside: pathlib.Path, words: Sequence[str] | None = None) -> int:
-    """Runs a command, and returns the exit status. `beside` is the folder of the program."""
+def main(program_folder: pathlib.Path, words: Sequence[str] | None = None) -> int:
+    """Runs a command, and returns the exit status. `program_folder` is that of the program."""
     for number in (signal.SIGHUP, signal.SIGTERM):
         signal.signal(number, lambda number, _: sys.exit(128 + number))
     if not console.has_output():
         return console.failed(PROGRAM, "standard output is closed; nothing was changed", Status.BAD_OUTPUT)
     console.prepare()
     words = sys.argv[1:] if words is None else words
-    asked = parser(words).parse_args(words)
+    namespace = parser(words).parse_args(words)
     signal.signal(signal.SIGINT, signal.default_int_handler)
     try:
-        election = Election(pathlib.Path(getattr(asked, "folder", ".")), beside)
-        status: int = asked.run(election, asked)
+        election = Election(pathlib.Path(getattr(namespace, "folder", ".")), program_folder)
+        status: int = namespace.run(election, namespace)
         return status
     except console.OutputFailed as fault:
         # a command that changes nothing ends quietly where nobody reads on
-        is_quiet = fault.is_closed_pipe and asked.command in QUIET
+        is_quiet = fault.is_closed_pipe and namespace.command in QUIET
         return 128 + signal.SIGPIPE if is_quiet else console.failed(PROGRAM, fault.words, fault.status)
     except Fault as fault:
         return console.failed(PROGRAM, fault.words, fault.status)

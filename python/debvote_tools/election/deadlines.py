@@ -4,7 +4,7 @@ import datetime
 import re
 import zoneinfo
 
-from debvote_tools.announced import in_words, minute_of, offset_in_words
+from debvote_tools.announced import time_in_words, minute_of, offset_in_words
 from debvote_tools.faults import Fault, Status
 
 TIME = re.compile(r"(\d{4}-\d\d-\d\d)[ T]+(\d\d:\d\d(?::\d\d)?)\s*(Z|UTC|[+-]\d\d:?\d\d)?", re.ASCII)
@@ -15,10 +15,10 @@ AS_WORDS = "other words go with --until-words"
 
 def time_of(text: str, zone: str | None) -> datetime.datetime:
     """The time of a text, with its offset: the one that it names, or that of the zone, or that of this computer."""
-    found = TIME.fullmatch(text.strip())
-    if found is None:
+    parts = TIME.fullmatch(text.strip())
+    if parts is None:
         raise refused("it has to be a time", f"{HOW}; {AS_WORDS}")
-    date, clock, offset = found.groups()
+    date, clock, offset = parts.groups()
     try:
         plain = datetime.datetime.fromisoformat(f"{date} {clock}")
         if offset is not None:
@@ -74,7 +74,7 @@ def demand_future(time: datetime.datetime, now: datetime.datetime) -> None:
     """Stops where the time is over."""
     if time <= now:
         there = minute_of(now, time)
-        raise refused(f"{in_words(time)} is over: by the clock of this computer it is {there}", "write a time that is to come")
+        raise refused(f"{time_in_words(time)} is over: by the clock of this computer it is {there}", "write a time that is to come")
 
 
 def refused(reason: str, cure: str) -> Fault:

@@ -7,7 +7,7 @@ import re
 
 from debvote_tools.ballots import UNRANKED
 from debvote_tools.faults import Fault, Status
-from debvote_tools.lines import BLANKS, Line
+from debvote_tools.lines import BLANKS, Line, lines_in
 from debvote_tools.tables import DELIMITERS, MARKS, mark_of
 
 # above what a ballot file has as a whole
@@ -22,6 +22,17 @@ class Columns:
     ranks: list[str]
     # whether an empty cell stands for an option that is not ranked
     is_blank_unranked: bool = False
+
+
+@dataclasses.dataclass(frozen=True)
+class LineReader:
+    """How the lines of a file are read: as they stand there or, of a table, from these columns of its rows."""
+
+    columns: Columns | None
+
+    def lines_in(self, data: bytes, name: str) -> list[Line]:
+        """The lines of a file, which is named so in what is told of them."""
+        return lines_in(data, name) if self.columns is None else lines_of_form(data, name, self.columns)
 
 
 def columns_of(name: str, ranks: str, options: list[str], *, is_blank_unranked: bool = False) -> Columns:
@@ -52,11 +63,11 @@ def lines_of_form(data: bytes, file: str, columns: Columns) -> list[Line]:
     rows = rows_in(text_in(data, file), file, columns)
     number, head = next(((number, row) for number, row in enumerate(rows, start=1) if any(row)), (0, list[str]()))
     places = places_of(head, file, columns)
-    found = []
+    lines = []
     for at, row in enumerate(rows[number:], start=number + 1):
-        check_width(row, head, f"{file}: row {at}")
-        found.append(line_of(row, places, f"{file}: row {at}", is_blank_unranked=columns.is_blank_unranked))
-    return found
+        demand_width(row, head, f"{file}: row {at}")
+        lines.append(line_of(row, places, f"{file}: row {at}", is_blank_unranked=columns.is_blank_unranked))
+    return lines
 
 
 # ---------------------------------------------------------------- the table
@@ -113,7 +124,7 @@ def places_of(head: list[str], file: str, columns: Columns) -> list[int]:
     return [keys.index(key_of(column)) for column in [columns.name, *columns.ranks]]
 
 
-def check_width(row: list[str], head: list[str], where: str) -> None:
+def demand_width(row: list[str], head: list[str], where: str) -> None:
     """Stops at a row that is longer than the head line: its cells do not stand below their heads."""
     if any(cell.strip() for cell in row[len(head) :]):
         cure = "put a cell that has the delimiter in it into quotation marks, and add the file again"
@@ -128,8 +139,8 @@ def line_of(row: list[str], places: list[int], where: str, *, is_blank_unranked:
     if not any(cell.strip() for cell in row):
         return Line(where, b"", b"", b"")
     came = name + b" " + b",".join(ranks)
-    kept = re.sub(rb"[\r\n]+", b" ", came)
+    bare = re.sub(rb"[\r\n]+", b" ", came)
     name, *ranks = [re.sub(rb"[\r\n]+", b" ", cell).strip(BLANKS) for cell in (name, *ranks)]
     if is_blank_unranked and name:
         ranks = [cell or UNRANKED.encode() for cell in ranks]
-    return Line(where, came, kept, name.lower() + b" " + b",".join(ranks))
+    return Line(where, came, bare, name.lower() + b" " + b",".join(ranks))

@@ -1,12 +1,12 @@
-"""What the commands that cast tell: their lines, what was edited by hand, and what a killed run has left undone."""
+"""What the commands that enter lines tell: how many, what was edited by hand, and what a killed run has left undone."""
 
 import contextlib
 
 from debvote_tools import announced, journal
-from debvote_tools.announced import announced_in, in_words
+from debvote_tools.announced import announced_in, time_in_words
 from debvote_tools.console import tell
 from debvote_tools.election.folder import Election
-from debvote_tools.election.record import Files
+from debvote_tools.election.record import PollAndBallots
 from debvote_tools.faults import Fault
 from debvote_tools.files import sum_of
 from debvote_tools.journal import Entry
@@ -19,39 +19,39 @@ def count_of(number: int, what: str) -> str:
 
 def time_of(entry: Entry) -> str:
     """The time of an act, as a person writes it."""
-    return journal.in_words(entry.time)
+    return journal.act_time_in_words(entry.time)
 
 
-def tell_time(election: Election, files: Files, what: str) -> None:
-    """Says where ballots come before the call for votes, after its time, or after the close; the words say what is done with them."""
+def tell_if_early_or_late(election: Election, counted: PollAndBallots, what: str) -> None:
+    """Says where ballots come before the call for votes, after its time, or after the close, and what was taken away of the call and the journal; the words say what is done with them."""
     closed = election.closed()
     if closed is not None:
         tell(f"Note: the election was closed at {time_of(closed)}; {what} now is late.")
     else:
-        if not election.call.exists() and not election.is_called():
+        if not election.call_folder.exists() and not election.is_called():
             tell("Note: the call for votes has not been made yet.")
-        tell_over(election, files.poll, what)
-    tell_what_is_gone(election, files)
+        tell_over(election, counted.poll_bytes, what)
+    tell_what_is_gone(election, counted)
 
 
-def tell_over(election: Election, poll: bytes, what: str) -> None:
+def tell_over(election: Election, poll_bytes: bytes, what: str) -> None:
     """Says that the time is over until which one could vote. No line is refused for that: late is what comes behind the close."""
     until = None
     # what is wrong with such a key, `check` and `close` say
     with contextlib.suppress(Fault):
-        until = announced_in(poll).until
+        until = announced_in(poll_bytes).until
     if until is not None and announced.now() >= until:
-        words = f"one could vote until {in_words(until)}, and that is over; {what} is not late before the vote is closed"
+        words = f"one could vote until {time_in_words(until)}, and that is over; {what} is not late before the vote is closed"
         tell(f"Note: {words}: {election.command('close')}")
 
 
-def tell_what_is_gone(election: Election, files: Files) -> None:
+def tell_what_is_gone(election: Election, counted: PollAndBallots) -> None:
     """Says that the journal is lost, or that the folder of the call is gone."""
-    for line in election.what_is_gone(files):
+    for line in election.what_is_gone(counted):
         tell(f"Note: {line}.")
 
 
-def tell_edits(election: Election, files: Files) -> None:
+def tell_edits(election: Election, counted: PollAndBallots) -> None:
     """Says what was not done, and which files somebody has edited by hand: an editor is allowed, unseen is not.
 
     The caller holds the lock alone.
@@ -59,16 +59,16 @@ def tell_edits(election: Election, files: Files) -> None:
     undone = election.cut_off
     if undone is not None:
         many = "envelopes" if "-" in undone.envelopes else "envelope"
-        what = f"{many} {undone.envelopes}, " if undone.act in journal.CASTING else ""
-        kept = f"; what came is kept in {election.received}" if what else ""
-        tell(f"Note: the last act ({undone.act}, {what}{time_of(undone)}) was cut off, and is not done{kept}.")
-    for file in election.edited(files):
+        what = f"{many} {undone.envelopes}, " if undone.act in journal.ENTERING else ""
+        where_kept = f"; what came is kept in {election.received_folder}" if what else ""
+        tell(f"Note: the last act ({undone.act}, {what}{time_of(undone)}) was cut off, and is not done{where_kept}.")
+    for file in election.edited_paths(counted):
         acts = election.last_acts()
-        how = f": {what_differs(files.ballots or b'', acts)}" if file == election.ballots else ""
+        how = f": {what_differs(counted.ballots_bytes or b'', acts)}" if file == election.ballots_path else ""
         tell(f"Note: {file} was changed by hand since {time_of(acts[-1])} ({acts[-1].act}){how}.")
 
 
-def what_differs(ballots: bytes, acts: list[Entry]) -> str:
+def what_differs(ballots_bytes: bytes, acts: list[Entry]) -> str:
     """How the ballots differ from those that the journal has last."""
     noted = acts[-1].sums.ballots
     before = lines_noted(acts)
@@ -76,10 +76,10 @@ def what_differs(ballots: bytes, acts: list[Entry]) -> str:
         return "it was not there"
     if before is None:
         return "it is another one"
-    now = ballots.count(b"\n")
+    now = ballots_bytes.count(b"\n")
     if now < before:
         return f"it has {count_of(now, 'whole line')}, and had {before}; what came is kept in received"
-    if sum_of(beginning(ballots, before)) == noted:
+    if sum_of(beginning(ballots_bytes, before)) == noted:
         return f"something was written behind its first {count_of(before, 'line')}, which are as they were"
     return f"its first {count_of(before, 'line')} are not all as they were; what came is kept in received"
 
@@ -87,9 +87,9 @@ def what_differs(ballots: bytes, acts: list[Entry]) -> str:
 def lines_noted(acts: list[Entry]) -> int | None:
     """How many lines the ballots had at the last act, as far as the acts tell it."""
     same = (entry for entry in reversed(acts) if entry.sums.ballots == acts[-1].sums.ballots)
-    return next((entry.lines for entry in same if entry.lines is not None), None)
+    return next((entry.lines_after for entry in same if entry.lines_after is not None), None)
 
 
-def beginning(ballots: bytes, lines: int) -> bytes:
+def beginning(ballots_bytes: bytes, line_count: int) -> bytes:
     """So many first lines, each with its line feed."""
-    return b"".join(line + b"\n" for line in ballots.split(b"\n", lines)[:lines])
+    return b"".join(line + b"\n" for line in ballots_bytes.split(b"\n", line_count)[:line_count])

@@ -62,8 +62,8 @@ def round_of(step: Round) -> dict[str, object]:
 def outcome_of(sheet: Sheet) -> dict[str, object]:
     winner = sheet.winner()
     return {
-        "winner": None if winner is None else winner[0],
-        "is_by_casting_vote": winner is not None and winner[1],
+        "winner": None if winner is None else winner.option,
+        "is_by_casting_vote": winner is not None and winner.is_by_casting,
         "left": sheet.final_set(),
         "casting_vote_outside": sheet.casting_outside(),
     }
@@ -86,5 +86,5 @@ def ended(sheet: Sheet, option: int) -> str:
         return sheet.dropped[option]
     winner = sheet.winner()
     if winner is not None:
-        return "won" if option == winner[0] else "lost"
+        return "won" if option == winner.option else "lost"
     return "left" if option in sheet.final_set() else "lost"

@@ -7,6 +7,9 @@
   const CODE = /^[0-9a-f]{32}$/;
 
   const byId = (id) => document.getElementById(id);
+  // the sentences, in the language of the page, with their places in braces
+  const words = JSON.parse(byId("find").dataset.words);
+  const sentence = (key, places = {}) => words[key].replace(/\{([a-z]+)\}/g, (all, place) => places[place]);
   const nameInput = byId("name");
   const codeInput = byId("code");
   // what was typed last; an answer to what was typed before is not shown
@@ -28,11 +31,14 @@
     byId("answer").replaceChildren(...nodes);
   }
 
-  function paragraph(text) {
+  function paragraph(...said) {
     const node = document.createElement("p");
-    node.textContent = text;
+    node.textContent = sentence(...said);
     return node;
   }
+
+  // Why the files of the page are no secret vote, as a sentence with what stands at its places.
+  const odd = (key, places) => Object.assign(new Error(key), { key, places });
 
   // The ballot as the page has it, without its place.
   function ballotNode(place) {
@@ -52,14 +58,14 @@
   // The ballots of the page that count, by their aliases. In a secret vote each line counts, and nothing is late.
   function countOf(poll) {
     const later = ["last_envelope", "extended_to"].find((key) => poll.has(key));
-    if (later !== undefined) throw new Error(`the poll has ${later}`);
+    if (later !== undefined) throw odd("has_later", { key: later });
     const roll = new Set(poll.get("roll"));
     const options = poll.get("options").length + 1;
     const counted = new Map();
     for (const [place, line] of linesOf("Ballots-file").entries()) {
       const [, alias, ranks] = LINE.exec(line) ?? [];
       const counts = roll.has(alias) && ranks.split(",").length === options && !counted.has(alias);
-      if (!counts) throw new Error(`line ${place + 1} of the ballots does not count`);
+      if (!counts) throw odd("does_not_count", { line: place + 1 });
       counted.set(alias, ranks);
     }
     return counted;
@@ -73,17 +79,17 @@
       roll = poll.get("roll");
       ranks = countOf(poll).get(alias);
       const shown = place?.closest(".ballots") ? place.querySelector("code").textContent : undefined;
-      if (ranks !== shown) throw new Error("this page shows other ballots than its files have");
+      if (ranks !== shown) throw odd("shows_others");
     } catch (fault) {
-      say(paragraph(`This is no secret vote as it is published: ${fault.message}. Tell it to the other electors.`));
+      say(fault.key ? paragraph(fault.key, fault.places) : paragraph("unread", { fault: fault.message }));
       return;
     }
     if (!roll.includes(alias)) {
-      say(paragraph(`No elector of this vote has the alias ${alias}. Type name and code as they stand on your slip.`));
+      say(paragraph("no_elector", { alias }));
     } else if (ranks === undefined) {
-      say(paragraph(`Your alias is ${alias}. It is on the roll, and no ballot counts under it.`));
+      say(paragraph("no_ballot", { alias }));
     } else {
-      say(paragraph(`This ballot counts for ${name}:`), ballotNode(place), ...namesInPoll());
+      say(paragraph("counts", { name }), ballotNode(place), ...namesInPoll());
     }
   }
 
@@ -94,10 +100,10 @@
     const name = nameTyped();
     const code = codeTyped();
     const mine = (asked += 1);
-    if (name === "") return say(paragraph("Type your name as it stands on your slip."));
-    if (!CODE.test(code)) return say(paragraph("A code has 32 digits, 0 to 9 and a to f. Type yours as it stands on your slip."));
+    if (name === "") return say(paragraph("type_name"));
+    if (!CODE.test(code)) return say(paragraph("type_code"));
     if (!globalThis.crypto || !crypto.subtle) {
-      return say(paragraph("This browser makes no alias on a page that did not come by https. Use one of the commands below."));
+      return say(paragraph("no_alias"));
     }
     const alias = await aliasOf(name, code);
     if (mine === asked) showAlias(name, alias);

@@ -11,7 +11,9 @@ import re
 import unicodedata
 
 from debvote_tools.faults import Fault, Status
+from debvote_tools.language import ENGLISH, Language
 from debvote_tools.publish.texts import text_in
+from debvote_tools.sentences import marked
 from debvote_tools.sheet import Sheet
 
 TITLE = 0
@@ -25,7 +27,7 @@ HOW = "a line is a number, a tab and a text, as 1<TAB>At the lake"
 UNSEEN = ("Mn", "Mc", "Me", "Cf")
 
 # what the page says beside a label
-IN_POLL = "inthepoll"
+IN_POLL = marked("in the poll: {name}")
 
 
 @dataclasses.dataclass(frozen=True)
@@ -42,17 +44,17 @@ class Labels:
 
 def labels_in(file: str) -> dict[int, tuple[int, str]]:
     """The labels of a file, each with the number of its line, by the numbers that they have."""
-    found: dict[int, tuple[int, str]] = {}
+    labels: dict[int, tuple[int, str]] = {}
     for place, line in enumerate(text_in(file, "labels").split("\n"), start=1):
         if not line.strip():
             continue
         number, text = label_in(line, f"{file}:{place}")
-        if number in found:
+        if number in labels:
             raise bad_label(
-                f"{file}:{place}", f"number {number} has a label already, on line {found[number][0]}", "take one of the two out"
+                f"{file}:{place}", f"number {number} has a label already, on line {labels[number][0]}", "take one of the two out"
             )
-        found[number] = (place, text)
-    return found
+        labels[number] = (place, text)
+    return labels
 
 
 def label_in(line: str, where: str) -> tuple[int, str]:
@@ -71,26 +73,27 @@ def label_in(line: str, where: str) -> tuple[int, str]:
     return int(number), text
 
 
-def labels_of(file: str | None, found: dict[int, tuple[int, str]], sheet: Sheet) -> Labels:
+def labels_of(file: str | None, labels: dict[int, tuple[int, str]], sheet: Sheet, language: Language) -> Labels:
     """The labels for a sheet. Stops at the number of an option that it does not have."""
-    for number, (place, _) in found.items():
+    for number, (place, _) in labels.items():
         if number != TITLE and number not in sheet.names:
             words = f"the poll has no option {number}: its options are 1 to {sheet.default}, and 0 stands for the title"
             raise bad_label(f"{file}:{place}", words, "put the number right")
-    demand_unlike(file, found, sheet)
-    texts = {number: text for number, (_, text) in found.items()}
+    demand_unlike(file, labels, sheet, language)
+    texts = {number: text for number, (_, text) in labels.items()}
     return Labels(texts.pop(TITLE, None), texts)
 
 
-def demand_unlike(file: str | None, found: dict[int, tuple[int, str]], sheet: Sheet) -> None:
+def demand_unlike(file: str | None, labels: dict[int, tuple[int, str]], sheet: Sheet, language: Language) -> None:
     """Stops where a label would be read as another option: it is the name of one in the poll, or its label."""
     names = {alike(name): number for number, name in sheet.names.items()}
     labelled: dict[str, int] = {}
-    for number, (place, text) in found.items():
+    of_page = [re.sub(r"\W", "", alike(said.say(IN_POLL, name=""))) for said in (ENGLISH, language)]
+    for number, (place, text) in labels.items():
         if number == TITLE:
             continue
         form = alike(text)
-        if IN_POLL in form:
+        if any(words in form for words in of_page):
             raise bad_label(
                 f"{file}:{place}",
                 "it says what an option is called in the poll, and the page says that itself",

@@ -1,246 +1,297 @@
 """The page of an election: its parts, the ballots, and how a reader counts again."""
 
+import functools
 import re
 import shlex
+from collections.abc import Callable
 from html import escape
 
 from debvote_tools import ballots, pages
-from debvote_tools.pages import command_block, joined, listed, paragraph, part
-from debvote_tools.publish import bars, count, count_again, result, roll, times
-from debvote_tools.publish.called import WHOLE
-from debvote_tools.publish.calls import BALLOTS, FILES, POLL, SHEET
+from debvote_tools.pages import command_block, link_to, listed, paragraph, part
+from debvote_tools.publish.parts import bars, count, count_again, result, roll, times
+from debvote_tools.publish.headings import BALLOTS as BALLOTS_HEADING, COUNT_AGAIN, VERIFYING, VOTED
+from debvote_tools.publish.names import BALLOTS, FILES, POLL, SHEET
 from debvote_tools.publish.picture import words_for_dot
+from debvote_tools.publish.poll_sums import WHOLE
 from debvote_tools.publish.published import File, Published
-from debvote_tools.publish.recounting import GUIDE, NAME as RECOUNT, SCRIPT
-from debvote_tools.publish.refused import refused
+from debvote_tools.publish.recounting import GUIDE_LINK, NAME as RECOUNT, SCRIPT
+from debvote_tools.publish.parts.refused import refused
 from debvote_tools.publish.second_count import ISOLATED
-from debvote_tools.publish.unseen import unseen
-from debvote_tools.publish.why import why
+from debvote_tools.publish.parts.unseen import unseen
+from debvote_tools.publish.parts.why import why
+from debvote_tools.secret_words import FIND
+from debvote_tools.sentences import marked
 
 # in bytes; where the names of the options in all ballots come to more, ballots have their numbers alone
 NAMES_LIMIT = 2_000_000
 
-COMPARE_WHOLE_SUM = "The sum of the poll. Compare it with the one in <strong>your</strong> letter of the call:"
-COMPARE_SUM = (
+COMPARE_WHOLE_SUM = marked("The sum of the poll. Compare it with the one in <strong>your</strong> letter of the call:")
+COMPARE_SUM = marked(
     "The sum of the poll without the lines that it got after the call. Compare it with the one in <strong>your</strong> letter of "
     "the call:"
 )
-BALLOTS_SUM = "The ballots have the sum that stands in the letter of the result:"
-PAGE_SUM = "And so has this page, as it was downloaded:"
+BALLOTS_SUM = marked("The ballots have the sum that stands in the letter of the result:")
+PAGE_SUM = marked("And so has this page, as it was downloaded:")
 
-OWN = (
-    '<b>Your own ballot.</b> It must stand under <a href="#Ballots">Ballots</a> as you sent it; the browser can search the page for '
-    'your name. If you did not vote, you must stand under <a href="#Who-voted">Who voted</a> as one who did not.'
+OWN = marked(
+    "<b>Your own ballot.</b> It must stand under {ballots} as you sent it; the browser can search the page for your name. If you did "
+    "not vote, you must stand under {voted} as one who did not."
 )
-OWN_IN_SECRET = (
-    '<b>Your own ballot.</b> <a href="#Find-your-ballot">Find your ballot</a> must show it as you sent it. If you did not vote, none '
-    "may count under your alias."
+OWN_IN_SECRET = marked(
+    "<b>Your own ballot.</b> {find} must show it as you sent it. If you did not vote, none may count under your alias."
 )
-LETTER = "<b>The sum in your letter.</b> The letter of the call that came to you must have this sum, the poll's: <code>{}</code>."
-RESULT_LETTER = (
+LETTER = marked(
+    "<b>The sum in your letter.</b> The letter of the call that came to you must have this sum, the poll's: <code>{sum}</code>."
+)
+RESULT_LETTER = marked(
     "<b>The letter of the result.</b> It came to you by another way than this page, and must name the same winner. It has the sum of "
     "this page, too, which shows whether anybody has changed what stands here. If none came, ask the secretary for it."
 )
-COUNT_HERE = (
-    '<b>The count.</b> <a href="#Count-again-here">Count again here</a> counts the ballots of this page anew in your browser, and '
-    "compares a sum of your letter."
+COUNT_HERE = marked(
+    "<b>The count.</b> {again} counts the ballots of this page anew in your browser, and compares a sum of your letter."
 )
-TOGETHER = (
+TOGETHER = marked(
     "Where every elector does so on the same files, those with the sums of the letter of the result, no ballot was left out or "
     "changed unseen, and nobody has changed what was voted on. Anybody can count these files again; one who does is enough for all "
     "who trust them. This page alone shows nothing of this: whoever keeps the web site can show each reader another one."
 )
-WHERE_DEBVOTE = "Ask your secretary where to get it: it is in the package debvote."
-FROM_ELSEWHERE = (
-    "The one that lies here is from the same web site as what it checks. It is better taken from elsewhere: the package debvote "
-    "has it as <code>/usr/share/doc/debvote/reference.py</code>; lay it into your folder under the name <code>recount.py</code>."
-)
+HOW_TO_READ = marked("{guide} says how, and how to read all that is here.")
+IN_ENGLISH = marked("The guide, the sheet, and what the programs say are in English.")
 
-WITH_SCRIPT = (
-    f"With JavaScript, by nodejs: <code>{SCRIPT}</code> is the count of the button above, and shares nothing with the other two. It "
+PUT_TOGETHER = marked(
+    "Put these files and this page, as index.html, into one folder, open a terminal there, and type these commands:"
+)
+WHERE_DEBVOTE = marked("Ask your secretary where to get it: it is in the package debvote.")
+BY_PYTHON = marked(
+    "With Python alone, 3.11 or later: <code>{program}</code> counts anew, and shares nothing with debvote. It is made to be read. "
+    "The one that lies here is from the same web site as what it checks. It is better taken from elsewhere: the package debvote "
+    "has it as <code>/usr/share/doc/debvote/reference.py</code>; lay it into your folder under the name <code>{program}</code>."
+)
+WITH_SCRIPT = marked(
+    "With JavaScript, by nodejs: <code>{program}</code> is the count of the button above, and shares nothing with the other two. It "
     "too is from the same web site as what it checks; the package debvote has it as "
     "<code>/usr/share/doc/debvote/recount.js</code>."
 )
 
-NO_OTHER = "No file lies in the folder that is not named there. Look at this before you run anything in it:"
+CAME_WHOLE = marked("The files came whole:")
+NO_OTHER = marked("No file lies in the folder that is not named there. Look at this before you run anything in it:")
 NO_OTHER_FILE = 'ls -A | grep -vxF "$(cut -c67- SHA256SUMS)"'
+AS_IT_IS = marked("The poll as it is, with its last envelope, {number}, has the sum that stands in the letter of the result:")
+
+# each check names the last envelope that rests on it
+SHEET_IS_THEIRS = marked("The sheet is that of the poll, and the ballots:")
+SHEET_IS_THEIRS_WITH_LAST = marked("The sheet is that of the poll, with its last envelope, {number}, and the ballots:")
+BALLOT_OF = marked("The ballot of {elector}:")
+BALLOT_OF_IN_TIME = marked("The ballot of {elector}, among the first {number} lines:")
+SAME_STANDING = marked("The ballots that stand are those of standing.txt:")
+BECAME = marked("What became of each line of the ballot file:")
+ANEW = marked("The sheet anew:")
+PICTURE = marked("The picture, with Graphviz:")
+PUBLISHED = marked("It is the published one:")
+PUBLISHED_WITH_LAST = marked("It is the published one, with its last envelope, {number}:")
 
 
-def page_of(found: Published, files: list[File]) -> str:
+def page_of(published: Published, files: list[File]) -> str:
     """The page, whole. The files are those of the folder, in the order in which the page names them."""
-    parts = [why(found), count.options(found), count.votes(found), count.defeats(found), count.rounds(found)]
-    parts += [standing_ballots(found), *([] if found.voting is None else [roll.roll(found.voting)]), refused(found)]
-    published = {file.name: file.data for file in files}
-    parts += [*found.further.parts, unseen(found), count_again.count_again(published), check(found, files)]
-    parts.insert(1, times.times(found))
-    about = result.about(found)
-    parts = [bars.bars(found), *about, *parts]
-    sections = "".join(map(found.with_names, [result.result(found), contents(parts), *parts]))
-    sections += count_again.carried(published)
+    data_by_name = {file.name: file.data for file in files}
+    about = result.about(published)
+    parts = [
+        bars.bars(published),
+        *about,
+        why(published),
+        times.times(published),
+        count.options(published),
+        count.votes(published),
+        count.defeats(published),
+        count.rounds(published),
+        standing_ballots(published),
+        *([] if published.voting is None else [roll.roll(published.voting, published.language)]),
+        refused(published),
+        *published.further.parts,
+        unseen(published),
+        count_again.count_again(data_by_name, published.language),
+        check(published, files),
+    ]
+    sections = "".join(map(published.with_names, [result.result(published), contents(published, parts), *parts]))
+    sections += count_again.carried(data_by_name)
     style = (
         pages.STYLE
         + pages.FIELDS_STYLE
         + bars.STYLE
-        + count.style(found)
+        + count.style(published)
         + roll.STYLE
-        + (result.DOUBTS_STYLE if found.doubts else "")
+        + (result.DOUBTS_STYLE if published.doubts else "")
     )
-    style += (pages.GIVEN_STYLE if about or found.because else "") + count_again.STYLE + found.further.style
-    title = found.title()
-    return pages.page(f"Result: {head_of(found)}", title, sections, style=style, script=count_again.script() + found.further.script)
+    style += (
+        (pages.GIVEN_STYLE if about or published.because or published.texts else "") + count_again.STYLE + published.further.style
+    )
+    title = published.title()
+    head = published.say("Result: {title}", title=head_of(published))
+    script = count_again.script() + published.further.script
+    return pages.page(published.language, head, title, sections, style=style, script=script)
 
 
-def head_of(found: Published) -> str:
+def head_of(published: Published) -> str:
     """What the window is called; there are no marks there."""
-    return escape(found.labels.title or found.sheet.title)
+    return escape(published.labels.title or published.sheet.title)
 
 
-def contents(parts: list[str]) -> str:
+def contents(published: Published, parts: list[str]) -> str:
     """Links to the parts."""
-    headings = [found for text in parts for found in re.findall(r'<h2 id="(.*)">(.*)</h2>', text)]
+    headings = [heading for text in parts for heading in re.findall(r'<h2 id="(.*)">(.*)</h2>', text)]
     links = [f'<a href="#{name}">{heading}</a>' for name, heading in headings]
-    return f'<nav aria-label="On this page">\n{listed("ul", links)}\n</nav>\n'
+    return f'<nav aria-label="{published.say("On this page")}">\n{listed("ul", links)}\n</nav>\n'
 
 
 # ---------------------------------------------------------------- the ballots
-def standing_ballots(found: Published) -> str:
+def standing_ballots(published: Published) -> str:
     """Each ballot that stands, at a place of the page that has the name of its elector."""
-    cast = [line.split(" ") for line in found.standing.splitlines()]
-    if not cast:
-        return part("Ballots", paragraph("No elector has a ballot that stands."))
-    names = {option: f"{option} {found.name(option)}" for option in found.sheet.names}
-    has_names = len(cast) * sum(map(len, names.values())) <= NAMES_LIMIT
-    said = found.further.about_ballots or (
+    say = published.say
+    standing = [line.split(" ") for line in published.standing.splitlines()]
+    if not standing:
+        return part(published.language, BALLOTS_HEADING, paragraph(say("No elector has a ballot that stands.")))
+    names = {option: f"{option} {published.name(option)}" for option in published.sheet.names}
+    has_names = len(standing) * sum(map(len, names.values())) <= NAMES_LIMIT
+    said = published.further.about_ballots or say(
         "Of each elector the last ballot that was not late, in the order of the roll. "
-        f"The address of a ballot is this page's with # and the name behind it, as index.html#{cast[0][0]}."
+        "The address of a ballot is this page's with # and the name behind it, as index.html#{elector}.",
+        elector=standing[0][0],
     )
     if not has_names:
-        said += " The names of the options stand under Options."
+        said += f" {say('The names of the options stand under Options.')}"
     shown = names if has_names else {option: str(option) for option in names}
+    in_words = words_of_ballots(published, shown)
+    entry = published.language.form("<b>{elector}</b> <code>{ranks}</code>: {ballot}")
     entries = "".join(
-        f'<li id="{voter}"><b>{voter}</b> <code>{ranks}</code>: {ballot_in_words(ranks, shown)}</li>\n' for voter, ranks in cast
+        f'<li id="{voter}">{entry(elector=voter, ranks=ranks, ballot=in_words(ranks))}</li>\n' for voter, ranks in standing
     )
-    called = [names_in_poll(found)] if has_names and found.labels.options else []
-    return part("Ballots", paragraph(said), *called, f'<ul class="ballots">\n{entries}</ul>')
+    in_poll = [names_in_poll(published)] if has_names and published.labels.options else []
+    return part(published.language, BALLOTS_HEADING, paragraph(said), *in_poll, f'<ul class="ballots">\n{entries}</ul>')
 
 
-def names_in_poll(found: Published) -> str:
+def names_in_poll(published: Published) -> str:
     """What the options of the ballots are called in the poll, where they have labels. The script shows it below a ballot too."""
-    names = joined(f"{option} {found.name(option)}{found.in_poll(option)}" for option in found.labels.options)
+    names = published.language.joined(
+        f"{option} {published.name(option)}{published.in_poll(option)}" for option in published.labels.options
+    )
     return f'<p class="in-poll">{names}</p>'
 
 
-def ballot_in_words(ranks: str, shown: dict[int, str]) -> str:
-    """A ballot in words, from the first preference on; the options stand as they are shown."""
-    found = ballots.preferences(ranks)
-    if not found.steps:
-        return "nothing is preferred"
-    steps = [("equally " if step[1:] else "") + joined(shown[option] for option in step) for step in found.steps]
-    unranked = f"; not ranked: {joined(shown[option] for option in found.unranked)}" if found.unranked else ""
-    return "; then ".join(steps) + unranked
+def words_of_ballots(published: Published, shown: dict[int, str]) -> Callable[[str], str]:
+    """What says a ballot in words, from the first preference on; the options stand as they are shown. Many ballots are alike."""
+    joined, say = published.language.joined, published.say
+    then, equally = published.language.between("{before}; then {step}"), published.language.form("equally {options}")
+    not_ranked = published.language.form("{ranked}; not ranked: {unranked}")
+
+    def step_in_words(step: list[int]) -> str:
+        return equally(options=joined(shown[option] for option in step)) if step[1:] else shown[step[0]]
+
+    @functools.cache
+    def in_words(ranks: str) -> str:
+        preferences = ballots.preferences(ranks)
+        if not preferences.steps:
+            return say("nothing is preferred")
+        said = then.join(map(step_in_words, preferences.steps))
+        if not preferences.unranked:
+            return said
+        return not_ranked(ranked=said, unranked=joined(shown[option] for option in preferences.unranked))
+
+    return in_words
 
 
 # ---------------------------------------------------------------- what the reader can do
-def check(found: Published, files: list[File]) -> str:
+def check(published: Published, files: list[File]) -> str:
     """What is enough for an elector; then the files, and the commands with which a reader counts again."""
-    what = {file.name: file.what for file in files} | found.further.described
-    shown = [f'<a href="{file.name}">{file.name}</a>: {what[file.name]}' for file in files]
-    said = "Put these files and this page, as index.html, into one folder, open a terminal there, and type these commands:"
-    alone = (
-        f"With Python alone, 3.11 or later: <code>{RECOUNT}</code> counts anew, and shares nothing with debvote. "
-        f"It is made to be read. {FROM_ELSEWHERE}"
-    )
+    language, say = published.language, published.say
+    what = {file.name: file.what for file in files} | published.further.described
+    links = {file.name: f'<a href="{file.name}">{file.name}</a>' for file in files}
+    shown = [say("{file}: {what}", file=links[file.name], what=what[file.name]) for file in files]
+    version = f"<code>{escape(published.version)}</code>"
     blocks = [
-        "<h3>What is enough for an elector</h3>",
-        *enough(found),
-        "<h3>To count again</h3>",
-        paragraph(said),
+        f"<h3>{say('What is enough for an elector')}</h3>",
+        *enough(published),
+        f"<h3>{say('To count again')}</h3>",
+        paragraph(say(PUT_TOGETHER)),
         listed("ul", shown),
-        *(command_block(*command) for command in whole_commands(found)),
-        f"<h3>With the program <code>{escape(found.version)}</code></h3>\n{paragraph(WHERE_DEBVOTE)}",
-        *(command_block(*command) for command in debvote_commands(found)),
-        f"<h3>Without debvote</h3>\n{paragraph(alone)}",
-        *(command_block(*command) for command in python_commands(found)),
-        paragraph(WITH_SCRIPT),
-        *(command_block(*command) for command in script_commands(found)),
+        *(command_block(language, *command) for command in whole_commands(published)),
+        f"<h3>{say('With the program {program}', program=version)}</h3>\n{paragraph(say(WHERE_DEBVOTE))}",
+        *(command_block(language, *command) for command in debvote_commands(published)),
+        f"<h3>{say('Without debvote')}</h3>\n{paragraph(say(BY_PYTHON, program=RECOUNT))}",
+        *(command_block(language, *command) for command in python_commands(published)),
+        paragraph(say(WITH_SCRIPT, program=SCRIPT)),
+        *(command_block(language, *command) for command in script_commands(published)),
     ]
-    return part("How to verify", *blocks)
+    return part(language, VERIFYING, *blocks)
 
 
-def enough(found: Published) -> list[str]:
+def enough(published: Published) -> list[str]:
     """What an elector looks at who does not count again."""
-    is_secret = found.further.unlisted is not None
-    entries = [OWN_IN_SECRET if is_secret else OWN, LETTER.format(found.called.poll_sum), RESULT_LETTER, COUNT_HERE]
-    guide = f'<a href="{GUIDE}">{GUIDE}</a> says how, and how to read all that is here.'
-    return [listed("ul", entries), paragraph(TOGETHER), paragraph(guide)]
+    is_secret, say = published.further.is_secret, published.say
+    ballots, voted, find, again = (link_to(published.language, heading) for heading in (BALLOTS_HEADING, VOTED, FIND, COUNT_AGAIN))
+    own = say(OWN_IN_SECRET, find=find) if is_secret else say(OWN, ballots=ballots, voted=voted)
+    entries = [own, say(LETTER, sum=published.poll_sums.poll_sum), say(RESULT_LETTER), say(COUNT_HERE, again=again)]
+    guide = say(HOW_TO_READ, guide=GUIDE_LINK)
+    if not published.language.is_english:
+        guide += f" {say(IN_ENGLISH)}"
+    return [listed("ul", entries), paragraph(say(TOGETHER)), paragraph(guide)]
 
 
 Command = tuple[str, str, str | None]
 
 
-def whole_commands(found: Published) -> list[Command]:
-    """What shows that the files are those that were published, and the poll the one that was called."""
-    commands: list[Command] = [("The files came whole:", "sha256sum -c SHA256SUMS", None), (NO_OTHER, NO_OTHER_FILE, "SHA256SUMS")]
-    if found.called.has_last_envelope:
-        is_as_it_is = f"The poll as it is, with {later(found)}, has the sum that stands in the letter of the result:"
-        commands.append((is_as_it_is, WHOLE, f"{found.called.whole_sum}  {POLL}"))
-    if found.called.has_last_envelope or found.called.announced is not None:
-        words = COMPARE_WHOLE_SUM if found.called.is_secret else COMPARE_SUM
-        commands.append((words, found.called.command, found.called.answer))
-    commands.append((BALLOTS_SUM, f"sha256sum {BALLOTS}", f"{found.ballots_sum}  {BALLOTS}"))
-    commands.append((PAGE_SUM, "sha256sum index.html", None))
-    return commands + times.commands(found.times)
+def whole_commands(published: Published) -> list[Command]:
+    """What shows that the files are those that were published, and the poll the one that was sums."""
+    say, sums = published.say, published.poll_sums
+    commands: list[Command] = [
+        (say(CAME_WHOLE), "sha256sum -c SHA256SUMS", None),
+        (say(NO_OTHER), NO_OTHER_FILE, "SHA256SUMS"),
+    ]
+    if sums.has_last_envelope:
+        commands.append((say(AS_IT_IS, number=sums.last_envelope), WHOLE, f"{sums.whole_sum}  {POLL}"))
+    if sums.has_last_envelope or sums.announced is not None:
+        commands.append((say(COMPARE_WHOLE_SUM if sums.is_secret else COMPARE_SUM), sums.command, sums.answer))
+    commands.append((say(BALLOTS_SUM), f"sha256sum {BALLOTS}", f"{published.ballots_sum}  {BALLOTS}"))
+    commands.append((say(PAGE_SUM), "sha256sum index.html", None))
+    return commands + times.commands(published.times, published.language)
 
 
-def later(found: Published) -> str:
-    """The last envelope, as each check names it that rests on it."""
-    return f"its last envelope, {found.called.last_envelope}"
+def with_last(published: Published, without: str, named: str) -> str:
+    """A sentence that names the last envelope, where there is one, or the one without it."""
+    return published.say(named if published.poll_sums.has_last_envelope else without, number=published.poll_sums.last_envelope)
 
 
-def with_later(found: Published) -> str:
-    return f", with {later(found)}" if found.called.has_last_envelope else ""
-
-
-def debvote_commands(found: Published) -> list[Command]:
+def debvote_commands(published: Published) -> list[Command]:
     """What debvote says of the files."""
-    voter = found.standing.partition(" ")[0] or "NAME"
-    draw = shlex.join(words_for_dot(len(found.sheet.names)))
+    say, number = published.say, published.poll_sums.last_envelope
+    voter = published.standing.partition(" ")[0] or "NAME"
+    draw = shlex.join(words_for_dot(len(published.sheet.names)))
+    theirs = with_last(published, SHEET_IS_THEIRS, SHEET_IS_THEIRS_WITH_LAST)
+    ballot_of = say(BALLOT_OF_IN_TIME if published.poll_sums.has_last_envelope else BALLOT_OF, elector=voter, number=number)
     return [
-        (
-            f"The sheet is that of the poll{with_later(found)}, and the ballots:",
-            debvote("verify", *FILES, "--sheet", SHEET),
-            found.verified,
-        ),
-        (f"The ballot of {voter}{in_time(found)}:", debvote("standing", *FILES) + f" | grep '^{voter} '", None),
-        ("The ballots that stand are those of standing.txt:", same_standing(debvote("standing", *FILES)), "the same"),
-        ("What became of each line of the ballot file:", debvote("steps", *FILES), None),
-        ("The sheet anew:", debvote("count", *FILES, *found.casting), None),
-        ("The picture, with Graphviz:", f"{debvote('picture', *FILES, *found.casting)} | {draw} > picture.svg", None),
+        (theirs, debvote("verify", *FILES, "--sheet", SHEET), published.verified),
+        (ballot_of, debvote("standing", *FILES) + f" | grep '^{voter} '", None),
+        (say(SAME_STANDING), same_standing(debvote("standing", *FILES)), "the same"),
+        (say(BECAME), debvote("steps", *FILES), None),
+        (say(ANEW), debvote("count", *FILES, *published.casting_words), None),
+        (say(PICTURE), f"{debvote('picture', *FILES, *published.casting_words)} | {draw} > picture.svg", None),
     ]
 
 
-def python_commands(found: Published) -> list[Command]:
+def python_commands(published: Published) -> list[Command]:
     """What the second count says of them."""
-    words = shlex.join([*ISOLATED, RECOUNT, "count", *FILES, *found.casting])
+    words = shlex.join([*ISOLATED, RECOUNT, "count", *FILES, *published.casting_words])
+    same_sheet = with_last(published, PUBLISHED, PUBLISHED_WITH_LAST)
     return [
-        ("The sheet anew:", words, None),
-        (f"It is the published one{with_later(found)}:", f"{words} | cmp - {SHEET} && echo the same", "the same"),
-        (
-            "The ballots that stand are those of standing.txt:",
-            same_standing(shlex.join([*ISOLATED, RECOUNT, "standing", *FILES])),
-            "the same",
-        ),
+        (published.say(ANEW), words, None),
+        (same_sheet, f"{words} | cmp - {SHEET} && echo the same", "the same"),
+        (published.say(SAME_STANDING), same_standing(shlex.join([*ISOLATED, RECOUNT, "standing", *FILES])), "the same"),
     ]
 
 
-def script_commands(found: Published) -> list[Command]:
+def script_commands(published: Published) -> list[Command]:
     """What the count in JavaScript says of them."""
     words = shlex.join(["nodejs", SCRIPT, "verify", *FILES, "--sheet", SHEET])
-    return [(f"The sheet is that of the poll{with_later(found)}, and the ballots:", words, found.verified)]
-
-
-def in_time(found: Published) -> str:
-    return f", among the first {found.called.last_envelope} lines" if found.called.has_last_envelope else ""
+    return [(with_last(published, SHEET_IS_THEIRS, SHEET_IS_THEIRS_WITH_LAST), words, published.verified)]
 
 
 def same_standing(command: str) -> str:

@@ -45,10 +45,10 @@ def least_width(picture: bytes) -> int:
     return round(LEAST_SHARE * float(xml.fromstring(picture).get("width", "0").removesuffix("pt")))
 
 
-def picture_in_page(picture: bytes) -> str:
+def picture_in_page(picture: bytes, words: str) -> str:
     """The picture as it stands in the page: shapes and texts alone, without the names by which Graphviz calls them.
 
-    Its names, as node1, may be those of electors.
+    Its names, as node1, may be those of electors. The words are for who does not see it.
     """
     xml.register_namespace("", SPACE[1:-1])
     svg = xml.fromstring(picture)
@@ -60,5 +60,5 @@ def picture_in_page(picture: bytes) -> str:
     for side in ("width", "height"):
         svg.set(side, svg.get(side, "").removesuffix("pt"))
     svg.set("role", "img")
-    svg.set("aria-label", "The defeats as a graph. The list above says the same in words.")
+    svg.set("aria-label", words)
     return xml.tostring(svg, encoding="unicode")

@@ -8,11 +8,12 @@ from html import escape
 from debvote_tools.announced import Announced
 from debvote_tools.faults import Doubt
 from debvote_tools.journal import Entry
+from debvote_tools.language import ENGLISH, Language
 from debvote_tools.program import Finding, Totals
-from debvote_tools.publish.called import PollSums
-from debvote_tools.publish.casting import Cast
-from debvote_tools.publish.labels import Labels
-from debvote_tools.publish.roll import Voting
+from debvote_tools.publish.casting_vote import CastingVote
+from debvote_tools.publish.labels import IN_POLL, Labels
+from debvote_tools.publish.poll_sums import PollSums
+from debvote_tools.publish.parts.roll import Voting
 from debvote_tools.sheet import Sheet
 
 
@@ -32,8 +33,8 @@ class Further:
     All texts but the script are HTML already.
     """
 
-    # where the lines that were refused or late are not among the published ballots: the numbers of all lines, which are told
-    unlisted: Totals | None = None
+    # in a secret vote, whose refused and late lines are not among the published ballots: how many lines came, which is told
+    private_totals: Totals | None = None
     # where the published roll has no names: the electors who have voted, if they are told
     voters: Sequence[str] | None = None
     # what stands above the ballots, in place of the ordinary sentences
@@ -48,15 +49,28 @@ class Further:
     # what files of the ordinary names are called on the page, by their names
     described: Mapping[str, str] = dataclasses.field(default_factory=dict)
 
+    @property
+    def is_secret(self) -> bool:
+        """Whether the vote is secret, and published under aliases."""
+        return self.private_totals is not None
+
+
+@dataclasses.dataclass(frozen=True)
+class LinesInTime:
+    """The last envelope of a poll, and the sum of so many first lines of its ballots."""
+
+    last_envelope: int
+    lines_sum: str
+
 
 @dataclasses.dataclass(frozen=True)
 class Times:
-    """What is known: what the poll says, the acts of the election, none of two files alone, and the sum of the lines in time."""
+    """What is known of time: what the poll says, the acts of the election, none of two files alone, and the lines in time."""
 
     said: Announced
     acts: list[Entry] | None
-    # in an open vote that has a last envelope: its number, and the sum of so many first lines
-    in_time: tuple[int, str] | None = None
+    # in an open vote that has a last envelope
+    in_time: LinesInTime | None = None
 
     def entries(self, act: str) -> list[Entry]:
         return [entry for entry in self.acts or [] if entry.act == act]
@@ -74,11 +88,11 @@ class Published:
     lines: list[bytes]
     picture: bytes | None
     # the words of the casting vote, as the commands of the page have them
-    casting: list[str]
+    casting_words: list[str]
     verified: str
     version: str
     doubts: list[Doubt]
-    called: PollSums
+    poll_sums: PollSums
     labels: Labels
     about: str | None
     further: Further
@@ -88,9 +102,16 @@ class Published:
     # why the doubts are none, in the words of those who publish
     because: str | None = None
     # whose the casting vote was, in the words of those who publish
-    cast: Cast = Cast()
+    casting_vote: CastingVote = CastingVote()
     # the sum of the published ballots
     ballots_sum: str = ""
+    # the language of page and letter
+    language: Language = ENGLISH
+    # the texts of the options, by their numbers
+    texts: Mapping[int, str] = dataclasses.field(default_factory=dict)
+
+    def say(self, text: str, **places: object) -> str:
+        return self.language.say(text, **places)
 
     def title(self) -> str:
         """What the election is called on the page, in HTML."""
@@ -110,7 +131,7 @@ class Published:
 
     def in_poll(self, option: int) -> str:
         """What an option is called in the poll, as it stands beside its label."""
-        return f" (in the poll: {escape(self.sheet.names[option])})"
+        return f" ({self.say(IN_POLL, name=escape(self.sheet.names[option]))})"
 
     def with_names(self, section: str) -> str:
         """A section of the page in which the name of the poll stands beside the first label of each option."""

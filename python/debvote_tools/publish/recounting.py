@@ -1,5 +1,6 @@
 """What lies beside what is published, as it is: two more counts, programs in Python and in JavaScript that share nothing with
-debvote nor with each other, and the guide for electors."""
+debvote nor with each other, and the guide for electors.
+"""
 
 import importlib.resources
 import pathlib
@@ -10,8 +11,9 @@ NAME = "recount.py"
 SCRIPT = "recount.js"
 PACKAGE = "debvote_tools.publish"
 GUIDE = "READING-A-SHEET.md"
+GUIDE_LINK = f'<a href="{GUIDE}">{GUIDE}</a>'
 
-# the folder that debvote_tools lies in; the package has both there, and a checkout has them elsewhere
+# the folder that debvote_tools lies in; the package has recount.py and the guide there, and a checkout has them elsewhere
 PLACE = pathlib.Path(__file__).resolve().parents[2]
 
 

@@ -7,7 +7,7 @@ import subprocess
 import sys
 
 from debvote_tools.faults import Fault, Status
-from debvote_tools.publish.calls import FILES
+from debvote_tools.publish.names import FILES
 from debvote_tools.publish.recounting import NAME
 
 # Python runs no file but the one that is named: neither what lies beside it nor what the environment says is loaded
@@ -16,17 +16,19 @@ ISOLATED = ("python3", "-I")
 TASKS = ("count", "standing")
 
 
-def demand_same(folder: pathlib.Path, casting: list[str], sheet: str, standing: str) -> None:
+def demand_same(folder: pathlib.Path, casting_words: list[str], sheet: str, standing: str) -> None:
     """Stops where the program of the folder finds another sheet there, or other ballots that stand. Both are counted at once."""
     with contextlib.ExitStack() as stack:
-        runs = {task: stack.enter_context(begun(folder, [task, *FILES, *(casting if task == "count" else [])])) for task in TASKS}
+        runs = {
+            task: stack.enter_context(begun(folder, [task, *FILES, *(casting_words if task == "count" else [])])) for task in TASKS
+        }
         for run in runs.values():
             stack.callback(run.kill)
         answers = {task: run.communicate() for task, run in runs.items()}
     for task, wanted in zip(TASKS, (sheet, standing), strict=True):
-        found, faults = (data.decode("utf-8", "replace") for data in answers[task])
-        if found != wanted:
-            said = f"it says `{faults.strip()}`" if faults else difference(found, wanted)
+        text, faults = (data.decode("utf-8", "replace") for data in answers[task])
+        if text != wanted:
+            said = f"it says `{faults.strip()}`" if faults else difference(text, wanted)
             raise Fault(
                 f"{NAME}, the second count, does not find the same as debvote with its `{task}`",
                 said,
@@ -42,8 +44,8 @@ def begun(folder: pathlib.Path, words: list[str]) -> subprocess.Popen[bytes]:
     return subprocess.Popen(program, cwd=folder, stdin=subprocess.DEVNULL, stdout=subprocess.PIPE, stderr=subprocess.PIPE)
 
 
-def difference(found: str, wanted: str) -> str:
+def difference(text: str, wanted: str) -> str:
     """The first line in which two texts differ."""
-    lines = itertools.zip_longest(found.splitlines(), wanted.splitlines(), fillvalue="(end)")
+    lines = itertools.zip_longest(text.splitlines(), wanted.splitlines(), fillvalue="(end)")
     number, (one, other) = next((number, pair) for number, pair in enumerate(lines, start=1) if pair[0] != pair[1])
     return f"line {number} is `{one}`, where debvote has `{other}`"

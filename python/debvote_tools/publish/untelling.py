@@ -51,15 +51,15 @@ def demand_untelling(file: str, text: str, holders: list[Holder], sums: set[str]
     """Stops where a text has a code, an alias, or a sum of the private files."""
     lower = text.lower()
     squeezed = re.sub(r"[^0-9a-f]", "", re.sub(r"<[^>]*>", "", lower))
-    found = None
+    what = None
     if any(holder.code in squeezed for holder in holders):
-        found = "the code of an elector"
+        what = "the code of an elector"
     elif any(holder.alias in squeezed for holder in holders):
-        found = "the alias of an elector, and may tell whose it is"
+        what = "the alias of an elector, and may tell whose it is"
     elif sums.intersection(SIXTY_FOUR.findall(lower)):
-        found = "the sum of a private file, by which one can try guesses of who voted what"
-    if found is not None:
-        raise Fault(file, f"it has {found}", "take it out", Status.DOUBT, "nothing was published")
+        what = "the sum of a private file, by which one can try guesses of who voted what"
+    if what is not None:
+        raise Fault(file, f"it has {what}", "take it out", Status.DOUBT, "nothing was published")
 
 
 def demand_read(texts: dict[str, str], holders: list[Holder], options: list[str], *, are_read: bool) -> None:
@@ -68,8 +68,8 @@ def demand_read(texts: dict[str, str], holders: list[Holder], options: list[str]
         return
     ballots = ballot_with_name(holders, options)
     for file, text in texts.items():
-        found = ballots.search(text.lower())
-        what = "" if found is None else f"it looks as if it has a ballot with the name of its elector (`{shown_text(found[0])}`)"
+        ballot = ballots.search(text.lower())
+        what = "" if ballot is None else f"it looks as if it has a ballot with the name of its elector (`{shown_text(ballot[0])}`)"
         if not is_terminal():
             told = "everybody will read it, and nobody has said that it was read before" + (what and f"; {what}")
             raise Fault(file, told, "read it, then publish with --texts-read", Status.DOUBT, "nothing was published")
@@ -90,8 +90,8 @@ def ballot_with_name(holders: list[Holder], options: list[str]) -> re.Pattern[st
     return re.compile(rf"(?<![\w.-])(?:{names})(?:{BETWEEN}(?:{RANKS}|{spaced})|{in_words})", re.MULTILINE)
 
 
-def private_sums(poll: bytes, ballots: bytes, election: pathlib.Path | None) -> set[str]:
+def private_sums(poll_bytes: bytes, ballots_bytes: bytes, election: pathlib.Path | None) -> set[str]:
     """The sums of the private files, as they are and as they were."""
-    sums = {sum_of(data) for data in (poll, as_announced(poll), ballots)}
+    sums = {sum_of(data) for data in (poll_bytes, as_announced(poll_bytes), ballots_bytes)}
     entries = [] if election is None else journal.entries_in(election / journal.NAME)
     return sums.union(*({entry.sums.poll, entry.sums.ballots} for entry in entries))

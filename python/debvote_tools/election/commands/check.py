@@ -4,15 +4,15 @@ import argparse
 import dataclasses
 
 from debvote_tools import poll_file
+from debvote_tools.arguments import arguments_of
 from debvote_tools.console import tell
-from debvote_tools.election.asking import call_command, command, quorum_words
-from debvote_tools.election.checking import checked
+from debvote_tools.election.checking import check_poll
 from debvote_tools.election.folder import Election
-from debvote_tools.election.record import Files
+from debvote_tools.election.record import PollAndBallots
+from debvote_tools.election.running import quorum_words
 from debvote_tools.election.secrecy import without_code
 from debvote_tools.faults import Status
 from debvote_tools.sheet import Sheet
-from debvote_tools.words import taken
 
 HELP = "Say all that is wrong with the poll, or what is voted on"
 
@@ -21,32 +21,32 @@ SHOWN = 200
 
 
 @dataclasses.dataclass(frozen=True)
-class Asked:
-    """The words of this command."""
+class Arguments:
+    """What stands behind the command on the command line."""
 
     all: bool
 
 
-def options(parser: argparse.ArgumentParser) -> None:
+def add_arguments(parser: argparse.ArgumentParser) -> None:
     parser.add_argument("--all", action="store_true", help="Print all names of the roll, however many there are")
 
 
-def run(election: Election, words: argparse.Namespace) -> int:
-    asked = taken(Asked, words)
-    with election.reading() as files:
-        sheet = checked(election, files)
-    tell_poll(sheet, poll_file.roll_of(files.poll), has_all=asked.all)
-    tell(f"Next: {what_next(election, files)}")
-    return Status.DECIDED
+def run(election: Election, namespace: argparse.Namespace) -> int:
+    arguments = arguments_of(Arguments, namespace)
+    with election.reading() as counted:
+        sheet = check_poll(election, counted)
+    tell_poll(sheet, poll_file.roll_of(counted.poll_bytes), has_all=arguments.all)
+    tell(f"Next: {what_next(election, counted)}")
+    return Status.DONE
 
 
-def what_next(election: Election, files: Files) -> str:
+def what_next(election: Election, counted: PollAndBallots) -> str:
     """The command that the election needs next."""
-    if election.call.exists() or election.is_called():
-        return command(election, "status")
-    if election.is_secret() and without_code(election, files.poll):
-        return f"{command(election, 'codes')}, for an elector has no code yet"
-    return call_command(election)
+    if election.call_folder.exists() or election.is_called():
+        return election.command("status")
+    if election.is_secret() and without_code(election, counted.poll_bytes):
+        return f"{election.command('codes')}, for an elector has no code yet"
+    return election.call_command()
 
 
 def tell_poll(sheet: Sheet, roll: list[str], *, has_all: bool) -> None:

@@ -7,30 +7,22 @@ import pathlib
 import select
 import sys
 
-from debvote_tools.ballots import in_words
+from debvote_tools.ballots import ranks_in_words
 from debvote_tools.console import is_yes, tell, typed
-from debvote_tools.election.asking import command
-from debvote_tools.election.casting import (
-    Ballot,
-    Batch,
-    ballot_words,
-    cast,
-    change_words,
-    judged,
-    right_line,
-    right_words,
-    sheet_of,
-    standing_of,
-    summary,
-    would_words,
-)
-from debvote_tools.election.doubts import is_too_long, long_words
+from debvote_tools.election.batch import Batch, BatchLine, batch_of, right_line
+from debvote_tools.election.batch_words import ballot_words, change_words, right_words, summary, would_words
+from debvote_tools.election.entering import batch_or_keep, enter_batch, whole_act
 from debvote_tools.election.folder import Election
+from debvote_tools.election.record import PollAndBallots
+from debvote_tools.election.running import answer_about, sheet_without_ballots
+from debvote_tools.election.letters import keyring
 from debvote_tools.election.secrecy import demand_own_folder
-from debvote_tools.election.telling import tell_edits, tell_time
+from debvote_tools.election.stops import is_too_long, long_words
+from debvote_tools.election.telling import tell_edits, tell_if_early_or_late
 from debvote_tools.faults import Fault, Status
 from debvote_tools.files import BALLOTS_LIMIT, append_whole, in_memory, uninterrupted, write_new
 from debvote_tools.lines import Line, lines_in
+from debvote_tools.program import standing_in
 
 HELP = "Enter ballots by hand, and tell the reply to each; as many desks at once as there are terminals"
 
@@ -41,7 +33,7 @@ READ = 65_536
 
 
 class Desk:
-    """A desk: what came at it is kept in a file of its own, and what it cast is told at its end."""
+    """A desk: what came at it is kept in a file of its own, and what it entered is told at its end."""
 
     def __init__(self, election: Election) -> None:
         self.election = election
@@ -58,10 +50,10 @@ class Desk:
         self.next_line += len(lines)
         return lines
 
-    def cast(self, lines: list[Line], data: bytes = b"") -> None:
-        """Casts lines, and keeps what came before, unless it is kept already; empty lines are left out and told."""
-        with self.election.changing() as files:
-            tell_edits(self.election, files)
+    def enter(self, lines: list[Line], data: bytes = b"") -> None:
+        """Enters lines, and keeps what came before, unless it is kept already; empty lines are left out and told."""
+        with self.election.changing() as counted:
+            tell_edits(self.election, counted)
             full = [line for line in lines if not line.is_empty]
             for line in lines:
                 if line.is_empty:
@@ -69,25 +61,33 @@ class Desk:
             # what is told is counted too
             with uninterrupted():
                 if full:
-                    self.batches.append(cast(self.election, "cast", files, full, lambda: self.keep(data)))
+                    self.batches.append(self.entered(counted, full, data))
                 else:
                     self.keep(data)
+
+    def entered(self, counted: PollAndBallots, lines: list[Line], data: bytes) -> Batch:
+        """The batch of these lines, entered when what came is kept. The caller holds the lock alone."""
+        batch = batch_or_keep(self.election, counted, lines, lambda: self.keep(data))
+        with whole_act(self.election):
+            self.keep(data)
+            enter_batch(self.election, "cast", counted, batch)
+        return batch
 
     def keep(self, data: bytes) -> None:
         """Keeps what came, as it came."""
         if not data:
             return
         if self.received is None:
-            self.received = write_new(self.election.received, "desk", data)
+            self.received = write_new(self.election.received_folder, "desk", data)
         else:
             append_whole(self.received, data)
 
     def open_received(self) -> None:
         """Makes the file for what comes, while nothing is read yet: so it waits for no other desk once something is."""
-        with self.election.changing() as files:
-            tell_edits(self.election, files)
+        with self.election.changing() as counted:
+            tell_edits(self.election, counted)
             self.election.begin_journal()
-            self.received = write_new(self.election.received, "desk", b"")
+            self.received = write_new(self.election.received_folder, "desk", b"")
         self.handle = os.open(self.received, os.O_RDWR | os.O_CLOEXEC)
 
     def read_and_keep(self) -> bytes:
@@ -118,17 +118,21 @@ class Desk:
             self.received.unlink()
 
 
-def options(parser: argparse.ArgumentParser) -> None:
+def add_arguments(parser: argparse.ArgumentParser) -> None:
     """It has none of its own."""
 
 
-def run(election: Election, asked: argparse.Namespace) -> int:
+def run(election: Election, namespace: argparse.Namespace) -> int:
     if sys.stdin is None:
         raise Fault("standard input", "it is closed", "run it at a terminal", Status.BAD_BALLOTS, "nothing was cast")
     desk = Desk(election)
-    with election.reading() as files:
+    with election.reading() as counted:
         demand_own_folder(election)
-        tell_time(election, files, "what is cast")
+        tell_if_early_or_late(election, counted, "what is cast")
+        if keyring.is_demanded(election):
+            tell(
+                "Note: letters have to be signed in this vote, and a desk asks for no signature: enter what comes on paper, or is spoken."
+            )
     try:
         if sys.stdin.isatty():
             at_terminal(desk)
@@ -137,13 +141,13 @@ def run(election: Election, asked: argparse.Namespace) -> int:
     except KeyboardInterrupt:
         tell("")
     tell(f"This desk has cast {summary(desk.batches)}.")
-    tell(f"Next: {command(election, 'status')}")
-    return Status.DECIDED
+    tell(f"Next: {election.command('status')}")
+    return Status.DONE
 
 
 # ---------------------------------------------------------------- from a pipe
 def from_pipe(desk: Desk) -> None:
-    """Casts what comes: the whole lines that each read has brought. What is read is kept first."""
+    """Enters what comes: the whole lines that each read has brought. What is read is kept first."""
     waiting: list[bytes] = []
     after_return = False
     select.select([sys.stdin.fileno()], [], [])
@@ -159,11 +163,11 @@ def from_pipe(desk: Desk) -> None:
             came = b"".join([*waiting, data[:end]])
             waiting = [data[end:]]
             # a carriage return and a line feed are one end of a line, also where two reads part them
-            desk.cast(short_lines(desk, came.removeprefix(b"\n") if after_return else came))
+            desk.enter(short_lines(desk, came.removeprefix(b"\n") if after_return else came))
             after_return = came.endswith(b"\r")
         rest = b"".join(waiting)
         if rest:
-            desk.cast(short_lines(desk, rest))
+            desk.enter(short_lines(desk, rest))
     finally:
         desk.close_received()
 
@@ -188,7 +192,7 @@ def short_lines(desk: Desk, came: bytes) -> list[Line]:
     lines = desk.lines_of(came)
     for line in lines:
         if is_too_long(line):
-            add = command(desk.election, "add", "--even-so", "FILE")
+            add = desk.election.command("add", "--even-so", "FILE")
             tell(f"{line.where}: {long_words(line)}; it was not cast, and is kept in {desk.received}.", f"  To add it: {add}")
     return [line for line in lines if not is_too_long(line)]
 
@@ -208,40 +212,47 @@ def at_terminal(desk: Desk) -> None:
             if answer is None:
                 return
             if answer:
-                desk.cast([line], came)
+                desk.enter([line], came)
             else:
                 tell("It was not cast, and is forgotten.")
 
 
 def tell_head(election: Election) -> None:
     """Says what can be ranked, and how a ballot is typed."""
-    with election.reading() as files, in_memory(files.poll) as poll:
-        sheet = sheet_of(election, poll)
-        example = right_line(files.poll, len(sheet.names))
+    with election.reading() as counted, in_memory(counted.poll_bytes) as poll_path:
+        sheet = sheet_without_ballots(election, poll_path)
+        example = right_line(counted.poll_bytes, len(sheet.names))
     tell(*(f"{number:3} {name}" for number, name in sheet.names.items()))
     tell(f"Type a ballot as {example} (the elector, then a rank for each option in this order); q ends.")
 
 
 def show(election: Election, line: Line) -> str:
     """Shows what a line would be: in words, or why debvote would refuse it. Returns the question whether to cast it."""
-    with election.reading() as files:
-        batch = judged(election, files, [line])
-        (ballot,) = batch.ballots
-        earlier = standing_of(election, files, name_of(ballot)) if ballot.reply == "replaced" else None
-    changes = list(change_words(ballot))
+    with election.reading() as counted:
+        batch = batch_of(election, counted, [line])
+        (shown,) = batch.lines
+        earlier = standing_ranks_of(election, counted, name_of(shown)) if shown.reply == "replaced" else None
+    changes = list(change_words(shown))
     if changes:
         tell(*changes)
-    if ballot.finding is not None:
-        tell(f"It would be refused: {would_words(ballot)}", right_words(batch))
+    if shown.finding is not None:
+        tell(f"It would be refused: {would_words(shown)}", right_words(batch))
         return "It would count for nothing. Cast it all the same?"
-    tell(ballot_words(ballot, batch.names))
-    if ballot.reply == "late":
+    tell(ballot_words(shown, batch.option_names))
+    if shown.reply == "late":
         tell("It is late, and will count for nothing.")
     if earlier is not None:
-        tell(f"{name_of(ballot)} has a ballot: {in_words(earlier, batch.names)}. It will be replaced.")
+        tell(f"{name_of(shown)} has a ballot: {ranks_in_words(earlier, batch.option_names)}. It will be replaced.")
     return "Cast it?"
 
 
-def name_of(ballot: Ballot) -> str:
+def standing_ranks_of(election: Election, counted: PollAndBallots, elector: str) -> str | None:
+    """The ranks of the ballot of an elector that stands."""
+    with in_memory(counted.poll_bytes) as poll_path:
+        standing = answer_about(election, "standing", poll_path, counted.ballots_bytes or b"")
+    return standing_in(standing.text).get(elector)
+
+
+def name_of(ballot: BatchLine) -> str:
     """The elector of a valid ballot."""
     return ballot.text.decode("ascii").partition(" ")[0]

@@ -6,11 +6,12 @@ import contextlib
 import pathlib
 import shlex
 
+from debvote_tools.arguments import arguments_of
 from debvote_tools.console import tell
-from debvote_tools.election.folder import Election
+from debvote_tools.election.folder import NEW, Election
 from debvote_tools.faults import Fault, Status
 from debvote_tools.files import locked, uninterrupted, write_whole
-from debvote_tools.words import taken
+from debvote_tools.language import ENGLISH, LANGUAGES
 
 HELP = "Make the folder of an election, with a poll and a list of members to fill in"
 
@@ -59,31 +60,34 @@ roll = []
 
 
 @dataclasses.dataclass(frozen=True)
-class Asked:
-    """The words of this command."""
+class Arguments:
+    """What stands behind the command on the command line."""
 
     target: str
+    language: str
 
 
-def options(parser: argparse.ArgumentParser) -> None:
+def add_arguments(parser: argparse.ArgumentParser) -> None:
+    said = "The language of what electors read, pages and letters: de, en, es or fr; English if it is not given"
+    parser.add_argument("--language", metavar="CODE", choices=sorted(LANGUAGES), default=ENGLISH.code, help=said)
     parser.add_argument("target", metavar="FOLDER", help="The folder to make; one that is there must be empty")
 
 
-def run(election: Election, words: argparse.Namespace) -> int:
-    asked = taken(Asked, words)
-    if hasattr(words, "folder"):
+def run(election: Election, namespace: argparse.Namespace) -> int:
+    arguments = arguments_of(Arguments, namespace)
+    if hasattr(namespace, "folder"):
         raise Fault("--folder", "new makes the folder that stands behind it", "leave --folder out", Status.BAD_WORDS)
     with uninterrupted():
-        say(made_in(pathlib.Path(asked.target), election.beside))
-    return Status.DECIDED
+        say(made_in(pathlib.Path(arguments.target), arguments.language, election.program_folder))
+    return Status.DONE
 
 
-def made_in(folder: pathlib.Path, beside: pathlib.Path | None) -> Election:
+def made_in(folder: pathlib.Path, language: str, program_folder: pathlib.Path | None) -> Election:
     """Makes the election, or nothing."""
     is_made = make(folder)
-    made = Election(folder, beside)
+    made = Election(folder, program_folder)
     try:
-        fill(made)
+        fill(made, language)
     except BaseException:
         take_away(made, is_made)
         raise
@@ -92,8 +96,11 @@ def made_in(folder: pathlib.Path, beside: pathlib.Path | None) -> Election:
 
 def say(made: Election) -> None:
     """Says what was made, and what comes next."""
-    tell(f"Made the folder {made.folder} with {made.poll.name} and {made.members.name}.")
-    steps = f"write the members into {made.members.name} with a spreadsheet, fill in {made.poll.name} with an editor"
+    tell(f"Made the folder {made.folder} with {made.poll_path.name} and {made.members_path.name}.")
+    language = made.language()
+    if not language.is_english:
+        tell(f"What electors read will be in {LANGUAGES[language.code]}.")
+    steps = f"write the members into {made.members_path.name} with a spreadsheet, fill in {made.poll_path.name} with an editor"
     tell(f"Next: cd {shlex.quote(str(made.folder))}, {steps}, then run: debvote-election roll")
 
 
@@ -114,17 +121,17 @@ def make(folder: pathlib.Path) -> bool:
         raise Fault(folder, error.strerror, "choose a place that is there and where you may write", Status.BAD_WORDS) from None
 
 
-def fill(made: Election) -> None:
-    """Writes the files of a new election, and notes it."""
-    with locked(made.lock):
-        write_whole(made.members, MEMBERS.encode())
-        write_whole(made.poll, POLL.encode())
-        made.act("new", made.files())
+def fill(made: Election, language: str) -> None:
+    """Writes the files of a new election, and notes it, with a language that is not English."""
+    with locked(made.lock_path):
+        write_whole(made.members_path, MEMBERS.encode())
+        write_whole(made.poll_path, POLL.encode())
+        made.act(NEW, made.poll_and_ballots(), record="" if language == ENGLISH.code else language)
 
 
 def take_away(made: Election, is_made: bool) -> None:
     """Takes away what was made of an election, where not all of it could be."""
-    for file in (made.members, made.poll, made.journal, made.lock):
+    for file in (made.members_path, made.poll_path, made.journal_path, made.lock_path):
         with contextlib.suppress(OSError):
             file.unlink()
     if is_made:

@@ -8,17 +8,18 @@ import re
 from collections.abc import Callable
 
 from debvote_tools import called, poll_file
+from debvote_tools.arguments import arguments_of
 from debvote_tools.console import tell
-from debvote_tools.election.asking import command, empty_sheet, explained, given_already, quorum_words
 from debvote_tools.election.folder import Election
-from debvote_tools.election.record import Files
+from debvote_tools.election.record import PollAndBallots
+from debvote_tools.election.running import explanation_of, quorum_words, sheet_if_in_order
+from debvote_tools.election.taking_back import given_already
 from debvote_tools.election.telling import count_of
 from debvote_tools.faults import Fault, Status
 from debvote_tools.files import uninterrupted, write_whole
 from debvote_tools.members import AGAIN, LONGEST_NAME, Member, Members, doubles, doubt, members_in, plain, proposals
-from debvote_tools.pages import joined
+from debvote_tools.language import ENGLISH
 from debvote_tools.signs import shown_text
-from debvote_tools.words import taken
 
 HELP = "Write the roll of the poll from the list of members"
 
@@ -30,40 +31,40 @@ MOST_MEMBERS = 200
 
 
 @dataclasses.dataclass(frozen=True)
-class Asked:
-    """The words of this command."""
+class Arguments:
+    """What stands behind the command on the command line."""
 
     file: str | None
     all: bool
 
 
-def options(parser: argparse.ArgumentParser) -> None:
+def add_arguments(parser: argparse.ArgumentParser) -> None:
     parser.add_argument("file", metavar="FILE", nargs="?", help="The list of members, as CSV; members.csv if it is not given")
     parser.add_argument("--all", action="store_true", help="Print all names, however many there are")
 
 
-def run(election: Election, words: argparse.Namespace) -> int:
-    asked = taken(Asked, words)
-    with election.changing() as files:
-        members = members_in(pathlib.Path(asked.file) if asked.file else election.members)
+def run(election: Election, namespace: argparse.Namespace) -> int:
+    arguments = arguments_of(Arguments, namespace)
+    with election.changing() as counted:
+        members = members_in(pathlib.Path(arguments.file) if arguments.file else election.members_path)
         if not all(member.name for member in members.members):
-            propose(election, members, has_all=asked.all)
+            propose(election, members, has_all=arguments.all)
         stop_at_doubles(members)
-        poll = poll_file.with_key(files.poll, "roll", list_of([member.name for member in members.members]))
+        poll = poll_file.with_key(counted.poll_bytes, "roll", list_of([member.name for member in members.members]))
         demand_allowed(election, members, poll)
         tell_alike(members, "who", lambda member: " ".join(plain(member.who).split()))
         tell_alike(members, "mail", lambda member: plain(member.mail))
-        demand_same_call(election, files, poll, members)
+        demand_same_call(election, counted, poll, members)
         with uninterrupted():
-            write(election, files, poll)
-            tell_roll(election, members, has_all=asked.all)
-        sheet = empty_sheet(election)
+            write(election, counted, poll)
+            tell_roll(election, members, has_all=arguments.all)
+        sheet = sheet_if_in_order(election)
     tell_numbers(election, members)
     if sheet is not None:
         tell(quorum_words(sheet))
     later = "" if sheet is not None else " (the poll is not in order yet: check tells what is missing)"
-    tell(f"Next: {command(election, 'check')}{later}")
-    return Status.DECIDED
+    tell(f"Next: {election.command('check')}{later}")
+    return Status.DONE
 
 
 # ---------------------------------------------------------------- names
@@ -73,7 +74,7 @@ def propose(election: Election, members: Members, *, has_all: bool) -> None:
     without = [member.line for member in members.members if not member.name and member.line not in names]
     if names:
         with uninterrupted():
-            election.keep_copy(members.file)
+            election.back_up(members.file)
             write_whole(members.file.resolve(), members.with_names(names))
             tell_proposals(members, names, has_all=has_all)
     if without:
@@ -97,10 +98,10 @@ def tell_proposals(members: Members, names: dict[int, str], *, has_all: bool) ->
 
 def stop_at_doubles(members: Members) -> None:
     """Stops where two members have one name."""
-    found = doubles(members.members, lambda member: member.name)
-    for group in found:
+    groups = doubles(members.members, lambda member: member.name)
+    for group in groups:
         tell(f"{members.file}: {lines_of([member.line for member in group])} have the same name: {shown_text(group[0].name)}")
-    if found:
+    if groups:
         raise doubt(
             members.file,
             "an elector's name stands there more than once",
@@ -108,18 +109,20 @@ def stop_at_doubles(members: Members) -> None:
         )
 
 
-def demand_allowed(election: Election, members: Members, poll: bytes) -> None:
+def demand_allowed(election: Election, members: Members, poll_bytes: bytes) -> None:
     """Asks debvote about the poll with the new roll. What it finds on the roll is told by the lines of the list."""
-    answer = explained(election, poll)
+    answer = explanation_of(election, poll_bytes)
     findings = answer.text.splitlines()
     syntax = next((finding for finding in findings if re.match(r"poll:\d", finding)), None)
     if syntax is not None:
-        raise Fault(election.poll, f"debvote can't read it ({syntax})", f"put this right with an editor, {AGAIN}", Status.BAD_POLL)
+        raise Fault(
+            election.poll_path, f"debvote can't read it ({syntax})", f"put this right with an editor, {AGAIN}", Status.BAD_POLL
+        )
     # the lines of the list stand in place of the positions
     at_position = re.compile(r"poll: voter at position (\d+): (.*?)(?:; positions count from 0)?")
-    names = [found for found in map(at_position.fullmatch, findings) if found]
-    for found in names:
-        tell(f"{members.file}:{members.members[int(found[1])].line}: {found[2]}")
+    names = [name for name in map(at_position.fullmatch, findings) if name]
+    for name in names:
+        tell(f"{members.file}:{members.members[int(name[1])].line}: {name[2]}")
     if names:
         raise doubt(
             members.file,
@@ -143,13 +146,15 @@ def tell_alike(members: Members, column: str, key: Callable[[Member], str]) -> N
 
 
 # ---------------------------------------------------------------- the poll
-def demand_same_call(election: Election, files: Files, poll: bytes, members: Members) -> None:
+def demand_same_call(election: Election, counted: PollAndBallots, poll_bytes: bytes, members: Members) -> None:
     """Stops where the call for votes was made with another roll than the list has now."""
     call = called.call_of(election.folder)
-    if call is not None and not call.is_of(poll):
-        words = f"the call for votes was made with another roll than this list has: {roll_difference(files.poll, poll)}"
-        anew = f"to call anew with this one, first take the call back: {command(election, 'call', '--take-back')}"
-        cure = given_already(election, files, "the list") or f"put the list back as it was; {anew}"
+    if call is not None and not call.is_of(poll_bytes):
+        words = (
+            f"the call for votes was made with another roll than this list has: {roll_difference(counted.poll_bytes, poll_bytes)}"
+        )
+        anew = f"to call anew with this one, first take the call back: {election.command('call', '--take-back')}"
+        cure = given_already(election, counted, "the list") or f"put the list back as it was; {anew}"
         raise Fault(members.file, words, cure, Status.DOUBT)
 
 
@@ -164,14 +169,14 @@ def roll_difference(before: bytes, after: bytes) -> str:
 def names_of(names: list[str]) -> str:
     """Some names; of many the first."""
     more = [f"{len(names) - SHOWN} more"] if len(names) > SHOWN else []
-    return joined([*names[:SHOWN], *more])
+    return ENGLISH.joined([*names[:SHOWN], *more])
 
 
-def write(election: Election, files: Files, poll: bytes) -> None:
+def write(election: Election, counted: PollAndBallots, poll_bytes: bytes) -> None:
     """Writes the poll with the new roll, where it is another one."""
-    if poll != files.poll:
-        election.keep_copy(election.poll)
-        election.act("roll", files, poll=poll)
+    if poll_bytes != counted.poll_bytes:
+        election.back_up(election.poll_path)
+        election.act("roll", counted, new_poll=poll_bytes)
 
 
 def list_of(names: list[str]) -> str:
@@ -186,13 +191,13 @@ def tell_roll(election: Election, members: Members, *, has_all: bool) -> None:
     told = [f"  {member.name}" + (f": {shown_text(member.who)}" if member.who else "") for member in first]
     rest = len(members.members) - len(first)
     more = [f"  and {rest} more, in {members.file}"] if rest else []
-    tell(f"The roll of {election.poll} has {count_of(len(members.members), 'elector')}:", *told, *more)
+    tell(f"The roll of {election.poll_path} has {count_of(len(members.members), 'elector')}:", *told, *more)
 
 
 def tell_numbers(election: Election, members: Members) -> None:
     """Asks about a roll that has numbers alone: electors know their own names, and one number is soon taken for another."""
     if all(re.fullmatch(r"[0-9][0-9.-]*", member.name) for member in members.members):
-        cure = f"put the real names under who, leave name empty, and run {command(election, 'roll')} again"
+        cure = f"put the real names under who, leave name empty, and run {election.command('roll')} again"
         tell(f"Note: all names on the roll are numbers. Are they member numbers? Then {cure}.")
 
 

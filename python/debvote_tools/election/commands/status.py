@@ -7,13 +7,13 @@ import re
 import textwrap
 
 from debvote_tools import announced, called, journal, poll_file, secret
-from debvote_tools.announced import announced_in, in_words
+from debvote_tools.announced import announced_in, time_in_words
 from debvote_tools.console import shows, tell
-from debvote_tools.election.asking import call_command, command, files_of, quorum_words, refused
-from debvote_tools.election.edited import changes_of
+from debvote_tools.election.changed_by_hand import changes_by_hand
 from debvote_tools.election.folder import Election
-from debvote_tools.election.letters import store
-from debvote_tools.election.record import Files
+from debvote_tools.election.letters import keyring, store
+from debvote_tools.election.record import PollAndBallots
+from debvote_tools.election.running import file_words, quorum_words, refusal
 from debvote_tools.election.secrecy import aliases_now, demand_own_folder, publish_words
 from debvote_tools.election.telling import time_of
 from debvote_tools.faults import Fault, Status
@@ -51,22 +51,25 @@ class State:
         return [name for name in self.roll if name not in self.standing]
 
 
-def options(parser: argparse.ArgumentParser) -> None:
+def add_arguments(parser: argparse.ArgumentParser) -> None:
     """It has none of its own."""
 
 
-def run(election: Election, asked: argparse.Namespace) -> int:
-    with election.reading() as files:
-        acts = acts_of(election, files)
-        waiting = store.state_of(election, files).waiting
-        tell_edited(election, files, acts)
-        state = state_of(election, files)
-        gone = election.what_is_gone(files)
-        changed = [*changes_of(election, files).lines(), *election.changed_since_close(files, state.sheet)]
+def run(election: Election, namespace: argparse.Namespace) -> int:
+    with election.reading() as counted:
+        acts = acts_of(election, counted)
+        waiting = store.state_of(election, counted).waiting
+        tell_edited(election, counted, acts)
+        state = state_of(election, counted)
+        gone = election.what_is_gone(counted)
+        changed = [*changes_by_hand(election, counted).sentences(), *election.changed_since_close(counted, state.sheet)]
+        signing = keyring.status_lines(election)
     tell(f"Title: {state.sheet.title}")
-    tell_secrecy(election, files)
-    tell_until(files.poll)
+    tell_secrecy(election, counted)
+    tell_until(counted.poll_bytes)
     tell_stage(election, acts, state.sheet)
+    for line in signing:
+        tell(line)
     for line in [*gone, *changed]:
         tell(f"Note: {line}")
     tell(quorum_words(state.sheet))
@@ -75,72 +78,72 @@ def run(election: Election, asked: argparse.Namespace) -> int:
     tell_refused(state)
     tell_waiting(election, waiting)
     tell(f"Next: {what_next(election, acts, state)}")
-    return Status.DECIDED
+    return Status.DONE
 
 
-def acts_of(election: Election, files: Files) -> list[Entry]:
+def acts_of(election: Election, counted: PollAndBallots) -> list[Entry]:
     """The acts that were done. One that was cut off, and that no later act has noted as such yet, is told."""
-    begun = journal.begun(election.journal)
-    if begun is not None and begun.sums != files.sums:
+    begun = journal.begun(election.journal_path)
+    if begun is not None and begun.sums != counted.sums:
         tell(f"Note: the last act ({begun.act}, {time_of(begun)}) was cut off, and is not done; run it again.")
-    return journal.acts_done(election.journal, files.sums)
+    return journal.acts_done(election.journal_path, counted.sums)
 
 
-def state_of(election: Election, files: Files) -> State:
+def state_of(election: Election, counted: PollAndBallots) -> State:
     """Asks debvote."""
     texts = {}
     # of a refused poll `explain` says more than a fault, so it is not asked first
     for task in ("standing", "explain", "count"):
-        answer = election.debvote.ask(task, *files_of(election, files))
+        answer = election.debvote.run(task, *file_words(election, counted))
         if answer.faults:
-            raise refused(election, answer)
+            raise refusal(election, answer)
         texts[task] = answer.text
     return State(
         findings=findings_in(texts["explain"]),
         sheet=sheet_in(texts["count"]),
-        roll=poll_file.roll_of(files.poll),
+        roll=poll_file.roll_of(counted.poll_bytes),
         standing=standing_in(texts["standing"]),
-        lines=(files.ballots or b"").split(b"\n"),
+        lines=(counted.ballots_bytes or b"").split(b"\n"),
     )
 
 
 # ---------------------------------------------------------------- how far it is
-def tell_edited(election: Election, files: Files, acts: list[Entry]) -> None:
+def tell_edited(election: Election, counted: PollAndBallots, acts: list[Entry]) -> None:
     """Says which files somebody has edited by hand. That is allowed, and is not to happen unseen.
 
     Before the call the poll is there to be edited, and after it no command goes on with another poll; so of earlier edits those
     of the ballots are told.
     """
-    for before, found in itertools.pairwise(acts):
-        if found.act == journal.FOUND and found.sums.ballots != before.sums.ballots:
-            since = f"between {time_of(before)} ({before.act}) and {time_of(found)}"
-            tell(f"Note: {election.ballots} was edited by hand {since}; what came is kept in {election.received}.")
-    for file in election.edited(files):
-        kept = election.backup if file == election.poll else election.received
+    for before, edit in itertools.pairwise(acts):
+        if edit.act == journal.FOUND and edit.sums.ballots != before.sums.ballots:
+            since = f"between {time_of(before)} ({before.act}) and {time_of(edit)}"
+            tell(f"Note: {election.ballots_path} was edited by hand {since}; what came is kept in {election.received_folder}.")
+    for file in election.edited_paths(counted):
+        folder = election.backup_folder if file == election.poll_path else election.received_folder
         tell(f"Note: {file} was edited by hand after the last act of debvote-election ({acts[-1].act}, {time_of(acts[-1])}).")
-        tell(f"  Where you did not do this, find out who did; what debvote-election had is kept in {kept}.")
+        tell(f"  Where you did not do this, find out who did; what debvote-election had is kept in {folder}.")
 
 
-def tell_secrecy(election: Election, files: Files) -> None:
+def tell_secrecy(election: Election, counted: PollAndBallots) -> None:
     """Says that the vote is secret, and what is wrong with its codes."""
     if not election.is_secret():
         return
     tell("The vote is secret: ballots are published under aliases. What this command tells is for you alone.")
-    gone = secret.copy_is_gone(election.codes, files.poll)
+    gone = secret.copy_is_gone(election.codes_path, counted.poll_bytes)
     if gone is not None:
-        tell(f"Note: {gone.line()}")
+        tell(f"Note: {gone.told()}")
     try:
         demand_own_folder(election)
-        aliases_now(election, files.poll)
+        aliases_now(election, counted.poll_bytes)
     except Fault as fault:
         tell(f"Note: {fault.words}")
 
 
-def tell_until(poll: bytes) -> None:
+def tell_until(poll_bytes: bytes) -> None:
     """Says until when one can vote, where the poll says it, and whether that is over."""
-    said = announced_in(poll)
+    said = announced_in(poll_bytes)
     if said.until is not None:
-        tell(f"Until when: {in_words(said.until)}{'; that is over' if announced.now() >= said.until else ''}")
+        tell(f"Until when: {time_in_words(said.until)}{'; that is over' if announced.now() >= said.until else ''}")
     elif said.words is not None:
         tell(f"Until when: {said.words}")
 
@@ -148,7 +151,7 @@ def tell_until(poll: bytes) -> None:
 def tell_stage(election: Election, acts: list[Entry], sheet: Sheet) -> None:
     """Says whether the election is called and closed."""
     call = journal.last(acts, called.MADE)
-    if election.call.exists() or election.is_called():
+    if election.call_folder.exists() or election.is_called():
         tell(f"Call for votes: made{f' at {time_of(call)}' if call else ''}")
     else:
         tell("Call for votes: not made yet")
@@ -164,18 +167,18 @@ def tell_stage(election: Election, acts: list[Entry], sheet: Sheet) -> None:
 
 def what_next(election: Election, acts: list[Entry], state: State) -> str:
     """The command that the election needs next."""
-    add = f"{command(election, 'add', 'FILE')}, or {command(election, 'desk')}"
-    if not election.call.exists() and not election.is_called() and not state.findings.totals.lines:
-        return call_command(election)
+    add = f"{election.command('add', 'FILE')}, or {election.command('desk')}"
+    if not election.call_folder.exists() and not election.is_called() and not state.findings.totals.lines:
+        return election.call_command()
     if journal.last(acts, "close") is None:
-        return f"add the ballots as they come: {add}; when the vote is over: {command(election, 'close')}"
-    return f"{command(election, 'count')}, then {command(election, *publish_words(election))}"
+        return f"add the ballots as they come: {add}; when the vote is over: {election.command('close')}"
+    return f"{election.command('count')}, then {election.command(*publish_words(election))}"
 
 
-def tell_waiting(election: Election, waiting: list[store.Kept]) -> None:
+def tell_waiting(election: Election, waiting: list[store.KeptLetter]) -> None:
     """Says how many letters wait."""
     if waiting:
-        tell(f"Letters that wait until you have looked: {len(waiting)} ({command(election, 'held')} lists them)")
+        tell(f"Letters that wait until you have looked: {len(waiting)} ({election.command('held')} lists them)")
 
 
 # ---------------------------------------------------------------- lines and electors
@@ -229,8 +232,8 @@ def tell_refused(state: State) -> None:
 
 def elector_of(line: bytes) -> str | None:
     """Whose line it may be: its first word in small letters."""
-    found = FIRST_WORD.match(line)
-    return found[1].decode("ascii").lower() if found else None
+    word = FIRST_WORD.match(line)
+    return word[1].decode("ascii").lower() if word else None
 
 
 def tell_findings(title: str, findings: list[Finding], lines: list[bytes]) -> None:

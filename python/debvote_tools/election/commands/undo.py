@@ -3,59 +3,67 @@
 import argparse
 
 from debvote_tools import journal
-from debvote_tools.ballots import in_words
-from debvote_tools.by_hand import TAKEN_BACK
-from debvote_tools.closed import lines_of
-from debvote_tools.election.asking import command
-from debvote_tools.election.casting import asked_of, sheet_of
+from debvote_tools.ballots import ranks_in_words
+from debvote_tools.console import tell
 from debvote_tools.election.folder import Election
 from debvote_tools.election.letters import store
-from debvote_tools.election.record import Files
+from debvote_tools.election.record import PollAndBallots
+from debvote_tools.election.running import answer_about, option_names
 from debvote_tools.election.secrecy import demand_own_folder
-from debvote_tools.console import tell
 from debvote_tools.election.telling import count_of, tell_edits, tell_what_is_gone, time_of
 from debvote_tools.faults import Fault, Status
 from debvote_tools.files import in_memory, uninterrupted, write_new
 from debvote_tools.journal import Entry
+from debvote_tools.lines import ballot_file, ballot_lines
 from debvote_tools.program import standing_in
+from debvote_tools.received import TAKEN_BACK
 
 HELP = "Take back the last act that entered ballots; once more, and the one before"
 
 
-def options(parser: argparse.ArgumentParser) -> None:
+def add_arguments(parser: argparse.ArgumentParser) -> None:
     """It has none of its own."""
 
 
-def run(election: Election, asked: argparse.Namespace) -> int:
-    with election.changing() as files:
+def run(election: Election, namespace: argparse.Namespace) -> int:
+    with election.changing() as counted:
         demand_own_folder(election)
-        tell_edits(election, files)
-        tell_what_is_gone(election, files)
+        tell_edits(election, counted)
+        tell_what_is_gone(election, counted)
         demand_open(election)
-        act = last_cast(election, files)
-        first, last = bounds_of(act)
-        lines = lines_of(files.ballots or b"")
-        kept, back = lines[: first - 1], lines[first - 1 : last]
-        ballots = b"".join(line + b"\n" for line in kept)
-        before, after = (standing_of(election, files.poll, data) for data in (files.ballots or b"", ballots))
-        letters = store.state_of(election, files)
-        with in_memory(files.poll) as poll:
-            names = list(sheet_of(election, poll).names.values())
-        with uninterrupted():
-            election.begin_journal()
-            file = write_new(election.received, f"{act.act}{TAKEN_BACK}", b"".join(line + b"\n" for line in back))
-            done = election.act(journal.UNDO, files, act.envelopes, ballots=ballots, record=file.name.removesuffix(TAKEN_BACK))
-            tell(
-                f"Took back {count_of(len(back), 'line')} ({act.act}, {time_of(act)}, {envelope_words(act)}); they are kept in {file}."
-            )
-            for name in before:
-                if before[name] != after.get(name):
-                    tell(
-                        f"  {name}: {'no ballot stands now' if name not in after else f'{in_words(after[name], names)}, as before'}"
-                    )
-            tell_letters(letters, store.state_of(election, done))
-    tell(f"Next: {command(election, 'status')}; once more {command(election, 'undo')} takes back the act before")
-    return Status.DECIDED
+        take_back(election, counted, last_entering_act(election, counted))
+    tell(f"Next: {election.command('status')}; once more {election.command('undo')} takes back the act before")
+    return Status.DONE
+
+
+def take_back(election: Election, counted: PollAndBallots, act: Entry) -> None:
+    """Takes the lines of the last act out of the ballots, keeps them, and tells who has another ballot now."""
+    first, last = act.first_and_last()
+    lines = ballot_lines(counted.ballots_bytes or b"")
+    lines_left, lines_back = ballot_file(lines[: first - 1]), lines[first - 1 : last]
+    standing, standing_then = (
+        standing_of(election, counted.poll_bytes, data) for data in (counted.ballots_bytes or b"", lines_left)
+    )
+    letters = store.state_of(election, counted)
+    names = option_names(election, counted)
+    with uninterrupted():
+        election.begin_journal()
+        file = write_new(election.received_folder, f"{act.act}{TAKEN_BACK}", ballot_file(lines_back))
+        record = file.name.removesuffix(TAKEN_BACK)
+        files_then = election.act(journal.UNDO, counted, act.envelopes, new_ballots=lines_left, record=record)
+        said = f"{act.act}, {time_of(act)}, {envelope_words(act)}"
+        tell(f"Took back {count_of(len(lines_back), 'line')} ({said}); they are kept in {file}.")
+        tell_standing(standing, standing_then, names)
+        tell_letters(letters, store.state_of(election, files_then))
+
+
+def tell_standing(before: dict[str, str], after: dict[str, str], names: list[str]) -> None:
+    """Tells whose ballot is another one than before, or none."""
+    for elector in before:
+        if elector not in after:
+            tell(f"  {elector}: no ballot stands now")
+        elif before[elector] != after[elector]:
+            tell(f"  {elector}: {ranks_in_words(after[elector], names)}, as before")
 
 
 def demand_open(election: Election) -> None:
@@ -64,7 +72,7 @@ def demand_open(election: Election) -> None:
     if close is not None:
         words = f"the vote was closed at {time_of(close)}, and its ballots stay"
         raise Fault(
-            election.ballots,
+            election.ballots_path,
             words,
             "see what was entered in the file, and put it right by hand",
             Status.DOUBT,
@@ -72,34 +80,30 @@ def demand_open(election: Election) -> None:
         )
 
 
-def last_cast(election: Election, files: Files) -> Entry:
-    """The last act that cast lines which were not taken back. Stops where there is none, or where the lines are not as it left them."""
-    acts = journal.acts_done(election.journal, files.sums)
-    found = journal.cast_and_not_undone(acts)
-    if not found:
+def last_entering_act(election: Election, counted: PollAndBallots) -> Entry:
+    """The last act that entered lines which were not taken back. Stops where there is none, or where the lines are not as it left them."""
+    acts = journal.acts_done(election.journal_path, counted.sums)
+    entering = journal.entered_and_not_undone(acts)
+    if not entering:
         raise Fault(
-            "undo", "nothing was entered that could be taken back", command(election, "status"), Status.DOUBT, "nothing was changed"
+            "undo", "nothing was entered that could be taken back", election.command("status"), Status.DOUBT, "nothing was changed"
         )
-    if files.sums.ballots != found[-1].sums.ballots:
+    if counted.sums.ballots != entering[-1].sums.ballots:
         cure = "take the lines out with an editor, as status and close will tell"
-        raise Fault(election.ballots, "it was changed by hand since lines were entered", cure, Status.DOUBT, "nothing was changed")
-    return found[-1]
-
-
-def bounds_of(act: Entry) -> tuple[int, int]:
-    """The first and the last envelope of an act."""
-    first, _, last = act.envelopes.partition("-")
-    return int(first), int(last or first)
+        raise Fault(
+            election.ballots_path, "it was changed by hand since lines were entered", cure, Status.DOUBT, "nothing was changed"
+        )
+    return entering[-1]
 
 
 def envelope_words(act: Entry) -> str:
     return f"{'envelopes' if '-' in act.envelopes else 'envelope'} {act.envelopes}"
 
 
-def standing_of(election: Election, poll: bytes, ballots: bytes) -> dict[str, str]:
+def standing_of(election: Election, poll_bytes: bytes, ballots_bytes: bytes) -> dict[str, str]:
     """The ballots that stand."""
-    with in_memory(poll) as path:
-        return standing_in(asked_of(election, "standing", path, ballots).text)
+    with in_memory(poll_bytes) as poll_path:
+        return standing_in(answer_about(election, "standing", poll_path, ballots_bytes).text)
 
 
 def tell_letters(before: store.State, after: store.State) -> None:
@@ -116,6 +120,8 @@ def tell_letters(before: store.State, after: store.State) -> None:
         tell(*(f"  letter {letter.number}, {letter.sender}: {outcome(letter)}" for letter in wrong))
 
 
-def outcome(letter: store.Kept) -> str:
+def outcome(letter: store.KeptLetter) -> str:
     """What a receipt has said."""
-    return f"envelope {letter.envelope}" if letter.envelope is not None else "it waits"
+    if letter.envelope is None:
+        return "it waits"
+    return f"envelope {letter.envelope}, the ballot of {(letter.ballot or '').partition(' ')[0]}"

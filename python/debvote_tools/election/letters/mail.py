@@ -92,7 +92,7 @@ def line_of(text: str) -> str:
 # ---------------------------------------------------------------- the folder
 def place_of(election: Election, kind: str) -> pathlib.Path:
     """Where the next letters of a kind are written: by number, and in a secret vote where nobody else may look."""
-    base = (election.private if election.is_secret() else election.folder) / FOLDER
+    base = (election.private_folder if election.is_secret() else election.folder) / FOLDER
     numbers = [int(found[1]) for file in base.glob("*") if (found := re.match(r"(\d+)-", file.name))]
     return base / f"{max(numbers, default=0) + 1:04}-{kind}"
 

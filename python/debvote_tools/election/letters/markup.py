@@ -4,8 +4,10 @@ Python's own reader of HTML takes a time that grows with the square of the lengt
 a letter; so the marks are parted here by one expression, which reads each sign once.
 """
 
+import functools
 import html
 import re
+from collections.abc import Iterator
 
 # a comment, a declaration, a mark with its attributes, a sign that begins none of them, or a text; what has no end ends with the text
 TOKEN = re.compile(
@@ -40,7 +42,58 @@ QUOTED_IDS = frozenset(
         "mail-editor-reference-message-container",
     )
 )
-HIDDEN = re.compile(r"display\s*:\s*none|visibility\s*:\s*hidden|mso-hide\s*:\s*all", re.IGNORECASE)
+# what hides an element, as a style says it
+HIDING = {
+    "display": re.compile("none"),
+    "visibility": re.compile("hidden|collapse"),
+    "mso-hide": re.compile("all"),
+    "color": re.compile("transparent"),
+    "clip": re.compile(r"rect.*"),
+}
+HIDING |= dict.fromkeys(("font-size", "opacity"), re.compile(r"(?=[.0]*0)[.0]+(?:px|pt|em|rem|%)?"))
+HIDING |= dict.fromkeys(("text-indent", "left", "top"), re.compile(r"-\d{3}.*"))
+# and where what does not fit is hidden, too
+SIZES, NO_SIZE = ("height", "max-height", "width", "max-width"), re.compile(r"0+(?:px|pt|em|rem|%)?")
+# on paper that is white, where no other ground is told
+WHITE = re.compile(r"white|\#fff(?:fff)?|rgb\(\s*255\s*,\s*255\s*,\s*255\s*\)", re.IGNORECASE)
+
+# in signs; of so long a style it is remembered whether it hides
+LONGEST_KNOWN = 200
+
+COMMENT = re.compile(r"/\*.*?(?:\*/|\Z)|<!--|-->", re.DOTALL)
+# the last word of whom a rule of a style is about: an element, a class or an id, in signs
+ABOUT, LONGEST_ABOUT = re.compile(r"([.#]?)([\w-]+)(?:::?[\w-]+(?:\([^)]*\))?)*\s*$"), 200
+
+
+def hides(style: str) -> bool:
+    """Whether a style hides the element that it is of. A mail program writes the same few styles again and again."""
+    if not style:
+        return False
+    return hides_by_words(style) if len(style) > LONGEST_KNOWN else hides_as_before(style)
+
+
+def hides_by_words(style: str) -> bool:
+    """The same, by what it says."""
+    said = {}
+    for part in COMMENT.sub("", style).lower().split(";"):
+        name, _, value = part.partition(":")
+        said[name.strip()] = value.strip().removesuffix("important").rstrip(" !")
+    if any(name in HIDING and HIDING[name].fullmatch(value) for name, value in said.items()):
+        return True
+    if WHITE.fullmatch(said.get("color", "")) and not any(name.startswith("background") for name in said):
+        return True
+    return said.get("overflow") == "hidden" and any(NO_SIZE.fullmatch(said.get(name, "")) for name in SIZES)
+
+
+hides_as_before = functools.lru_cache(maxsize=1_000)(hides_by_words)
+
+
+def rules_in(style: str) -> Iterator[tuple[str, str]]:
+    """The rules of a style: whom each is about, and what it says."""
+    parts = re.split(r"([{}])", COMMENT.sub("", style))
+    for place in range(2, len(parts) - 1, 2):
+        if parts[place - 1] == "{" and parts[place + 1] == "}":
+            yield parts[place - 2], parts[place]
 
 
 class Reader:
@@ -49,6 +102,8 @@ class Reader:
     def __init__(self) -> None:
         self.lines: list[str] = []
         self.parts: list[str] = []
+        # what a style hides: elements, classes and ids
+        self.hidden: set[str] = set()
         # the open elements, each with whether what is in it is quoted, is shown, and keeps its line ends
         self.open: list[tuple[str, bool, bool, bool]] = []
 
@@ -71,8 +126,22 @@ class Reader:
         is_quoted = was_quoted or is_quotation(tag, given)
         if is_quoted != was_quoted:
             self.end_line()
-        is_unseen = is_unseen or tag in UNSEEN or "hidden" in given or HIDDEN.search(given.get("style", "")) is not None
+        is_unseen = is_unseen or tag in UNSEEN or self.is_hidden(tag, given)
         self.open.append((tag, is_quoted, is_unseen, is_kept or tag == "pre"))
+
+    def is_hidden(self, tag: str, given: dict[str, str]) -> bool:
+        """Whether an element is not shown, as it says itself, or as a style says of it."""
+        if "hidden" in given or hides(given.get("style", "")) or (tag == "font" and WHITE.fullmatch(given.get("color", ""))):
+            return True
+        names = {tag, *(f".{name}" for name in given.get("class", "").split()), f"#{given.get('id', '')}"}
+        return bool(self.hidden) and not self.hidden.isdisjoint(names)
+
+    def style(self, text: str) -> None:
+        """The text of a style comes."""
+        for whom, said in rules_in(text):
+            if hides(said):
+                found = [ABOUT.search(part[-LONGEST_ABOUT:]) for part in whom.split(",")]
+                self.hidden |= {f"{one[1]}{one[2]}" for one in found if one is not None}
 
     def end(self, tag: str) -> None:
         """An element ends."""
@@ -132,7 +201,10 @@ def lines_of(text: str) -> list[str]:
     """The lines of a text with marks."""
     reader = Reader()
     for token in TOKEN.finditer(text):
-        if token["text"] is not None:
+        if reader.open and reader.open[-1][0] == "style" and token["tag"] is None:
+            # what stands in a comment of a style holds all the same
+            reader.style(token[0])
+        elif token["text"] is not None:
             reader.text(html.unescape(token["text"]))
         elif token["tag"] is None:
             continue

@@ -1,6 +1,7 @@
 """One letter: who sent it, when it arrived, and its text; or why it can't be read."""
 
 import codecs
+import contextlib
 import dataclasses
 import datetime
 import email
@@ -8,8 +9,10 @@ import email.message
 import email.parser
 import email.utils
 import re
+from email.errors import CloseBoundaryNotFoundDefect
 
 from debvote_tools.election.letters import markup
+from debvote_tools.election.letters.openpgp import GoodSignature, Signed
 from debvote_tools.files import sum_of
 
 # in bytes; a longer letter is not read
@@ -28,6 +31,10 @@ BOUNDARY = re.compile(rb"""(?i)\bboundary[ \t]*=[ \t]*"?([^"\s;]*)""")
 IN_PIECES = re.compile(rb"(?i)\bboundary\*")
 LONG_FIELD = re.compile(rb"(?im)^content-[a-z-]+[ \t]*:(?:[^\n]|\n(?=[ \t])){%d}" % LONGEST_OF_PART)
 
+# what is said of a part once, and of its kind
+ONCE = ("Content-Type", "Content-Transfer-Encoding", "Content-Disposition")
+PARAMETERS = [re.compile(rf"(?i);\s*{name}\s*\*?\d*\*?=") for name in ("boundary", "charset", "format", "delsp", "protocol")]
+
 # in signs; so much is read of a line of the head
 LONGEST_FIELD = 2_000
 
@@ -35,22 +42,32 @@ END_OF_HEAD = re.compile(rb"\r?\n\r?\n")
 
 ADDRESS = re.compile(r'[^\s<>@,;:"()\[\]\\]+@[^\s<>@,;:"()\[\]\\]+')
 
-# what Python decodes that is no charset of a letter
-NO_CHARSETS = frozenset(("idna", "punycode", "unicode_escape", "raw_unicode_escape", "undefined", "mbcs", "oem"))
+# what Python decodes that is no charset of a letter, or that mail programs show as it stands
+NO_CHARSETS = frozenset(("idna", "punycode", "unicode_escape", "raw_unicode_escape", "undefined", "mbcs", "oem", "utf_7", "hz"))
+# the signs of a ballot, which are the same bytes in every charset of a letter but for these, whose order of bytes is told by a mark
+SIGNS = bytes(range(ord("a"), ord("z") + 1)) + b"ABCXYZ0123456789 ,.-:;"
+WIDE = {"utf-16": (codecs.BOM_UTF16_LE, codecs.BOM_UTF16_BE), "utf-32": (codecs.BOM_UTF32_LE, codecs.BOM_UTF32_BE)}
+WIDE_IN_ORDER = ("utf-16-le", "utf-16-be", "utf-32-le", "utf-32-be")
+
+# why a letter waits that a program has written
+AUTOMATIC = "written by a program: an answer of somebody who is away, or a letter that came back"
 
 # a program that answers by itself says so by one of these
-AUTOMATIC = ("x-autoreply", "x-autorespond", "x-autoresponder")
+AUTOMATIC_FIELDS = ("x-autoreply", "x-autorespond", "x-autoresponder")
 DAEMON = re.compile(r"(?:mailer-daemon|postmaster)@", re.IGNORECASE)
 
 
 @dataclasses.dataclass(frozen=True)
 class Raw:
-    """A letter as it came, at the place that `where` names, as `inbox, message 3`: some bytes of what was read."""
+    """A letter as it came, at the place that `where` names, as `inbox, message 3`: some bytes of what was read; and why it may be no
+    letter of its own.
+    """
 
     where: str
     source: memoryview
     start: int
     end: int
+    doubt: str | None = None
 
     @property
     def data(self) -> bytes:
@@ -73,10 +90,25 @@ class Letter:
     is_automatic: bool
     lines: tuple[str, ...]
     # the paragraphs that a program has wrapped, and said so, each whole, by the place of its first line, from 0
-    joined: dict[int, str]
+    paragraphs: dict[int, str]
     attachments: tuple[str, ...]
     # why its text can't be read
     trouble: str | None
+    # the sum of its text, by which it is known when it comes again
+    text_sum: str
+    # the lines of its HTML, where plain text beside it is what is read
+    html_lines: tuple[str, ...]
+    # whether one of its parts has no end
+    is_open: bool
+    # why it may be no letter of its own
+    doubt: str | None
+    # where letters have to be signed, `signed.py` reads the lines, paragraphs and attachments anew, part by part, and adds the places of
+    # the lines that are signed, what was signed, or why there is not one signature; `verifying.py` asks gpgv, and adds the good
+    # signature, or why it is none
+    signed_lines: range | None = None
+    signed: Signed | None = None
+    why_unsigned: str | None = None
+    good_signature: GoodSignature | None = None
 
     @property
     def sender(self) -> str:
@@ -84,21 +116,47 @@ class Letter:
         return ", ".join(address or "(unknown)" for address in self.senders) or "nobody"
 
     @property
-    def key(self) -> tuple[str, str]:
-        """By what it is known when it comes again: its Message-ID, and the sum of its text."""
-        if self.trouble is not None:
-            return (self.message_id, sum_of(self.raw.data))
-        known = self.message_id or f"{self.sender} {self.arrived}"
-        return (known, sum_of("\n".join(self.lines).encode("utf-8", "replace")))
+    def known_id(self) -> str:
+        """Its Message-ID, and what stands in the place of it where it has none."""
+        return self.message_id or ("" if self.trouble is not None else f"{self.sender} {self.arrived}")
+
+    @property
+    def signature_sum(self) -> str | None:
+        """The sum of its signature; none where it has not one."""
+        return None if self.signed is None else sum_of(self.signed.signature.data)
+
+    @property
+    def key(self) -> "LetterKey":
+        """By what it is known when it comes again."""
+        says_automatic = self.is_automatic and self.trouble is None
+        return LetterKey(self.known_id, self.text_sum, self.senders, self.signature_sum, says_automatic)
+
+
+@dataclasses.dataclass(frozen=True)
+class LetterKey:
+    """By what a letter is known when it comes again: its Message-ID and the sum of its text; and all for which a letter waits that
+    may stand in the head of one letter and not of another with the same text. So nobody has a letter of another passed over by
+    sending a copy that waits.
+    """
+
+    known_id: str
+    text_sum: str
+    senders: tuple[str, ...]
+    signature_sum: str | None
+    is_automatic: bool
 
 
 @dataclasses.dataclass(frozen=True)
 class Text:
-    """The text of a letter, or of a part of it: its lines, its paragraphs that were wrapped, and the names of its attachments."""
+    """The text of a letter, or of a part of it: its lines, its paragraphs that were wrapped, the names of its attachments, the lines of
+    HTML that are not read since there is plain text, and whether a part has no end.
+    """
 
     lines: list[str]
-    joined: dict[int, str]
+    paragraphs: dict[int, str]
     attachments: tuple[str, ...] = ()
+    html_lines: tuple[str, ...] = ()
+    is_open: bool = False
 
 
 class Unread(Exception):
@@ -108,12 +166,10 @@ class Unread(Exception):
 def letter_of(raw: Raw) -> Letter:
     """Reads a letter. Whatever it has in it, this ends, and soon."""
     data = raw.data
-    end = END_OF_HEAD.search(data[: LONGEST_HEAD + 4])
-    head = data[: end.start() if end else LONGEST_HEAD]
-    fields = email.parser.BytesHeaderParser().parsebytes(head)
+    fields, _ = parted(data)
     text, trouble = Text([], {}), None
     try:
-        text = text_of(data, has_head=end is not None or len(data) <= LONGEST_HEAD)
+        text = text_of(data)
     except Unread as error:
         trouble = str(error)
     except (RecursionError, AssertionError, ValueError, LookupError, TypeError, AttributeError) as error:
@@ -128,10 +184,21 @@ def letter_of(raw: Raw) -> Letter:
         arrived=arrival_of(fields),
         is_automatic=is_automatic(fields),
         lines=tuple(text.lines),
-        joined=text.joined,
+        paragraphs=text.paragraphs,
         attachments=text.attachments,
         trouble=trouble,
+        text_sum=sum_of("\n".join(text.lines).encode("utf-8", "replace") if trouble is None else data),
+        html_lines=tuple(text.html_lines),
+        is_open=text.is_open,
+        doubt=raw.doubt,
     )
+
+
+def parted(data: bytes) -> tuple[email.message.Message, bytes]:
+    """The head of a letter, or of a part of it, and all that stands below."""
+    end = END_OF_HEAD.search(data[: LONGEST_HEAD + 4])
+    head, body = (data[:LONGEST_HEAD], b"") if end is None else (data[: end.start()], data[end.end() :])
+    return email.parser.BytesHeaderParser().parsebytes(head), body
 
 
 # ---------------------------------------------------------------- the head
@@ -179,7 +246,7 @@ def is_automatic(fields: email.message.Message) -> bool:
     said = field(fields, "Auto-Submitted").partition(";")[0].strip().lower()
     is_report = str(fields.get("Content-Type", "")).strip().lower().startswith("multipart/report")
     is_bare = field(fields, "Return-Path").replace(" ", "") == "<>"
-    has_field = any(field(fields, name) for name in AUTOMATIC) or field(fields, "Precedence").lower() in (
+    has_field = any(field(fields, name) for name in AUTOMATIC_FIELDS) or field(fields, "Precedence").lower() in (
         "auto_reply",
         "auto-reply",
     )
@@ -187,11 +254,11 @@ def is_automatic(fields: email.message.Message) -> bool:
 
 
 # ---------------------------------------------------------------- the text
-def text_of(data: bytes, *, has_head: bool) -> Text:
-    """The text of a letter."""
+def text_of(data: bytes) -> Text:
+    """The text of a letter, or of a part of it."""
     if len(data) > LONGEST:
         raise Unread(f"it has {len(data)} bytes, and letters of more than {LONGEST} are not read")
-    if not has_head:
+    if len(data) > LONGEST_HEAD and END_OF_HEAD.search(data[: LONGEST_HEAD + 4]) is None:
         raise Unread(f"its head is longer than {LONGEST_HEAD} bytes")
     demand_readable(data)
     message = email.message_from_bytes(data)
@@ -200,9 +267,8 @@ def text_of(data: bytes, *, has_head: bool) -> Text:
     attachments = []
     for part in parts_of(message):
         kind = part.get_content_type()
-        name = part.get_filename()
-        if part.get_content_disposition() == "attachment" or name is not None:
-            attachments.append(str(name or kind)[:100])
+        if is_attachment(part):
+            attachments.append(name_of(part))
         elif kind == "text/plain":
             plain.append(part)
         elif kind == "text/html":
@@ -210,14 +276,24 @@ def text_of(data: bytes, *, has_head: bool) -> Text:
     if not plain and not marked:
         demand_text(message)
     lines: list[str] = []
-    joined: dict[int, str] = {}
+    paragraphs: dict[int, str] = {}
     for part in plain:
         found = plain_text(part)
-        joined |= {len(lines) + place: text for place, text in found.joined.items()}
+        paragraphs |= {len(lines) + place: text for place, text in found.paragraphs.items()}
         lines += found.lines
+    is_open = any(isinstance(defect, CloseBoundaryNotFoundDefect) for part in message.walk() for defect in part.defects)
     if not any(line.strip() for line in lines):
-        lines = [line for part in marked for line in markup.lines_of(decoded(part))] or lines
-    return Text(lines, joined, tuple(attachments))
+        return Text(lines_of_marks(marked) or lines, paragraphs, tuple(attachments), (), is_open)
+    html_lines: list[str] = []
+    # what is not read need not be readable
+    with contextlib.suppress(Unread):
+        html_lines = lines_of_marks(marked)
+    return Text(lines, paragraphs, tuple(attachments), tuple(html_lines), is_open)
+
+
+def lines_of_marks(parts: list[email.message.Message]) -> list[str]:
+    """The lines of parts that have marks alone."""
+    return [line for part in parts for line in markup.lines_of(decoded(part))]
 
 
 def demand_readable(data: bytes) -> None:
@@ -243,6 +319,7 @@ def parts_of(message: email.message.Message) -> list[email.message.Message]:
         part = left.pop(0)
         if len(found) + len(left) > MOST_PARTS:
             raise Unread(f"it has more than {MOST_PARTS} parts")
+        demand_said_once(part)
         payload = part.get_payload()
         if part.get_content_maintype() == "multipart":
             if not isinstance(payload, list):
@@ -251,6 +328,23 @@ def parts_of(message: email.message.Message) -> list[email.message.Message]:
         elif part.get_content_maintype() != "message":
             found.append(part)
     return found
+
+
+def demand_said_once(part: email.message.Message) -> None:
+    """Stops where two programs may read a part in two ways, since what it is stands there twice."""
+    for name in ONCE:
+        values = [str(value) for value in part.get_all(name, [])]
+        if len(values) > 1 or any(len(found.findall(value)) > 1 for value in values for found in PARAMETERS):
+            raise Unread(f"what it says of a part stands there twice: {name}")
+
+
+def is_attachment(part: email.message.Message) -> bool:
+    return part.get_content_disposition() == "attachment" or part.get_filename() is not None
+
+
+def name_of(part: email.message.Message) -> str:
+    """What an attachment is called."""
+    return str(part.get_filename() or part.get_content_type())[:100]
 
 
 def demand_text(message: email.message.Message) -> None:
@@ -262,12 +356,18 @@ def demand_text(message: email.message.Message) -> None:
         raise Unread("its text is packed by S/MIME, or encrypted")
 
 
-def decoded(part: email.message.Message) -> str:
-    """The text of a part, by its charset; signs that this charset does not have are no part of a ballot."""
-    data = part.get_payload(decode=True)
-    data = data if isinstance(data, bytes) else b""
+def bytes_of(part: email.message.Message) -> bytes:
+    """The text of a part, as its charset writes it."""
+    payload = part.get_payload(decode=True)
+    data: bytes = payload if isinstance(payload, bytes) else b""
     if len(data) > LONGEST_TEXT:
         raise Unread(f"its text has {len(data)} bytes, and texts of more than {LONGEST_TEXT} are not read")
+    return data
+
+
+def decoded(part: email.message.Message) -> str:
+    """The text of a part, by its charset; signs that this charset does not have are no part of a ballot."""
+    data = bytes_of(part)
     charset = part.get_content_charset()
     if charset is None or charset in ("us-ascii", "ascii"):
         # programs that name no charset, or the least, write others all the same
@@ -277,11 +377,19 @@ def decoded(part: email.message.Message) -> str:
             return str(data, "latin-1")
     try:
         known = codecs.lookup(charset).name
-        if known.replace("-", "_") in NO_CHARSETS:
-            raise LookupError
+        demand_charset(known, data)
         return str(data, known, "replace")
     except (LookupError, ValueError):
         raise Unread(f"its charset `{charset[:40]}` is unknown") from None
+
+
+def demand_charset(name: str, data: bytes) -> None:
+    """Raises LookupError at what is no charset of a letter, and Unread where nothing tells the order of its bytes."""
+    if name in WIDE and not data.startswith(WIDE[name]):
+        raise Unread(f"its charset `{name}` needs a mark that tells the order of its bytes, and there is none")
+    is_wide = name in WIDE or name in WIDE_IN_ORDER
+    if name.replace("-", "_") in NO_CHARSETS or (not is_wide and str(SIGNS, name, "replace") != str(SIGNS, "ascii")):
+        raise LookupError
 
 
 def plain_text(part: email.message.Message) -> Text:

@@ -10,13 +10,17 @@ from collections.abc import Sequence
 WRAPPED, LONGEST = 3, 400
 
 # the first word of a block that repeats the head of the letter that is answered, and the words that stand below it
-SENDERS = "From|Von|De|Da|Van|Od|Fra|Från|Lähettäjä|Expéditeur|Remitente|Mittente|Absender"
+SENDERS = (
+    "From|Von|De|Da|Van|Od|Fra|Från|Lähettäjä|Expéditeur|Remitente|Mittente|Absender|Afzender|Avsender|От|От кого|Від|Kimden|Gönderen|"
+    "Feladó|Από|差出人|发件人|寄件者|보낸 사람"
+)
 DATES = (
     "Sent|Date|Gesendet|Datum|Envoyé|Date d'envoi|Enviado|Enviado el|Fecha|Inviato|Data|Verzonden|Enviada em|Wysłano|Sendt|"
-    "Skickat|Dato|Lähetetty|To|An|À|Para|A|Aan|Do|Til|Till|Subject|Betreff|Objet|Asunto|Oggetto|Onderwerp|Assunto|Temat|Emne|Ämne"
+    "Skickat|Dato|Lähetetty|Отправлено|Дата|Кому|Тема|Надіслано|Gönderildi|Tarih|Kime|Konu|Elküldve|Dátum|Címzett|Tárgy|Odesláno|"
+    "Komu|Předmět|Στάλθηκε|Προς|Θέμα|送信日時|宛先|件名|发送时间|日期|收件人|主题|主旨|寄件日期|보낸 날짜|받는 사람|제목|To|An|À|Para|A|Aan|Do|Til|Till|Subject|Betreff|Objet|Asunto|Oggetto|Onderwerp|Assunto|Temat|Emne|Ämne"
 )
-SENDER = re.compile(rf"\W*(?:{SENDERS})\s*:", re.IGNORECASE)
-DATE = re.compile(rf"\W*(?:{DATES})\s*:", re.IGNORECASE)
+SENDER = re.compile(rf"\W*(?:{SENDERS})\s*[:：]", re.IGNORECASE)
+DATE = re.compile(rf"\W*(?:{DATES})\s*[:：]", re.IGNORECASE)
 
 # lines between strokes that mail programs write above the letter that is answered or sent on
 BETWEEN_STROKES = re.compile(
@@ -47,7 +51,7 @@ BEGINNING = re.compile(r"\s*(?:On|Am|Le|El|Il|Op|Em|Den|W dniu|Dnia|\*)\s+\S", r
 SIGNATURE = re.compile(r"--\s*")
 
 
-def own_words(lines: Sequence[str]) -> list[bool]:
+def are_own(lines: Sequence[str]) -> list[bool]:
     """For each line of a letter whether it is the elector's own words now."""
     end = next((place for place in range(len(lines)) if is_end(lines, place)), len(lines))
     return [place < end and not line.lstrip().startswith(">") for place, line in enumerate(lines)]

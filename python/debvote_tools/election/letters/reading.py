@@ -1,15 +1,16 @@
 """Which line of a letter is its ballot. What is a ballot debvote says, of the lines of all letters at once."""
 
 import dataclasses
+import itertools
 import re
-from collections.abc import Iterable
+from collections.abc import Iterable, Sequence
 
 from debvote_tools import poll_file
-from debvote_tools.election.asking import refused
-from debvote_tools.election.casting import asked_of, found_in
+from debvote_tools.election.running import answer_about, refusal
+from debvote_tools.election.batch import findings_by_place
 from debvote_tools.election.folder import Election
 from debvote_tools.election.letters.message import Letter
-from debvote_tools.election.letters.quoting import own_words
+from debvote_tools.election.letters.quoting import are_own
 from debvote_tools.files import in_memory
 from debvote_tools.lines import Line, changed
 from debvote_tools.program import Finding, replies_in
@@ -41,8 +42,16 @@ class Candidate:
 
 
 @dataclasses.dataclass(frozen=True)
+class NearLine:
+    """A line that comes near to a ballot, of which nothing is said yet, and whether it is the elector's own words now."""
+
+    line: Candidate
+    is_own: bool
+
+
+@dataclasses.dataclass(frozen=True)
 class Near:
-    """A line that comes near to a ballot, and what is said of it."""
+    """A line that comes near to a ballot: its number in the letter, its text, and what is said of it."""
 
     number: int
     text: str
@@ -51,21 +60,30 @@ class Near:
 
 @dataclasses.dataclass(frozen=True)
 class Reading:
-    """What a letter says: its ballots, one for each meaning, and the lines that come near where there is not one alone."""
+    """What a letter says: its ballots, one for each meaning, and the lines that come near, where there is not one ballot alone."""
 
     letter: Letter
     ballots: list[Candidate]
     near: list[Near]
+    # where letters have to be signed: the ballots that are not, and of which none of `ballots` has the meaning
+    unsigned_ballots: list[Candidate] = dataclasses.field(default_factory=list)
+    # the ballots of its HTML, where plain text is what is read
+    html_ballots: list[bytes] = dataclasses.field(default_factory=list)
 
 
 # ---------------------------------------------------------------- lines
 def candidates_of(letter: Letter) -> list[Candidate]:
     """The lines of a letter that may be a ballot, but for quoted ones; a paragraph that was wrapped stands behind its first line."""
+    return candidates_in(letter.lines, letter.paragraphs)
+
+
+def candidates_in(lines: Sequence[str], paragraphs: dict[int, str]) -> list[Candidate]:
+    """The lines of a text that may be a ballot."""
     found = []
-    for place, line in enumerate(letter.lines):
+    for place, line in enumerate(lines):
         if line.lstrip().startswith(">"):
             continue
-        texts = [line, letter.joined[place]] if place in letter.joined else [line]
+        texts = [line, paragraphs[place]] if place in paragraphs else [line]
         for text in texts:
             came = text.encode("utf-8", "replace")
             if came.strip() and len(came) <= LONGEST_LINE and b"\0" not in came:
@@ -73,53 +91,89 @@ def candidates_of(letter: Letter) -> list[Candidate]:
     return found
 
 
-def replies_to(election: Election, poll: bytes, texts: Iterable[bytes]) -> dict[bytes, str]:
-    """What debvote replies to lines, each of them alone in its order; the last envelope is left out, so that no line is late."""
+def replies_to(election: Election, poll_bytes: bytes, texts: Iterable[bytes]) -> dict[bytes, str]:
+    """What debvote replies to lines, each asked about once, many in one run; the last envelope is left out, so that no line is late."""
     found: dict[bytes, str] = {}
     lines = list(dict.fromkeys(texts))
-    with in_memory(poll_file.without_key(poll, poll_file.LAST_ENVELOPE)) as path:
+    with in_memory(poll_file.without_key(poll_bytes, poll_file.LAST_ENVELOPE)) as path:
         for start in range(0, len(lines), AT_ONCE):
             part = lines[start : start + AT_ONCE]
-            answer = asked_of(election, "steps", path, b"".join(line + b"\n" for line in part))
+            answer = answer_about(election, "steps", path, b"".join(line + b"\n" for line in part))
             replies = replies_in(answer.text)
             if len(replies) != len(part):
-                raise refused(election, answer)
+                raise refusal(election, answer)
             found |= dict(zip(part, replies))
     return found
 
 
-def hints_of(election: Election, poll: bytes, texts: Iterable[bytes]) -> dict[bytes, Finding]:
-    """What debvote explains of lines that are no ballots."""
+def findings_of(election: Election, poll_bytes: bytes, texts: Iterable[bytes]) -> dict[bytes, Finding]:
+    """Why debvote refuses lines that are no ballots, each by its text."""
     lines = list(dict.fromkeys(texts))
     found: dict[bytes, Finding] = {}
-    with in_memory(poll_file.without_key(poll, poll_file.LAST_ENVELOPE)) as path:
-        # of each hundred lines only the first get names that are near
+    with in_memory(poll_file.without_key(poll_bytes, poll_file.LAST_ENVELOPE)) as path:
+        # of many refused lines only the first get names that are near
         for start in range(0, len(lines), AT_ONCE):
             part = lines[start : start + AT_ONCE]
-            found |= {part[at]: finding for at, finding in found_in(election, path, part).items()}
+            found |= {part[place]: finding for place, finding in findings_by_place(election, path, part).items()}
     return found
 
 
 # ---------------------------------------------------------------- letters
-def readings_of(election: Election, poll: bytes, letters: list[Letter]) -> list[Reading]:
-    """Reads letters, in their order."""
+def readings_of(election: Election, poll_bytes: bytes, letters: list[Letter]) -> list[Reading]:
+    """Reads letters, in their order: first their ballots, by the replies to all lines at once; then what is said of the lines that come
+    near to one, in the letters alone that do not have one ballot and nothing else.
+    """
     candidates = [candidates_of(letter) if letter.trouble is None else [] for letter in letters]
-    replies = replies_to(election, poll, (line.text for lines in candidates for line in lines))
-    roll = set(poll_file.roll_of(poll))
-    found: list[Reading] = []
-    open_lines: list[list[tuple[Candidate, bool]]] = []
-    for letter, lines in zip(letters, candidates):
-        own = own_words(letter.lines)
-        ballots = {line.text: line for line in reversed(lines) if own[line.number - 1] and replies[line.text] in TAKEN}
-        found.append(Reading(letter, sorted(ballots.values(), key=lambda line: line.number), []))
-        is_whole = len(ballots) == 1
-        near = [] if is_whole else [line for line in lines if comes_near(line, replies[line.text], roll)]
-        open_lines.append([(line, own[line.number - 1]) for line in near[:MOST_NEAR]])
-    hints = hints_of(election, poll, [line.text for lines in open_lines for line, _ in lines if replies[line.text] not in TAKEN])
+    html_candidates = [candidates_in(letter.html_lines, {}) if letter.trouble is None else [] for letter in letters]
+    replies = replies_to(election, poll_bytes, (line.text for lines in [*candidates, *html_candidates] for line in lines))
+    roll = set(poll_file.roll_of(poll_bytes))
+    without_near: list[Reading] = []
+    near_lines: list[list[NearLine]] = []
+    for letter, lines, html_lines in zip(letters, candidates, html_candidates):
+        own = are_own_lines(letter)
+        own_ballots = [line for line in lines if own[line.number - 1] and replies[line.text] in TAKEN]
+        ballots = one_a_meaning(line for line in own_ballots if is_signed(letter, line))
+        signed_texts = {line.text for line in ballots}
+        unsigned = one_a_meaning(line for line in own_ballots if not is_signed(letter, line))
+        unsigned = [line for line in unsigned if line.text not in signed_texts]
+        without_near.append(Reading(letter, ballots, [], unsigned, html_ballots_in(letter, html_lines, replies)))
+        is_plain = len(ballots) == 1 and not unsigned
+        near = [] if is_plain else [line for line in lines if comes_near(line, replies[line.text], roll)]
+        near_lines.append([NearLine(line, own[line.number - 1]) for line in near[:MOST_NEAR]])
+    refused = [one.line.text for lines_of_letter in near_lines for one in lines_of_letter if replies[one.line.text] not in TAKEN]
+    findings = findings_of(election, poll_bytes, refused)
     return [
-        dataclasses.replace(reading, near=[near_of(line, is_own, hints.get(line.text)) for line, is_own in lines])
-        for reading, lines in zip(found, open_lines)
+        dataclasses.replace(reading, near=[near_of(reading.letter, one, findings.get(one.line.text)) for one in lines_of_letter])
+        for reading, lines_of_letter in zip(without_near, near_lines)
     ]
+
+
+def are_own_lines(letter: Letter) -> list[bool]:
+    """For each line of a letter whether it is the elector's own words now. What is signed is read apart from what stands around it."""
+    signed = letter.signed_lines
+    if signed is None:
+        return are_own(letter.lines)
+    bounds = [0, signed.start, signed.stop, len(letter.lines)]
+    return [is_own for first, end in itertools.pairwise(bounds) for is_own in are_own(letter.lines[first:end])]
+
+
+def html_ballots_in(letter: Letter, html_lines: list[Candidate], replies: dict[bytes, str]) -> list[bytes]:
+    """The ballots of the HTML of a letter."""
+    own = are_own(letter.html_lines) if html_lines else []
+    return [line.text for line in html_lines if own[line.number - 1] and replies[line.text] in TAKEN]
+
+
+def is_signed(letter: Letter, line: Candidate) -> bool:
+    """Whether a line is signed, or need not be."""
+    return letter.signed_lines is None or line.number - 1 in letter.signed_lines
+
+
+def one_a_meaning(lines: Iterable[Candidate]) -> list[Candidate]:
+    """The first line of each meaning, in the order in which they stand."""
+    first: dict[bytes, Candidate] = {}
+    for line in lines:
+        first.setdefault(line.text, line)
+    return sorted(first.values(), key=lambda line: line.number)
 
 
 def comes_near(line: Candidate, reply: str, roll: set[str]) -> bool:
@@ -130,10 +184,13 @@ def comes_near(line: Candidate, reply: str, roll: set[str]) -> bool:
     return first in roll and re.search(rb"\d", line.text) is not None
 
 
-def near_of(line: Candidate, is_own: bool, hint: Finding | None) -> Near:
-    """What is said of a line that comes near."""
-    if hint is not None:
-        why = f"{hint.word}: {hint.hint}"
+def near_of(letter: Letter, near_line: NearLine, finding: Finding | None) -> Near:
+    """What is said of a line that comes near: why debvote refuses it, or, where it is a ballot, why it is not the letter's."""
+    line = near_line.line
+    if finding is not None:
+        why = f"{finding.word}: {finding.hint}"
+    elif near_line.is_own and not is_signed(letter, line):
+        why = "it is a ballot, and is not signed"
     else:
-        why = "it is a ballot" if is_own else "it is a ballot, and stands in what is quoted, or below a signature"
+        why = "it is a ballot" if near_line.is_own else "it is a ballot, and stands in what is quoted, or below a signature"
     return Near(line.number, line.came.decode("utf-8", "replace").strip(), why)

@@ -24,7 +24,13 @@ KNOWN = re.compile(
 LEAST = 2
 
 # the line before each letter of an mbox: at the beginning, or behind an empty line, and a head follows
-BETWEEN = re.compile(rb"(?:\A|(?<=\n\n)|(?<=\n\r\n))From [^\n]*\r?\n(?=(?:>From [^\n]*\r?\n)?[!-9;-~]+[ \t]*:)")
+BETWEEN = re.compile(rb"(?:\A|(?<=\n\n)|(?<=\n\r\n))From (?P<said>[^\n]*?)\r?\n(?=(?:>From [^\n]*\r?\n)?[!-9;-~]+[ \t]*:)")
+
+# what programs write into this line: a hyphen or who has sent the letter, and mostly a time
+TIME = re.compile(rb" (?:Mon|Tue|Wed|Thu|Fri|Sat|Sun),? .*\d\d:\d\d")
+
+# why a letter waits that somebody may have written into the text of another one
+IN_ANOTHER = "it may stand in the text of the letter before it: the line From above it is not as the first one of the mailbox"
 
 # what Outlook saves: a letter is a file of its own within others, whose parts have these names
 OLE = b"\xd0\xcf\x11\xe0"
@@ -79,14 +85,20 @@ def demand_no_outlook(name: str, data: bytes) -> None:
 def letters_in(name: str, data: bytes | mmap.mmap) -> list[Raw]:
     """The letters of a file that are_letters, in its order."""
     source = memoryview(data)
-    begins = [found.span() for found in BETWEEN.finditer(data)] if data[:5] == b"From " else []
+    begins = list(BETWEEN.finditer(data)) if data[:5] == b"From " else []
     if not begins:
         return [Raw(name, source, 0, len(source))]
-    ends = [start for start, _ in begins[1:]] + [len(source)]
+    ends = [found.start() for found in begins[1:]] + [len(source)]
+    first = form_of(begins[0]["said"])
     return [
-        Raw(f"{name}, message {number}", source, start, end)
-        for number, ((_, start), end) in enumerate(zip(begins, ends), start=1)
-    ]  # fmt: skip
+        Raw(f"{name}, message {number}", source, found.end(), end, None if form_of(found["said"]) == first else IN_ANOTHER)
+        for number, (found, end) in enumerate(zip(begins, ends), start=1)
+    ]
+
+
+def form_of(said: bytes) -> tuple[bool, bool]:
+    """What a line between two letters looks like: whether a hyphen stands for who has sent it, and whether it has a time."""
+    return (said.startswith(b"- "), TIME.search(said) is not None)
 
 
 def whole(name: str) -> bytes | mmap.mmap:

@@ -15,9 +15,9 @@ from typing import Any
 
 from debvote_tools import journal
 from debvote_tools.election.folder import Election
-from debvote_tools.election.letters.message import Letter, Raw
+from debvote_tools.election.letters.message import AUTOMATIC, LetterKey, Letter, Raw
 from debvote_tools.election.letters.reading import Near
-from debvote_tools.election.record import Files
+from debvote_tools.election.record import PollAndBallots
 from debvote_tools.faults import Fault, Status
 from debvote_tools.files import take_away_temporaries, write_whole
 
@@ -26,15 +26,19 @@ FOLDER = "letters"
 # how a file of letters ends, and a record
 LETTERS, RECORD = ".mbox", ".jsonl"
 
-# the acts that have a record of letters: some came, one that waited was entered or set aside, receipts were written
+# the acts that have a record of letters: some came of which no ballot was entered, one that waited was entered or set aside, receipts
+# were written; and so has an act `add` by which letters came and ballots of them were entered
 CAME, ENTERED, SET_ASIDE, RECEIPTS = "letters", "enter", "set-aside", "receipts"
+
+# the fields of a letter's record that are about signatures
+SIGNATURE_FIELDS = ("signature_sum", "signed_at", "known_by")
 
 # before each letter in a file of them
 BETWEEN = b"From debvote-election Thu Jan  1 00:00:00 1970\n"
 
 
 @dataclasses.dataclass(frozen=True)
-class Kept:
+class KeptLetter:
     """A letter that came: its number, where it is kept, who sent it and when it arrived, and what became of it."""
 
     number: int
@@ -42,23 +46,28 @@ class Kept:
     file: str
     start: int
     size: int
+    # the `known_id` of the letter: its Message-ID, or what stands in the place of it
     message_id: str
     text_sum: str
     references: str
     senders: list[str]
     subject: str
     arrived: str | None
-    # why it waits; none where its ballot is in
+    # why it waits, or, where its ballot was entered later, has waited; none where its ballot went in at once
     why: str | None
     near: list[Near]
-    # its ballot, the number of its line in the letter, and its envelope; none where it waits
+    # the number of the line of its ballot, and the ballot; of letters that wait one behind the deadline alone has them already
     line: int | None = None
     ballot: str | None = None
+    # none where it waits
     envelope: int | None = None
-    # the act that entered its ballot, by its place among the acts that were done; none where it waits
     is_set_aside: bool = False
     # whether a receipt was written for what became of it
     has_receipt: bool = False
+    # where letters have to be signed: the sum of its signature, when a good one was made, and by what that is known when it comes again
+    signature_sum: str | None = None
+    signed_at: str | None = None
+    known_by: str | None = None
 
     @property
     def sender(self) -> str:
@@ -72,6 +81,10 @@ class Kept:
     def time(self) -> datetime.datetime | None:
         return None if self.arrived is None else datetime.datetime.fromisoformat(self.arrived)
 
+    @property
+    def is_in(self) -> bool:
+        return self.ballot is not None and self.envelope is not None
+
     def when(self) -> str:
         """When it arrived, in words."""
         return "at a time that is not known" if self.time is None else f"{self.time:%Y-%m-%d %H:%M:%S} UTC"
@@ -81,51 +94,54 @@ class Kept:
 class State:
     """The letters by their numbers, in the order in which they came, and the number of the next one."""
 
-    letters: dict[int, Kept]
+    letters: dict[int, KeptLetter]
     next: int
 
     @property
-    def waiting(self) -> list[Kept]:
+    def waiting(self) -> list[KeptLetter]:
         return [letter for letter in self.letters.values() if letter.waits]
 
-    def keys(self) -> set[tuple[str, str]]:
-        """By what each is known when it comes again."""
-        return {(letter.message_id, letter.text_sum) for letter in self.letters.values()}
+    def keys(self) -> set[LetterKey]:
+        """By what each letter is known when it comes again."""
+        return {
+            LetterKey(letter.message_id, letter.text_sum, tuple(letter.senders), letter.signature_sum, letter.why == AUTOMATIC)
+            for letter in self.letters.values()
+        }
 
 
 # ---------------------------------------------------------------- what the journal says
-def state_of(election: Election, files: Files) -> State:
+def state_of(election: Election, counted: PollAndBallots) -> State:
     """The letters as they are now. The caller holds the lock."""
-    acts = journal.acts_done(election.journal, files.sums)
+    acts = journal.acts_done(election.journal_path, counted.sums)
     state = State({}, 1)
-    # what each act that cast lines has changed of the letters, so that an act that takes its lines back can take this back, too
-    cast: list[dict[int, Kept | None]] = []
+    # what each act that entered lines has changed of the letters, so that `undo`, which takes its lines back, takes this back, too
+    entering: list[dict[int, KeptLetter | None]] = []
     for act in acts:
         if act.act == journal.UNDO:
-            for number, before in cast.pop().items() if cast else ():
+            for number, before in entering.pop().items() if entering else ():
                 if before is None:
                     state.letters.pop(number, None)
                 else:
                     state.letters[number] = before
             continue
         changed = changes_of(election, act, state)
-        if act.act in journal.CASTING:
-            cast.append({number: state.letters.get(number) for number in changed})
+        if act.act in journal.ENTERING:
+            entering.append({number: state.letters.get(number) for number in changed})
         state.letters |= changed
         state.next = max([state.next, *(number + 1 for number in changed)])
     return state
 
 
-def changes_of(election: Election, act: journal.Entry, state: State) -> dict[int, Kept]:
+def changes_of(election: Election, act: journal.Entry, state: State) -> dict[int, KeptLetter]:
     """The letters that an act has brought or changed."""
     if not act.record or not re.fullmatch(r"\d+", act.record):
         return {}
-    changed: dict[int, Kept] = {}
+    changed: dict[int, KeptLetter] = {}
     for row in rows_of(folder_of(election) / f"{act.record}{RECORD}"):
         number = int(row["number"])
         if act.act in (CAME, "add"):
             near = [Near(*found) for found in row.pop("near")]
-            changed[number] = Kept(**row, near=near)
+            changed[number] = KeptLetter(**row, near=near)
         elif number in state.letters:
             changed[number] = dataclasses.replace(state.letters[number], **{key: row[key] for key in row if key != "number"})
     return changed
@@ -143,13 +159,13 @@ def rows_of(file: pathlib.Path) -> list[dict[str, Any]]:
 
 # ---------------------------------------------------------------- what is kept
 def folder_of(election: Election) -> pathlib.Path:
-    return election.received / FOLDER
+    return election.received_folder / FOLDER
 
 
 def next_record(election: Election) -> str:
     """The name of the next record. What killed runs have left half written is taken away."""
     folder = folder_of(election)
-    election.received.mkdir(exist_ok=True)
+    election.received_folder.mkdir(exist_ok=True)
     folder.mkdir(exist_ok=True)
     take_away_temporaries(folder)
     numbers = [int(found[1]) for file in folder.iterdir() if (found := re.match(r"(\d+)[.-]", file.name))]
@@ -182,13 +198,15 @@ def keep_record(election: Election, record: str, rows: Iterable[dict[str, object
     write_whole(folder_of(election) / f"{record}{RECORD}", data.encode("ascii"))
 
 
-def row_of(letter: Kept) -> dict[str, object]:
+def row_of(letter: KeptLetter) -> dict[str, object]:
     """A letter as its record has it."""
     row = dataclasses.asdict(letter)
+    # a vote without signatures has none of these
+    row = {name: value for name, value in row.items() if value is not None or name not in SIGNATURE_FIELDS}
     return row | {"near": [[near.number, near.text, near.why] for near in letter.near]}
 
 
-def raw_of(election: Election, letter: Kept) -> Raw:
+def raw_of(election: Election, letter: KeptLetter) -> Raw:
     """A letter that was kept, whole."""
     file = folder_of(election) / letter.file
     try:

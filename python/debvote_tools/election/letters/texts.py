@@ -3,24 +3,81 @@
 import functools
 
 from debvote_tools import announced, poll_file
-from debvote_tools.announced import in_words as time_in_words
-from debvote_tools.ballots import in_words
+from debvote_tools.announced import time_in_words
+from debvote_tools.ballots import ranks_in_words
 from debvote_tools.election import call_words
-from debvote_tools.election.casting import right_line
-from debvote_tools.election.letters import plan, store
-from debvote_tools.letters import copied, heading, wrapped
+from debvote_tools.election.batch import right_line
+from debvote_tools.election.letters import plan, signed, store, verifying
+from debvote_tools.language import Language
+from debvote_tools.plain_letter import copied, heading, wrapped
 from debvote_tools.poll_file import document
 from debvote_tools.secret import Holder
 from debvote_tools.secret_words import BY_PYTHON, FIND
+from debvote_tools.sentences import marked
+
+# the subjects, by the kinds of letters
+SUBJECTS = {
+    "call": marked("Vote: {title}"),
+    "receipts": marked("Receipt: {title}"),
+    "reminders": marked("Not yet voted: {title}"),
+    "result": marked("Result: {title}"),
+}
 
 # before each ballot in a letter that goes out: who answers such a letter, and quotes it without marks, votes by it no second time
-EXAMPLE, READ_AS = "For example:", "It was read as:"
+EXAMPLE = marked("For example: {line}")
+READ_AS = marked("It was read as: {line}")
 
-SEND_ALONE = "Send the line alone, without anything else, as plain text. The letter is kept by the secretary, and not published."
+SEND_ALONE = marked(
+    "Send the line alone, without anything else, as plain text. The letter is kept by the secretary, and not published."
+)
+# where letters have to be signed, in place of that
+SIGN = marked(
+    "Sign the letter with OpenPGP, by the key whose fingerprint the secretary has from you. Write two lines and nothing else, as plain "
+    "text: the ballot, and below it the title of the vote. The letter is kept by the secretary, and not published."
+)
+RANKS = marked("There is a rank for each option in the order of their numbers, or a hyphen for one that you do not rank:")
+FIND_IT = marked(
+    "After the vote you find your ballot with name and code on the page of the result, under {find}. Or find its alias without the "
+    "page, with Python in a terminal:"
+)
+
+# why a letter waits, in words for the one who has sent it: they name no other elector and no other address
+NO_BALLOT = marked("The reason: no line of it, above what is quoted, is a ballot of this vote.")
+NO_BALLOT_ATTACHED = marked(
+    "The reason: no line of it, above what is quoted, is a ballot of this vote, and attachments are not read."
+)
+OTHER_SENDER = marked("The reason: the name on the ballot is not that of the sender by the list of members.")
+WAITS = {
+    plan.TWO: marked("The reason: it has two ballots that differ."),
+    plan.BEHIND_DEADLINE: marked("The reason: it arrived behind the time until which one can vote."),
+    plan.LATER_ONE: marked("The reason: a ballot of this elector that arrived later is in already."),
+    plan.BEHIND_OPEN_ONE: marked("The reason: it may stand in the text of the letter before it, of which a part has no end."),
+    plan.OUTSIDE: marked("The reason: a ballot outside the signed part."),
+    plan.NOT_THIS_VOTE: marked("The reason: the signed text has neither the title of this vote nor the sum of its poll."),
+    plan.BEFORE_CALL: marked("The reason: signed before the call for votes."),
+    plan.IN_FUTURE: marked("The reason: signed at a time that was not yet when it arrived."),
+    plan.SIGNED_LATER: marked("The reason: a ballot of this elector that was signed later, or in the same second, is in already."),
+    signed.NOT_SIGNED: marked("The reason: not signed."),
+    signed.TWO_SIGNATURES: marked("The reason: two signatures."),
+    signed.BROKEN: marked("The reason: its signature can't be read."),
+    verifying.BAD: marked("The reason: its signature is not that of this text."),
+    verifying.UNREAD: marked("The reason: its signature can't be checked."),
+    verifying.EXPIRED: marked("The reason: its signature has expired."),
+}
+# which ballots they are is not repeated: a receipt has no line that is a ballot, and in a secret vote no ranks
+OTHER_SHOWN = marked("The reason: its plain text and its HTML have two ballots that differ.")
+OTHER_KEY = marked("The reason: it is signed with another key than the list of members has for the name on the ballot.")
+NO_KEY = marked("The reason: the list of members has no key for the name on the ballot.")
+# in the words of the program, which are English
+REASON = marked("The reason: {reason}.")
+
+OWN = marked("Your ballot stands there in the file ballots.txt, under your name: {name}.")
+OWN_IN_SECRET = marked("Your ballot stands there under an alias: find it with your name, {name}, and your code, under {find}.")
+NO_OWN = marked("No ballot of yours that counts stands there.")
 
 
-def greeting(who: str, name: str) -> str:
-    return wrapped(f"Dear {who or name},")
+def greeting(language: Language, who: str, name: str) -> str:
+    return wrapped(language.say("Dear {name},", name=who or name))
 
 
 # the letters of one run are about one poll: it is read once for all of them
@@ -51,118 +108,130 @@ def options_words(poll: bytes) -> str:
 
 
 # ---------------------------------------------------------------- the call
-def of_call(who: str, name: str, call: str, holder: Holder | None) -> str:
+def of_call(language: Language, who: str, name: str, call: str, holder: Holder | None) -> str:
     """The letter of the call, with the elector's own name on the roll, and in a secret vote with the code."""
-    parts = [greeting(who, name), wrapped("You vote under this name:"), copied(name)]
+    say = language.say
+    parts = [greeting(language, who, name), wrapped(say("You vote under this name:")), copied(name)]
     if holder is not None:
         parts += [
-            wrapped("This is your secret code. It is no part of your ballot: keep it, and send it to nobody."),
+            wrapped(say("This is your secret code. It is no part of your ballot: keep it, and send it to nobody.")),
             copied(holder.code),
-            wrapped(
-                f"After the vote you find your ballot with name and code on the page of the result, under {FIND}. Or find its alias "
-                "without the page, with Python in a terminal:"
-            ),
+            wrapped(say(FIND_IT, find=say(FIND))),
             copied(BY_PYTHON),
         ]
     # a call of version 1.0.0 does not say it
-    alone = [] if wrapped(call_words.SEND_ALONE) in call else [wrapped(SEND_ALONE)]
+    is_said = any(wrapped(say(text)) in call for text in (call_words.SEND_ALONE, call_words.SIGN))
+    alone = [] if is_said else [wrapped(say(SEND_ALONE))]
     return "\n".join([*parts, *alone, call])
 
 
 # ---------------------------------------------------------------- receipts
-def of_receipt(poll: bytes, letter: store.Kept, reply: str | None, name: str, who: str, *, is_secret: bool) -> str:
+def of_receipt(
+    language: Language,
+    poll: bytes,
+    letter: store.KeptLetter,
+    reply: str | None,
+    name: str,
+    who: str,
+    *,
+    is_secret: bool,
+    is_signed: bool = False,
+) -> str:
     """The receipt of a letter. In a secret vote it repeats no ranks."""
-    parts = [greeting(who, name), wrapped(f"This is about the vote: {title_of(poll)}")]
+    about = wrapped(language.say("This is about the vote: {title}", title=title_of(poll)))
+    parts = [greeting(language, who, name), about]
     if letter.envelope is not None and letter.ballot is not None:
-        parts += entered(poll, letter, reply, is_secret=is_secret)
+        parts += entered(language, poll, letter, reply, is_secret=is_secret)
     else:
-        parts += waits(poll, letter, name)
+        parts += waits(language, poll, letter, name, is_signed=is_signed)
     return "\n".join(parts)
 
 
-def entered(poll: bytes, letter: store.Kept, reply: str | None, *, is_secret: bool) -> list[str]:
+def entered(language: Language, poll: bytes, letter: store.KeptLetter, reply: str | None, *, is_secret: bool) -> list[str]:
     """That a ballot is in, and how it was read."""
+    say = language.say
     ballot = letter.ballot or ""
     name, _, ranks = ballot.partition(" ")
-    parts = [wrapped(f"Your ballot has come. It is number {letter.envelope} of all lines that came.")]
+    parts = [wrapped(say("Your ballot has come. It is number {number} of all lines that came.", number=letter.envelope))]
     if not is_secret:
-        parts += [copied(f"{READ_AS} {ballot}"), wrapped(f"In words: {in_words(ranks, options_of(poll))}.")]
+        said = ranks_in_words(ranks, options_of(poll), language)
+        parts += [copied(say(READ_AS, line=ballot)), wrapped(say("In words: {ballot}.", ballot=said))]
     if reply == "late":
-        parts.append(wrapped("It came after the close, so it is late, and counts for nothing."))
+        parts.append(wrapped(say("It came after the close, so it is late, and counts for nothing.")))
     else:
-        parts.append(wrapped("You may vote again: of your ballots that are valid and in time the last one counts."))
-    parts.append(wrapped(f"If you have not sent this, or it is not what you meant, write at once. You vote under the name {name}."))
-    return parts
+        parts.append(wrapped(say(call_words.AGAIN)))
+    not_meant = say(
+        "If you have not sent this, or it is not what you meant, write at once. You vote under the name {name}.", name=name
+    )
+    return [*parts, wrapped(not_meant)]
 
 
-def waits(poll: bytes, letter: store.Kept, name: str) -> list[str]:
+def waits(language: Language, poll: bytes, letter: store.KeptLetter, name: str, *, is_signed: bool) -> list[str]:
     """That a letter has no ballot that went in, why, and what a right line looks like."""
+    say = language.say
     parts = [
-        wrapped("Your letter has come, and no ballot of it is entered yet: the secretary has to look at it."),
-        wrapped(f"The reason: {reason(letter)}."),
+        wrapped(say("Your letter has come, and no ballot of it is entered yet: the secretary has to look at it.")),
+        wrapped(reason(language, letter)),
     ]
-    if letter.why == plan.LATE:
+    if letter.why == plan.BEHIND_DEADLINE:
         return parts
-    return [
-        *parts,
-        wrapped("You can send a right line now, and need not wait. Yours looks like this, with your own ranks:"),
-        copied(f"{EXAMPLE} {right_of(poll, name)}"),
-        wrapped("There is a rank for each option in the order of their numbers, or a hyphen for one that you do not rank:"),
-        options_words(poll),
-        wrapped(SEND_ALONE),
-    ]
+    right = wrapped(say("You can send a right line now, and need not wait. Yours looks like this, with your own ranks:"))
+    return [*parts, right, *right_line_words(language, poll, name, is_signed=is_signed)]
 
 
-def reason(letter: store.Kept) -> str:
-    """Why a letter waits, in words for the one who has sent it: they name no other elector and no other address."""
+def right_line_words(language: Language, poll: bytes, name: str, *, is_signed: bool) -> list[str]:
+    """A right line of an elector, what its ranks are for, and how it is sent."""
+    say = language.say
+    line = copied(say(EXAMPLE, line=right_of(poll, name)))
+    return [line, wrapped(say(RANKS)), options_words(poll), wrapped(say(SIGN if is_signed else SEND_ALONE))]
+
+
+def reason(language: Language, letter: store.KeptLetter) -> str:
+    """Why a letter waits."""
     why = letter.why or ""
     if why.startswith(plan.NO_BALLOT):
-        attached = ", and attachments are not read" if "attachments" in why else ""
-        return f"no line of it, above what is quoted, is a ballot of this vote{attached}"
-    known = {
-        plan.TWO: "it has two ballots that differ",
-        plan.LATE: "it arrived behind the time until which one can vote",
-        plan.LATER_ONE: "a ballot of this elector that arrived later is in already",
-    }
-    if why in known:
-        return known[why]
+        return language.say(NO_BALLOT_ATTACHED if "attachments" in why else NO_BALLOT)
+    if why in WAITS:
+        return language.say(WAITS[why])
+    if why.startswith(plan.OTHER_SHOWN):
+        return language.say(OTHER_SHOWN)
+    if why.startswith("signed with another key"):
+        return language.say(OTHER_KEY)
+    if why.startswith(plan.NO_KEY.format("")):
+        return language.say(NO_KEY)
     if why.startswith(("came from another address", "it says that several")):
-        return "the name on the ballot is not that of the sender by the list of members"
-    return why
+        return language.say(OTHER_SENDER)
+    return language.say(REASON, reason=why)
 
 
 # ---------------------------------------------------------------- reminders and the result
-def of_reminder(poll: bytes, name: str, who: str, address: str | None) -> str:
+def of_reminder(language: Language, poll: bytes, name: str, who: str, address: str | None, *, is_signed: bool = False) -> str:
     """A letter to an elector without a ballot that stands."""
+    say = language.say
     said = announced_in(poll)
-    until = time_in_words(said.until) if said.until is not None else said.words
+    until = time_in_words(said.until, language) if said.until is not None else said.words
     parts = [
-        greeting(who, name),
-        wrapped(f"No ballot of yours that counts has come yet in the vote: {title_of(poll)}"),
-        *([wrapped(f"Until when: {until}")] if until is not None else []),
-        *([wrapped(f"Send your ballot to: {address}")] if address is not None else []),
-        wrapped("A ballot of yours looks like this, with your own ranks:"),
-        copied(f"{EXAMPLE} {right_of(poll, name)}"),
-        wrapped("There is a rank for each option in the order of their numbers, or a hyphen for one that you do not rank:"),
-        options_words(poll),
-        wrapped(SEND_ALONE),
+        greeting(language, who, name),
+        wrapped(say("No ballot of yours that counts has come yet in the vote: {title}", title=title_of(poll))),
+        *([wrapped(say(call_words.UNTIL, until=until))] if until is not None else []),
+        *([wrapped(say(call_words.TO, address=address))] if address is not None else []),
+        wrapped(say("A ballot of yours looks like this, with your own ranks:")),
+        *right_line_words(language, poll, name, is_signed=is_signed),
     ]
     return "\n".join(parts)
 
 
-def of_result(who: str, name: str, letter: str, place: str, *, is_secret: bool) -> str:
-    """The letter of the result, with where it is published, and how to find one's own ballot."""
-    own = (
-        f"Your ballot stands there under an alias: find it with your name, {name}, and your code, under {FIND}."
-        if is_secret
-        else f"Your ballot stands there in the file ballots.txt, under your name: {name}."
-    )
+def of_result(language: Language, who: str, name: str, letter: str, place: str, *, has_ballot: bool, is_secret: bool) -> str:
+    """The letter of the result, with where it is published, and how to find one's own ballot, or that there is none."""
+    say = language.say
+    own = say(OWN_IN_SECRET, name=name, find=say(FIND)) if is_secret else say(OWN, name=name)
+    own = own if has_ballot else say(NO_OWN)
     parts = [
-        greeting(who, name),
-        wrapped("The result is published at:"),
+        greeting(language, who, name),
+        wrapped(say("The result is published at:")),
         copied(place),
         wrapped(own),
-        heading("The result"),
+        heading(say("The result")),
         letter,
     ]
     return "\n".join(parts)

@@ -1,0 +1,148 @@
+"""What came for an election: files of lines, and letters, as `add` reads them."""
+
+import codecs
+import dataclasses
+import os
+import pathlib
+import re
+import sys
+
+from debvote_tools.console import tell
+from debvote_tools.election.folder import Election
+from debvote_tools.election.letters import sources
+from debvote_tools.election.letters.message import Raw
+from debvote_tools.faults import Fault, Status
+from debvote_tools.files import BALLOTS_LIMIT, read_at_most
+from debvote_tools.poll_file import REQUIRED
+from debvote_tools.tables import Kind, kind_of
+
+# what names standard input on the command line, and how it is called in what is told
+HYPHEN, STANDARD_INPUT = "-", "standard input"
+
+UTF_16 = (codecs.BOM_UTF16_LE, codecs.BOM_UTF16_BE)
+
+# what is done with a file that may have letters in it
+CURES: dict[Kind | None, str] = {
+    Kind.PACKED: "save it as plain text in UTF-8; where letters are packed in it, unpack it, and add the folder",
+    Kind.PDF: "save it as plain text in UTF-8; where it shows letters, save the letters themselves (.eml, or a folder of them)",
+}
+
+POLL_KEY = re.compile(rb"(?m)^[ \t]*(%b)[ \t]*=" % "|".join(REQUIRED).encode())
+
+
+@dataclasses.dataclass(frozen=True)
+class LinesInput:
+    """A file of lines: its name as the user gave it, its name in received/ behind the number, and its bytes."""
+
+    name: str
+    received_name: str
+    data: bytes
+
+
+@dataclasses.dataclass(frozen=True)
+class LettersInput:
+    """What letters came in: its name as the user gave it, that under which they are kept, the letters, and files that are none."""
+
+    name: str
+    received_name: str
+    letters: list[Raw]
+    others: list[str]
+
+
+# ---------------------------------------------------------------- what came
+def inputs_in(names: list[str]) -> tuple[list[LinesInput], list[LettersInput]]:
+    """Reads what these names say, standard input where there is none: the files of lines, and what has letters."""
+    inputs = [input_in(name) for name in names or [HYPHEN]]
+    line_files = [source for source in inputs if isinstance(source, LinesInput)]
+    letters = [source for source in inputs if isinstance(source, LettersInput)]
+    return line_files, letters
+
+
+def input_in(name: str) -> LinesInput | LettersInput:
+    """Reads a file whole, or the letters of a folder or a mailbox."""
+    if name == HYPHEN:
+        return standard_input()
+    # a number comes before it, and a name of a file has 255 bytes at most
+    received_name = os.fsencode(pathlib.Path(name).name)[:150].decode("utf-8", "ignore") or "file"
+    try:
+        if os.path.isdir(name):
+            return LettersInput(name, received_name, *sources.letters_of_folder(name))
+        data = read_at_most(name, BALLOTS_LIMIT)
+        if sources.are_letters(data):
+            return LettersInput(name, received_name, sources.letters_in(name, sources.whole(name)), [])
+    except OSError as error:
+        raise Fault(
+            name, error.strerror, "name a file of ballots that you may read", Status.BAD_BALLOTS, "nothing was added"
+        ) from None
+    return LinesInput(name, received_name, data)
+
+
+def standard_input() -> LinesInput | LettersInput:
+    """Reads standard input; at a terminal it says how to end it."""
+    if sys.stdin is None:
+        raise Fault(STANDARD_INPUT, "it is closed", "name a file", Status.BAD_BALLOTS, "nothing was added")
+    if sys.stdin.isatty():
+        tell("Type the ballots, a line each; Ctrl-D on an empty line ends them.")
+    data = sys.stdin.buffer.read(BALLOTS_LIMIT + 1)
+    received_name = STANDARD_INPUT.replace(" ", "-")
+    if sources.are_letters(data):
+        data += sys.stdin.buffer.read()
+        return LettersInput(STANDARD_INPUT, received_name, sources.letters_in(STANDARD_INPUT, data), [])
+    return LinesInput(STANDARD_INPUT, received_name, data)
+
+
+def demand_letters_alone(letters: list[LettersInput], line_files: list[LinesInput], *, is_table: bool) -> None:
+    """Stops where letters stand beside what is no letter: each is asked about in its own way."""
+    if is_table:
+        words = "it has letters, and is no table of a web form"
+        raise Fault(letters[0].name, words, "leave --csv out, with --name and --ranks", Status.BAD_WORDS, "nothing was added")
+    if line_files:
+        words = f"it has letters, and {line_files[0].name} has none"
+        raise Fault(letters[0].name, words, "add letters and other files in two commands", Status.BAD_WORDS, "nothing was added")
+
+
+# ---------------------------------------------------------------- whether it is a file of ballots
+def stop_at_other_kind(election: Election, source: LinesInput, *, is_table: bool) -> None:
+    """Stops at what is no file of ballots."""
+    if not source.data:
+        raise Fault(source.name, "it is empty", "write a ballot a line into it", Status.DOUBT, "nothing was added")
+    if len(source.data) > BALLOTS_LIMIT:
+        raise Fault(
+            source.name,
+            f"it is longer than {BALLOTS_LIMIT} bytes, which debvote takes at most",
+            "add it in parts",
+            Status.BAD_BALLOTS,
+            "nothing was added",
+        )
+    if source.name != STANDARD_INPUT and election.ballots_path.exists() and os.path.samefile(source.name, election.ballots_path):
+        raise Fault(
+            source.name,
+            "these are the ballots of this election, which are there already",
+            "name a file that has come",
+            Status.DOUBT,
+            "nothing was added",
+        )
+    sources.demand_no_outlook(source.name, source.data)
+    stop_at_no_plain_text(source, is_table=is_table)
+    if is_poll(election, source.data):
+        raise Fault(
+            source.name, "it reads as a poll, and not as ballots", "name the file of the ballots", Status.DOUBT, "nothing was added"
+        )
+
+
+def stop_at_no_plain_text(source: LinesInput, *, is_table: bool) -> None:
+    """Stops at what a word processor or a spreadsheet has saved, and, unless it is a table, at a text in UTF-16."""
+    kind = kind_of(source.data)
+    what = None if kind is None else kind.value
+    if not is_table and source.data.startswith(UTF_16):
+        what = "a text in UTF-16"
+    if what is not None:
+        cure = "save it as CSV" if is_table else CURES.get(kind, "save it as plain text in UTF-8")
+        raise Fault(source.name, f"it is {what}", cure, Status.BAD_BALLOTS, "nothing was added")
+
+
+def is_poll(election: Election, data: bytes) -> bool:
+    """Whether debvote takes it for a poll, or it sets keys as a poll does."""
+    if len({key[1] for key in POLL_KEY.finditer(data)}) > 1:
+        return True
+    return election.debvote.run("check", "--poll", "/dev/stdin", given=data).status == Status.DONE

@@ -1,0 +1,1 @@
+"""The parts of the page, each made from what is published, with the styles and the script that are theirs alone."""

@@ -1,0 +1,158 @@
+"""The part of the page that says who has won, what there is to doubt about it, and how many have voted."""
+
+from html import escape
+
+from debvote_tools.language import ENGLISH, Language
+from debvote_tools.pages import in_their_words, link_to, listed, paragraph, part, resource
+from debvote_tools.publish import casting_vote
+from debvote_tools.publish.headings import UNSEEN, VERIFYING
+from debvote_tools.publish.published import Published
+from debvote_tools.publish.recounting import GUIDE_LINK
+from debvote_tools.publish.texts import paragraphs_of
+from debvote_tools.sentences import marked
+
+COUNTED = marked(
+    "This is the count of the files in this folder. Whether they are what the electors sent, no count shows: {unseen}."
+)
+COMPARE_LETTER = marked("Compare it with the one in <strong>your</strong> letter.")
+
+# the style of a page that has doubts, behind that of all pages: a frame and a word mark a doubt, and not colour alone
+DOUBTS_STYLE = resource("debvote_tools.publish.parts", "doubts.css")
+
+WHY_NONE = marked("Why this is published even so, in the words of those who publish this page. The program has not checked them:")
+
+HAS_IT = marked("The poll below has it.")
+HAS_IT_BUT_LAST = marked("The poll below has it, but for its last envelope.")
+
+
+def outcome(published: Published) -> str:
+    """Who has won, in a sentence or three."""
+    sheet = published.sheet
+    winner = sheet.winner()
+    if winner is not None:
+        option = winner.option
+        said = [published.say("{option} has won.", option=published.option(option))]
+        said += [published.say("Several options were left, and the casting vote chose this one.")] if winner.is_by_casting else []
+        said += [published.say("It is the default option.")] if option == sheet.default else []
+        return " ".join(said)
+    left = published.language.joined(map(published.option, sheet.final_set()))
+    outside = sheet.casting_outside()
+    if outside is None:
+        return published.say("No option has won yet: {options} are tied. The casting vote has to choose one of them.", options=left)
+    return published.say(
+        "No option has won: {options} are tied. The casting vote is for {option}, which is not one of them, and so it does not "
+        "decide.",
+        options=left,
+        option=published.option(outside),
+    )
+
+
+def share(voters: int, electors: int, language: Language = ENGLISH) -> str:
+    """How many of the electors have voted, in per cent; all of them alone are 100 %, and none alone is 0 %."""
+    tenths = (2000 * voters + electors) // (2 * electors)
+    if 0 < voters < electors:
+        tenths = min(max(tenths, 1), 999)
+    if tenths % 10 == 0:
+        return language.say("{whole} %", whole=tenths // 10)
+    return language.say("{whole}.{tenths} %", whole=tenths // 10, tenths=tenths % 10)
+
+
+def facts(published: Published) -> str:
+    """The numbers that the sheet begins with."""
+    sheet, say = published.sheet, published.say
+    quorum = say("none")
+    if sheet.quorum_multiple:
+        quorum = say(
+            "{votes} votes: at least {multiple}Q, where Q is half of the square root of the number of electors",
+            votes=sheet.quorum,
+            multiple=sheet.quorum_multiple,
+        )
+    voters = say(
+        "{voters}, which is {share} of the electors: those with a ballot that stands",
+        voters=sheet.voters,
+        share=share(sheet.voters, sheet.electors, published.language),
+    )
+    rows = [(say("Electors"), str(sheet.electors)), (say("Voters"), voters), (say("Quorum"), quorum)]
+    if not published.further.is_secret:
+        rows.append((say("Lines"), lines(published)))
+    if sheet.last_envelope is not None:
+        last = say("{number}: a line with a greater number is late, and is refused", number=sheet.last_envelope)
+        rows.append((say("Last envelope"), last))
+    if sheet.is_more_than:
+        more = say("more than the ratio, where the Constitution of Debian has at least the ratio")
+        rows.append((say("Majority"), more))
+    shown = "".join(f"<dt>{name}</dt><dd>{value}</dd>\n" for name, value in rows)
+    return f"<dl>\n{shown}</dl>"
+
+
+def lines(published: Published) -> str:
+    """How many lines there are, and where more of them are valid than electors have voted, why."""
+    sheet = published.sheet
+    said = published.say(
+        "{lines} in the ballot file: {valid} valid, {refused} refused",
+        lines=sheet.lines,
+        valid=sheet.valid,
+        refused=sheet.refused,
+    )
+    if sheet.voters == sheet.valid:
+        return said
+    recasts = published.language.say_number(
+        "{number} voter has {valid} valid lines: electors who voted again account for the difference, and the last valid line of "
+        "each counts",
+        "{number} voters have {valid} valid lines: electors who voted again account for the difference, and the last valid line "
+        "of each counts",
+        sheet.voters,
+        valid=sheet.valid,
+    )
+    return f"{said}. {recasts}"
+
+
+def doubts_list(published: Published) -> str:
+    """The doubts for readers, each with a word before it that says what it is."""
+    sentences = (escape(published.language.of(doubt.sentence)) for doubt in published.doubts)
+    entries = (published.say("<strong>Doubt:</strong> {doubt}", doubt=doubt) for doubt in sentences)
+    guide = paragraph(published.say("{guide} says what a doubt is, and what you can ask.", guide=GUIDE_LINK))
+    name = published.say("Doubts about this result")
+    return f'<div class="doubts" role="note" aria-label="{name}">\n{listed("ul", entries)}\n{guide}\n</div>'
+
+
+def result(published: Published) -> str:
+    """The part with which the page begins."""
+    marks = [doubts_list(published)] if published.doubts else []
+    if published.because is not None:
+        marks.append(in_their_words(published.language, paragraphs_of(published.because), WHY_NONE))
+    in_poll = []
+    if published.labels.title is not None:
+        in_poll = [paragraph(published.say("In the poll the title is: {title}", title=escape(published.sheet.title)))]
+    counted = paragraph(published.say(COUNTED, unseen=link_to(published.language, UNSEEN)))
+    said = [
+        f'<p class="outcome">{outcome(published)}</p>',
+        *casting_vote.on_page(published.casting_vote, published.language),
+        *marks,
+        facts(published),
+        counted,
+    ]
+    return part(published.language, "Result", *in_poll, *said)
+
+
+# ---------------------------------------------------------------- what the society says of it
+def about(published: Published) -> list[str]:
+    """The part with the text that was given, and with the sum of the poll that was called; none where there is neither."""
+    blocks = [] if published.about is None else [in_their_words(published.language, paragraphs_of(published.about))]
+    if published.poll_sums.announced is not None:
+        blocks.append(paragraph(announced(published)))
+    return [part(published.language, "About this vote", *blocks)] if blocks else []
+
+
+def announced(published: Published) -> str:
+    """The sum of the poll that was called, as far as the secretary's copy of the call shows it, and whether it is this poll."""
+    sums, say = published.poll_sums, published.say
+    copy = say(
+        "The secretary's copy of the call has this sum (SHA-256) of the poll: <code>{sum}</code>.",
+        sum=sums.announced,
+    )
+    same = say("The poll below has another one.")
+    if sums.announced == sums.poll_sum:
+        same = say(HAS_IT_BUT_LAST if sums.has_last_envelope else HAS_IT)
+    how = say("{part} has the command that compares them.", part=link_to(published.language, VERIFYING))
+    return f"{copy} {same} {say(COMPARE_LETTER)} {how}"
