@@ -31,6 +31,10 @@ OPTIONS, LINES = 16, 100_000
 MOST_OPTIONS, MOST_ELECTORS = 32, 10_000
 
 
+# letters of a mailbox
+LETTERS = 10_000
+
+
 def command(words: list[object], folder: pathlib.Path, path: str, statuses: tuple[int, ...] = (0,)) -> float:
     """Runs a command in a folder, which must end with one of these statuses, and returns its seconds of processor."""
     before = resource.getrusage(resource.RUSAGE_CHILDREN)
@@ -87,6 +91,42 @@ def largest_page(folder: pathlib.Path, path: str) -> Iterator[tuple[str, float, 
     yield "publish, 32 options", command(words, room, path, (0, 1)), 60
 
 
+def letter_of(number: int, name: str, text: str) -> str:
+    """A letter of a mailbox, as mail programs write an answer: plain text and HTML, with the call quoted."""
+    time = f"{number // 3600:02}:{number // 60 % 60:02}:{number % 60:02}"
+    head = f"Received: from a by b; Mon, 23 Nov 2026 {time} +0000\nFrom: E <{name}@club.example>\nMessage-ID: <{number}@mail.example>\n"
+    quoted = [f"a line of the call, number {line}, as long as the lines of calls are" for line in range(40)]
+    plain = "".join(f"> {line}\n" for line in quoted)
+    marked = "".join(f'<div style="font-size:10pt">{line}</div>\n' for line in quoted)
+    parts = {"plain": f"Hello\n\n{text}\n\nOn Mon, 23 Nov 2026, Vote wrote:\n{plain}", "html": f"<p>{text}</p><blockquote>{marked}</blockquote>"}
+    body = "".join(f"--b\nContent-Type: text/{kind}; charset=utf-8\n\n{part}\n" for kind, part in parts.items())
+    kind = 'Content-Type: multipart/alternative; boundary="b"'
+    return f"From {name}@club.example Mon Nov 23 10:00:00 2026\n{head}{kind}\n\n{body}--b--\n\n"
+
+
+def many_letters(folder: pathlib.Path, path: str) -> Iterator[tuple[str, float, float]]:
+    """The same for letters of 10,000 electors, of which a tenth waits."""
+    room = folder / "letters"
+    room.mkdir()
+    names = [f"elector-{number}" for number in range(LETTERS)]
+    roll = ", ".join(f'"{name}"' for name in names)
+    poll = f'title = "T"\noptions = ["A", "B", "C"]\nratios = [1, 1, 1]\ndefault = "N"\nquorum = 1\nroll = [{roll}]\n'
+    (room / "poll.toml").write_text(poll)
+    (room / "members.csv").write_text("name,who,mail\n" + "".join(f"{name},{name},{name}@club.example\n" for name in names))
+    texts = (f"{name} {'1,2,3,4' if number % 10 else '1,2,3'}" for number, name in enumerate(names))
+    (room / "inbox").write_text("".join(letter_of(number, name, text) for number, (name, text) in enumerate(zip(names, texts))))
+    command([ELECTION, "call", "--to", "vote@club.example"], room, path)
+    for name, words, most in [
+        ("add, 10,000 letters", ["add", "--yes", "inbox"], 60),
+        ("add, all of them again", ["add", "--yes", "inbox"], 60),
+        ("held, of 1,000", ["held"], 3),
+        ("letters, 10,000 receipts", ["letters", "receipts"], 60),
+        ("letters, 1,000 reminders", ["letters", "reminders"], 10),
+        ("undo, 9,000 lines", ["undo"], 5),
+    ]:
+        yield name, command([ELECTION, *words], room, path), most
+
+
 def main() -> int:
     parser = argparse.ArgumentParser(description="Times debvote-election and debvote-publish on large elections.")
     parser.add_argument("--program", type=pathlib.Path, default=PROGRAM)
@@ -96,7 +136,7 @@ def main() -> int:
     path = os.pathsep.join([str(program.parent), os.environ["PATH"]])
     failed = 0
     with tempfile.TemporaryDirectory(prefix="debvote-around-") as name:
-        for part in (large_election, large_roll, largest_page):
+        for part in (large_election, large_roll, largest_page, many_letters):
             for what, seconds, most in part(pathlib.Path(name), path):
                 is_good = seconds <= most
                 failed += not is_good

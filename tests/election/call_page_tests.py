@@ -216,6 +216,16 @@ class CallPageTest(support.ElectionTest):
         self.assertEqual(page["copies"][1]["selected"], line)
         self.assertIn("The line is selected", page["copies"][1]["said"])
 
+    def test_a_letter_that_is_to_be_signed(self) -> None:
+        """The title stands below the ballot; the page of such a call has a mark for it."""
+        page = self.called("signed", support.POLL, "--to", ADDRESS)
+        page.write_text(page.read_text().replace(" data-title=", " data-signed data-title=", 1))
+        found, console = browse(self.scratch, [{"page": page.as_uri(), "width": 360, "choices": [{"name": "ada", "ranks": list("1234")}]}])
+        (result,) = found[0]["results"]
+        self.assertEqual((console, result["line"]), ("", "ada 1,2,3,4"))
+        query = urllib.parse.parse_qs(result["letter"].partition("?")[2])
+        self.assertEqual(query["body"], ["ada 1,2,3,4\r\nWhere we meet in spring\r\n"])
+
     def test_no_line_before_name_and_rank(self) -> None:
         odd = {"a b": "a space", "\u00e9va": "“\u00e9”", "x_y": "“_”", "\u212aate": "“\u212a”", "a,b": "“,”", "x" * 33: "33 characters"}
         odd |= {"": "", "   ": "Type your name"}

@@ -35,6 +35,14 @@ class LastLine(DangerTest):
         self.assertIn("Note: the last line of ballots had no line feed; it was ended.\n2 counted  ben: ", output)
         self.assertEqual(self.read("ballots"), b"ada 1,2,4,3\nben 1,2,4,3\n")
 
+    def test_a_look_says_what_would_be_done(self) -> None:
+        self.write("ballots", "ada 1,2,4,3")
+        output = self.election("add", "--look", given="ben 1,2,4,3\nCleo 1,2,3\n").output
+        self.assertIn("Note: the last line of ballots had no line feed; it would be ended.\n2 counted  ben: ", output)
+        self.assertIn("  it would go in as it came; written as `cleo 1,2,3` it is refused too: bad rank count", output)
+        self.assertIn("Nothing was changed.\n", output)
+        self.assertEqual(self.read("ballots"), b"ada 1,2,4,3")
+
     def test_two_adds_of_files_without_a_last_line_feed(self) -> None:
         self.add("ada 1,2,4,3")
         self.add("ben 1,2,4,3")

@@ -66,6 +66,7 @@ class Rows(FormTest):
         self.assertIn("A right line in this poll: ada 1,2,3,4 ", output)
 
     def test_an_empty_cell_that_is_told_to_be_a_hyphen(self) -> None:
+        self.assertEqual(self.election("call", "--form").status, 0)
         words = ("n", "a,b,c,d", "--blank-is-unranked")
         output = self.add("n,a,b,c,d\nfay,1,,2,3\nada,1,2\n,1,2,3,4\n", *words).output
         self.assertIn("form.csv: row 2: `fay 1,,2,3` was changed to `fay 1,-,2,3` (empty cells)\n1 counted  fay: ", output)

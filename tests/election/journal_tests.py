@@ -141,18 +141,18 @@ class Folder(support.ElectionTest):
 
     def test_an_act_notes_what_it_finds_where_somebody_has_edited_it(self) -> None:
         with self.election_of.changing() as files:
-            files = self.election_of.act("add", files, "1", ballots=b"a\n")
-            self.election_of.act("add", files, "2", ballots=b"a\nb\n")
+            files = self.election_of.act("add", files, "1", new_ballots=b"a\n")
+            self.election_of.act("add", files, "2", new_ballots=b"a\nb\n")
         # also where it is as it was before the last act
         for edited in (b"a\n", b"other\n"):
             self.write("ballots", edited)
             with self.election_of.changing() as files:
                 self.assertIsNone(self.election_of.cut_off)
-                self.assertEqual(self.election_of.edited(files), [self.folder / "ballots"])
-                self.election_of.act("add", files, "2", ballots=edited + b"b\n")
+                self.assertEqual(self.election_of.edited_paths(files), [self.folder / "ballots"])
+                self.election_of.act("add", files, "2", new_ballots=edited + b"b\n")
         self.assertEqual(self.acts(), ["add", "add", FOUND, "add", FOUND, "add"])
         with self.election_of.reading() as files:
-            self.assertEqual(self.election_of.edited(files), [])
+            self.assertEqual(self.election_of.edited_paths(files), [])
 
     def test_an_act_alone(self) -> None:
         with self.election_of.changing() as files:
@@ -176,9 +176,9 @@ class Folder(support.ElectionTest):
 
     def test_a_first_add_that_was_cut_off(self) -> None:
         with self.election_of.changing() as files:
-            journal.begin(self.folder / "journal", "add", "1", Sums.of(files.poll, b"a\n"))
+            journal.begin(self.folder / "journal", "add", "1", Sums.of(files.poll_bytes, b"a\n"))
         with self.election_of.reading() as files:
-            self.assertEqual((files.ballots, self.election_of.edited(files)), (None, []))
+            self.assertEqual((files.ballots_bytes, self.election_of.edited_paths(files)), (None, []))
         with self.election_of.changing() as files:
             self.assertEqual(self.election_of.cut_off.act, "add")
         self.assertEqual(self.acts(), ["add", UNDONE])
@@ -186,11 +186,11 @@ class Folder(support.ElectionTest):
     def test_an_act_that_was_done_and_not_ended(self) -> None:
         self.write("ballots", "a\n")
         with self.election_of.changing() as files:
-            self.election_of.act("add", files, "2", ballots=b"a\nb\n")
-            journal.begin(self.folder / "journal", "add", "3", Sums.of(files.poll, b"a\nb\nc\n"))
+            self.election_of.act("add", files, "2", new_ballots=b"a\nb\n")
+            journal.begin(self.folder / "journal", "add", "3", Sums.of(files.poll_bytes, b"a\nb\nc\n"))
             self.write("ballots", "a\nb\nc\n")
         with self.election_of.reading() as files:
-            self.assertEqual(self.election_of.edited(files), [])
+            self.assertEqual(self.election_of.edited_paths(files), [])
         with self.election_of.changing() as files:
             self.assertIsNone(self.election_of.cut_off)
         self.assertEqual(self.acts(), ["add", "add"])

@@ -3,6 +3,7 @@
 import sys
 
 import killing
+import pgp
 import support
 from kills_tests import BetweenSteps as Steps
 from kills_tests import KillTest
@@ -99,6 +100,35 @@ class BetweenSteps(KillTest):
         self.assertEqual(self.election("add", given=f"ida {RANKS}\nada {OTHER_RANKS}\n").status, 0)
         self.assertEqual(self.election("add", "--yes", given=BOX).status, 0)
         self.each_kill(["undo"], b"", check)
+
+    def test_a_keyring_that_is_given(self) -> None:
+        """From the first trace of it on no letter goes in that is not signed, and the command that is repeated does all of it."""
+        if not pgp.HAS_GPG:
+            self.skipTest(pgp.MISSING)
+        keys = pgp.keys()
+        ring = self.scratch / "club.gpg"
+        ring.write_bytes(keys.ring("ada", "ben"))
+        self.write("members.csv", f"name,who,mail,key\nada,Ada,ada@club.example,{keys.fingerprints['ada']}\n")
+        box = mailbox(letter("ada", f"ada {RANKS}\n"))
+        words = ["call", "--keyring", str(ring), "--form"]
+
+        def check(run: killing.Run) -> None:
+            has_trace = "keyring" in self.acts() or (self.folder / "keyring.gpg").exists()
+            added = killing.run(self.folder, ["add", "--yes"], box)
+            self.assertEqual((added.status, self.lines()), (added.status, [] if has_trace else [f"ada {RANKS}".encode()]), added)
+            if not has_trace:
+                return
+            again = killing.run(self.folder, words)
+            self.assertEqual((again.status, again.faults), (0, ""), again)
+            self.assertEqual(self.read("keyring.gpg"), ring.read_bytes())
+            self.assertEqual(
+                [act for act in self.acts() if act in ("keyring", "keys", "form", "call")][-4:], ["keyring", "keys", "form", "call"]
+            )
+            self.assertEqual(killing.run(self.folder, ["add", "--yes"], box).status, 0)
+            self.assertEqual(self.lines(), [])
+            self.assert_nothing_half_written()
+
+        self.each_kill(words, b"", check)
 
 
 del Steps, KillTest

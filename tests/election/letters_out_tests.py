@@ -90,12 +90,22 @@ class Kinds(OutTest):
         self.assertEqual(sorted(self.written("receipts")), ["ben@club.example"])
         # one that waited, and is entered now
         self.assertEqual(self.election("held", 3, "--enter", 1).status, 0)
-        self.assertEqual(sorted(self.written("receipts")), ["cleo@club.example"])
+        # the elector whose name is on the ballot hears of it, and not who has sent it
+        self.assertEqual(sorted(self.written("receipts")), ["dan@club.example"])
         output = self.election("undo").output
         self.assertIn(
-            "Receipts were written already that do not hold any more; write to these:\n  letter 3, cleo@club.example: envelope 3\n",
+            "Receipts were written already that do not hold any more; write to these:\n  letter 3, cleo@club.example: envelope 3, the ballot of dan\n",
             output,
         )
+
+    def test_a_receipt_repeats_no_ballot_of_a_letter_that_waits(self) -> None:
+        """Of a plain text and an HTML that differ it says that they do: the ranks stay with the secretary."""
+        text = f"--b\nContent-Type: text/plain\n\nada {RANKS}\n--b\nContent-Type: text/html\n\n<p>ada {OTHER_RANKS}</p>\n--b--\n"
+        self.added(letter("ada", text, kind="multipart/alternative; boundary=b"))
+        text = " ".join(self.written("receipts")["ada@club.example"].get_content().split())
+        self.assertIn("The reason: its plain text and its HTML have two ballots that differ. You can send a right line now", text)
+        self.assertNotIn(RANKS, text)
+        self.assertNotIn(OTHER_RANKS, text)
 
     def test_an_answer_to_a_letter_is_no_ballot(self) -> None:
         """Whoever quotes one of these letters without marks votes by it no second time."""
@@ -123,10 +133,15 @@ class Kinds(OutTest):
         self.election("add", given="".join(f"{name} {RANKS}\n" for name in ("ada", "ben", "cleo")))
         self.assertEqual(self.election("close").status, 0)
         self.assertEqual(self.election("publish").status, 0)
-        text = self.written("result", "--at", "https://club.example/vote")["hal@club.example"].get_content()
+        found = self.written("result", "--at", "https://club.example/vote")
+        text = found["ben@club.example"].get_content()
         self.assertIn("  https://club.example/vote\n", text)
         self.assertIn("Winner: 1 At the lake\n", text)
-        self.assertIn("under your name: hal.", " ".join(text.split()))
+        self.assertIn("under your name: ben.", " ".join(text.split()))
+        # who has not voted is not told of a ballot
+        text = found["hal@club.example"].get_content()
+        self.assertIn("No ballot of yours that counts stands there.\n", text)
+        self.assertNotIn("under your name", text)
 
     def test_one_mbox(self) -> None:
         ended = self.election("letters", "--mbox", "call")
@@ -147,7 +162,14 @@ class Secret(LettersTest):
         (self.folder / "call").rmdir()
         self.assertEqual(self.election("codes").status, 0)
         self.assertEqual(self.election("call", "--to", "vote@club.example").status, 0)
-        self.added(letter("ada", f"ada {RANKS}\n"), letter("ben", f"ben {RANKS}\nben {OTHER_RANKS}\n"))
+        both = f"--b\nContent-Type: text/plain\n\ncleo {RANKS}\n--b\nContent-Type: text/html\n\n<p>cleo {OTHER_RANKS}</p>\n--b--\n"
+        self.added(
+            letter("ada", f"ada {RANKS}\n"),
+            letter("ben", f"ben {RANKS}\nben {OTHER_RANKS}\n"),
+            letter("cleo", both, kind="multipart/alternative; boundary=b"),
+            letter("dan", "dan 1,2,4\n"),
+            letter("eve", f"eve {RANKS}\n", kind="text/plain; charset=x-none"),
+        )
         self.assertEqual(self.election("letters", "call").status, 0)
         self.assertEqual(self.election("letters", "receipts").status, 0)
         self.assertEqual(self.election("letters", "--mbox", "call").status, 0)
@@ -158,7 +180,7 @@ class Secret(LettersTest):
         codes = {row.split(",")[0]: row.split(",")[3] for row in self.read("private/codes.csv").decode().splitlines()[1:]}
         self.assertIn(codes["ada"], self.only(place / "0001-call", "ada"))
         self.assertNotIn(codes["ben"], self.only(place / "0001-call", "ada"))
-        for name in ("ada", "ben"):
+        for name in ("ada", "ben", "cleo", "dan", "eve"):
             text = self.only(place / "0002-receipts", name)
             self.assertNotIn(RANKS, text)
             self.assertNotIn(OTHER_RANKS, text)

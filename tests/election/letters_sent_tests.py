@@ -65,7 +65,9 @@ def words_of(message: email.message.EmailMessage) -> str:
     return message.get_content().replace("\r\n", "\n")
 
 
-class Sent(LettersTest):
+class SendingTest(LettersTest):
+    """A test with a mail server, and a sendmail that gives it letters."""
+
     def setUp(self) -> None:
         super().setUp()
         python = python_of_server()
@@ -106,6 +108,8 @@ class Sent(LettersTest):
             self.assertEqual(after.defects, [])
         return {json.loads(envelope)[1][0]: message_in(data) for envelope, _, data in arrived}
 
+
+class Sent(SendingTest):
     def test_the_call(self) -> None:
         self.write("members.csv", MEMBERS.replace("Ada,", '"Åda Ø, ""the"" <x> ' + "long " * 30 + '",').replace("Ben,", ".,"))
         until = "wenn die Grüße 選挙 da sind"

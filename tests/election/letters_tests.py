@@ -424,9 +424,9 @@ class Hostile(LettersTest):
 class Words(unittest.TestCase):
     def own(self, text: str) -> list[str]:
         lines = text.splitlines()
-        return [line for line, is_own in zip(lines, quoting.own_words(lines)) if is_own]
+        return [line for line, is_own in zip(lines, quoting.are_own(lines)) if is_own]
 
-    def test_own_words(self) -> None:
+    def test_which_lines_are_own(self) -> None:
         for end in (
             "-----Original Message-----",
             "-------- Original-Nachricht --------",

@@ -103,13 +103,13 @@ class Ends(unittest.TestCase):
         self.assertEqual(self.texts(mark + b"ada 1\n" + mark + b"ben 2\n"), [("f:1", b"ada 1"), ("f:2", mark + b"ben 2")])
         self.assertEqual(self.texts(mark + b"ada 1\n", 2), [("f:2", mark + b"ada 1")])
         (line,) = lines_in(mark + b"Ada;1\r\n", "f")
-        self.assertEqual((line.came, line.kept), (mark + b"Ada;1\r", b"Ada;1"))
+        self.assertEqual((line.whole, line.bare), (mark + b"Ada;1\r", b"Ada;1"))
 
 
     def test_what_is_told_of_the_whole_file(self) -> None:
         lines = lines_in(b"\xef\xbb\xbfAda 1\r\nben 2\r\ncleo  3\n", "f")
-        self.assertEqual([line.frame for line in lines], [(True, True), (False, True), (False, False)])
-        self.assertEqual([line.inner for line in lines], [b"Ada 1", b"ben 2", b"cleo  3"])
+        self.assertEqual([(line.had_mark, line.had_return) for line in lines], [(True, True), (False, True), (False, False)])
+        self.assertEqual([line.without_frame for line in lines], [b"Ada 1", b"ben 2", b"cleo  3"])
 
 
 class Shown(unittest.TestCase):

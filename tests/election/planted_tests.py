@@ -13,7 +13,7 @@ import support
 sys.path.insert(0, str(support.ROOT / "python"))
 
 from debvote_tools import journal  # noqa: E402
-from debvote_tools.closed import lines_of  # noqa: E402
+from debvote_tools.lines import ballot_lines  # noqa: E402
 
 WON = "ada 1,2,4,3\nben 1,3,4,2\ncleo 1,2,4,3\n"
 
@@ -58,7 +58,7 @@ class JournalTest(support.ElectionTest):
 class ClosedTest(support.ElectionTest):
     def test_the_lines_of_a_file(self) -> None:
         for data, lines in ((b"", []), (b"a\n", [b"a"]), (b"a\n\n", [b"a", b""]), (b"a\n\n\n", [b"a", b"", b""]), (b"a\nb", [b"a", b"b"])):
-            self.assertEqual(lines_of(data), lines)
+            self.assertEqual(ballot_lines(data), lines)
 
     def test_ballots_that_end_with_empty_lines(self) -> None:
         self.write("ballots", f"{WON}\n\n")

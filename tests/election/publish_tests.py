@@ -24,11 +24,12 @@ STUB = """
 import dataclasses, json, os, pathlib, subprocess, sys
 from debvote_tools.election import command_line
 from debvote_tools.election.commands import publish
-def ended(asked, beside):
-    given = {field.name: getattr(asked, field.name) for field in dataclasses.fields(asked) if getattr(asked, field.name) != field.default}
+def make_result_folder(arguments, program_folder):
+    fields = dataclasses.fields(arguments)
+    given = {field.name: getattr(arguments, field.name) for field in fields if getattr(arguments, field.name) != field.default}
     pathlib.Path(os.environ["NOTED"]).write_text(json.dumps(given))
     return subprocess.run(["sh", "-c", os.environ["THEN"]]).returncode
-publish.ended = ended
+publish.make_result_folder = make_result_folder
 sys.exit(command_line.main(pathlib.Path(sys.argv[1]), sys.argv[2:]))
 """
 
@@ -292,9 +293,9 @@ class Words(PublishTest):
         return ended, json.loads(self.noted.read_text()) if self.noted.exists() else None
 
     def test_the_words(self) -> None:
-        files = {"poll": "poll.toml", "ballots": "ballots", "folder": "result"}
+        files = {"poll_path": "poll.toml", "ballots_path": "ballots", "target_folder": "result"}
         self.assertEqual(self.asked("publish")[1], files)
-        self.assertEqual(self.asked("publish", "--even-so", "x y")[1], files | {"even_so": True, "folder": "x y"})
+        self.assertEqual(self.asked("publish", "--even-so", "x y")[1], files | {"even_so": True, "target_folder": "x y"})
         self.assertEqual(self.asked("publish", "--casting", "At the lake")[1], files | {"casting": "At the lake"})
         given = {"labels": "my labels", "about": "--even-so"}
         self.assertEqual(self.asked("publish", "--about=--even-so", "--labels", "my labels")[1], files | given)
@@ -303,7 +304,7 @@ class Words(PublishTest):
         self.assertEqual(self.asked("publish", *words)[1], files | given)
         given = {"cast_by": "Zo", "cast_on": "2026-12-05"}
         self.assertEqual(self.asked("publish", "--cast-by=Zo", "--cast-on=2026-12-05")[1], files | given)
-        where = {"poll": "election/poll.toml", "ballots": "election/ballots", "folder": "election/result"}
+        where = {"poll_path": "election/poll.toml", "ballots_path": "election/ballots", "target_folder": "election/result"}
         self.assertEqual(self.asked("--folder", "election", "publish", cwd=self.scratch)[1], where)
 
     def test_no_ballots(self) -> None:
@@ -314,7 +315,7 @@ class Words(PublishTest):
             ended, 9, "ballots: there are no ballots; add them with debvote-election add FILE, or publish without any with"
         )
         self.assertIsNone(asked)
-        wanted = {"poll": "poll.toml", "ballots": "/dev/null", "even_so": True, "folder": "result"}
+        wanted = {"poll_path": "poll.toml", "ballots_path": "/dev/null", "even_so": True, "target_folder": "result"}
         self.assertEqual(self.asked("publish", "--even-so")[1], wanted)
 
     def test_its_lines_and_its_status_are_passed_on(self) -> None:

@@ -27,7 +27,7 @@ sys.path.insert(0, str(support.ROOT / "python"))
 
 from debvote_tools import secret  # noqa: E402
 from debvote_tools.faults import Fault  # noqa: E402
-from debvote_tools.publish import command_line, secret as published  # noqa: E402
+from debvote_tools.publish import command_line, under_aliases  # noqa: E402
 
 BROWSER = shutil.which("chromium") or shutil.which("chromium-browser")
 FLAGS = ["--headless", "--no-sandbox", "--disable-gpu", "--hide-scrollbars", "--allow-file-access-from-files", "--dump-dom"]
@@ -116,13 +116,13 @@ class RandomTest(SecretTest):
         lines = "Lines: 5\nLast envelope: 4\nValid: 3\nRefused: 2\n"
         under = "Lines: 2\nValid: 2\nRefused: 0\n"
         rest = "Voters: 2\nOptions:\n  1 ratio 1 A\n"
-        published.demand_same(head + lines + rest, head + under + rest)
+        under_aliases.demand_same(head + lines + rest, head + under + rest)
         odd = head.replace("Poll: a", "Poll: Lines: 7")
-        published.demand_same(odd + lines + rest, odd + under + rest)
+        under_aliases.demand_same(odd + lines + rest, odd + under + rest)
         for other in (head + under + rest.replace("2", "1", 1), head + under + rest + "x", head.replace("3", "4") + under + rest,
                       head.replace("Poll: a", "Poll: b") + under + rest, head.replace("1Q", "2Q") + under + rest):  # fmt: skip
             with self.subTest(other=other), self.assertRaises(Fault) as caught:
-                published.demand_same(head + lines + rest, other)
+                under_aliases.demand_same(head + lines + rest, other)
             self.assertEqual(caught.exception.status, 9)
 
     def check_folder(self, room: pathlib.Path, found: Random) -> None:

@@ -9,6 +9,8 @@ import tempfile
 import unittest
 from dataclasses import dataclass
 
+import forks
+
 ROOT = pathlib.Path(__file__).resolve().parent.parent.parent
 PROGRAM = pathlib.Path(os.environ.get("DEBVOTE", ROOT / "crates" / "debvote" / "out" / "debvote"))
 ELECTION = ROOT / "bin" / "debvote-election"
@@ -79,7 +81,7 @@ class ElectionTest(unittest.TestCase):
         data = given.encode() if isinstance(given, str) else given
         where = {"stdin": subprocess.DEVNULL} if data is None else {"input": data}
         settings = {"cwd": self.folder, "env": environment() | self.clock, "timeout": SECONDS, **where, **how}
-        ended = subprocess.run([str(word) for word in words], capture_output=True, **settings)
+        ended = forks.run([str(word) for word in words], capture_output=True, **settings)
         faults = ended.stderr.decode("utf-8", "replace")
         faults = faults if HAS_PICTURES else faults.replace(NO_PICTURE, "")
         return Ended(ended.stdout.decode("utf-8", "replace"), faults, ended.returncode)

@@ -19,7 +19,8 @@ FLAGS = ["--headless", "--no-sandbox", "--disable-gpu", "--hide-scrollbars", "--
 START = 'read=$1 write=$2; shift 2; exec "$@" 3<&"$read" 4>&"$write"'
 
 # the number of a key, and the text that it types
-KEYS = {"Tab": (9, ""), "Enter": (13, "\r"), " ": (32, " ")}
+KEYS = {"Tab": (9, ""), "Enter": (13, "\r"), " ": (32, " "), "ArrowUp": (38, ""), "ArrowDown": (40, "")}
+KEYS |= {digit: (ord(digit), digit) for digit in "0123456789"}
 
 
 class Window:
@@ -108,13 +109,18 @@ class Window:
     def press(self, key: str, shift: bool = False) -> None:
         """Presses a key and lets it go."""
         code, text = KEYS[key]
-        name = {" ": "Space"}.get(key, key)
+        name = f"Digit{key}" if key.isdigit() else {" ": "Space"}.get(key, key)
         known = {"key": key, "code": name, "windowsVirtualKeyCode": code, "modifiers": 8 if shift else 0}
         self.tell("Input.dispatchKeyEvent", type="keyDown", **known, **({"text": text} if text else {}))
         self.tell("Input.dispatchKeyEvent", type="keyUp", **known)
 
     def type(self, text: str) -> None:
         self.tell("Input.insertText", text=text)
+
+    def type_keys(self, keys: str) -> None:
+        """Presses these keys, one after the other: a list takes keys, and no text."""
+        for key in keys:
+            self.press(key)
 
     def touch(self, script: str) -> None:
         """Touches the middle of an element, which is brought into the window as a thumb does."""

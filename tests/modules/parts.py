@@ -5,6 +5,7 @@ A line of a part that begins with 'skipped: ' says what it has left out, and why
 
 import collections
 import dataclasses
+import os
 import pathlib
 import re
 import subprocess
@@ -16,6 +17,11 @@ COUNT = re.compile(r"(\d+) passed, (\d+) failed")
 SKIPPED = re.compile(r"skipped: (.*)")
 # what `rt try --test` says
 COUNT_OF_TRY = re.compile(r"test result: \w+\. (\d+) passed; (\d+) failed;.*")
+
+
+def environment_of_try() -> dict[str, str]:
+    """The environment in which tests run `rt try`, which then gives no hint on names, and takes half of the processor."""
+    return {**os.environ, "PATH": os.pathsep.join([str(ROOT / "tests" / "modules" / "without-hint"), os.environ["PATH"]])}
 
 
 @dataclasses.dataclass(frozen=True)

@@ -25,6 +25,7 @@ import subprocess
 import sys
 import tempfile
 
+import forks
 import page as pages
 import reference
 import reference_checks
@@ -463,7 +464,7 @@ def try_folder(room, seed, election, count, casting):
     for folder in folders:
         # no Graphviz: pictures are tried elsewhere
         how = {"cwd": room, "env": {**os.environ, "PATH": str(PROGRAM.parent)}, "capture_output": True, "timeout": SECONDS}
-        ended = subprocess.run([sys.executable, PUBLISH, *words, folder.name], **how)
+        ended = forks.run([sys.executable, PUBLISH, *words, folder.name], **how)
         if casting is not None and count.casting not in count.final:
             demand((ended.returncode, folder.exists()) == (8, False), f"status {ended.returncode} in place of 8: {ended.stderr}")
             left = " and ".join(f"{option} {count.poll.names[option]}" for option in count.final)

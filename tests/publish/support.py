@@ -9,6 +9,7 @@ import sys
 import tempfile
 
 import expecting
+import forks
 
 ROOT = pathlib.Path(__file__).resolve().parent.parent.parent
 PROGRAM = ROOT / "crates" / "debvote" / "out" / "debvote"
@@ -44,7 +45,7 @@ def demand_program():
 def run(words, path=PATH, **how):
     """What a run says, and its status."""
     given = {"capture_output": True, "text": True, "timeout": SECONDS, "env": {**os.environ, "PATH": path}}
-    ended = subprocess.run(list(map(str, words)), **given, **how)
+    ended = forks.run(list(map(str, words)), **given, **how)
     return ended.stdout, ended.stderr, ended.returncode
 
 

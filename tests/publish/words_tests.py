@@ -7,8 +7,8 @@ import support
 
 sys.path.append(str(support.ROOT / "python"))
 
-from debvote_tools.ballots import in_words  # noqa: E402
-from debvote_tools.publish.result import share  # noqa: E402
+from debvote_tools.ballots import ranks_in_words  # noqa: E402
+from debvote_tools.publish.parts.result import share  # noqa: E402
 
 
 def try_ballots_in_words(expect):
@@ -22,7 +22,7 @@ def try_ballots_in_words(expect):
         ("1,-,-,2", "At the lake, then Further discussion; not ranked, and so behind all others: In the town hall and Sell the house"),
         ("-,-,-,-", "no option is ranked, so nothing is preferred"),
     ]:
-        expect(f"{ranks} in words", in_words(ranks, names), wanted)
+        expect(f"{ranks} in words", ranks_in_words(ranks, names), wanted)
 
 
 def try_shares(expect):

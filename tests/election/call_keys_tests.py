@@ -1,0 +1,97 @@
+"""The page of a call by the keyboard alone: an elector types the name, chooses the ranks, and takes the line."""
+
+import unittest
+import urllib.parse
+
+import support
+from at_browser import BROWSER, Window
+from reader_tests import FOCUS
+
+ADDRESS = "vote@club.example"
+
+# what the page shows of the ballot
+SHOWN = """(() => { const text = (id) => document.getElementById(id).textContent; return { line: text("line"),
+  missing: text("missing"), name: text("name-said"), copied: text("copied"), selected: String(getSelection()),
+  letter: document.getElementById("letter").getAttribute("href"),
+  words: [...document.querySelectorAll("#words li")].map((item) => item.textContent) }; })()"""
+
+# no clipboard, as a page has none that was opened from a file
+NO_CLIPBOARD = "Object.defineProperty(navigator, 'clipboard', { value: { writeText: async () => { throw 1; } } })"
+
+RING = ["solid", "3px"]
+
+
+@unittest.skipUnless(BROWSER, "chromium is not installed")
+class ByKeys(support.ElectionTest):
+    def page(self, **how: object) -> Window:
+        ended = self.election("call", "--to", ADDRESS)
+        self.assertEqual(ended.status, 0, ended)
+        window = self.enterContext(Window(**{"width": 390, "height": 700, **how}))
+        window.open(self.folder / "call" / "index.html")
+        return window
+
+    def tab_to(self, window: Window, name: str, shift: bool = False) -> list[dict]:
+        """Presses Tab until this has the focus; says what had it on the way."""
+        way: list[dict] = []
+        while not way or way[-1]["name"] != name:
+            window.press("Tab", shift)
+            way.append(window.ask(FOCUS))
+            self.assertNotEqual(way[-1]["kind"], "BODY", f"Tab does not come to {name}: {way}")
+        return way
+
+    def test_a_ballot_is_made_and_its_line_is_taken(self) -> None:
+        window = self.page()
+        window.ask(NO_CLIPBOARD)
+        self.tab_to(window, "name")
+        window.type("Eve")
+        for option, rank in enumerate(("2", "1", None, "3"), start=1):
+            self.tab_to(window, f"rank-{option}")
+            if rank is not None:
+                window.type_keys(rank)
+        shown = window.ask(SHOWN)
+        self.assertEqual((shown["line"], shown["missing"]), ("eve 2,1,-,3", ""))
+        self.assertEqual(shown["name"], "Capital letters of the name are made small.")
+        self.assertEqual(shown["words"][0], "You prefer 2 In the town hall to 1 At the lake.")
+        self.tab_to(window, "copy")
+        for key in ("Enter", " "):
+            window.ask("getSelection().removeAllRanges()")
+            window.press(key)
+            window.until("document.getElementById('copied').textContent !== ''")
+            self.assertEqual(window.ask(SHOWN)["selected"], "eve 2,1,-,3")
+        self.tab_to(window, "letter")
+        letter = urllib.parse.urlsplit(window.ask(SHOWN)["letter"])
+        self.assertEqual((letter.scheme, letter.path), ("mailto", ADDRESS))
+        self.assertEqual(urllib.parse.parse_qs(letter.query)["body"], ["eve 2,1,-,3\r\n"])
+
+    def test_a_rank_is_chosen_by_arrows_and_changed(self) -> None:
+        window = self.page()
+        self.tab_to(window, "name")
+        window.type("ada")
+        self.tab_to(window, "rank-1")
+        for key, line in (("ArrowDown", "ada 1,-,-,-"), ("ArrowDown", "ada 2,-,-,-"), ("ArrowUp", "ada 1,-,-,-"), ("ArrowUp", "")):
+            window.press(key)
+            self.assertEqual(window.ask(SHOWN)["line"], line)
+        # what is no line any more can't be taken
+        self.assertEqual(window.ask(SHOWN)["missing"], "Give at least one option a rank.")
+        way = self.tab_to(window, "poll.toml")
+        self.assertEqual({"copy", "letter"} & {place["name"] for place in way}, set())
+
+    def test_tab_comes_to_all_in_order_and_the_focus_is_seen(self) -> None:
+        for is_dark in (False, True):
+            window = self.page(is_dark=is_dark)
+            way = self.tab_to(window, "name")
+            window.type("ada")
+            way += self.tab_to(window, "rank-1")
+            window.type_keys("1")
+            way += self.tab_to(window, "letter")
+            fields = ["name", "rank-1", "rank-2", "rank-3", "rank-4", "copy", "letter"]
+            self.assertEqual([place["name"] for place in way[-len(fields) :]], fields)
+            for place in way:
+                with self.subTest(place=place, is_dark=is_dark):
+                    self.assertEqual((place["ring"][:2], place["inWindow"]), (RING, True))
+            back = self.tab_to(window, "name", shift=True)
+            self.assertEqual([place["name"] for place in back], fields[-2::-1])
+
+
+if __name__ == "__main__":
+    unittest.main()

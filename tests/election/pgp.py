@@ -1,0 +1,93 @@
+"""Keys and signatures of OpenPGP, made by gpg for the tests of signed letters, once for all tests of a run."""
+
+import atexit
+import functools
+import os
+import pathlib
+import re
+import shutil
+import subprocess
+import tempfile
+
+HAS_GPG = shutil.which("gpg") is not None and shutil.which("gpgv") is not None
+MISSING = "gpg and gpgv are not installed"
+
+# keys are older than all elections of the tests; the expired one has expired by the clock of any computer
+# the clock of gpg stands still at a time with this mark
+BORN, EXPIRY = "20240101T000000!", "2024-06-01"
+
+
+class Keys:
+    """A folder of keys, one a person: their fingerprints by the names."""
+
+    def __init__(self) -> None:
+        self.home = pathlib.Path(tempfile.mkdtemp(prefix="pgp-"))
+        atexit.register(self.end)
+        self.fingerprints: dict[str, str] = {}
+        for name in ("ada", "ben", "cleo", "fay", "mallory"):
+            self.make(name, "never")
+        self.make("dan", EXPIRY)
+        self.make("eve", "never")
+        # ada signs with a subkey
+        self.gpg("--faked-system-time", "20240102T000000!", "--quick-add-key", self.fingerprints["ada"], "ed25519", "sign", "never")
+
+    def end(self) -> None:
+        """Ends the agent of this folder, and takes the folder away."""
+        subprocess.run(["gpgconf", "--homedir", self.home, "--kill", "all"], capture_output=True)
+        shutil.rmtree(self.home, ignore_errors=True)
+
+    def gpg(self, *words: object, given: bytes = b"") -> bytes:
+        command = ["gpg", "--homedir", self.home, "--batch", "--quiet", "--yes", "--no-tty", "--passphrase", "", *words]
+        ended = subprocess.run([str(word) for word in command], input=given, capture_output=True, env={**os.environ, "LC_ALL": "C"})
+        if ended.returncode:
+            raise AssertionError(f"gpg {words}: {ended.stderr.decode('utf-8', 'replace')}")
+        return ended.stdout
+
+    def make(self, name: str, expiry: str) -> None:
+        self.gpg("--faked-system-time", BORN, "--quick-gen-key", f"{name} <{name}@club.example>", "ed25519", "sign", expiry)
+        listed = self.gpg("--with-colons", "--list-keys", f"{name}@club.example").decode()
+        self.fingerprints[name] = re.search(r"(?m)^fpr:+([0-9A-F]{40}):", listed)[1]
+
+    def ring(self, *names: str, armor: bool = False) -> bytes:
+        """The keys of these people."""
+        return self.gpg(*(["--armor"] if armor else []), "--export", *(self.fingerprints[name] for name in names))
+
+    def revoked(self, name: str) -> bytes:
+        """The key of a person as it is when it was revoked."""
+        said = (self.home / "openpgp-revocs.d" / f"{self.fingerprints[name]}.rev").read_text().replace(":-----BEGIN", "-----BEGIN")
+        other = pathlib.Path(tempfile.mkdtemp(prefix="pgp-"))
+        try:
+            for data in (self.ring(name), said.encode()):
+                subprocess.run(
+                    ["gpg", "--homedir", other, "--batch", "--quiet", "--import"], input=data, capture_output=True, check=True
+                )
+            command = ["gpg", "--homedir", other, "--batch", "--export"]
+            return subprocess.run(command, capture_output=True, check=True).stdout
+        finally:
+            subprocess.run(["gpgconf", "--homedir", other, "--kill", "all"], capture_output=True)
+            shutil.rmtree(other, ignore_errors=True)
+
+    def signature(self, name: str, data: bytes, time: str, *words: str) -> bytes:
+        """A signature apart from what it signs, in armor."""
+        who = ("--faked-system-time", f"{time}!", "--local-user", self.fingerprints[name])
+        return self.gpg(*who, "--armor", *words, "--detach-sign", given=data)
+
+    def inline(self, name: str, text: str, time: str, *words: str) -> str:
+        """A text that is signed inline."""
+        who = ("--faked-system-time", f"{time}!", "--local-user", self.fingerprints[name])
+        return self.gpg(*who, *words, "--clearsign", given=text.encode()).decode()
+
+    def mime(self, name: str, part: bytes, time: str, *words: str) -> tuple[str, bytes]:
+        """The kind and the body of a letter of which this part is signed as PGP/MIME."""
+        return mime_of(part, self.signature(name, part.replace(b"\n", b"\r\n"), time, *words))
+
+
+def mime_of(part: bytes, signature: bytes, more: bytes = b"") -> tuple[str, bytes]:
+    """The kind and the body of a letter that has a part and a signature."""
+    behind = b"\n--sig\nContent-Type: application/pgp-signature; name=signature.asc\n\n" + signature + more + b"\n--sig--\n"
+    return 'multipart/signed; micalg=pgp-sha256; protocol="application/pgp-signature"; boundary=sig', b"--sig\n" + part + behind
+
+
+@functools.cache
+def keys() -> Keys:
+    return Keys()

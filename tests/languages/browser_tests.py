@@ -1,0 +1,167 @@
+"""The pages of each language in a browser: what their scripts say and do, and that none is wider than its window."""
+
+import json
+import pathlib
+import sys
+import unittest
+import urllib.parse
+
+import at_browser
+import support
+from support import ELECTORS
+
+sys.path.insert(0, str(support.ROOT / "python"))
+
+from debvote_tools.election.call_page import SENTENCES as CALL_SENTENCES  # noqa: E402
+from debvote_tools.language import language_of  # noqa: E402
+from debvote_tools.publish.parts.count_again import SENTENCES as COUNT_SENTENCES  # noqa: E402
+from debvote_tools.publish.under_aliases import SENTENCES as FIND_SENTENCES  # noqa: E402
+
+WIDTHS = (360, 1280)
+
+# what the page of a call shows once a name is typed and ranks are chosen
+CHOOSE = """((name, ranks) => {
+  const field = document.getElementById("name");
+  field.value = name;
+  field.dispatchEvent(new Event("input", { bubbles: true }));
+  [...document.querySelectorAll("select")].forEach((select, place) => {
+    select.value = ranks[place];
+    select.dispatchEvent(new Event("input", { bubbles: true }));
+  });
+  const told = [...document.querySelectorAll("#words li")].map((item) => [...item.childNodes].map((part) =>
+    part.nodeType === 3 ? part.data : `{${part.dataset.option}}`).join(""));
+  const text = (id) => document.getElementById(id).textContent;
+  return { line: text("line"), words: told, said: text("name-said"), missing: text("missing"),
+    letter: document.getElementById("letter").getAttribute("href") };
+})"""
+
+
+def said(language: str, sentences: dict[str, str], key: str, /, **places: object) -> str:
+    """A sentence of a script in a language, with what stands at its places."""
+    return language_of(language).say(sentences[key], **places)
+
+
+@unittest.skipUnless(at_browser.BROWSER, "chromium is not installed")
+class InBrowser(support.LanguageTest):
+    """The pages of a language, of an open and of a secret vote."""
+
+    def held_both(self, language: str) -> dict[str, pathlib.Path]:
+        return {name: self.held(name, language, is_secret=name == "secret") for name in ("open", "secret")}
+
+    def check_language(self, language: str) -> None:
+        places = self.held_both(language)
+        pages = [places["open"] / "call", places["open"] / "result", places["secret"] / "call", places["secret"] / "result"]
+        files = [*(folder / "index.html" for folder in pages), places["secret"] / "private" / "slips.html"]
+        for width in WIDTHS:
+            for is_dark in (False, True):
+                with at_browser.Window(width, 800, is_dark=is_dark) as window:
+                    for file in files:
+                        window.open(file)
+                        # what may be wider scrolls by itself; what is closed is opened
+                        window.ask("document.querySelectorAll('details').forEach((node) => { node.open = true; })")
+                        with self.subTest(language=language, page=str(file.relative_to(self.scratch)), width=width):
+                            self.assertEqual(window.ask("document.documentElement.scrollWidth"), width)
+                            self.assertEqual(window.ask("document.documentElement.lang"), language)
+        with at_browser.Window(390, 800) as window:
+            self.check_call(window, language, places["open"])
+            self.check_count(window, language, places["open"] / "result")
+            self.check_count(window, language, places["secret"] / "result")
+            self.check_find(window, language, places["secret"])
+
+    def check_call(self, window: at_browser.Window, language: str, place: pathlib.Path) -> None:
+        window.open(place / "call" / "index.html")
+
+        def choose(name: str, ranks: list[str]) -> dict:
+            return window.ask(f"{CHOOSE}({json.dumps(name)}, {json.dumps(ranks)})")
+
+        def sentence(key: str, /, **places: object) -> str:
+            return said(language, CALL_SENTENCES, key, **places)
+
+        def both(*options: int) -> str:
+            return language_of(language).joined(f"{{{option}}}" for option in options)
+
+        found = choose(" E01", ["2", "1", "-", "2"])
+        self.assertEqual(found["line"], "e01 2,1,-,2")
+        self.assertEqual(found["said"], f"{sentence('spaces')} {sentence('capitals')}")
+        wanted = [
+            sentence("prefer", upper="{2}", lower=both(1, 4)),
+            sentence("equal", options=both(1, 4)),
+            sentence("unranked", options="{3}"),
+        ]
+        self.assertEqual(found["words"], wanted)
+        subject = urllib.parse.parse_qs(found["letter"].partition("?")[2])["subject"]
+        self.assertEqual(subject, [sentence("subject", title="Where we meet in spring")])
+        found = choose("e0", ["-", "1", "-", "-"])
+        near = {"names": ", ".join(ELECTORS[:4]), "last": ELECTORS[4]}
+        self.assertEqual(found["said"], f"{sentence('not_on_roll', name='e0')} {sentence('did_you_mean_one_of', **near)}")
+        self.assertEqual(found["missing"], sentence("name_missing"))
+        self.assertEqual(found["words"], [sentence("prefer_to_all", upper="{2}"), sentence("unranked_options", options=both(1, 3, 4))])
+        self.assertEqual(choose("x_y", list("1234"))["said"], sentence("has_sign", sign="_"))
+        self.assertEqual(choose("x y", list("1234"))["said"], sentence("has_space"))
+        self.assertEqual(choose("x" * 33, list("1234"))["said"], sentence("too_long", number=33, most=32))
+        self.assertEqual(choose("e01", ["-"] * 4)["missing"], sentence("rank_missing"))
+        choose("e01", list("1234"))
+        window.ask("document.getElementById('copy').click()")
+        window.until("document.getElementById('copied').textContent !== ''")
+        self.assertIn(
+            window.ask("document.getElementById('copied').textContent"), (sentence("copied"), sentence("selected"))
+        )
+
+    def check_count(self, window: at_browser.Window, language: str, folder: pathlib.Path) -> None:
+        window.open(folder / "index.html")
+        window.ask("document.getElementById('Again-button').click()")
+        window.until("document.getElementById('Again-progress').hidden && document.querySelectorAll('#Again-answer p').length > 1")
+        rows = window.ask("[...document.querySelectorAll('#Again-answer p')].map((row) => row.textContent)")
+        sheet = (folder / "sheet.txt").read_text().splitlines()
+        published = said(language, COUNT_SENTENCES, "sheet_published")
+        self.assertEqual(rows[0], said(language, COUNT_SENTENCES, "same", sheet=published, lines=len(sheet)))
+        self.assertEqual(rows[1], said(language, COUNT_SENTENCES, "last", line=sheet[-1]))
+        ballots = len((folder / "standing.txt").read_text().splitlines())
+        self.assertEqual(rows[2], said(language, COUNT_SENTENCES, "page_same", ballots=ballots))
+        self.assertEqual(rows[-1], said(language, COUNT_SENTENCES, "second"))
+        # a page that shows another winner says so
+        window.ask("document.querySelector('.outcome b').textContent = '9 Nobody'; document.getElementById('Again-button').click()")
+        other = said(language, COUNT_SENTENCES, "page_differs", where=said(language, COUNT_SENTENCES, "the_result"))
+        window.until(f"document.getElementById('Again-answer').textContent.includes({json.dumps(other)})")
+
+    def check_find(self, window: at_browser.Window, language: str, place: pathlib.Path) -> None:
+        rows = [line.split(",") for line in (place / "private" / "codes.csv").read_text().splitlines()[1:]]
+        codes = {row[0]: row[3] for row in rows}
+        aliases = {row[0]: row[4] for row in rows}
+        window.open(place / "result" / "index.html")
+
+        def ask(name: str, code: str) -> list[str]:
+            window.ask(
+                f"document.getElementById('name').value = {json.dumps(name)}; document.getElementById('code').value = {json.dumps(code)};"
+                "document.getElementById('answer').replaceChildren(); document.getElementById('show').click();"
+            )
+            window.until("document.getElementById('answer').textContent !== ''")
+            return window.ask("[...document.querySelectorAll('#answer p')].map((row) => row.textContent)")
+
+        found = ask("e02", codes["e02"])
+        self.assertEqual(found[0], said(language, FIND_SENTENCES, "counts", name="e02"))
+        self.assertIn(f"{aliases['e02']} 2,1,4,3", found[1])
+        self.assertEqual(ask("e12", codes["e12"]), [said(language, FIND_SENTENCES, "no_ballot", alias=aliases["e12"])])
+        self.assertEqual(ask("e02", "1234"), [said(language, FIND_SENTENCES, "type_code")])
+        self.assertEqual(ask("", codes["e02"]), [said(language, FIND_SENTENCES, "type_name")])
+        self.assertEqual(len(ask("e02", codes["e01"])), 1)
+
+
+class German(InBrowser):
+    def test_its_pages(self) -> None:
+        self.check_language("de")
+
+
+class Spanish(InBrowser):
+    def test_its_pages(self) -> None:
+        self.check_language("es")
+
+
+class French(InBrowser):
+    def test_its_pages(self) -> None:
+        self.check_language("fr")
+
+
+class English(InBrowser):
+    def test_its_pages(self) -> None:
+        self.check_language("en")

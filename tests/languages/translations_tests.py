@@ -1,0 +1,136 @@
+"""The files of translations: each sentence of the code is in each of them, whole, with its places, and nothing else is."""
+
+import datetime
+import gettext
+import io
+import re
+import shutil
+import subprocess
+import sys
+import unittest
+
+import sentences
+import support
+
+sys.path.insert(0, str(support.ROOT / "python"))
+
+from debvote_tools import po  # noqa: E402
+from debvote_tools.announced import time_in_words  # noqa: E402
+from debvote_tools.language import LANGUAGES, language_of  # noqa: E402
+from debvote_tools.publish.parts.result import share  # noqa: E402
+from debvote_tools.sentences import numbered, sentence  # noqa: E402
+
+MSGFMT = shutil.which("msgfmt")
+TAG = re.compile(r"<[^>]*>")
+
+
+class Translations(support.LanguageTest):
+    def setUp(self) -> None:
+        super().setUp()
+        self.said = sentences.in_code()
+        self.texts = {code: (sentences.LOCALE / f"{code}.po").read_text(encoding="utf-8") for code in support.LANGUAGES}
+        self.entries = {code: sentences.entries_in(text) for code, text in self.texts.items()}
+
+    def test_each_language_has_its_file(self) -> None:
+        self.assertEqual(sorted(LANGUAGES), sorted(["en", *support.LANGUAGES]))
+        self.assertEqual(sorted(file.stem for file in sentences.LOCALE.glob("*.po")), sorted(support.LANGUAGES))
+        self.assertGreater(len(self.said), 500)
+
+    def test_no_sentence_lacks_a_translation_and_none_is_left_over(self) -> None:
+        for code, entries in self.entries.items():
+            with self.subTest(language=code):
+                found = [entry.texts for entry in entries[1:]]
+                self.assertEqual(len(found), len(set(found)), "twice")
+                self.assertEqual(sorted(self.said.keys() - set(found)), [], "not translated")
+                self.assertEqual(sorted(set(found) - self.said.keys()), [], "not in the code")
+                for entry in entries[1:]:
+                    self.assertTrue(all(entry.forms), entry.texts)
+                    self.assertFalse(entry.is_fuzzy or entry.is_obsolete, entry.texts)
+
+    def test_each_translation_has_the_places_and_the_tags_of_its_sentence(self) -> None:
+        for code, entries in self.entries.items():
+            for entry in entries[1:]:
+                with self.subTest(language=code, text=entry.texts[0]):
+                    self.assertEqual(len(entry.forms), len(entry.texts))
+                    for form in entry.forms:
+                        self.assertEqual(sentences.places_in(form), sentences.places_in(entry.texts[-1]))
+                        self.assertEqual(sorted(TAG.findall(form)), sorted(TAG.findall(entry.texts[-1])))
+                        self.assertEqual(form.count("{"), len(re.findall(r"\{\w+\}", form)))
+                        self.assertEqual(form.strip(), form)
+                        # it may come to stand in an attribute
+                        self.assertNotIn('"', TAG.sub("", form))
+
+    def test_what_puts_parts_behind_each_other_has_its_places_at_its_ends(self) -> None:
+        both = {("{entries} and {last}",), ("{before}, then {step}",), ("{before}; then {step}",)}
+        for code, entries in self.entries.items():
+            found = {entry.texts: entry.forms[0] for entry in entries if entry.texts in both}
+            self.assertEqual(found.keys(), both)
+            for (text,), form in found.items():
+                first, second = re.findall(r"\{\w+\}", text)
+                self.assertTrue(form.startswith(first) and form.endswith(second), f"{code}: {form}")
+
+    def test_a_sentence_ends_as_its_translation_does(self) -> None:
+        ends = re.compile(r"([.:?])(?:</\w+>)?$")
+        for code, entries in self.entries.items():
+            for entry in entries[1:]:
+                wanted = ends.search(entry.texts[0])
+                if wanted and wanted[1] in ":?":
+                    with self.subTest(language=code, text=entry.texts[0]):
+                        found = ends.search(entry.forms[0])
+                        self.assertEqual(found and found[1], wanted[1])
+
+    def test_french_signs_stand_behind_a_space_that_does_not_break(self) -> None:
+        for entry in self.entries["fr"][1:]:
+            for form in entry.forms:
+                with self.subTest(text=entry.texts[0]):
+                    self.assertIsNone(re.search(r"[^\u00a0:/][;?!\u00bb]|\u00ab[^\u00a0]| :|\w: ", TAG.sub("", form).replace("https:", "")), form)
+
+    @unittest.skipUnless(MSGFMT, "msgfmt is not installed")
+    def test_msgfmt_takes_each_file_and_makes_of_it_what_is_read_here(self) -> None:
+        for code, text in self.texts.items():
+            with self.subTest(language=code):
+                made = self.scratch / f"{code}.mo"
+                ended = subprocess.run(
+                    [MSGFMT, "--check", "-o", made, sentences.LOCALE / f"{code}.po"], capture_output=True, text=True
+                )
+                self.assertEqual((ended.returncode, ended.stdout, ended.stderr), (0, "", ""))
+                by_msgfmt = gettext.GNUTranslations(io.BytesIO(made.read_bytes()))
+                here = po.catalog_of(text)
+                self.assertEqual(by_msgfmt._catalog, here._catalog)
+                self.assertEqual([by_msgfmt.plural(n) for n in range(200)], [here.plural(n) for n in range(200)])
+
+    def test_what_a_file_of_translations_may_have(self) -> None:
+        text = (
+            'msgid ""\nmsgstr "Plural-Forms: nplurals=2; plural=(n > 1);\\n"\n"Content-Type: text/plain; charset=UTF-8\\n"\n\n'
+            '# a remark\n#: page.py:3\nmsgid "one \\"quoted\\"\\n"\nmsgstr ""\n"ein "\n"\\u00ab\\\\ \u00fc\\n"\n\n'
+            '#, fuzzy\nmsgid "two"\nmsgstr "zwei"\n\nmsgid "three"\nmsgstr ""\n\n#~ msgid "four"\n#~ msgstr "vier"\n\n'
+            'msgid "{number} line"\nmsgid_plural "{number} lines"\nmsgstr[0] "{number} ligne"\nmsgstr[1] "{number} lignes"\n'
+        )
+        found = po.catalog_of(text)
+        self.assertEqual(found.gettext('one "quoted"\n'), "ein \u00ab\\ \u00fc\n")
+        self.assertEqual([found.gettext(word) for word in ("two", "three", "four")], ["two", "three", "four"])
+        lines = [found.ngettext("{number} line", "{number} lines", number) for number in (0, 1, 2)]
+        self.assertEqual(lines, ["{number} ligne", "{number} ligne", "{number} lignes"])
+
+    def test_sentences_that_are_said_later(self) -> None:
+        german = language_of("de")
+        inner = numbered("{number} is wanted", "{number} are wanted", 3)
+        self.assertEqual(german.of(sentence("Quorum: {wanted}.", wanted=inner)), "Quorum: n\u00f6tig sind 3.")
+        some = (sentence("all other options were dropped"), inner)
+        self.assertEqual(german.of(sentence("{what}: {which}.", what="{x}", which=some)),
+                         "{x}: alle anderen Optionen sind ausgeschieden; n\u00f6tig sind 3.")  # fmt: skip
+        self.assertEqual(language_of("en").of(inner), "3 are wanted")
+
+    def test_numbers_and_dates(self) -> None:
+        first = datetime.datetime(2027, 1, 1, 8, 5, 0, tzinfo=datetime.UTC)
+        later = datetime.datetime(2026, 12, 4, 18, 0, 30, tzinfo=datetime.timezone(datetime.timedelta(hours=1)))
+        wanted = {
+            "en": ("Friday, 1 January 2027, 08:05 (UTC)", "Friday, 4 December 2026, 18:00:30 (UTC+01:00)", "33.3 %"),
+            "de": ("Freitag, 1. Januar 2027, 08:05 (UTC)", "Freitag, 4. Dezember 2026, 18:00:30 (UTC+01:00)", "33,3 %"),
+            "fr": ("vendredi 1er janvier 2027, 08:05 (UTC)", "vendredi 4 d\u00e9cembre 2026, 18:00:30 (UTC+01:00)", "33,3 %"),
+            "es": ("viernes, 1 de enero de 2027, 08:05 (UTC)", "viernes, 4 de diciembre de 2026, 18:00:30 (UTC+01:00)", "33,3 %"),
+        }
+        for code, texts in wanted.items():
+            language = language_of(code)
+            self.assertEqual((time_in_words(first, language), time_in_words(later, language), share(1, 3, language)), texts)
+            self.assertEqual(share(1, 2, language), "50 %")

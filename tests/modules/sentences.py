@@ -1,0 +1,97 @@
+"""The sentences of debvote_tools that electors read, as they stand in its code, and its translations, as they stand in `locale`."""
+
+import ast
+import dataclasses
+import pathlib
+import re
+
+ROOT = pathlib.Path(__file__).resolve().parents[2]
+PACKAGE = ROOT / "python" / "debvote_tools"
+LOCALE = PACKAGE / "locale"
+
+# what is given a sentence, and which of its words it is; two have a form for one thing and another for several
+WITH_ONE = {"say": 0, "marked": 0, "sentence": 0, "form": 0, "between": 0, "part": 1}
+WITH_TWO = {"say_number": 0, "numbered": 0}
+
+
+@dataclasses.dataclass(frozen=True)
+class Entry:
+    """An entry of a `.po` file: its texts, its translations, and what its comments say."""
+
+    texts: tuple[str, ...]
+    forms: tuple[str, ...]
+    is_fuzzy: bool
+    is_obsolete: bool
+
+
+def in_code() -> dict[tuple[str, ...], str]:
+    """The sentences of the code, each with the first place where it stands."""
+    found: dict[tuple[str, ...], str] = {}
+    for file in sorted(PACKAGE.rglob("*.py")):
+        for node in ast.walk(ast.parse(file.read_text(encoding="utf-8"))):
+            if isinstance(node, ast.Call):
+                for texts in texts_of(node):
+                    found.setdefault(texts, f"{file.relative_to(PACKAGE)}:{node.lineno}")
+    return found
+
+
+def texts_of(call: ast.Call) -> list[tuple[str, ...]]:
+    """The sentences that stand in a call."""
+    name = call.func.attr if isinstance(call.func, ast.Attribute) else call.func.id if isinstance(call.func, ast.Name) else ""
+    if name in WITH_TWO:
+        one, many = (literals(word) for word in call.args[WITH_TWO[name] :][:2])
+        return [(first, second) for first in one for second in many]
+    if name in WITH_ONE and len(call.args) > WITH_ONE[name]:
+        return [(text,) for text in literals(call.args[WITH_ONE[name]])]
+    return []
+
+
+def literals(node: ast.expr) -> list[str]:
+    """The texts that a word may be, as far as they stand there."""
+    if isinstance(node, ast.Constant) and isinstance(node.value, str):
+        return [node.value]
+    return [*literals(node.body), *literals(node.orelse)] if isinstance(node, ast.IfExp) else []
+
+
+def entries_in(text: str) -> list[Entry]:
+    """The entries of a `.po` file, the first of which is its head."""
+    found = []
+    for block in re.split(r"\n\s*\n", text):
+        parts: dict[str, str] = {}
+        keyword = ""
+        for line in block.splitlines():
+            said = re.fullmatch(r'(?:#~ )?(msgid_plural|msgid|msgstr(?:\[\d\])?)?\s*(".*")', line.strip())
+            if said:
+                keyword = said[1] or keyword
+                parts[keyword] = parts.get(keyword, "") + ast.literal_eval(said[2])
+        if "msgid" in parts:
+            texts = tuple(parts[name] for name in ("msgid", "msgid_plural") if name in parts)
+            forms = tuple(parts[name] for name in sorted(parts) if name.startswith("msgstr"))
+            found.append(Entry(texts, forms, bool(re.search(r"(?m)^#,.*fuzzy", block)), bool(re.search(r"(?m)^#~", block))))
+    return found
+
+
+def places_in(text: str) -> set[str]:
+    """The places of a sentence, by name."""
+    return set(re.findall(r"\{(\w+)\}", text))
+
+
+def as_po(texts: tuple[str, ...], forms: tuple[str, ...]) -> str:
+    """An entry as it stands in a `.po` file."""
+    keywords = ["msgid"] if len(texts) == 1 else ["msgid", "msgid_plural"]
+    names = ["msgstr"] if len(texts) == 1 else [f"msgstr[{number}]" for number in range(len(forms))]
+    return "".join(f"{keyword} {quoted(text)}\n" for keyword, text in zip([*keywords, *names], [*texts, *forms], strict=True))
+
+
+def quoted(text: str) -> str:
+    """A text of a `.po` file, on lines of its own where it is long."""
+    escaped = text.replace("\\", "\\\\").replace('"', '\\"').replace("\n", "\\n")
+    if len(escaped) <= 110:
+        return f'"{escaped}"'
+    lines, line = [], ""
+    for word in re.findall(r"\S+\s*|\s+", escaped):
+        if line and len(line) + len(word) > 118:
+            lines.append(line)
+            line = ""
+        line += word
+    return '""\n' + "\n".join(f'"{part}"' for part in [*lines, line])
