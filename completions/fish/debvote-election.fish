@@ -43,6 +43,7 @@ complete -c debvote-election -n "__fish_seen_subcommand_from add" -l yes -d "Add
 complete -c debvote-election -n "__fish_seen_subcommand_from add" -l even-so -d "Add although few lines are ballots, or they came before"
 complete -c debvote-election -n "__fish_seen_subcommand_from held" -l enter -x -d "Enter this line of the letter"
 complete -c debvote-election -n "__fish_seen_subcommand_from held" -l set-aside -d "Say that the letter is dealt with"
+complete -c debvote-election -n "__fish_seen_subcommand_from held" -l again -d "Have a letter that was set aside wait again"
 complete -c debvote-election -n "__fish_seen_subcommand_from held" -l late -d "Enter the ballots that arrived too late"
 complete -c debvote-election -n "__fish_seen_subcommand_from held" -l even-so -d "Enter a late ballot before the close"
 complete -c debvote-election -n "__fish_seen_subcommand_from close" -l early -d "Close before the time until which one can vote"

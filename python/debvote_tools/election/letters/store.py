@@ -26,9 +26,9 @@ FOLDER = "letters"
 # how a file of letters ends, and a record
 LETTERS, RECORD = ".mbox", ".jsonl"
 
-# the acts that have a record of letters: some came of which no ballot was entered, one that waited was entered or set aside, receipts
-# were written; and so has an act `add` by which letters came and ballots of them were entered
-CAME, ENTERED, SET_ASIDE, RECEIPTS = "letters", "enter", "set-aside", "receipts"
+# the acts that have a record of letters: some came of which no ballot was entered, one that waited was entered or set aside, one that
+# was set aside waits again, receipts were written; and so has an act `add` by which letters came and ballots of them were entered
+CAME, ENTERED, SET_ASIDE, AGAIN, RECEIPTS = "letters", "enter", "set-aside", "again", "receipts"
 
 # the fields of a letter's record that are about signatures
 SIGNATURE_FIELDS = ("signature_sum", "signed_at", "known_by")
