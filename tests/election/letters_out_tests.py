@@ -143,6 +143,18 @@ class Kinds(OutTest):
         self.assertIn("No ballot of yours that counts stands there.\n", text)
         self.assertNotIn("under your name", text)
 
+    def test_nobody_else_may_read_them(self) -> None:
+        """Whatever the umask; and what an earlier version has left open is closed."""
+        (self.folder / "letters").mkdir()
+        (self.folder / "letters").chmod(0o755)
+        words = ["sh", "-c", 'umask 000; exec "$@"', "sh", sys.executable, support.ELECTION, "letters", "call"]
+        for more in ([], ["--mbox"]):
+            self.assertEqual(self.run_program(*words, *more).status, 0)
+        files = [self.folder / "letters", *(self.folder / "letters").rglob("*")]
+        self.assertEqual(len(files), 12)
+        for file in files:
+            self.assertEqual(stat.S_IMODE(file.stat().st_mode), 0o700 if file.is_dir() else 0o600, file)
+
     def test_one_mbox(self) -> None:
         ended = self.election("letters", "--mbox", "call")
         self.assertIn("Wrote 9 letters: letters/0001-call.mbox\n", ended.output)

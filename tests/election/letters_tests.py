@@ -2,6 +2,7 @@
 
 import os
 import shutil
+import stat
 import sys
 import time
 import unittest
@@ -213,6 +214,20 @@ class Kept(LettersTest):
         act = journal.entries_in(self.folder / "journal")[-1]
         self.assertEqual((act.act, act.envelopes, act.record), ("add", "1", "0001"))
         self.assertEqual(act.sums, journal.Sums.of(self.read("poll.toml"), self.read("ballots")))
+
+    def test_nobody_else_may_read_it(self) -> None:
+        """Whatever the umask; and what an earlier version has left open is closed."""
+        words = ["sh", "-c", 'umask 000; exec "$@"', "sh", sys.executable, support.ELECTION]
+        place = self.folder / "received" / "letters"
+        place.mkdir(parents=True)
+        place.chmod(0o755)
+        self.write("inbox", mailbox(letter("ada", f"ada {RANKS}\n"), letter("ben", "ben 1,2\n")))
+        for more in (("add", "--yes", "inbox"), ("held", "2", "--set-aside"), ("held", "2", "--again")):
+            self.assertEqual(self.run_program(*words, *more).status, 0)
+            modes = {file.name: stat.S_IMODE(file.stat().st_mode) for file in place.iterdir()}
+            self.assertEqual(set(modes.values()), {0o600}, modes)
+            self.assertEqual(stat.S_IMODE(place.stat().st_mode), 0o700)
+        self.assertEqual(len(modes), 4)
 
     def test_nothing_of_a_letter_is_published(self) -> None:
         self.assertEqual(self.election("call", "--to", "vote@club.example").status, 0) if not os.listdir(

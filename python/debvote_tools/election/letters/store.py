@@ -1,10 +1,12 @@
 """The letters of an election, as its folder keeps them: whole in received/letters, with a record for each act that is about them.
+They have private words, so the folder and its files are their owner's alone.
 
 A record holds where the journal has an act with its name that was done; one that a killed run has left is none. So the letters
 that are in, and those that wait, follow from the journal, and an act on letters is done whole or not at all, like all acts.
 """
 
 import collections.abc
+import contextlib
 import dataclasses
 import datetime
 import json
@@ -20,6 +22,7 @@ from debvote_tools.election.letters.reading import Near
 from debvote_tools.election.record import PollAndBallots
 from debvote_tools.faults import Fault, Status
 from debvote_tools.files import take_away_temporaries, write_whole
+from debvote_tools.secret import FILE_MODE, FOLDER_MODE
 
 FOLDER = "letters"
 
@@ -166,7 +169,7 @@ def next_record(election: Election) -> str:
     """The name of the next record. What killed runs have left half written is taken away."""
     folder = folder_of(election)
     election.received_folder.mkdir(exist_ok=True)
-    folder.mkdir(exist_ok=True)
+    make_own_folder(folder)
     take_away_temporaries(folder)
     numbers = [int(found[1]) for file in folder.iterdir() if (found := re.match(r"(\d+)[.-]", file.name))]
     return f"{max(numbers, default=0) + 1:04}"
@@ -176,11 +179,19 @@ def keep_letters(election: Election, record: str, name: str, letters: Iterable[L
     """Keeps letters whole in a file, and returns its name, and where each begins in it."""
     parts: list[Raw] = [letter.raw for letter in letters]
     starts, place = [], 0
+def make_own_folder(folder: pathlib.Path) -> None:
+    """Makes a folder of letters, into which its owner alone may look. One that an earlier version has made becomes so."""
+    folder.mkdir(mode=FOLDER_MODE, exist_ok=True)
+    if folder.stat().st_mode & 0o077:
+        with contextlib.suppress(PermissionError):
+            folder.chmod(FOLDER_MODE)
+
+
     for raw in parts:
         starts.append(place + len(BETWEEN))
         place += len(BETWEEN) + raw.end - raw.start + 2
     file = f"{record}-{name}{LETTERS}"
-    write_whole(folder_of(election) / file, pieces_of(parts))
+    write_whole(folder_of(election) / file, pieces_of(parts), FILE_MODE)
     return file, starts
 
 
@@ -195,7 +206,7 @@ def pieces_of(parts: list[Raw]) -> collections.abc.Iterator[bytes | memoryview]:
 def keep_record(election: Election, record: str, rows: Iterable[dict[str, object]]) -> None:
     """Writes a record. It holds when the journal has the act with its name."""
     data = "".join(json.dumps(row, ensure_ascii=True) + "\n" for row in rows)
-    write_whole(folder_of(election) / f"{record}{RECORD}", data.encode("ascii"))
+    write_whole(folder_of(election) / f"{record}{RECORD}", data.encode("ascii"), FILE_MODE)
 
 
 def row_of(letter: KeptLetter) -> dict[str, object]:
