@@ -46,6 +46,7 @@ complete -c debvote-election -n "__fish_seen_subcommand_from held" -l set-aside 
 complete -c debvote-election -n "__fish_seen_subcommand_from held" -l again -d "Have a letter that was set aside wait again"
 complete -c debvote-election -n "__fish_seen_subcommand_from held" -l late -d "Enter the ballots that arrived too late"
 complete -c debvote-election -n "__fish_seen_subcommand_from held" -l even-so -d "Enter a late ballot before the close"
+complete -c debvote-election -n "__fish_seen_subcommand_from undo" -l yes -d "Take it back without a question"
 complete -c debvote-election -n "__fish_seen_subcommand_from close" -l early -d "Close before the time until which one can vote"
 complete -c debvote-election -n "__fish_seen_subcommand_from close" -l yes -d "Close although letters wait"
 complete -c debvote-election -n "__fish_seen_subcommand_from count publish" -l casting -x -d "The option of the casting vote"

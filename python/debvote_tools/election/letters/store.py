@@ -99,6 +99,16 @@ class State:
 
     letters: dict[int, KeptLetter]
     next: int
+    # for each act that entered lines, and was not taken back, the letters that it has changed, as they were before it
+    entering: list[dict[int, KeptLetter | None]] = dataclasses.field(default_factory=list)
+
+    def take_back(self) -> None:
+        """Takes back what the last act that entered lines has changed of the letters, as `undo` does."""
+        for number, before in self.entering.pop().items() if self.entering else ():
+            if before is None:
+                self.letters.pop(number, None)
+            else:
+                self.letters[number] = before
 
     @property
     def waiting(self) -> list[KeptLetter]:
@@ -117,19 +127,13 @@ def state_of(election: Election, counted: PollAndBallots) -> State:
     """The letters as they are now. The caller holds the lock."""
     acts = journal.acts_done(election.journal_path, counted.sums)
     state = State({}, 1)
-    # what each act that entered lines has changed of the letters, so that `undo`, which takes its lines back, takes this back, too
-    entering: list[dict[int, KeptLetter | None]] = []
     for act in acts:
         if act.act == journal.UNDO:
-            for number, before in entering.pop().items() if entering else ():
-                if before is None:
-                    state.letters.pop(number, None)
-                else:
-                    state.letters[number] = before
+            state.take_back()
             continue
         changed = changes_of(election, act, state)
         if act.act in journal.ENTERING:
-            entering.append({number: state.letters.get(number) for number in changed})
+            state.entering.append({number: state.letters.get(number) for number in changed})
         state.letters |= changed
         state.next = max([state.next, *(number + 1 for number in changed)])
     return state
@@ -175,10 +179,6 @@ def next_record(election: Election) -> str:
     return f"{max(numbers, default=0) + 1:04}"
 
 
-def keep_letters(election: Election, record: str, name: str, letters: Iterable[Letter]) -> tuple[str, list[int]]:
-    """Keeps letters whole in a file, and returns its name, and where each begins in it."""
-    parts: list[Raw] = [letter.raw for letter in letters]
-    starts, place = [], 0
 def make_own_folder(folder: pathlib.Path) -> None:
     """Makes a folder of letters, into which its owner alone may look. One that an earlier version has made becomes so."""
     folder.mkdir(mode=FOLDER_MODE, exist_ok=True)
@@ -187,6 +187,10 @@ def make_own_folder(folder: pathlib.Path) -> None:
             folder.chmod(FOLDER_MODE)
 
 
+def keep_letters(election: Election, record: str, name: str, letters: Iterable[Letter]) -> tuple[str, list[int]]:
+    """Keeps letters whole in a file, and returns its name, and where each begins in it."""
+    parts: list[Raw] = [letter.raw for letter in letters]
+    starts, place = [], 0
     for raw in parts:
         starts.append(place + len(BETWEEN))
         place += len(BETWEEN) + raw.end - raw.start + 2
