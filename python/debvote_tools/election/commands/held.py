@@ -16,7 +16,7 @@ from debvote_tools.election.letters.adding import head_of, near_lines, waiting_w
 from debvote_tools.election.letters.message import Letter, letter_of
 from debvote_tools.election.letters.plan import BEHIND_DEADLINE, LATER_ONE, SIGNED_LATER, name_of
 from debvote_tools.election.letters.quoting import are_own
-from debvote_tools.election.letters.reading import LONGEST_LINE, are_own_lines
+from debvote_tools.election.letters.reading import LONGEST_LINE, WITHIN, are_own_lines
 from debvote_tools.election.letters.signed import with_signed_part
 from debvote_tools.election.record import PollAndBallots
 from debvote_tools.election.secrecy import demand_own_folder
@@ -178,6 +178,11 @@ def show(election: Election, number: int) -> int:
     tell(f"The whole letter is in {store.folder_of(election) / kept.file}, from byte {kept.start + 1} on, {kept.size} bytes.")
     if kept.waits:
         tell(f"It waits: {kept.why}", *near_lines(kept.near))
+        if any(WITHIN in near.why for near in kept.near):
+            receipts = election.command("letters", "receipts")
+            tell(
+                f"A ballot within other words is not entered: the elector has to send it alone on its line, as the receipt says ({receipts})."
+            )
         if letter.signed_lines:
             tell(f"Signed are the lines {letter.signed_lines.start + 1} to {letter.signed_lines.stop}, and no others.")
         tell("Lines with a | are not the elector's own words now: quoted, of a letter that is answered, or below a signature.")
@@ -185,12 +190,12 @@ def show(election: Election, number: int) -> int:
         tell(f"Next: {enter_it}, or {aside}")
     elif kept.is_set_aside:
         tell("It is set aside.")
+        tell(f"Next: {election.command('held', str(number), '--again')}, if it is to wait again")
     else:
         tell(f"Its ballot is in: line {kept.line}, `{kept.ballot}`, envelope {kept.envelope}.")
     return Status.DONE
 
 
-        tell(f"Next: {election.command('held', str(number), '--again')}, if it is to wait again")
 def read(election: Election, kept: store.KeptLetter) -> Letter:
     """A letter that was kept, with its lines as they were numbered when it came."""
     letter = letter_of(store.raw_of(election, kept))
@@ -312,7 +317,8 @@ def line_of(election: Election, counted: PollAndBallots, kept: store.KeptLetter,
     batch = batch_of(election, counted, tried)
     valid = next((line.came for line in batch.lines if line.finding is None), None)
     if valid is None:
-        why = ballot_words(batch.lines[0], batch.option_names)
+        within = (near.why for near in kept.near if near.number == number and WITHIN in near.why)
+        why = next(within, None) or ballot_words(batch.lines[0], batch.option_names)
         cure = f"ask the elector for a right line, and add what comes. {right_words(batch)}"
         raise Fault(where, f"it is no ballot: {why}", cure, Status.DOUBT, "nothing was changed")
     return valid
@@ -320,11 +326,6 @@ def line_of(election: Election, counted: PollAndBallots, kept: store.KeptLetter,
 
 def set_aside(election: Election, counted: PollAndBallots, kept: store.KeptLetter) -> None:
     """Says that a letter is dealt with. The caller holds the lock alone."""
-    with uninterrupted():
-        election.begin_journal()
-        record = store.next_record(election)
-        store.keep_record(election, record, [{"number": kept.number, "is_set_aside": is_set_aside}])
-        election.act(act, counted, journal.NONE, record=record)
     note(election, counted, kept, store.SET_ASIDE, is_set_aside=True)
     tell(f"Letter {kept.number} is set aside; it is kept, and waits no more.")
 
@@ -337,3 +338,8 @@ def wait_again(election: Election, counted: PollAndBallots, kept: store.KeptLett
 
 def note(election: Election, counted: PollAndBallots, kept: store.KeptLetter, act: str, *, is_set_aside: bool) -> None:
     """Notes by an act whether a letter is set aside."""
+    with uninterrupted():
+        election.begin_journal()
+        record = store.next_record(election)
+        store.keep_record(election, record, [{"number": kept.number, "is_set_aside": is_set_aside}])
+        election.act(act, counted, journal.NONE, record=record)
