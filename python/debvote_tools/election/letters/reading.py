@@ -183,8 +183,8 @@ def other_words_in(letter: Letter, own: list[bool], ballot: Candidate) -> list[s
     """The lines with words that are the elector's own now, and neither the ballot nor a part of it where it is wrapped."""
     came = ballot.came.decode("utf-8")
     places = [place for place, is_own in enumerate(own) if is_own and (letter.signed_lines is None or place in letter.signed_lines)]
-    lines = [letter.lines[place] for place in places]
-    return [line for line in lines if re.search(r"\w", line) and line.strip() not in came and changed(line.encode()) != ballot.text]
+    lines = [line for line in (letter.lines[place] for place in places) if re.search(r"\w", line) and line.strip() not in came]
+    return [line for line in lines if changed(line.encode("utf-8", "replace")) != ballot.text]
 
 
 def html_ballots_in(letter: Letter, html_lines: list[Candidate], replies: dict[bytes, str]) -> list[bytes]:
