@@ -21,12 +21,15 @@ def file_words(election: Election, counted: PollAndBallots) -> list[str]:
 
 
 def answer_about(election: Election, task: str, poll_path: str, ballots_bytes: bytes) -> Answer:
-    """What debvote writes about a poll and these ballots. Where it refuses them, nothing is added."""
+    """What debvote writes about a poll and these ballots. Where it refuses them as a whole, nothing is added; whether what came is kept
+    then, `entering.batch_or_keep` says.
+    """
     answer = election.debvote.run(task, "--poll", poll_path, "--ballots", "/dev/stdin", given=ballots_bytes)
     if answer.status == Status.BAD_BALLOTS:
         said = answer.faults.strip().removeprefix("debvote: ")
-        cure = f"it takes {LINES_LIMIT} lines and {BALLOTS_LIMIT} bytes at most; what came is kept in {election.received_folder}: add less of it"
-        raise Fault(election.ballots_path, f"nothing was added, for with it debvote says `{said}`", cure, Status.BAD_BALLOTS)
+        at_most = f"it takes {LINES_LIMIT} lines and {BALLOTS_LIMIT} bytes at most"
+        words = f"nothing was added, for with it debvote says `{said}`; {at_most}"
+        raise Fault(election.ballots_path, words, "add less of it", Status.BAD_BALLOTS, "")
     if answer.faults:
         raise refusal(election, answer)
     return answer

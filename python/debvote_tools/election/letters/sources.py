@@ -4,6 +4,8 @@ import mmap
 import os
 import pathlib
 import re
+import stat
+from typing import BinaryIO
 
 from debvote_tools.election.letters.message import LONGEST_HEAD, Raw
 from debvote_tools.faults import Fault, Status
@@ -101,13 +103,18 @@ def form_of(said: bytes) -> tuple[bool, bool]:
     return (said.startswith(b"- "), TIME.search(said) is not None)
 
 
-def whole(name: str) -> bytes | mmap.mmap:
-    """A file of letters, whole; of a long one no more is read than is asked for. Raises OSError."""
-    with open(name, "rb") as source:
-        size = os.fstat(source.fileno()).st_size
-        if size > LIMIT:
-            raise Fault(name, f"it is longer than {LIMIT} bytes", "add it in parts", Status.BAD_BALLOTS, NOTHING)
-        return mmap.mmap(source.fileno(), 0, access=mmap.ACCESS_READ) if size else b""
+def long_mailbox(name: str, file: BinaryIO, begun: bytes, *, may_be_mapped: bool) -> bytes | mmap.mmap:
+    """A file of letters, whole, of which so much was read already. One on the disk may be mapped: then no more of it is read than is
+    asked for. Of a pipe the rest is read. Raises OSError.
+    """
+    if may_be_mapped and stat.S_ISREG(os.fstat(file.fileno()).st_mode):
+        size = os.fstat(file.fileno()).st_size
+    else:
+        begun += file.read(LIMIT + 1 - len(begun))
+        size = len(begun)
+    if size > LIMIT:
+        raise Fault(name, f"it is longer than {LIMIT} bytes", "add it in parts", Status.BAD_BALLOTS, NOTHING)
+    return begun if size == len(begun) else mmap.mmap(file.fileno(), 0, access=mmap.ACCESS_READ)
 
 
 def letters_of_folder(name: str) -> tuple[list[Raw], list[str]]:
