@@ -48,7 +48,11 @@ class List(HeldTest):
     def test_nothing_waits(self) -> None:
         for number in (2, 3, 4):
             self.assertEqual(self.election("held", number, "--set-aside").status, 0)
-        self.assertEqual(self.election("held").output, "No letter waits.\n")
+        self.assertEqual(
+            self.election("held").output,
+            "No letter waits.\nSet aside (debvote-election held NUMBER --again has one wait again):\n"
+            "  2 (ben@club.example), 3 (x@elsewhere.example), 4 (dan@elsewhere.example)\n",
+        )
 
     def test_status(self) -> None:
         self.assertIn(
@@ -144,10 +148,75 @@ class Aside(HeldTest):
         self.assertEqual(
             ended.output.splitlines()[:2], ["Letter 3 is set aside; it is kept, and waits no more.", "2 letters wait."]
         )
-        self.assertIn("It is set aside.\n", self.election("held", 3).output)
+        self.assertIn(
+            "It is set aside.\nNext: debvote-election held 3 --again, if it is to wait again\n", self.election("held", 3).output
+        )
         before = self.contents()
         self.assert_unchanged(self.election("held", 3, "--set-aside"), before, 9, "letter 3: it does not wait: it is set aside; ")
         self.assertEqual(journal.entries_in(self.folder / "journal")[-1].act, "set-aside")
+
+
+class Again(HeldTest):
+    def test_it_waits_again(self) -> None:
+        whys, listed = self.whys(), self.election("held").output
+        self.assertEqual(self.election("held", 3, "--set-aside").status, 0)
+        self.assertIn(
+            "2 letters wait.\nSet aside (debvote-election held NUMBER --again has one wait again):\n  3 (x@elsewhere.example)\nNext: ",
+            self.election("held").output,
+        )
+        ended = self.election("held", 3, "--again")
+        self.assertEqual((ended.status, ended.faults), (0, ""))
+        self.assertEqual(
+            ended.output.splitlines(),
+            [
+                "letter 3, from x@elsewhere.example, 2026-11-23 09:00:00 UTC: waits again: no ballot found",
+                "  line 1, `cleo 1,2`: bad rank count: 2 ranks, the poll has 4 options",
+                "3 letters wait.",
+                "Next: debvote-election held",
+            ],
+        )
+        act = journal.entries_in(self.folder / "journal")[-1]
+        self.assertEqual((act.act, act.envelopes, act.record), ("again", "-", "0003"))
+        self.assertEqual((self.whys(), self.election("held").output), (whys, listed))
+        self.assertIn("Letters that wait until you have looked: 3 ", self.election("status").output)
+        self.assert_fault(self.election("close"), 9, "3 letters wait until you have looked")
+
+    def test_it_is_entered_then(self) -> None:
+        for option in ("--set-aside", "--again", "--set-aside", "--again"):
+            self.assertEqual(self.election("held", 4, option).status, 0)
+        self.assertEqual(self.election("held", 4, "--enter", 3).status, 0)
+        self.assertEqual(self.lines(), [f"ada {RANKS}", f"dan {RANKS}"])
+        # what is taken back is the line; the letter waits as before
+        self.assertEqual(self.election("undo").status, 0)
+        self.assertEqual(len(self.whys()), 3)
+
+    def test_after_the_close(self) -> None:
+        self.assertEqual(self.election("held", 4, "--set-aside").status, 0)
+        self.assertEqual(self.election("close", "--yes").status, 0)
+        self.assertEqual(self.election("held", 4, "--again").status, 0)
+        self.assertIn("2 late  dan: ", self.election("held", 4, "--enter", 3).output)
+
+    def test_one_that_is_not_set_aside(self) -> None:
+        before = self.contents()
+        cure = "nothing was changed: which letters are set aside says debvote-election held"
+        for number, became in ((1, "its ballot is in (envelope 1)"), (2, "it waits")):
+            said = f"letter {number}: it is not set aside: {became}; {cure}"
+            self.assert_unchanged(self.election("held", number, "--again"), before, 9, said)
+        self.assert_unchanged(self.election("held", 9, "--again"), before, 2, "letter 9: there is no letter of this number; ")
+        self.assert_unchanged(self.election("held", "--again"), before, 2, "held: the letter is not named; write its number")
+        said = "--set-aside, --again: a letter is entered, or set aside, or waits again; "
+        self.assert_unchanged(self.election("held", 2, "--again", "--set-aside"), before, 2, said)
+
+    def test_its_receipt_is_written_then(self) -> None:
+        """Unless it was before."""
+        from_us = ("letters", "receipts", "--from", "vote@club.example")
+        self.assertEqual(self.election("held", 2, "--set-aside").status, 0)
+        self.assertIn("Wrote 1 letter: letters/0001-receipts\n", self.election(*from_us).output)
+        self.assertEqual(self.election("held", 2, "--again").status, 0)
+        self.assertIn("Wrote 1 letter: letters/0002-receipts\n", self.election(*from_us).output)
+        for option in ("--set-aside", "--again"):
+            self.assertEqual(self.election("held", 2, option).status, 0)
+        self.assertIn("There is no letter to write.\n", self.election(*from_us).output)
 
 
 class Close(HeldTest):

@@ -1,4 +1,4 @@
-"""SIGKILL between every two steps of a run that adds letters, enters one, sets one aside, or takes ballots back."""
+"""SIGKILL between every two steps of a run that adds letters, enters one, sets one aside, has it wait again, or takes ballots back."""
 
 import sys
 
@@ -81,6 +81,16 @@ class BetweenSteps(KillTest):
 
         self.assertEqual(self.election("add", "--yes", given=BOX).status, 0)
         self.each_kill(["held", "3", "--set-aside"], b"", check)
+
+    def test_a_letter_that_waits_again(self) -> None:
+        def check(run: killing.Run) -> None:
+            again = killing.run(self.folder, ["held", "3", "--again"])
+            self.assertIn(again.status, (0, 9), again)
+            self.assert_settled([f"ada {RANKS}".encode()], 2)
+
+        self.assertEqual(self.election("add", "--yes", given=BOX).status, 0)
+        self.assertEqual(self.election("held", 3, "--set-aside").status, 0)
+        self.each_kill(["held", "3", "--again"], b"", check)
 
     def test_an_undo(self) -> None:
         before = [f"ida {RANKS}".encode(), f"ada {OTHER_RANKS}".encode(), f"ada {RANKS}".encode()]

@@ -1,17 +1,35 @@
 """`letters`: what goes to the electors, to whom, and that nothing from outside begins a line of a head."""
 
+import ast
 import email
 import email.policy
+import inspect
 import pathlib
+import re
 import stat
 import sys
+import types
 
 import support
 from letters_support import MEMBERS, OTHER_RANKS, RANKS, LettersTest, letter
 
 sys.path.insert(0, str(support.ROOT / "python"))
 
-from debvote_tools.election.letters import mail  # noqa: E402
+from debvote_tools.election.letters import mail, message, plan, signed, sources, store, texts, verifying  # noqa: E402
+from debvote_tools.language import LANGUAGES, language_of  # noqa: E402
+
+
+def raised_in(module: types.ModuleType, error: str) -> list[str]:
+    """The words of all errors of a kind that a module raises, with 7 at each place."""
+    found = []
+    for node in ast.walk(ast.parse(inspect.getsource(module))):
+        if isinstance(node, ast.Call) and isinstance(node.func, ast.Name) and node.func.id == error and node.args:
+            (words,) = node.args
+            if isinstance(words, ast.JoinedStr):
+                found.append("".join(str(part.value) if isinstance(part, ast.Constant) else "7" for part in words.values))
+            elif isinstance(words, ast.Constant):
+                found.append(words.value)
+    return [why.replace("7: 7", "signed with a key that was revoked: 7") for why in found]
 
 
 class OutTest(LettersTest):
@@ -79,10 +97,10 @@ class Kinds(OutTest):
             text,
         )
         text = " ".join(found["ben@club.example"].get_content().split())
-        self.assertIn("The reason: no line of it, above what is quoted, is a ballot of this vote.", text)
+        self.assertIn("The reason: no line of it, above what is quoted, is a ballot of this vote. Line 1 of its text has 2 ranks, and ", text)
         self.assertIn("For example: ben 1,2,3,4", text)
         text = " ".join(found["cleo@club.example"].get_content().split())
-        self.assertIn("The reason: the name on the ballot is not that of the sender by the list of members.", text)
+        self.assertIn("The reason: the name on the ballot is not cleo, which is yours by the list of members.", text)
         self.assertNotIn("dan@club.example", text)
         # once
         self.assertEqual(self.written("receipts"), {})
@@ -97,6 +115,82 @@ class Kinds(OutTest):
             "Receipts were written already that do not hold any more; write to these:\n  letter 3, cleo@club.example: envelope 3, the ballot of dan\n",
             output,
         )
+
+    def reasons(self, *came: bytes) -> dict[str, str]:
+        """Why each of these letters waits, as its receipt says, by the names of the electors."""
+        self.added(*came, name=f"box{len(list(self.folder.iterdir()))}")
+        texts = {
+            address.partition("@")[0]: " ".join(message.get_content().split())
+            for address, message in self.written("receipts").items()
+        }
+        return {name: re.search(r"The reason: (.*?) You can send a right line", text)[1] for name, text in texts.items()}
+
+    def test_why_a_line_is_no_ballot(self) -> None:
+        """As precisely as `held` says it, and without the line."""
+        none = "no line of it, above what is quoted, is a ballot of this vote."
+        found = self.reasons(
+            letter("ada", "Hello\nada 1\n"),
+            letter("ben", f"haal {RANKS}\n"),
+            letter("cleo", f"I vote cleo {RANKS}, of course\n"),
+            letter("dan", "My vote:\n\nto dan 1,2,3\n"),
+            letter("eve", f"hi\n-- \neve {RANKS}\n"),
+            letter("fay", "fay 1,2;x,4\n"),
+            letter("gus", f"gus {RANKS}\nor\ngus {OTHER_RANKS}\n"),
+            letter("hal", "hal 1,2,x,4\nhal 1,2,4\n"),
+            letter("ida", "I want the lake.\n"),
+        )
+        self.assertEqual(
+            found,
+            {
+                "ada": f"{none} Line 2 of its text has 1 rank, and the vote has 4 options.",
+                "ben": f"{none} The name in line 1 of its text is not on the roll; yours is ben.",
+                "cleo": f"{none} Line 1 of its text has a ballot within other words; it has to stand there alone.",
+                "dan": f"{none} Line 3 of its text has a ballot within other words; it has to stand there alone. "
+                "Line 3 of its text has 3 ranks, and the vote has 4 options.",
+                "eve": f"{none} Line 3 of its text is a ballot, but stands in what is quoted, or below a signature.",
+                "fay": f"{none} Line 1 of its text is not written as a ballot is.",
+                "gus": "it has two ballots that differ. Line 1 of its text is a ballot. Line 3 of its text is a ballot.",
+                "hal": f"{none} Line 1 of its text is not written as a ballot is, from its sign 9 on. "
+                "Line 2 of its text has 3 ranks, and the vote has 4 options.",
+                "ida": none,
+            },
+        )
+
+    def test_why_a_letter_can_not_be_read(self) -> None:
+        parts = "".join(f"--b\nContent-Type: text/plain\n\nada {RANKS}\n" for _ in range(200))
+        found = self.reasons(
+            letter("ada", f"{parts}--b--\n", kind="multipart/mixed; boundary=b"),
+            letter("ben", f"ben {RANKS}\n", kind="text/plain; charset=x-none"),
+            letter("cleo", "x" * 300_000),
+            letter("dan", "--b\nContent-Type: application/octet-stream\n\nx\n--b--\n", kind="multipart/encrypted; boundary=b"),
+            letter("eve", "x", kind="application/pkcs7-mime"),
+            letter("fay", f"fay {RANKS}\n" + "x" * 76 * 150_000),
+            letter("gus", "x", head="X: y\n" * 100_000),
+            letter("hal", f"hal {RANKS}\n", head="Content-Transfer-Encoding: 7bit\nContent-Transfer-Encoding: 8bit\n"),
+        )
+        unclear = "its head or its parts can't be read with certainty. Send plain text alone."
+        packed = "it is encrypted, or packed so that it is not read."
+        for names, wanted in ((("ada", "gus", "hal"), unclear), (("dan", "eve"), packed)):
+            self.assertEqual([found[name] for name in names], [wanted] * len(names))
+        self.assertEqual(found["ben"], "its charset is unknown. Send plain text in UTF-8.")
+        self.assertEqual(found["cleo"], "its text has 300002 bytes, and texts so long are not read.")
+        self.assertRegex(found["fay"], r"\Ait has 114\d+ bytes, and letters so long are not read\.\Z")
+
+    def test_each_reason_has_a_sentence(self) -> None:
+        """So no receipt has a reason in the words of the program, which are English."""
+        whys = [*raised_in(message, "Unread"), *raised_in(verifying, "Refused"), *raised_in(signed, "NotOne"), sources.IN_ANOTHER]
+        whys += [value for name, value in vars(plan).items() if name.isupper() and isinstance(value, str)]
+        whys += [f"{fault}: 7" for fault in verifying.KEY_FAULTS.values()]
+        whys += [signed.NOT_SIGNED, signed.BROKEN, verifying.BAD, verifying.UNREAD, verifying.EXPIRED]
+        whys += ["came from another address: x", "it says that several x"]
+        whys.remove(message.AUTOMATIC)
+        self.assertGreater(len(whys), 30)
+        for why in whys:
+            kept = store.KeptLetter(1, "", "", 0, 0, "", "", "", ["a@b.example"], "", None, why, [])
+            for code in set(LANGUAGES) - {"en"}:
+                said = texts.reason(language_of(code), kept, "ada")
+                self.assertNotEqual(said, language_of(code).say(texts.REASON, reason=why))
+                self.assertNotIn("The reason: ", said)
 
     def test_a_receipt_repeats_no_ballot_of_a_letter_that_waits(self) -> None:
         """Of a plain text and an HTML that differ it says that they do: the ranks stay with the secretary."""
@@ -143,6 +237,18 @@ class Kinds(OutTest):
         self.assertIn("No ballot of yours that counts stands there.\n", text)
         self.assertNotIn("under your name", text)
 
+    def test_nobody_else_may_read_them(self) -> None:
+        """Whatever the umask; and what an earlier version has left open is closed."""
+        (self.folder / "letters").mkdir()
+        (self.folder / "letters").chmod(0o755)
+        words = ["sh", "-c", 'umask 000; exec "$@"', "sh", sys.executable, support.ELECTION, "letters", "call"]
+        for more in ([], ["--mbox"]):
+            self.assertEqual(self.run_program(*words, *more).status, 0)
+        files = [self.folder / "letters", *(self.folder / "letters").rglob("*")]
+        self.assertEqual(len(files), 12)
+        for file in files:
+            self.assertEqual(stat.S_IMODE(file.stat().st_mode), 0o700 if file.is_dir() else 0o600, file)
+
     def test_one_mbox(self) -> None:
         ended = self.election("letters", "--mbox", "call")
         self.assertIn("Wrote 9 letters: letters/0001-call.mbox\n", ended.output)
@@ -185,6 +291,9 @@ class Secret(LettersTest):
             self.assertNotIn(RANKS, text)
             self.assertNotIn(OTHER_RANKS, text)
             self.assertNotIn("At the lake, then", text)
+        text = " ".join(self.only(place / "0002-receipts", "dan").split())
+        self.assertIn("Line 1 of its text has 3 ranks, and the vote has 4 options.", text)
+        self.assertNotIn("1,2,4", text)
 
     def only(self, folder: pathlib.Path, name: str) -> str:
         """The text of the letter to an elector."""

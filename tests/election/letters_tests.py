@@ -2,6 +2,7 @@
 
 import os
 import shutil
+import stat
 import sys
 import time
 import unittest
@@ -36,13 +37,8 @@ class Corpus(LettersTest):
         self.assertEqual(sorted(found), sorted(name for name, want in expected.items() if want != "passed over"))
         for name, lines in found.items():
             with self.subTest(name=name):
-                said = "; ".join(line for line in lines if not line.startswith(("goes in: ", "`")))
-                # of lines that come near their number and what is said of them
-                said = "; ".join(
-                    part if "`: " not in part or not part.startswith("line ") else near(part) for part in said.split("; line ")
-                )
                 if expected[name].startswith("in: "):
-                    self.assertTrue(lines[-1].startswith(f"goes in: {expected[name].split()[1]}: "), lines)
+                    self.assertTrue(any(line.startswith(f"goes in: {expected[name].split()[1]}: ") for line in lines), lines)
                 else:
                     self.assertEqual(told(lines), expected[name])
         self.assertEqual(self.contents(), before)
@@ -61,10 +57,6 @@ class Corpus(LettersTest):
         self.assertIn(f"{len(self.expected())} letters came before, and are passed over.\n", again.output)
         self.assertIn("There is no new letter; nothing was changed.\n", again.output)
         self.assertEqual(len(self.lines()), len(wanted))
-
-
-def near(part: str) -> str:
-    return part
 
 
 def told(lines: list[str]) -> str:
@@ -214,6 +206,20 @@ class Kept(LettersTest):
         self.assertEqual((act.act, act.envelopes, act.record), ("add", "1", "0001"))
         self.assertEqual(act.sums, journal.Sums.of(self.read("poll.toml"), self.read("ballots")))
 
+    def test_nobody_else_may_read_it(self) -> None:
+        """Whatever the umask; and what an earlier version has left open is closed."""
+        words = ["sh", "-c", 'umask 000; exec "$@"', "sh", sys.executable, support.ELECTION]
+        place = self.folder / "received" / "letters"
+        place.mkdir(parents=True)
+        place.chmod(0o755)
+        self.write("inbox", mailbox(letter("ada", f"ada {RANKS}\n"), letter("ben", "ben 1,2\n")))
+        for more in (("add", "--yes", "inbox"), ("held", "2", "--set-aside"), ("held", "2", "--again")):
+            self.assertEqual(self.run_program(*words, *more).status, 0)
+            modes = {file.name: stat.S_IMODE(file.stat().st_mode) for file in place.iterdir()}
+            self.assertEqual(set(modes.values()), {0o600}, modes)
+            self.assertEqual(stat.S_IMODE(place.stat().st_mode), 0o700)
+        self.assertEqual(len(modes), 4)
+
     def test_nothing_of_a_letter_is_published(self) -> None:
         self.assertEqual(self.election("call", "--to", "vote@club.example").status, 0) if not os.listdir(
             self.folder / "call"
@@ -234,6 +240,86 @@ class Kept(LettersTest):
         output = self.election("status").output
         self.assertIn("line 2, `cleo 1,2,4,3`, is not among what came", output)
         self.assertNotIn("came (", output)
+
+
+class Sentences(LettersTest):
+    """A ballot within a sentence: its line is named, and nobody but the elector makes a ballot of it."""
+
+    def why(self, *lines: str) -> list[str]:
+        """What is told of the lines of a letter."""
+        text = "".join(f"{line}\n" for line in lines)
+        self.write("inbox", mailbox(letter("ada", text)))
+        output = self.election("add", "--look", "inbox").output
+        self.assertIn("  waits: no ballot found\n", output)
+        return [line for line in output.splitlines() if line.startswith("  line ")]
+
+    def test_the_line_is_named(self) -> None:
+        within = f"`ada {RANKS}` stands within other words"
+        for line in (
+            f"My ballot is: ada {RANKS} please",
+            f"I vote ada {RANKS}",
+            f"ada {RANKS}, thanks",
+            "So: Ada: 1; 2; 4; 3!",
+            f"I vote 'ada {RANKS}' this time, and hope it is right.",
+            f"(ada {RANKS}) is mine",
+        ):
+            self.assertEqual(self.why("Hello", line), [f"  line 2, `{line}`: {within}"])
+
+    def test_what_is_wrong_with_it(self) -> None:
+        refused = "stands within other words, and is refused"
+        cases = {
+            "I vote ada 1,2,4": f"`ada 1,2,4` {refused}: bad rank count: 3 ranks, the poll has 4 options",
+            f"I vote {RANKS}": f"`vote {RANKS}` {refused}: bad not on roll: vote is not on the roll",
+            f"for adaa {RANKS}, please": f"`adaa {RANKS}` {refused}: bad not on roll: adaa is not on the roll; did you mean ada?",
+        }
+        for line, wanted in cases.items():
+            self.assertEqual(self.why(line), [f"  line 1, `{line}`: {wanted}"])
+
+    def test_what_is_no_ballot_is_not_named(self) -> None:
+        lines = ("It costs 3,50 or 4,20.", "On 23,11 we met at 10,30", "call 12-34-56", "> I vote ada 1,2,4,3", "we see 1,2,3,4,5,6 there")
+        self.assertEqual(self.why(*lines, "-- ", f"I vote ada {RANKS}"), [])
+
+    def test_what_explain_says_of_a_line_alone_is_said(self) -> None:
+        """Where no other words stand beside it."""
+        (said,) = self.why(f"ada {RANKS},")
+        self.assertTrue(said.startswith(f"  line 1, `ada {RANKS},`: bad shape: column 13: end of line after a comma"), said)
+
+    def test_it_is_not_entered_by_itself(self) -> None:
+        self.added(letter("ada", f"Hello\nI vote ada {RANKS}\n"))
+        output = self.election("held", 1).output
+        self.assertIn(f"  line 2, `I vote ada {RANKS}`: `ada {RANKS}` stands within other words\n", output)
+        self.assertIn("A ballot within other words is not entered: the elector has to send it alone on its line, as the receipt says ", output)
+        before = self.contents()
+        ended = self.election("held", 1, "--enter", 2)
+        said = f"letter 1, line 2: it is no ballot: `ada {RANKS}` stands within other words; nothing was changed: ask the elector for a "
+        self.assert_fault(ended, 9, said)
+        self.assertEqual(self.contents(), before)
+
+
+class OtherWords(LettersTest):
+    """Words beside the ballot that goes in are told, so that nobody overlooks what they say."""
+
+    def test_they_are_told(self) -> None:
+        came = (
+            letter("ada", f"ada {RANKS}\n\n-- \nAda\n> more\n"),
+            letter("ben", f"Hello,\nben {RANKS}\n\nPlease count it only if it rains.\nBen {RANKS}.\n"),
+            letter("cleo", "cleo 1,2\nwords\n"),
+            letter("dan", f"dan {RANKS}\n***\n"),
+            letter("eve", f"eve \n{RANKS}\n", kind="text/plain; format=flowed"),
+            letter("fay", f"words\nfay {RANKS}\n"),
+        )
+        look = self.added(*came, words=("--look",))
+        self.assertEqual(look.count("beside it"), 2)
+        self.assertIn(f"  goes in: ben: {LAKE}\n  beside it: 2 lines of other words\n", look)
+        self.assertIn(f"  goes in: fay: {LAKE}\n  beside it: 1 line of other words\n", look)
+        self.assertIn("Note: 2 letters have other words beside the ballot (2, 6); debvote-election held 2 shows the first.\n", self.added(*came))
+        self.assertIn("   4   Please count it only if it rains.\n", self.election("held", 2).output)
+        self.assertNotIn("other words", self.added(letter("gus", f"gus {RANKS}\n"), name="two"))
+
+    def test_of_many_the_first_are_named(self) -> None:
+        output = self.added(*(letter("ada", f"hi\nada {RANKS}\n", number=number) for number in range(1, 24)))
+        self.assertIn("Note: 23 letters have other words beside the ballot (1, 2, 3, 4, 5, ", output)
+        self.assertIn(", 19, 20 and 3 more); debvote-election held 1 shows the first.\n", output)
 
 
 class Order(LettersTest):

@@ -1,5 +1,6 @@
 """`undo`: the last act that entered ballots is taken back, as it was entered, and nothing else."""
 
+import shutil
 import subprocess
 import sys
 
@@ -55,6 +56,45 @@ class Lines(LettersTest):
         self.assertNotIn("is not among the ballots", output)
         self.assertNotIn("another order", output)
 
+    def test_at_a_terminal_it_shows_and_asks(self) -> None:
+        if shutil.which("script") is None:
+            self.skipTest("the program script is not installed")
+        self.election("add", given=f"ada {RANKS}\n")
+        self.election("add", given=f"ada {OTHER_RANKS}\nben {RANKS}\nx\n")
+        before = self.contents()
+        words = f"{sys.executable} {support.ELECTION} undo"
+        ended = self.run_program("script", "-qec", words, "/dev/null", given="n\n")
+        shown = rf"  ada: {LAKE}, as before\s+  ben: no ballot would stand\s+Take back 3 lines \(add, .* UTC, envelopes 2-4\)\? \[y/n\] "
+        self.assertRegex(ended.output, shown)
+        self.assertIn("undo: you did not say yes; nothing was changed: ", ended.output)
+        self.assertEqual((ended.status, self.contents()), (9, before))
+        ended = self.run_program("script", "-qec", words, "/dev/null", given="y\n")
+        self.assertRegex(ended.output, r"\[y/n\] (?:y\s+)?Took back 3 lines \(.*\); they are kept in .*\s+Next: ")
+        self.assertEqual((ended.status, self.lines()), (0, [f"ada {RANKS}"]))
+        ended = self.run_program("script", "-qec", f"{words} --yes", "/dev/null")
+        self.assertNotIn("[y/n]", ended.output)
+        self.assertIn("  ada: no ballot stands now", ended.output)
+        self.assertEqual((ended.status, self.lines()), (0, []))
+
+    def test_what_was_shown_is_what_is_taken_back(self) -> None:
+        """An act of somebody else while it asks stops it."""
+        if shutil.which("script") is None:
+            self.skipTest("the program script is not installed")
+        self.election("add", given=f"ada {RANKS}\n")
+        words = f"{sys.executable} {support.ELECTION} undo"
+        how = {"stdin": subprocess.PIPE, "stdout": subprocess.PIPE, "cwd": self.folder, "env": support.environment(), "text": True}
+        with subprocess.Popen(["script", "-qec", words, "/dev/null"], **how) as asking:
+            shown = ""
+            while "[y/n]" not in shown:
+                shown += asking.stdout.read(1)
+            self.election("add", given=f"ben {RANKS}\n")
+            before = self.contents()
+            asking.stdin.write("y\n")
+            asking.stdin.flush()
+            said = asking.stdout.read()
+        self.assertIn("undo: what would be taken back is not what was shown: somebody has changed the election meanwhile; ", said)
+        self.assertEqual((asking.returncode, self.contents()), (9, before))
+
     def test_after_the_close(self) -> None:
         self.election("add", given=f"ada {RANKS}\n")
         self.assertEqual(self.election("close").status, 0)
@@ -101,6 +141,23 @@ class Letters(LettersTest):
         self.assertIn("1 counted  ada: ", output)
         # no number of a letter is given twice
         self.assertIn("letter 4 (inbox, message 2), from ben@club.example", output)
+
+    def test_at_a_terminal_it_shows_them(self) -> None:
+        if shutil.which("script") is None:
+            self.skipTest("the program script is not installed")
+        self.added(letter("ada", f"ada {RANKS}\n", sender="x@y.example"), letter("ben", f"ben {RANKS}\n"))
+        self.election("held", 1, "--enter", 1)
+        self.election("letters", "receipts", "--from", "vote@club.example")
+        words = f"{sys.executable} {support.ELECTION} undo"
+        shown = (
+            r"Letter 1 would wait again: came from another address: x@y.example, .*\s+1 receipt would not hold any more\.\s+Take back 1 line ",
+            r"2 letters that came with them would count as not come: add them again, and they are read anew\.\s+1 receipt would not hold ",
+        )
+        for said in shown:
+            ended = self.run_program("script", "-qec", words, "/dev/null", given="y\n")
+            self.assertRegex(ended.output, said)
+            self.assertIn("Receipts were written already that do not hold any more; write to these:", ended.output)
+            self.assertEqual(ended.status, 0)
 
     def test_one_that_was_entered_waits_again(self) -> None:
         self.added(letter("ada", f"ada {RANKS}\n", sender="x@y.example"), letter("ben", f"ben {RANKS}\n"))

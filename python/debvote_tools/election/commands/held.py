@@ -2,6 +2,7 @@
 
 import argparse
 import dataclasses
+import textwrap
 
 from debvote_tools import journal, received
 from debvote_tools.arguments import arguments_of
@@ -15,7 +16,7 @@ from debvote_tools.election.letters.adding import head_of, near_lines, waiting_w
 from debvote_tools.election.letters.message import Letter, letter_of
 from debvote_tools.election.letters.plan import BEHIND_DEADLINE, LATER_ONE, SIGNED_LATER, name_of
 from debvote_tools.election.letters.quoting import are_own
-from debvote_tools.election.letters.reading import LONGEST_LINE, are_own_lines
+from debvote_tools.election.letters.reading import LONGEST_LINE, WITHIN, are_own_lines
 from debvote_tools.election.letters.signed import with_signed_part
 from debvote_tools.election.record import PollAndBallots
 from debvote_tools.election.secrecy import demand_own_folder
@@ -24,10 +25,13 @@ from debvote_tools.faults import Fault, Status
 from debvote_tools.files import uninterrupted, write_new
 from debvote_tools.lines import Line, ballot_file, changed
 
-HELP = "List the letters that wait, show one, enter its ballot, or set it aside"
+HELP = "List the letters that wait, show one, enter its ballot, set it aside, or have it wait again"
 
 # so many lines of a letter that can't be read are shown
 MOST_LINES = 200
+
+# so many signs has a line of the letters that are set aside
+WIDTH = 100
 
 
 @dataclasses.dataclass(frozen=True)
@@ -37,14 +41,22 @@ class Arguments:
     letter: int | None
     enter: int | None
     set_aside: bool
+    again: bool
     late: bool
     even_so: bool
+
+    @property
+    def acts(self) -> list[str]:
+        """What is to become of the letter, by the names of the options."""
+        given = {"--enter": self.enter is not None, "--set-aside": self.set_aside, "--again": self.again}
+        return [name for name, is_given in given.items() if is_given]
 
 
 def add_arguments(parser: argparse.ArgumentParser) -> None:
     parser.add_argument("letter", metavar="NUMBER", nargs="?", type=int, help="Show this letter, line by line")
     parser.add_argument("--enter", metavar="LINE", type=int, help="Enter this line of the letter as its ballot")
     parser.add_argument("--set-aside", action="store_true", help="Say that the letter is dealt with: it waits no more")
+    parser.add_argument("--again", action="store_true", help="Have a letter that was set aside wait again")
     all_late = "When the vote is closed: enter the ballots that arrived behind the deadline, as late ones"
     parser.add_argument("--late", action="store_true", help=all_late)
     late = "Enter a ballot that arrived behind the deadline although the vote is not closed, or before one that is in"
@@ -54,27 +66,30 @@ def add_arguments(parser: argparse.ArgumentParser) -> None:
 def run(election: Election, namespace: argparse.Namespace) -> int:
     arguments = arguments_of(Arguments, namespace)
     if arguments.late:
-        if arguments.letter is not None or arguments.enter is not None or arguments.set_aside:
+        if arguments.letter is not None or arguments.acts:
             raise Fault("--late", "it is about all letters that arrived behind the deadline", "write it alone", Status.BAD_WORDS)
         return enter_late(election)
     if arguments.letter is None:
-        if arguments.enter is not None or arguments.set_aside:
+        if arguments.acts:
             raise Fault("held", "the letter is not named", "write its number before the option", Status.BAD_WORDS)
         return list_all(election)
-    if arguments.enter is not None and arguments.set_aside:
-        raise Fault("--enter, --set-aside", "a letter is entered or set aside", "leave one of both out", Status.BAD_WORDS)
-    if arguments.enter is None and not arguments.set_aside:
+    if len(arguments.acts) > 1:
+        words = "a letter is entered, or set aside, or waits again"
+        raise Fault(", ".join(arguments.acts), words, "write one of them alone", Status.BAD_WORDS)
+    if not arguments.acts:
         return show(election, arguments.letter)
     with election.changing() as counted:
         demand_own_folder(election)
         tell_edits(election, counted)
         state = store.state_of(election, counted)
-        letter = waiting(election, state, arguments.letter)
-        if arguments.set_aside:
-            set_aside(election, counted, letter)
-        elif arguments.enter is not None:
-            enter(election, counted, letter, arguments.enter, even_so=arguments.even_so)
         left = len(state.waiting) - 1
+        if arguments.again:
+            wait_again(election, counted, aside(election, state, arguments.letter))
+            left += 2
+        elif arguments.enter is None:
+            set_aside(election, counted, waiting(election, state, arguments.letter))
+        else:
+            enter(election, counted, waiting(election, state, arguments.letter), arguments.enter, even_so=arguments.even_so)
     tell(f"{waiting_words(left).capitalize()}.")
     tell(f"Next: {election.command('held') if left else election.command('status')}")
     return Status.DONE
@@ -82,18 +97,34 @@ def run(election: Election, namespace: argparse.Namespace) -> int:
 
 # ---------------------------------------------------------------- what waits
 def list_all(election: Election) -> int:
-    """Lists the letters that wait."""
+    """Lists the letters that wait, and names those that are set aside."""
     with election.reading() as counted:
         demand_own_folder(election)
-        letters = store.state_of(election, counted).waiting
+        state = store.state_of(election, counted)
+    letters = state.waiting
     for letter in letters:
         tell(f"{head(letter)} {letter.why}", *near_lines(letter.near))
     tell(f"{waiting_words(len(letters)).capitalize()}.")
+    tell_set_aside(election, state)
     if letters:
         number = str(letters[0].number)
         how = f"{election.command('held', number)} shows one, --enter LINE with it enters a line of it"
         tell(f"Next: {how}, and --set-aside says that it is dealt with")
     return Status.DONE
+
+
+def tell_set_aside(election: Election, state: store.State) -> None:
+    """Names the letters that are set aside, and says how one waits again."""
+    letters = [letter for letter in state.letters.values() if letter.is_set_aside]
+    if letters:
+        tell(f"Set aside ({election.command('held', 'NUMBER', '--again')} has one wait again):")
+        named = ", ".join(f"{letter.number} ({letter.sender})" for letter in letters)
+        indent = "  "
+        tell(
+            *textwrap.wrap(
+                named, WIDTH, initial_indent=indent, subsequent_indent=indent, break_long_words=False, break_on_hyphens=False
+            )
+        )
 
 
 def head(letter: store.KeptLetter) -> str:
@@ -108,6 +139,16 @@ def waiting(election: Election, state: store.State, number: int) -> store.KeptLe
         became = "it is set aside" if letter.is_set_aside else f"its ballot is in (envelope {letter.envelope})"
         cure = f"which letters wait lists {election.command('held')}"
         raise Fault(f"letter {number}", f"it does not wait: {became}", cure, Status.DOUBT, "nothing was changed")
+    return letter
+
+
+def aside(election: Election, state: store.State, number: int) -> store.KeptLetter:
+    """The letter of this number. Stops where none of this number is set aside."""
+    letter = of_number(election, state, number)
+    if not letter.is_set_aside:
+        became = "it waits" if letter.waits else f"its ballot is in (envelope {letter.envelope})"
+        cure = f"which letters are set aside says {election.command('held')}"
+        raise Fault(f"letter {number}", f"it is not set aside: {became}", cure, Status.DOUBT, "nothing was changed")
     return letter
 
 
@@ -137,6 +178,11 @@ def show(election: Election, number: int) -> int:
     tell(f"The whole letter is in {store.folder_of(election) / kept.file}, from byte {kept.start + 1} on, {kept.size} bytes.")
     if kept.waits:
         tell(f"It waits: {kept.why}", *near_lines(kept.near))
+        if any(WITHIN in near.why for near in kept.near):
+            receipts = election.command("letters", "receipts")
+            tell(
+                f"A ballot within other words is not entered: the elector has to send it alone on its line, as the receipt says ({receipts})."
+            )
         if letter.signed_lines:
             tell(f"Signed are the lines {letter.signed_lines.start + 1} to {letter.signed_lines.stop}, and no others.")
         tell("Lines with a | are not the elector's own words now: quoted, of a letter that is answered, or below a signature.")
@@ -144,6 +190,7 @@ def show(election: Election, number: int) -> int:
         tell(f"Next: {enter_it}, or {aside}")
     elif kept.is_set_aside:
         tell("It is set aside.")
+        tell(f"Next: {election.command('held', str(number), '--again')}, if it is to wait again")
     else:
         tell(f"Its ballot is in: line {kept.line}, `{kept.ballot}`, envelope {kept.envelope}.")
     return Status.DONE
@@ -270,7 +317,8 @@ def line_of(election: Election, counted: PollAndBallots, kept: store.KeptLetter,
     batch = batch_of(election, counted, tried)
     valid = next((line.came for line in batch.lines if line.finding is None), None)
     if valid is None:
-        why = ballot_words(batch.lines[0], batch.option_names)
+        within = (near.why for near in kept.near if near.number == number and WITHIN in near.why)
+        why = next(within, None) or ballot_words(batch.lines[0], batch.option_names)
         cure = f"ask the elector for a right line, and add what comes. {right_words(batch)}"
         raise Fault(where, f"it is no ballot: {why}", cure, Status.DOUBT, "nothing was changed")
     return valid
@@ -278,9 +326,20 @@ def line_of(election: Election, counted: PollAndBallots, kept: store.KeptLetter,
 
 def set_aside(election: Election, counted: PollAndBallots, kept: store.KeptLetter) -> None:
     """Says that a letter is dealt with. The caller holds the lock alone."""
+    note(election, counted, kept, store.SET_ASIDE, is_set_aside=True)
+    tell(f"Letter {kept.number} is set aside; it is kept, and waits no more.")
+
+
+def wait_again(election: Election, counted: PollAndBallots, kept: store.KeptLetter) -> None:
+    """Takes back that a letter was set aside. The caller holds the lock alone."""
+    note(election, counted, kept, store.AGAIN, is_set_aside=False)
+    tell(f"{head(kept)} waits again: {kept.why}", *near_lines(kept.near))
+
+
+def note(election: Election, counted: PollAndBallots, kept: store.KeptLetter, act: str, *, is_set_aside: bool) -> None:
+    """Notes by an act whether a letter is set aside."""
     with uninterrupted():
         election.begin_journal()
         record = store.next_record(election)
-        store.keep_record(election, record, [{"number": kept.number, "is_set_aside": True}])
-        election.act(store.SET_ASIDE, counted, journal.NONE, record=record)
-        tell(f"Letter {kept.number} is set aside; it is kept, and waits no more.")
+        store.keep_record(election, record, [{"number": kept.number, "is_set_aside": is_set_aside}])
+        election.act(act, counted, journal.NONE, record=record)

@@ -1,10 +1,12 @@
 """`undo`: takes back the last act that entered ballots, as it was entered."""
 
 import argparse
+import dataclasses
 
 from debvote_tools import journal
+from debvote_tools.arguments import arguments_of
 from debvote_tools.ballots import ranks_in_words
-from debvote_tools.console import tell
+from debvote_tools.console import YES_OR_NO, is_terminal, is_yes, tell
 from debvote_tools.election.folder import Election
 from debvote_tools.election.letters import store
 from debvote_tools.election.record import PollAndBallots
@@ -21,49 +23,145 @@ from debvote_tools.received import TAKEN_BACK
 HELP = "Take back the last act that entered ballots; once more, and the one before"
 
 
+@dataclasses.dataclass(frozen=True)
+class Arguments:
+    """What stands behind the command on the command line."""
+
+    yes: bool
+
+
 def add_arguments(parser: argparse.ArgumentParser) -> None:
-    """It has none of its own."""
+    parser.add_argument("--yes", action="store_true", help="Take it back without a question")
 
 
 def run(election: Election, namespace: argparse.Namespace) -> int:
+    arguments = arguments_of(Arguments, namespace)
+    agreed = ask(election) if is_terminal() and not arguments.yes else None
     with election.changing() as counted:
         demand_own_folder(election)
         tell_edits(election, counted)
         tell_what_is_gone(election, counted)
         demand_open(election)
-        take_back(election, counted, last_entering_act(election, counted))
+        act = last_entering_act(election, counted)
+        if agreed is not None and act != agreed:
+            words = "what would be taken back is not what was shown: somebody has changed the election meanwhile"
+            raise Fault("undo", words, "run the command again", Status.DOUBT, "nothing was changed")
+        take_back(election, counted, act, is_told=agreed is not None)
     tell(f"Next: {election.command('status')}; once more {election.command('undo')} takes back the act before")
     return Status.DONE
 
 
-def take_back(election: Election, counted: PollAndBallots, act: Entry) -> None:
-    """Takes the lines of the last act out of the ballots, keeps them, and tells who has another ballot now."""
+# ---------------------------------------------------------------- what is taken back
+@dataclasses.dataclass(frozen=True)
+class Change:
+    """What it changes to take back an act: its lines, those that are left, the ballots that stand, and the letters."""
+
+    act: Entry
+    lines_back: list[bytes]
+    ballots_left: bytes
+    standing: dict[str, str]
+    standing_then: dict[str, str]
+    letters: dict[int, store.KeptLetter]
+    letters_then: dict[int, store.KeptLetter]
+
+    @property
+    def what(self) -> str:
+        """What is taken back, in words."""
+        return f"{count_of(len(self.lines_back), 'line')} ({self.act.act}, {time_of(self.act)}, {envelope_words(self.act)})"
+
+    @property
+    def gone(self) -> list[store.KeptLetter]:
+        """The letters that then count as not come."""
+        return [letter for number, letter in self.letters.items() if number not in self.letters_then]
+
+    @property
+    def waiting_again(self) -> list[store.KeptLetter]:
+        """The letters that then wait again, as they are then."""
+        return [letter for number, letter in self.letters_then.items() if letter.waits and not self.letters[number].waits]
+
+    @property
+    def with_wrong_receipt(self) -> list[store.KeptLetter]:
+        """The letters, as they are now, for which a receipt was written that then does not hold any more."""
+        both = [*self.gone, *(self.letters[letter.number] for letter in self.waiting_again)]
+        return [letter for letter in both if letter.has_receipt]
+
+
+def change_by(election: Election, counted: PollAndBallots, act: Entry) -> Change:
+    """What it changes to take back the last act. The caller holds the lock."""
     first, last = act.first_and_last()
     lines = ballot_lines(counted.ballots_bytes or b"")
-    lines_left, lines_back = ballot_file(lines[: first - 1]), lines[first - 1 : last]
+    ballots_left = ballot_file(lines[: first - 1])
     standing, standing_then = (
-        standing_of(election, counted.poll_bytes, data) for data in (counted.ballots_bytes or b"", lines_left)
+        standing_of(election, counted.poll_bytes, data) for data in (counted.ballots_bytes or b"", ballots_left)
     )
-    letters = store.state_of(election, counted)
-    names = option_names(election, counted)
+    state = store.state_of(election, counted)
+    letters = dict(state.letters)
+    state.take_back()
+    return Change(act, lines[first - 1 : last], ballots_left, standing, standing_then, letters, state.letters)
+
+
+def ask(election: Election) -> Entry:
+    """Shows what would be taken back, and asks; returns the act. Stops where it is not to be."""
+    with election.reading() as counted:
+        demand_own_folder(election)
+        demand_open(election)
+        change = change_by(election, counted, last_entering_act(election, counted))
+        tell(*ballots_then(change, option_names(election, counted), "no ballot would stand"), *letters_then(change, "would"))
+        wrong = len(change.with_wrong_receipt)
+        if wrong:
+            tell(f"{count_of(wrong, 'receipt')} would not hold any more.")
+    if not is_yes(f"Take back {change.what}?", YES_OR_NO):
+        cure = "run the command again when you want to take it back"
+        raise Fault("undo", "you did not say yes", cure, Status.DOUBT, "nothing was changed")
+    return change.act
+
+
+def take_back(election: Election, counted: PollAndBallots, act: Entry, *, is_told: bool) -> None:
+    """Takes the lines of the last act out of the ballots, keeps them, and tells who has another ballot now, unless that was told."""
+    change = change_by(election, counted, act)
+    told = (
+        [] if is_told else [*ballots_then(change, option_names(election, counted), "no ballot stands now"), *letters_then(change)]
+    )
     with uninterrupted():
         election.begin_journal()
-        file = write_new(election.received_folder, f"{act.act}{TAKEN_BACK}", ballot_file(lines_back))
+        file = write_new(election.received_folder, f"{act.act}{TAKEN_BACK}", ballot_file(change.lines_back))
         record = file.name.removesuffix(TAKEN_BACK)
-        files_then = election.act(journal.UNDO, counted, act.envelopes, new_ballots=lines_left, record=record)
-        said = f"{act.act}, {time_of(act)}, {envelope_words(act)}"
-        tell(f"Took back {count_of(len(lines_back), 'line')} ({said}); they are kept in {file}.")
-        tell_standing(standing, standing_then, names)
-        tell_letters(letters, store.state_of(election, files_then))
+        election.act(journal.UNDO, counted, act.envelopes, new_ballots=change.ballots_left, record=record)
+        tell(f"Took back {change.what}; they are kept in {file}.", *told, *receipts_then(change))
 
 
-def tell_standing(before: dict[str, str], after: dict[str, str], names: list[str]) -> None:
-    """Tells whose ballot is another one than before, or none."""
-    for elector in before:
-        if elector not in after:
-            tell(f"  {elector}: no ballot stands now")
-        elif before[elector] != after[elector]:
-            tell(f"  {elector}: {ranks_in_words(after[elector], names)}, as before")
+# ---------------------------------------------------------------- what is told
+def ballots_then(change: Change, names: list[str], none: str) -> list[str]:
+    """Whose ballot is another one then, or none: so the words say that."""
+    told = []
+    for elector, ranks in change.standing.items():
+        before = change.standing_then.get(elector)
+        if before is None:
+            told.append(f"  {elector}: {none}")
+        elif before != ranks:
+            told.append(f"  {elector}: {ranks_in_words(before, names)}, as before")
+    return told
+
+
+def letters_then(change: Change, would: str = "") -> list[str]:
+    """What becomes of the letters whose ballots are taken back."""
+    told = []
+    gone = len(change.gone)
+    if gone:
+        verb = f"{would} count" if would else "counts" if gone == 1 else "count"
+        them = "it again, and it is" if gone == 1 else "them again, and they are"
+        told.append(f"{count_of(gone, 'letter')} that came with them {verb} as not come: add {them} read anew.")
+    verb = f"{would} wait" if would else "waits"
+    return [*told, *(f"Letter {letter.number} {verb} again: {letter.why}" for letter in change.waiting_again)]
+
+
+def receipts_then(change: Change) -> list[str]:
+    """Which receipts do not hold any more."""
+    wrong = change.with_wrong_receipt
+    if not wrong:
+        return []
+    rows = (f"  letter {letter.number}, {letter.sender}: {outcome(letter)}" for letter in wrong)
+    return ["Receipts were written already that do not hold any more; write to these:", *rows]
 
 
 def demand_open(election: Election) -> None:
@@ -104,20 +202,6 @@ def standing_of(election: Election, poll_bytes: bytes, ballots_bytes: bytes) -> 
     """The ballots that stand."""
     with in_memory(poll_bytes) as poll_path:
         return standing_in(answer_about(election, "standing", poll_path, ballots_bytes).text)
-
-
-def tell_letters(before: store.State, after: store.State) -> None:
-    """Tells what becomes of the letters whose ballots were taken back, and which receipts do not hold any more."""
-    gone = [letter for number, letter in before.letters.items() if number not in after.letters]
-    again = [letter for number, letter in after.letters.items() if letter.waits and not before.letters[number].waits]
-    if gone:
-        tell(f"{count_of(len(gone), 'letter')} that came with them count as not come: add them again, and they are read anew.")
-    for letter in again:
-        tell(f"Letter {letter.number} waits again: {letter.why}")
-    wrong = [letter for letter in [*gone, *(before.letters[one.number] for one in again)] if letter.has_receipt]
-    if wrong:
-        tell("Receipts were written already that do not hold any more; write to these:")
-        tell(*(f"  letter {letter.number}, {letter.sender}: {outcome(letter)}" for letter in wrong))
 
 
 def outcome(letter: store.KeptLetter) -> str:

@@ -27,6 +27,9 @@ from debvote_tools.signs import shown_line
 
 WAITS = "waits"
 
+# so many numbers of letters are told
+MOST = 20
+
 
 @dataclasses.dataclass(frozen=True)
 class LettersThatCame:
@@ -159,7 +162,8 @@ def plan_lines(one: Decision, names: list[str]) -> list[str]:
         if before == after
         else [f"  `{shown_line(before)}` is read as `{shown_line(after)}` ({', '.join(differences(before, after))})"]
     )
-    return [*changes, f"  goes in: {voter}: {ranks_in_words(ranks, names)}"]
+    beside = [f"  beside it: {count_of(one.other_lines, 'line')} of other words"] if one.other_lines else []
+    return [*changes, f"  goes in: {voter}: {ranks_in_words(ranks, names)}", *beside]
 
 
 def near_lines(near: list[Near]) -> list[str]:
@@ -184,6 +188,7 @@ def enter(election: Election, counted: PollAndBallots, came: LettersThatCame, pl
             election.act(store.CAME, counted, record=record)
         else:
             enter_batch(election, "add", counted, batch, record)
+    tell_other_words(election, plan, first)
     tell_held(plan, first, is_told=is_told)
     entered = "no ballot" if batch is None else summary([batch])
     tell(f"Added {entered} from {count_of(len(plan.decisions), 'letter')}; {waiting_words(len(plan.held))}.")
@@ -240,6 +245,17 @@ def tell_held(plan: Plan, first: int, *, is_told: bool) -> None:
     for number, one in numbered:
         head = head_of(f"letter {number} ({one.letter.raw.where})", one.letter.sender, arrival_words(one.letter))
         tell(f"{head} {WAITS}: {one.why}", *([] if is_told else near_lines(one.reading.near)))
+
+
+def tell_other_words(election: Election, plan: Plan, first: int) -> None:
+    """Tells in which letters other words stand beside the ballot."""
+    numbers = [str(number) for number, one in enumerate(plan.decisions, start=first) if one.other_lines]
+    if numbers:
+        which = ", ".join(numbers[:MOST]) + (f" and {len(numbers) - MOST} more" if len(numbers) > MOST else "")
+        what = (
+            f"{count_of(len(numbers), 'letter')} {'has' if len(numbers) == 1 else 'have'} other words beside the ballot ({which})"
+        )
+        tell(f"Note: {what}; {election.command('held', numbers[0])} shows {'it' if len(numbers) == 1 else 'the first'}.")
 
 
 def waiting_words(number: int) -> str:

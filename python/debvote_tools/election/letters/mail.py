@@ -1,4 +1,6 @@
-"""Letters that go out: each a file that any mail program opens, and that `sendmail -t` sends. This program sends nothing."""
+"""Letters that go out: each a file that any mail program opens, and that `sendmail -t` sends. This program sends nothing. The files
+are their owner's alone.
+"""
 
 import dataclasses
 import email.message
@@ -14,8 +16,9 @@ from email.headerregistry import Address
 from debvote_tools import announced
 from debvote_tools.election.folder import Election
 from debvote_tools.election.letters.message import ADDRESS
-from debvote_tools.files import TEMPORARY, sync_folder, take_away_temporaries, umask, write_whole
-from debvote_tools.secret import FILE_MODE, FOLDER_MODE
+from debvote_tools.election.letters.store import make_own_folder
+from debvote_tools.files import TEMPORARY, sync_folder, take_away_temporaries, write_whole
+from debvote_tools.secret import FILE_MODE
 
 FOLDER = "letters"
 
@@ -91,7 +94,7 @@ def line_of(text: str) -> str:
 
 # ---------------------------------------------------------------- the folder
 def place_of(election: Election, kind: str) -> pathlib.Path:
-    """Where the next letters of a kind are written: by number, and in a secret vote where nobody else may look."""
+    """Where the next letters of a kind are written: by number, and in a secret vote beside the codes."""
     base = (election.private_folder if election.is_secret() else election.folder) / FOLDER
     numbers = [int(found[1]) for file in base.glob("*") if (found := re.match(r"(\d+)-", file.name))]
     return base / f"{max(numbers, default=0) + 1:04}-{kind}"
@@ -100,22 +103,19 @@ def place_of(election: Election, kind: str) -> pathlib.Path:
 def write(election: Election, kind: str, mails: list[Mail], sender: str, *, is_mbox: bool) -> pathlib.Path:
     """Writes letters into a new folder, all or none, or into one file; returns where. The caller holds the lock alone."""
     place = place_of(election, kind)
-    is_secret = election.is_secret()
-    place.parent.mkdir(mode=FOLDER_MODE if is_secret else 0o777, exist_ok=True)
+    make_own_folder(place.parent)
     take_away_leftovers(place.parent)
-    mode = FILE_MODE if is_secret else 0o644
     if is_mbox:
         file = place.with_name(f"{place.name}.mbox")
-        write_whole(file, b"".join(mbox_part(message_of(mail, sender)) for mail in mails), mode)
+        write_whole(file, b"".join(mbox_part(message_of(mail, sender)) for mail in mails), FILE_MODE)
         return file
     made = pathlib.Path(tempfile.mkdtemp(prefix=TEMPORARY, dir=place.parent))
     try:
         for number, mail in enumerate(mails, start=1):
             file = made / f"{number:05}-{mail.name}.eml"
             file.write_bytes(message_of(mail, sender))
-            file.chmod(mode if is_secret else mode & ~umask())
+            file.chmod(FILE_MODE)
         sync_folder(made)
-        made.chmod(FOLDER_MODE if is_secret else 0o777 & ~umask())
         os.rename(made, place)
     except BaseException:
         shutil.rmtree(made, ignore_errors=True)

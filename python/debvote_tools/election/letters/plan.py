@@ -50,6 +50,8 @@ class Decision:
     reading: Reading
     ballot: Candidate | None
     why: str | None
+    # how many lines of other words stand beside the ballot that goes in
+    other_lines: int = 0
 
     @property
     def letter(self) -> Letter:
@@ -222,7 +224,9 @@ class Judge:
         if self.signing is not None and letter.good_signature is not None:
             self.signing.last[name] = letter.good_signature.time
             self.signing.known.add(letter.good_signature.known_by)
-        return Decision(reading, ballot, None)
+        asked_for = () if self.signing is None else self.signing.words
+        other_lines = sum(not has_words(line, asked_for) for line in reading.other_words)
+        return Decision(reading, ballot, None, other_lines)
 
     def why_held(self, reading: Reading) -> str | None:
         """Why a letter waits; none where its ballot goes in."""

@@ -12,8 +12,9 @@ from debvote_tools.election.folder import Election
 from debvote_tools.election.letters.message import Letter
 from debvote_tools.election.letters.quoting import are_own
 from debvote_tools.files import in_memory
-from debvote_tools.lines import Line, changed
+from debvote_tools.lines import DASHES, Line, changed
 from debvote_tools.program import Finding, replies_in
+from debvote_tools.signs import shown_line
 
 # in bytes; a longer line is no ballot
 LONGEST_LINE = 500
@@ -27,6 +28,18 @@ SHAPED = ("bad rank count", "bad not on roll")
 
 # so many lines that come near are told of a letter
 MOST_NEAR = 5
+
+# what is said of a line that comes near: it is a ballot, and why it is not that of the letter; or a ballot stands within it
+IS_BALLOT = "it is a ballot"
+UNSIGNED = f"{IS_BALLOT}, and is not signed"
+QUOTED = f"{IS_BALLOT}, and stands in what is quoted, or below a signature"
+WITHIN = "stands within other words"
+
+# a name and two ranks or more, within other words
+RANK = rf"(?:\d{{1,2}}|[{DASHES}-])"
+NAME_AND_RANKS = re.compile(
+    rf"(?<![\w.-])([A-Za-z0-9.-]{{1,32}})[\s:*\"'`]+({RANK}(?:\s*[,;]\s*{RANK})+)(?!\w|\s*[,;]\s*[\d{DASHES}-]|[,;]\S)"
+)
 
 
 @dataclasses.dataclass(frozen=True)
@@ -43,10 +56,14 @@ class Candidate:
 
 @dataclasses.dataclass(frozen=True)
 class NearLine:
-    """A line that comes near to a ballot, of which nothing is said yet, and whether it is the elector's own words now."""
+    """A line that comes near to a ballot, of which nothing is said yet: whether it is the elector's own words now; whether it comes near as
+    a whole; and what may be a ballot within it.
+    """
 
     line: Candidate
     is_own: bool
+    is_near: bool
+    part: bytes | None
 
 
 @dataclasses.dataclass(frozen=True)
@@ -69,6 +86,8 @@ class Reading:
     unsigned_ballots: list[Candidate] = dataclasses.field(default_factory=list)
     # the ballots of its HTML, where plain text is what is read
     html_ballots: list[bytes] = dataclasses.field(default_factory=list)
+    # where it has one ballot: the elector's other words
+    other_words: list[str] = dataclasses.field(default_factory=list)
 
 
 # ---------------------------------------------------------------- lines
@@ -126,7 +145,7 @@ def readings_of(election: Election, poll_bytes: bytes, letters: list[Letter]) ->
     candidates = [candidates_of(letter) if letter.trouble is None else [] for letter in letters]
     html_candidates = [candidates_in(letter.html_lines, {}) if letter.trouble is None else [] for letter in letters]
     replies = replies_to(election, poll_bytes, (line.text for lines in [*candidates, *html_candidates] for line in lines))
-    roll = set(poll_file.roll_of(poll_bytes))
+    roll, option_count = set(poll_file.roll_of(poll_bytes)), len(poll_file.options_of(poll_bytes))
     without_near: list[Reading] = []
     near_lines: list[list[NearLine]] = []
     for letter, lines, html_lines in zip(letters, candidates, html_candidates):
@@ -136,14 +155,17 @@ def readings_of(election: Election, poll_bytes: bytes, letters: list[Letter]) ->
         signed_texts = {line.text for line in ballots}
         unsigned = one_a_meaning(line for line in own_ballots if not is_signed(letter, line))
         unsigned = [line for line in unsigned if line.text not in signed_texts]
-        without_near.append(Reading(letter, ballots, [], unsigned, html_ballots_in(letter, html_lines, replies)))
         is_plain = len(ballots) == 1 and not unsigned
-        near = [] if is_plain else [line for line in lines if comes_near(line, replies[line.text], roll)]
-        near_lines.append([NearLine(line, own[line.number - 1]) for line in near[:MOST_NEAR]])
-    refused = [one.line.text for lines_of_letter in near_lines for one in lines_of_letter if replies[one.line.text] not in TAKEN]
-    findings = findings_of(election, poll_bytes, refused)
+        other_words = other_words_in(letter, own, ballots[0]) if is_plain else []
+        html_ballots = html_ballots_in(letter, html_lines, replies)
+        without_near.append(Reading(letter, ballots, [], unsigned, html_ballots, other_words))
+        seen = [] if is_plain else [near_line(line, replies[line.text], own[line.number - 1], roll, option_count) for line in lines]
+        near_lines.append([one for one in seen if one.is_near or one.part is not None][:MOST_NEAR])
+    near_ones = [one for lines_of_letter in near_lines for one in lines_of_letter]
+    refused = [one.line.text for one in near_ones if replies[one.line.text] not in TAKEN]
+    findings = findings_of(election, poll_bytes, [*refused, *(one.part for one in near_ones if one.part is not None)])
     return [
-        dataclasses.replace(reading, near=[near_of(reading.letter, one, findings.get(one.line.text)) for one in lines_of_letter])
+        dataclasses.replace(reading, near=[near_of(reading.letter, one, findings) for one in lines_of_letter])
         for reading, lines_of_letter in zip(without_near, near_lines)
     ]
 
@@ -155,6 +177,14 @@ def are_own_lines(letter: Letter) -> list[bool]:
         return are_own(letter.lines)
     bounds = [0, signed.start, signed.stop, len(letter.lines)]
     return [is_own for first, end in itertools.pairwise(bounds) for is_own in are_own(letter.lines[first:end])]
+
+
+def other_words_in(letter: Letter, own: list[bool], ballot: Candidate) -> list[str]:
+    """The lines with words that are the elector's own now, and neither the ballot nor a part of it where it is wrapped."""
+    came = ballot.came.decode("utf-8")
+    places = [place for place, is_own in enumerate(own) if is_own and (letter.signed_lines is None or place in letter.signed_lines)]
+    lines = [letter.lines[place] for place in places]
+    return [line for line in lines if re.search(r"\w", line) and line.strip() not in came and changed(line.encode()) != ballot.text]
 
 
 def html_ballots_in(letter: Letter, html_lines: list[Candidate], replies: dict[bytes, str]) -> list[bytes]:
@@ -176,21 +206,43 @@ def one_a_meaning(lines: Iterable[Candidate]) -> list[Candidate]:
     return sorted(first.values(), key=lambda line: line.number)
 
 
-def comes_near(line: Candidate, reply: str, roll: set[str]) -> bool:
-    """Whether a line is a ballot, has the shape of one, or begins with a name of the roll and has a number."""
-    if reply in TAKEN or reply in SHAPED:
-        return True
+def near_line(line: Candidate, reply: str, is_own: bool, roll: set[str], option_count: int) -> NearLine:
+    """How near a line comes to a ballot."""
+    is_shaped = reply in TAKEN or reply in SHAPED
+    part = None if is_shaped or not is_own else part_in(line.came.decode("utf-8"), roll, option_count)
+    return NearLine(line, is_own, is_shaped or comes_near(line, roll), part)
+
+
+def part_in(text: str, roll: set[str], option_count: int) -> bytes | None:
+    """What may be a ballot within other words, as it would stand alone: a name of the roll with ranks, or any word with a rank for each
+    option.
+    """
+    for found in NAME_AND_RANKS.finditer(text):
+        part = changed(f"{found[1]} {found[2]}".encode())
+        name, _, ranks = part.decode().partition(" ")
+        has_words = re.search(r"\w", text[: found.start()] + text[found.end() :]) is not None
+        if has_words and (name in roll or ranks.count(",") + 1 == option_count):
+            return part
+    return None
+
+
+def comes_near(line: Candidate, roll: set[str]) -> bool:
+    """Whether a line begins with a name of the roll and has a number."""
     first = re.split(rb"[\s:,;*\"']+", line.text.lstrip(b">*\"' "), maxsplit=1)[0].decode("utf-8", "replace").lower()
     return first in roll and re.search(rb"\d", line.text) is not None
 
 
-def near_of(letter: Letter, near_line: NearLine, finding: Finding | None) -> Near:
+def near_of(letter: Letter, near: NearLine, findings: dict[bytes, Finding]) -> Near:
     """What is said of a line that comes near: why debvote refuses it, or, where it is a ballot, why it is not the letter's."""
-    line = near_line.line
-    if finding is not None:
+    line, finding = near.line, findings.get(near.line.text)
+    part = None if near.part is None else findings.get(near.part)
+    if near.part is not None and (part is None or not near.is_near):
+        shown = shown_line(near.part)
+        why = f"`{shown}` {WITHIN}" + ("" if part is None else f", and is refused: {part.word}: {part.hint}")
+    elif finding is not None:
         why = f"{finding.word}: {finding.hint}"
-    elif near_line.is_own and not is_signed(letter, line):
-        why = "it is a ballot, and is not signed"
+    elif not near.is_own:
+        why = QUOTED
     else:
-        why = "it is a ballot" if near_line.is_own else "it is a ballot, and stands in what is quoted, or below a signature"
+        why = IS_BALLOT if is_signed(letter, line) else UNSIGNED
     return Near(line.number, line.came.decode("utf-8", "replace").strip(), why)

@@ -1,10 +1,12 @@
 """The letters of an election, as its folder keeps them: whole in received/letters, with a record for each act that is about them.
+They have private words, so the folder and its files are their owner's alone.
 
 A record holds where the journal has an act with its name that was done; one that a killed run has left is none. So the letters
 that are in, and those that wait, follow from the journal, and an act on letters is done whole or not at all, like all acts.
 """
 
 import collections.abc
+import contextlib
 import dataclasses
 import datetime
 import json
@@ -20,15 +22,16 @@ from debvote_tools.election.letters.reading import Near
 from debvote_tools.election.record import PollAndBallots
 from debvote_tools.faults import Fault, Status
 from debvote_tools.files import take_away_temporaries, write_whole
+from debvote_tools.secret import FILE_MODE, FOLDER_MODE
 
 FOLDER = "letters"
 
 # how a file of letters ends, and a record
 LETTERS, RECORD = ".mbox", ".jsonl"
 
-# the acts that have a record of letters: some came of which no ballot was entered, one that waited was entered or set aside, receipts
-# were written; and so has an act `add` by which letters came and ballots of them were entered
-CAME, ENTERED, SET_ASIDE, RECEIPTS = "letters", "enter", "set-aside", "receipts"
+# the acts that have a record of letters: some came of which no ballot was entered, one that waited was entered or set aside, one that
+# was set aside waits again, receipts were written; and so has an act `add` by which letters came and ballots of them were entered
+CAME, ENTERED, SET_ASIDE, AGAIN, RECEIPTS = "letters", "enter", "set-aside", "again", "receipts"
 
 # the fields of a letter's record that are about signatures
 SIGNATURE_FIELDS = ("signature_sum", "signed_at", "known_by")
@@ -96,6 +99,16 @@ class State:
 
     letters: dict[int, KeptLetter]
     next: int
+    # for each act that entered lines, and was not taken back, the letters that it has changed, as they were before it
+    entering: list[dict[int, KeptLetter | None]] = dataclasses.field(default_factory=list)
+
+    def take_back(self) -> None:
+        """Takes back what the last act that entered lines has changed of the letters, as `undo` does."""
+        for number, before in self.entering.pop().items() if self.entering else ():
+            if before is None:
+                self.letters.pop(number, None)
+            else:
+                self.letters[number] = before
 
     @property
     def waiting(self) -> list[KeptLetter]:
@@ -114,19 +127,13 @@ def state_of(election: Election, counted: PollAndBallots) -> State:
     """The letters as they are now. The caller holds the lock."""
     acts = journal.acts_done(election.journal_path, counted.sums)
     state = State({}, 1)
-    # what each act that entered lines has changed of the letters, so that `undo`, which takes its lines back, takes this back, too
-    entering: list[dict[int, KeptLetter | None]] = []
     for act in acts:
         if act.act == journal.UNDO:
-            for number, before in entering.pop().items() if entering else ():
-                if before is None:
-                    state.letters.pop(number, None)
-                else:
-                    state.letters[number] = before
+            state.take_back()
             continue
         changed = changes_of(election, act, state)
         if act.act in journal.ENTERING:
-            entering.append({number: state.letters.get(number) for number in changed})
+            state.entering.append({number: state.letters.get(number) for number in changed})
         state.letters |= changed
         state.next = max([state.next, *(number + 1 for number in changed)])
     return state
@@ -166,10 +173,18 @@ def next_record(election: Election) -> str:
     """The name of the next record. What killed runs have left half written is taken away."""
     folder = folder_of(election)
     election.received_folder.mkdir(exist_ok=True)
-    folder.mkdir(exist_ok=True)
+    make_own_folder(folder)
     take_away_temporaries(folder)
     numbers = [int(found[1]) for file in folder.iterdir() if (found := re.match(r"(\d+)[.-]", file.name))]
     return f"{max(numbers, default=0) + 1:04}"
+
+
+def make_own_folder(folder: pathlib.Path) -> None:
+    """Makes a folder of letters, into which its owner alone may look. One that an earlier version has made becomes so."""
+    folder.mkdir(mode=FOLDER_MODE, exist_ok=True)
+    if folder.stat().st_mode & 0o077:
+        with contextlib.suppress(PermissionError):
+            folder.chmod(FOLDER_MODE)
 
 
 def keep_letters(election: Election, record: str, name: str, letters: Iterable[Letter]) -> tuple[str, list[int]]:
@@ -180,7 +195,7 @@ def keep_letters(election: Election, record: str, name: str, letters: Iterable[L
         starts.append(place + len(BETWEEN))
         place += len(BETWEEN) + raw.end - raw.start + 2
     file = f"{record}-{name}{LETTERS}"
-    write_whole(folder_of(election) / file, pieces_of(parts))
+    write_whole(folder_of(election) / file, pieces_of(parts), FILE_MODE)
     return file, starts
 
 
@@ -195,7 +210,7 @@ def pieces_of(parts: list[Raw]) -> collections.abc.Iterator[bytes | memoryview]:
 def keep_record(election: Election, record: str, rows: Iterable[dict[str, object]]) -> None:
     """Writes a record. It holds when the journal has the act with its name."""
     data = "".join(json.dumps(row, ensure_ascii=True) + "\n" for row in rows)
-    write_whole(folder_of(election) / f"{record}{RECORD}", data.encode("ascii"))
+    write_whole(folder_of(election) / f"{record}{RECORD}", data.encode("ascii"), FILE_MODE)
 
 
 def row_of(letter: KeptLetter) -> dict[str, object]:

@@ -1,14 +1,16 @@
 """What the letters say that go out."""
 
 import functools
+import re
 
 from debvote_tools import announced, poll_file
 from debvote_tools.announced import time_in_words
 from debvote_tools.ballots import ranks_in_words
 from debvote_tools.election import call_words
 from debvote_tools.election.batch import right_line
-from debvote_tools.election.letters import plan, signed, store, verifying
+from debvote_tools.election.letters import plan, reading, signed, store, verifying
 from debvote_tools.language import Language
+from debvote_tools.lines import changed
 from debvote_tools.plain_letter import copied, heading, wrapped
 from debvote_tools.poll_file import document
 from debvote_tools.secret import Holder
@@ -46,7 +48,7 @@ NO_BALLOT = marked("The reason: no line of it, above what is quoted, is a ballot
 NO_BALLOT_ATTACHED = marked(
     "The reason: no line of it, above what is quoted, is a ballot of this vote, and attachments are not read."
 )
-OTHER_SENDER = marked("The reason: the name on the ballot is not that of the sender by the list of members.")
+OTHER_SENDER = marked("The reason: the name on the ballot is not {name}, which is yours by the list of members.")
 WAITS = {
     plan.TWO: marked("The reason: it has two ballots that differ."),
     plan.BEHIND_DEADLINE: marked("The reason: it arrived behind the time until which one can vote."),
@@ -68,8 +70,50 @@ WAITS = {
 OTHER_SHOWN = marked("The reason: its plain text and its HTML have two ballots that differ.")
 OTHER_KEY = marked("The reason: it is signed with another key than the list of members has for the name on the ballot.")
 NO_KEY = marked("The reason: the list of members has no key for the name on the ballot.")
+# why a letter can't be read, or its signature is not good, by the words of the program
+UNREAD = [
+    (re.compile(pattern), text)
+    for pattern, text in (
+        (r"it has (?P<bytes>\d+) bytes, .*", marked("The reason: it has {bytes} bytes, and letters so long are not read.")),
+        (
+            r"its text has (?P<bytes>\d+) bytes, .*",
+            marked("The reason: its text has {bytes} bytes, and texts so long are not read."),
+        ),
+        (r"its charset .*", marked("The reason: its charset is unknown. Send plain text in UTF-8.")),
+        (r"it is encrypted|its text is packed .*", marked("The reason: it is encrypted, or packed so that it is not read.")),
+        (
+            r"its head is .*|its parts .*|it has more than .*|what it says of a part .*|it can't be read .*",
+            marked("The reason: its head or its parts can't be read with certainty. Send plain text alone."),
+        ),
+        (r"it may stand .*", marked("The reason: it may stand in the text of the letter before it.")),
+        (r"signed with a key that has expired: .*", marked("The reason: it is signed with a key that has expired.")),
+        (r"signed with a key that was revoked: .*", marked("The reason: it is signed with a key that was revoked.")),
+        (
+            r"signed with a key that is not in the keyring: .*",
+            marked("The reason: it is signed with a key that the secretary does not have."),
+        ),
+        (
+            r"its signature uses a digest that is too weak: (?P<digest>.*)",
+            marked("The reason: its signature uses a digest that is too weak: {digest}."),
+        ),
+    )
+]
 # in the words of the program, which are English
 REASON = marked("The reason: {reason}.")
+
+# what is said of a line that comes near, without the line: it may be another's ballot, or a code, and an answer that quotes the receipt
+# would vote by it
+NEAR = {
+    reading.IS_BALLOT: marked("Line {line} of its text is a ballot."),
+    reading.UNSIGNED: marked("Line {line} of its text is a ballot, but is not signed."),
+    reading.QUOTED: marked("Line {line} of its text is a ballot, but stands in what is quoted, or below a signature."),
+}
+NEAR_WITHIN = marked("Line {line} of its text has a ballot within other words; it has to stand there alone.")
+NEAR_NAME = marked("The name in line {line} of its text is not on the roll; yours is {name}.")
+NEAR_SHAPE = marked("Line {line} of its text is not written as a ballot is.")
+NEAR_SHAPE_FROM = marked("Line {line} of its text is not written as a ballot is, from its sign {column} on.")
+COLUMN = re.compile(r"bad shape: column (?P<column>\d+): ")
+RANK_COUNT = re.compile(r"bad rank count: (?P<ranks>\d+) ranks?, the poll has (?P<options>\d+) options?")
 
 OWN = marked("Your ballot stands there in the file ballots.txt, under your name: {name}.")
 OWN_IN_SECRET = marked("Your ballot stands there under an alias: find it with your name, {name}, and your code, under {find}.")
@@ -171,7 +215,7 @@ def waits(language: Language, poll: bytes, letter: store.KeptLetter, name: str, 
     say = language.say
     parts = [
         wrapped(say("Your letter has come, and no ballot of it is entered yet: the secretary has to look at it.")),
-        wrapped(reason(language, letter)),
+        wrapped(" ".join([reason(language, letter, name), *about_lines(language, letter, name)])),
     ]
     if letter.why == plan.BEHIND_DEADLINE:
         return parts
@@ -186,7 +230,7 @@ def right_line_words(language: Language, poll: bytes, name: str, *, is_signed: b
     return [line, wrapped(say(RANKS)), options_words(poll), wrapped(say(SIGN if is_signed else SEND_ALONE))]
 
 
-def reason(language: Language, letter: store.KeptLetter) -> str:
+def reason(language: Language, letter: store.KeptLetter, name: str) -> str:
     """Why a letter waits."""
     why = letter.why or ""
     if why.startswith(plan.NO_BALLOT):
@@ -200,8 +244,47 @@ def reason(language: Language, letter: store.KeptLetter) -> str:
     if why.startswith(plan.NO_KEY.format("")):
         return language.say(NO_KEY)
     if why.startswith(("came from another address", "it says that several")):
-        return language.say(OTHER_SENDER)
+        return language.say(OTHER_SENDER, name=name)
+    for pattern, text in UNREAD:
+        found = pattern.fullmatch(why)
+        if found is not None:
+            return language.say(text, **found.groupdict())
     return language.say(REASON, reason=why)
+
+
+def about_lines(language: Language, letter: store.KeptLetter, name: str) -> list[str]:
+    """What is wrong with the lines of a letter that come near to a ballot, each sentence once."""
+    if not (letter.why or "").startswith((plan.NO_BALLOT, plan.TWO, plan.OUTSIDE)):
+        return []
+    return list(dict.fromkeys(said for near in letter.near for said in about_line(language, near, name)))
+
+
+def about_line(language: Language, near: reading.Near, name: str) -> list[str]:
+    """What is wrong with a line that comes near to a ballot, or with the ballot within it."""
+    if near.why in NEAR:
+        return [language.say(NEAR[near.why], line=near.number)]
+    within = [language.say(NEAR_WITHIN, line=near.number)] if reading.WITHIN in near.why else []
+    count = RANK_COUNT.search(near.why)
+    if count is not None:
+        said = language.say_number(
+            "Line {line} of its text has {number} rank, and the vote has {options} options.",
+            "Line {line} of its text has {number} ranks, and the vote has {options} options.",
+            int(count["ranks"]),
+            line=near.number,
+            options=count["options"],
+        )
+        return [*within, said]
+    if "bad not on roll: " in near.why:
+        return [*within, language.say(NEAR_NAME, line=near.number, name=name)]
+    return within or [about_shape(language, near)]
+
+
+def about_shape(language: Language, near: reading.Near) -> str:
+    """That a line is not written as a ballot is, and from where on. Of a line that was put right the column is one of what it became."""
+    column, came = COLUMN.match(near.why), near.text.encode()
+    if column is None or changed(came) != came:
+        return language.say(NEAR_SHAPE, line=near.number)
+    return language.say(NEAR_SHAPE_FROM, line=near.number, column=column["column"])
 
 
 # ---------------------------------------------------------------- reminders and the result
