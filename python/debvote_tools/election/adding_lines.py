@@ -12,7 +12,7 @@ from debvote_tools.election.folder import Election
 from debvote_tools.election.forms import Columns, LineReader, columns_of
 from debvote_tools.election.inputs import LinesInput, stop_at_other_kind
 from debvote_tools.election.letters import keyring
-from debvote_tools.election.record import PollAndBallots
+from debvote_tools.election.election_files import PollAndBallots
 from debvote_tools.election.running import option_names
 from debvote_tools.election.secrecy import demand_own_folder
 from debvote_tools.election.stops import (
@@ -199,7 +199,7 @@ def demand_a_line(file_lines: FileLines, adding: Adding) -> None:
 def without_first_lines(election: Election, counted: PollAndBallots, whole_file: FileLines, reader: LineReader) -> FileLines:
     """The lines of a file but for the first ones that came before. `reader` has read it, and reads the earlier files, too."""
     lines_input, lines = whole_file.lines_input, whole_file.lines
-    came_before = first_lines_before(election, counted, lines_input.data, lines, reader, lines_input.name)
+    came_before = first_lines_before(election, counted, lines_input, lines, reader)
     if came_before is None:
         return whole_file
     filled_places = [place for place, line in enumerate(lines) if not line.is_empty]
@@ -235,7 +235,7 @@ def keep_lines(election: Election, lines_by_file: list[FileLines], batch_files: 
     """
     for file_lines, batch_file in zip(lines_by_file, batch_files):
         if adding.is_table or file_lines.came_before is not None:
-            data = ballot_file(line.text for line in batch_file.lines)
+            data = ballot_file(line.as_entered for line in batch_file.lines)
             write_new(election.received_folder, f"{file_lines.lines_input.received_name}{received.LINES}", data)
 
 
@@ -278,7 +278,7 @@ def tell_lines(lines: list[str]) -> None:
 
 def what_next(election: Election) -> str:
     """What the election needs next."""
-    if election.closed() is not None:
+    if election.close_entry() is not None:
         return election.command("count")
     more = election.command("add", "FILE")
     return f"{election.command('status')}; add what comes with {more}, and when the vote is over: {election.command('close')}"

@@ -12,7 +12,7 @@ from debvote_tools.console import OutputFailed, tell
 from debvote_tools.election.batch import Batch, batch_of
 from debvote_tools.election.batch_words import report
 from debvote_tools.election.folder import Election
-from debvote_tools.election.record import PollAndBallots
+from debvote_tools.election.election_files import PollAndBallots
 from debvote_tools.faults import Fault
 from debvote_tools.files import uninterrupted
 from debvote_tools.lines import Line
@@ -41,10 +41,10 @@ def whole_act(election: Election) -> Iterator[None]:
 
 
 def enter_batch(election: Election, act: str, counted: PollAndBallots, batch: Batch, record: str = "") -> None:
-    """Enters a batch as an act of this name, and tells what became of each line. The record is that of the letters from
-    which its lines are, where they are from letters.
+    """Enters a batch as an act of this name, and tells what became of each line. Where its lines are from letters, `record` is the name of
+    the record that these letters have (`letters.store`).
     """
-    election.act(act, counted, batch.envelopes, new_ballots=batch.ballots_bytes, entered=batch.own_bytes, record=record)
+    election.act(act, counted, batch.envelopes, new_ballots=batch.ballots_bytes, entered=batch.own_bytes, detail=record)
     try:
         tell(*report(election, batch))
     except OutputFailed as fault:

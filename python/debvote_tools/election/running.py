@@ -5,7 +5,7 @@ import shlex
 from collections.abc import Iterable
 
 from debvote_tools.election.folder import Election
-from debvote_tools.election.record import PollAndBallots
+from debvote_tools.election.election_files import PollAndBallots
 from debvote_tools.faults import Fault, Status
 from debvote_tools.files import BALLOTS_LIMIT, LINES_LIMIT, POLL_LIMIT, in_memory
 from debvote_tools.program import Answer

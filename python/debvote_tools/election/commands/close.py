@@ -14,7 +14,7 @@ from debvote_tools.election.folder import Election
 from debvote_tools.election.letters import store
 from debvote_tools.election.letters.adding import waiting_words
 from debvote_tools.election.letters.plan import BEHIND_DEADLINE
-from debvote_tools.election.record import PollAndBallots
+from debvote_tools.election.election_files import PollAndBallots
 from debvote_tools.election.running import NO_BALLOTS, refusal
 from debvote_tools.election.secrecy import demand_own_folder
 from debvote_tools.election.telling import count_of, tell_edits, tell_what_is_gone, time_of
@@ -50,7 +50,7 @@ def run(election: Election, namespace: argparse.Namespace) -> int:
         tell_edits(election, counted)
         tell_what_is_gone(election, counted)
         sheet = sheet_of_all(election, counted)
-        before = election.closed()
+        before = election.close_entry()
         if before is not None:
             return say_again(election, counted, sheet, before)
         stop_at_a_last_envelope(election, counted, sheet)
@@ -66,7 +66,7 @@ def run(election: Election, namespace: argparse.Namespace) -> int:
 def ask_about_letters(election: Election) -> set[int]:
     """The letters that wait, about which it asks at a terminal, and elsewhere stops."""
     with election.reading() as counted:
-        if election.closed() is not None:
+        if election.close_entry() is not None:
             return set()
         numbers = waiting_now(election, counted)
     if numbers:

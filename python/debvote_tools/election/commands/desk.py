@@ -13,7 +13,7 @@ from debvote_tools.election.batch import Batch, BatchLine, batch_of, right_line
 from debvote_tools.election.batch_words import ballot_words, change_words, right_words, summary, would_words
 from debvote_tools.election.entering import batch_or_keep, enter_batch, whole_act
 from debvote_tools.election.folder import Election
-from debvote_tools.election.record import PollAndBallots
+from debvote_tools.election.election_files import PollAndBallots
 from debvote_tools.election.running import answer_about, sheet_without_ballots
 from debvote_tools.election.letters import keyring
 from debvote_tools.election.secrecy import demand_own_folder
@@ -255,4 +255,4 @@ def standing_ranks_of(election: Election, counted: PollAndBallots, elector: str)
 
 def name_of(ballot: BatchLine) -> str:
     """The elector of a valid ballot."""
-    return ballot.text.decode("ascii").partition(" ")[0]
+    return ballot.as_entered.decode("ascii").partition(" ")[0]

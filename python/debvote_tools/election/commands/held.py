@@ -18,7 +18,7 @@ from debvote_tools.election.letters.plan import BEHIND_DEADLINE, LATER_ONE, SIGN
 from debvote_tools.election.letters.quoting import are_own
 from debvote_tools.election.letters.reading import LONGEST_LINE, WITHIN, are_own_lines
 from debvote_tools.election.letters.signed import with_signed_part
-from debvote_tools.election.record import PollAndBallots
+from debvote_tools.election.election_files import PollAndBallots
 from debvote_tools.election.secrecy import demand_own_folder
 from debvote_tools.election.telling import tell_edits, tell_if_early_or_late
 from debvote_tools.faults import Fault, Status
@@ -212,7 +212,7 @@ def shown_lines(letter: Letter) -> list[str]:
 # ---------------------------------------------------------------- enter, set aside
 def enter(election: Election, counted: PollAndBallots, kept: store.KeptLetter, number: int, *, even_so: bool) -> None:
     """Enters a line of a letter as its ballot. The caller holds the lock alone."""
-    if kept.why == BEHIND_DEADLINE and election.closed() is None and not even_so:
+    if kept.why == BEHIND_DEADLINE and election.close_entry() is None and not even_so:
         cure = f"enter it after {election.command('close')}; or, if it came in time all the same, now with --even-so"
         raise Fault(f"letter {kept.number}", "it arrived behind the deadline", cure, Status.DOUBT, "nothing was changed")
     line = line_of(election, counted, kept, read(election, kept), number)
@@ -273,7 +273,7 @@ def enter_late(election: Election) -> int:
             for letter in store.state_of(election, counted).waiting
             if letter.why == BEHIND_DEADLINE and letter.ballot is not None
         ]
-        if election.closed() is None:
+        if election.close_entry() is None:
             cure = f"enter them after {election.command('close')}"
             raise Fault("--late", "the vote is not closed, and they wait for that", cure, Status.DOUBT, "nothing was changed")
         if letters:
@@ -342,4 +342,4 @@ def note(election: Election, counted: PollAndBallots, kept: store.KeptLetter, ac
         election.begin_journal()
         record = store.next_record(election)
         store.keep_record(election, record, [{"number": kept.number, "is_set_aside": is_set_aside}])
-        election.act(act, counted, journal.NONE, record=record)
+        election.act(act, counted, journal.NONE, detail=record)

@@ -14,7 +14,7 @@ from debvote_tools.election.folder import Election
 from debvote_tools.election.letters import keyring, mail, plan, store, texts
 from debvote_tools.election.letters.mail import Mail
 from debvote_tools.election.letters.message import AUTOMATIC
-from debvote_tools.election.record import PollAndBallots
+from debvote_tools.election.election_files import PollAndBallots
 from debvote_tools.election.running import file_words, refusal
 from debvote_tools.election.secrecy import demand_own_folder
 from debvote_tools.election.telling import count_of, tell_edits
@@ -126,7 +126,7 @@ def mails_of(election: Election, counted: PollAndBallots, arguments: Arguments, 
     """The letters of a kind to all electors whom it is for, and those who have no address."""
     roll = poll_file.roll_of(counted.poll_bytes)
     if arguments.kind == REMINDERS:
-        close = election.closed()
+        close = election.close_entry()
         if close is not None:
             raise Fault("reminders", "the vote is closed", "nobody can vote any more", Status.DOUBT, "nothing was written")
         stands = standing_now(election, counted)
@@ -201,7 +201,7 @@ def write_receipts(election: Election, arguments: Arguments) -> int:
                 place = mail.write(election, RECEIPTS, mails, sender, is_mbox=arguments.mbox)
                 record = store.next_record(election)
                 store.keep_record(election, record, ({"number": letter.number, "has_receipt": True} for letter in told))
-                election.act(store.RECEIPTS, counted, record=record)
+                election.act(store.RECEIPTS, counted, detail=record)
     others = [str(letter.number) for letter in new if letter not in told]
     say(election, place, mails, [])
     if others:

@@ -11,7 +11,7 @@ from debvote_tools.console import tell
 from debvote_tools.election.commands.count import add_casting_argument
 from debvote_tools.election.other_publications import tell_other_publications
 from debvote_tools.election.folder import Election
-from debvote_tools.election.record import PollAndBallots
+from debvote_tools.election.election_files import PollAndBallots
 from debvote_tools.election.running import NO_BALLOTS, demand_option
 from debvote_tools.election.secrecy import demand_own_folder
 from debvote_tools.faults import Fault, Status

@@ -9,7 +9,7 @@ from debvote_tools.ballots import ranks_in_words
 from debvote_tools.console import YES_OR_NO, is_terminal, is_yes, tell
 from debvote_tools.election.folder import Election
 from debvote_tools.election.letters import store
-from debvote_tools.election.record import PollAndBallots
+from debvote_tools.election.election_files import PollAndBallots
 from debvote_tools.election.running import answer_about, option_names
 from debvote_tools.election.secrecy import demand_own_folder
 from debvote_tools.election.telling import count_of, tell_edits, tell_what_is_gone, time_of
@@ -126,7 +126,7 @@ def take_back(election: Election, counted: PollAndBallots, act: Entry, *, is_tol
         election.begin_journal()
         file = write_new(election.received_folder, f"{act.act}{TAKEN_BACK}", ballot_file(change.lines_back))
         record = file.name.removesuffix(TAKEN_BACK)
-        election.act(journal.UNDO, counted, act.envelopes, new_ballots=change.ballots_left, record=record)
+        election.act(journal.UNDO, counted, act.envelopes, new_ballots=change.ballots_left, detail=record)
         tell(f"Took back {change.what}; they are kept in {file}.", *told, *receipts_then(change))
 
 
@@ -166,7 +166,7 @@ def receipts_then(change: Change) -> list[str]:
 
 def demand_open(election: Election) -> None:
     """Stops where the vote is closed."""
-    close = election.closed()
+    close = election.close_entry()
     if close is not None:
         words = f"the vote was closed at {time_of(close)}, and its ballots stay"
         raise Fault(

@@ -16,7 +16,7 @@ from debvote_tools.election.letters.message import Letter, Raw, letter_of
 from debvote_tools.election.letters.plan import BEHIND_OPEN_ONE, BEHIND_DEADLINE, Decision, Plan, plan_of
 from debvote_tools.election.letters.reading import Near
 from debvote_tools.election.running import option_names
-from debvote_tools.election.record import PollAndBallots
+from debvote_tools.election.election_files import PollAndBallots
 from debvote_tools.election.secrecy import demand_own_folder
 from debvote_tools.console import YES_OR_NO, is_terminal, is_yes, tell
 from debvote_tools.election.telling import count_of, tell_edits, tell_if_early_or_late, tell_what_is_gone
@@ -95,7 +95,7 @@ def demand_yes(election: Election, plan: Plan) -> None:
 def tell_stage(election: Election, counted: PollAndBallots) -> None:
     """Says where letters come before the call for votes, after its time, or after the close."""
     until = announced_in(counted.poll_bytes).until
-    if election.closed() is not None or until is None or announced.now() < until:
+    if election.close_entry() is not None or until is None or announced.now() < until:
         tell_if_early_or_late(election, counted, "what is added")
         return
     tell(
@@ -185,7 +185,7 @@ def enter(election: Election, counted: PollAndBallots, came: LettersThatCame, pl
     with whole_act(election):
         record = keep(election, came, plan, first, batch)
         if batch is None:
-            election.act(store.CAME, counted, record=record)
+            election.act(store.CAME, counted, detail=record)
         else:
             enter_batch(election, "add", counted, batch, record)
     tell_other_words(election, plan, first)
@@ -267,6 +267,6 @@ def what_next(election: Election, plan: Plan) -> str:
     """What the election needs next."""
     if plan.held:
         return f"{election.command('held')}, which lists the letters that wait; {election.command('undo')} takes back what was entered last"
-    if election.closed() is not None:
+    if election.close_entry() is not None:
         return election.command("count")
     return f"{election.command('status')}; {election.command('undo')} takes back what was entered last"

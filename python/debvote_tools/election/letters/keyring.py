@@ -14,7 +14,7 @@ from debvote_tools.election.folder import Election
 from debvote_tools.election.letters import openpgp
 from debvote_tools.election.letters.openpgp import Key
 from debvote_tools.election.letters.verifying import demand_program
-from debvote_tools.election.record import PollAndBallots
+from debvote_tools.election.election_files import PollAndBallots
 from debvote_tools.election.telling import count_of
 from debvote_tools.faults import Fault, Status
 from debvote_tools.files import read_at_most, sum_of, uninterrupted, write_new, write_whole
@@ -90,13 +90,13 @@ def demanded(election: Election) -> Demanded | None:
         cure = f"put it back from {election.backup_folder}"
         raise Fault(file, "letters have to be signed, and the keyring is gone", cure, Status.DOUBT, "nothing was changed")
     found = read(election, file)
-    if given.record != SUM + found.ring_sum:
+    if given.detail != SUM + found.ring_sum:
         words = f"it is another keyring than the one that was given at {journal.act_time_in_words(given.time)}"
         raise Fault(
             file, words, f"put that one back from {election.backup_folder}, or, {again}", Status.DOUBT, "nothing was changed"
         )
     whose = journal.last(election.entries(), WHOSE)
-    if whose is None or whose.record != SUM + found.members_sum:
+    if whose is None or whose.detail != SUM + found.members_sum:
         words = "its column `key` is not as it was when the keyring was given"
         raise Fault(election.members_path, words, f"put it right, or, {again}", Status.DOUBT, "nothing was changed")
     return found
@@ -200,8 +200,8 @@ def give(election: Election, counted: PollAndBallots, name: str) -> None:
             election.begin_journal()
             write_new(election.backup_folder, NAME, data)
             write_whole(file, data)
-        election.act(GIVEN, counted, record=SUM + found.ring_sum)
-        election.act(WHOSE, counted, record=SUM + found.members_sum)
+        election.act(GIVEN, counted, detail=SUM + found.ring_sum)
+        election.act(WHOSE, counted, detail=SUM + found.members_sum)
         tell(f"Letters have to be signed: {file} has {count_of(len(found.keys), 'key')}, and its sum is {found.ring_sum}")
         tell_missing(election, counted, found, missing)
 

@@ -15,7 +15,7 @@ from debvote_tools.election.letters.message import AUTOMATIC, LetterKey, Letter
 from debvote_tools.election.letters.reading import Candidate, Reading, readings_of
 from debvote_tools.election.letters.signed import with_signed_part
 from debvote_tools.election.letters.verifying import verified
-from debvote_tools.election.record import PollAndBallots
+from debvote_tools.election.election_files import PollAndBallots
 from debvote_tools.members import Member, members_in
 
 # the lists of members of version 1 may have several addresses in a cell
@@ -112,7 +112,7 @@ def plan_of(election: Election, counted: PollAndBallots, letters: list[Letter]) 
     ordered = in_order(new)
     if signing is not None:
         ordered = verified(ordered, signing.demanded.by_number())
-    until, close = announced_in(counted.poll_bytes).until, election.closed()
+    until, close = announced_in(counted.poll_bytes).until, election.close_entry()
     judge = Judge(addresses_of(election), until if close is None else None, last_arrivals(state.letters.values()), signing)
     decided = [judge.decide(reading) for reading in readings_of(election, counted.poll_bytes, ordered)]
     decisions = [one for one in decided if one is not None]

@@ -19,7 +19,7 @@ from debvote_tools import journal
 from debvote_tools.election.folder import Election
 from debvote_tools.election.letters.message import AUTOMATIC, LetterKey, Letter, Raw
 from debvote_tools.election.letters.reading import Near
-from debvote_tools.election.record import PollAndBallots
+from debvote_tools.election.election_files import PollAndBallots
 from debvote_tools.faults import Fault, Status
 from debvote_tools.files import take_away_temporaries, write_whole
 from debvote_tools.secret import FILE_MODE, FOLDER_MODE
@@ -141,10 +141,10 @@ def state_of(election: Election, counted: PollAndBallots) -> State:
 
 def changes_of(election: Election, act: journal.Entry, state: State) -> dict[int, KeptLetter]:
     """The letters that an act has brought or changed."""
-    if not act.record or not re.fullmatch(r"\d+", act.record):
+    if not act.detail or not re.fullmatch(r"\d+", act.detail):
         return {}
     changed: dict[int, KeptLetter] = {}
-    for row in rows_of(folder_of(election) / f"{act.record}{RECORD}"):
+    for row in rows_of(folder_of(election) / f"{act.detail}{RECORD}"):
         number = int(row["number"])
         if act.act in (CAME, "add"):
             near = [Near(*found) for found in row.pop("near")]
