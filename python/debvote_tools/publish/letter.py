@@ -32,7 +32,7 @@ def letter_of(published: Published, poll_bytes: bytes, ballots_bytes: bytes, pag
         said = [wrapped(say(LATER, number=sums.last_envelope)), copied(sums.poll_sum)]
     parts = [
         wrapped(published.sheet.title),
-        wrapped(ended(published)),
+        wrapped(how_ended(published)),
         *([] if told is None else [wrapped(told)]),
         heading(say("The files of the result")),
         wrapped(say("The sum (SHA-256) of the file poll.toml:")),
@@ -49,7 +49,7 @@ def letter_of(published: Published, poll_bytes: bytes, ballots_bytes: bytes, pag
     return "\n".join(parts).encode("utf-8")
 
 
-def ended(published: Published) -> str:
+def how_ended(published: Published) -> str:
     """How the vote ended: in English the last line of the sheet."""
     sheet, say = published.sheet, published.say
     winner = sheet.winner()
