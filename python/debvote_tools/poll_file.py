@@ -1,6 +1,7 @@
 """The text of a poll file: its statements, and the changes of one of them that leave all others byte for byte."""
 
 import dataclasses
+import functools
 import itertools
 import re
 import tomllib
@@ -65,8 +66,9 @@ def end_of_statement(text: str, start: int) -> int:
     return len(text)
 
 
+@functools.lru_cache(maxsize=4)
 def document(data: bytes) -> dict[str, object]:
-    """What a poll says, as Python reads TOML."""
+    """What a poll says, as Python reads TOML. A roll of 10,000 names takes a tenth of a second, so nobody reads one twice, or changes it."""
     try:
         return tomllib.loads(text_of(data).removeprefix(MARK))
     except RecursionError:

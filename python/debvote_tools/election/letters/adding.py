@@ -265,8 +265,8 @@ def waiting_words(number: int) -> str:
 
 def what_next(election: Election, plan: Plan) -> str:
     """What the election needs next."""
+    is_closed = election.close_entry() is not None
+    undo = f"; {election.command('undo')} takes back what was entered last" if plan.entering and not is_closed else ""
     if plan.held:
-        return f"{election.command('held')}, which lists the letters that wait; {election.command('undo')} takes back what was entered last"
-    if election.close_entry() is not None:
-        return election.command("count")
-    return f"{election.command('status')}; {election.command('undo')} takes back what was entered last"
+        return f"{election.command('held')}, which lists the letters that wait{undo}"
+    return election.command("count") if is_closed else f"{election.command('status')}{undo}"

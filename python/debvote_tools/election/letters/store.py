@@ -150,14 +150,16 @@ def changes_of(election: Election, act: journal.Entry, state: State) -> dict[int
             near = [Near(*found) for found in row.pop("near")]
             changed[number] = KeptLetter(**row, near=near)
         elif number in state.letters:
-            changed[number] = dataclasses.replace(state.letters[number], **{key: row[key] for key in row if key != "number"})
+            changed[number] = KeptLetter(**(vars(state.letters[number]) | row))
     return changed
 
 
 def rows_of(file: pathlib.Path) -> list[dict[str, Any]]:
     """The rows of a record."""
     try:
-        return [json.loads(line) for line in file.read_text("utf-8").splitlines()]
+        # one call for all of them takes half the time
+        rows: list[dict[str, Any]] = json.loads(f"[{','.join(file.read_text('utf-8').splitlines())}]")
+        return rows
     except (OSError, ValueError) as error:
         why = error.strerror if isinstance(error, OSError) else "it can't be read"
         cure = "put it back from a copy: the journal has an act on letters whose record this is"
