@@ -186,7 +186,7 @@ def write_receipts(election: Election, arguments: Arguments) -> int:
         if answer.faults:
             raise refusal(election, answer)
         replies, language = replies_in(answer.text), election.language()
-        new = [letter for letter in store.state_of(election, counted).letters.values() if not letter.has_receipt]
+        new = [letter for letter in store.state_of(election, counted).kept_letters.values() if not letter.has_receipt]
         told = [letter for letter in new if receiver_of(letter, names, known) is not None]
         is_signed = keyring.is_demanded(election)
         mails = [
@@ -199,7 +199,7 @@ def write_receipts(election: Election, arguments: Arguments) -> int:
             with uninterrupted():
                 election.begin_journal()
                 place = mail.write(election, RECEIPTS, mails, sender, is_mbox=arguments.mbox)
-                record = store.next_record(election)
+                record = store.prepare_record(election)
                 store.keep_record(election, record, ({"number": letter.number, "has_receipt": True} for letter in told))
                 election.act(store.RECEIPTS, counted, detail=record)
     others = [str(letter.number) for letter in new if letter not in told]

@@ -95,9 +95,9 @@ def change_by(election: Election, counted: PollAndBallots, act: Entry) -> Change
         standing_of(election, counted.poll_bytes, data) for data in (counted.ballots_bytes or b"", ballots_left)
     )
     state = store.state_of(election, counted)
-    letters = dict(state.letters)
+    letters = dict(state.kept_letters)
     state.take_back()
-    return Change(act, lines[first - 1 : last], ballots_left, standing, standing_then, letters, state.letters)
+    return Change(act, lines[first - 1 : last], ballots_left, standing, standing_then, letters, state.kept_letters)
 
 
 def ask(election: Election) -> Entry:
@@ -125,8 +125,8 @@ def take_back(election: Election, counted: PollAndBallots, act: Entry, *, is_tol
     with uninterrupted():
         election.begin_journal()
         file = write_new(election.received_folder, f"{act.act}{TAKEN_BACK}", ballot_file(change.lines_back))
-        record = file.name.removesuffix(TAKEN_BACK)
-        election.act(journal.UNDO, counted, act.envelopes, new_ballots=change.ballots_left, detail=record)
+        file_begin = file.name.removesuffix(TAKEN_BACK)
+        election.act(journal.UNDO, counted, act.envelopes, new_ballots=change.ballots_left, detail=file_begin)
         tell(f"Took back {change.what}; they are kept in {file}.", *told, *receipts_then(change))
 
 
@@ -135,11 +135,11 @@ def ballots_then(change: Change, names: list[str], none: str) -> list[str]:
     """Whose ballot is another one then, or none: so the words say that."""
     told = []
     for elector, ranks in change.standing.items():
-        before = change.standing_then.get(elector)
-        if before is None:
+        ranks_then = change.standing_then.get(elector)
+        if ranks_then is None:
             told.append(f"  {elector}: {none}")
-        elif before != ranks:
-            told.append(f"  {elector}: {ranks_in_words(before, names)}, as before")
+        elif ranks_then != ranks:
+            told.append(f"  {elector}: {ranks_in_words(ranks_then, names)}, as before")
     return told
 
 

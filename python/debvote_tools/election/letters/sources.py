@@ -87,14 +87,20 @@ def demand_no_outlook(name: str, data: bytes) -> None:
 def letters_in(name: str, data: bytes | mmap.mmap) -> list[Raw]:
     """The letters of a file that are_letters, in its order."""
     source = memoryview(data)
-    begins = list(BETWEEN.finditer(data)) if data[:5] == b"From " else []
-    if not begins:
+    lines_from = list(BETWEEN.finditer(data)) if data[:5] == b"From " else []
+    if not lines_from:
         return [Raw(name, source, 0, len(source))]
-    ends = [found.start() for found in begins[1:]] + [len(source)]
-    first = form_of(begins[0]["said"])
+    ends = [line_from.start() for line_from in lines_from[1:]] + [len(source)]
+    first_form = form_of(lines_from[0]["said"])
     return [
-        Raw(f"{name}, message {number}", source, found.end(), end, None if form_of(found["said"]) == first else IN_ANOTHER)
-        for number, (found, end) in enumerate(zip(begins, ends), start=1)
+        Raw(
+            f"{name}, message {number}",
+            source,
+            line_from.end(),
+            end,
+            None if form_of(line_from["said"]) == first_form else IN_ANOTHER,
+        )
+        for number, (line_from, end) in enumerate(zip(lines_from, ends), start=1)
     ]
 
 
@@ -121,19 +127,19 @@ def letters_of_folder(name: str) -> tuple[list[Raw], list[str]]:
     """The letters of a Maildir, or of a folder of messages, in the order of their names, and the files that are none."""
     folder = pathlib.Path(name)
     is_maildir = all((folder / part).is_dir() for part in MAILDIR)
-    places = [folder / part for part in MAILDIR] if is_maildir else [folder]
-    files = [file for place in places for file in place.iterdir() if not file.name.startswith(".")]
-    found: list[Raw] = []
+    folders = [folder / part for part in MAILDIR] if is_maildir else [folder]
+    files = [file for place in folders for file in place.iterdir() if not file.name.startswith(".")]
+    raws: list[Raw] = []
     others: list[str] = []
     for file in sorted(files, key=lambda file: (file.name, file)):
         data = file.read_bytes() if file.is_file() else b""
         demand_no_outlook(str(file), data)
         if are_letters(data[:LONGEST_HEAD]):
-            found += letters_in(str(file), data)
+            raws += letters_in(str(file), data)
         elif not file.is_dir():
             others.append(str(file))
-    if not found:
+    if not raws:
         words = "Is a directory"
         cure = "name a file of ballots that you may read; of a folder the letters are taken (.eml files, or a Maildir), and it has none"
         raise Fault(name, words, cure, Status.BAD_BALLOTS, NOTHING)
-    return found, others
+    return raws, others
