@@ -104,7 +104,7 @@ def add_unless_asked(election: Election, adding: Adding, agreed: Question | None
     """
     with election.changing() as counted:
         demand_own_folder(election)
-        if agreed is None or agreed.sums != counted.sums:
+        if agreed is None or agreed.sums != counted.sums or election.cut_off is not None:
             tell_edits(election, counted)
         lines_by_file = read_lines(election, counted, adding)
         if agreed is not None and not agreed.is_about(lines_by_file):
