@@ -146,8 +146,8 @@ def changes_after_close(folder: pathlib.Path, acts: Sequence[Entry], lines: list
     """What was done after the close alone: late lines that came and are gone."""
     missing = missing_of(lines_that_came(folder, acts), lines + late_lines)
     late_acts = acts[len(acts_until_close(acts)) :]
-    entered = sum(entry.envelope_count() for entry in late_acts if entry.act in journal.ENTERING)
-    fewer = 0 if missing else max(0, entered - len(late_lines))
+    entered_count = sum(entry.envelope_count() for entry in late_acts if entry.act in journal.ENTERING)
+    fewer = 0 if missing else max(0, entered_count - len(late_lines))
     return Changes(missing, [], fewer=fewer, is_late=True)
 
 

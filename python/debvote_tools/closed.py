@@ -66,10 +66,10 @@ def changed_since(close: Entry, folder: pathlib.Path, current: BallotsAndSheet) 
     doubts = about_last_envelope(number, current)
     closed_sum = sum_of(b"") if close.sums.ballots == NONE else close.sums.ballots
     if not copy_path.is_file():
-        lines = ballot_file(ballot_lines(current.ballots_bytes)[:number])
+        lines_bytes = ballot_file(ballot_lines(current.ballots_bytes)[:number])
         return (
             doubts
-            if closed_sum in (sum_of(lines), sum_of(lines.removesuffix(b"\n")))
+            if closed_sum in (sum_of(lines_bytes), sum_of(lines_bytes.removesuffix(b"\n")))
             else [*doubts, are_others(number, copy_path, current)]
         )
     copied_bytes = copy_path.read_bytes()

@@ -46,8 +46,8 @@ class Sums:
     ballots: str
 
     @classmethod
-    def of(cls, poll: bytes | None, ballots: bytes | None) -> "Sums":
-        return cls(*(NONE if data is None else sum_of(data) for data in (poll, ballots)))
+    def of(cls, poll_bytes: bytes | None, ballots_bytes: bytes | None) -> "Sums":
+        return cls(*(NONE if data is None else sum_of(data) for data in (poll_bytes, ballots_bytes)))
 
 
 @dataclasses.dataclass(frozen=True)
@@ -67,9 +67,9 @@ class Entry:
     detail: str = ""
 
     def line(self) -> str:
-        lines_sum = () if self.lines_sum is None else (self.lines_sum,)
+        sixth_part = () if self.lines_sum is None else (self.lines_sum,)
         what = f"{self.envelopes} {self.detail}".rstrip()
-        return "\t".join((self.time, self.act, what, self.sums.poll, self.sums.ballots, *lines_sum)) + "\n"
+        return "\t".join((self.time, self.act, what, self.sums.poll, self.sums.ballots, *sixth_part)) + "\n"
 
     def first_envelope(self) -> int:
         """The first of its envelopes; 0 where it has none."""

@@ -83,8 +83,7 @@ class Question:
 
     def is_about(self, lines_by_file: list[FileLines]) -> bool:
         """Whether the same first lines of the same files came before as when it was asked."""
-        asked, now = ([file_lines.came_before for file_lines in some] for some in (self.lines_by_file, lines_by_file))
-        return asked == now
+        return [one.came_before for one in self.lines_by_file] == [one.came_before for one in lines_by_file]
 
 
 # ---------------------------------------------------------------- add, look

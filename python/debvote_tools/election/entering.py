@@ -44,7 +44,7 @@ def enter_batch(election: Election, act: str, counted: PollAndBallots, batch: Ba
     """Enters a batch as an act of this name, and tells what became of each line. Where its lines are from letters, `record` is the name of
     the record that these letters have (`letters.store`).
     """
-    election.act(act, counted, batch.envelopes, new_ballots=batch.ballots_bytes, entered=batch.own_bytes, detail=record)
+    election.act(act, counted, batch.envelopes, new_ballots=batch.ballots_bytes, entered_bytes=batch.own_bytes, detail=record)
     try:
         tell(*report(election, batch))
     except OutputFailed as fault:

@@ -73,14 +73,14 @@ class Election(Recovery):
         *,
         new_poll: bytes | None = None,
         new_ballots: bytes | None = None,
-        entered: bytes | None = None,
+        entered_bytes: bytes | None = None,
         detail: str = "",
     ) -> PollAndBallots:
         """Notes that an act begins, writes the new poll or the new ballots, whole, notes that it is done, and returns poll and ballots
         as they are after it.
 
         The caller holds the lock alone. At most one of both is given, so that an act that is cut off is done or not done; with
-        none of them the act is noted alone. `entered` has the lines that it enters, each with its line feed, and `detail` what the
+        none of them the act is noted alone. `entered_bytes` has the lines that it enters, each with its line feed, and `detail` what the
         journal has of it besides (`journal.Entry`).
 
         Raises OSError where the file was not changed, and a `Fault` where it was, but perhaps is not on the disk yet: then the act is done.
@@ -89,7 +89,9 @@ class Election(Recovery):
             counted.poll_bytes if new_poll is None else new_poll, counted.ballots_bytes if new_ballots is None else new_ballots
         )
         self.note_edits(counted)
-        journal.begin(self.journal_path, name, envelopes, after.sums, None if entered is None else sum_of(entered), detail)
+        journal.begin(
+            self.journal_path, name, envelopes, after.sums, None if entered_bytes is None else sum_of(entered_bytes), detail
+        )
         try:
             if new_poll is not None:
                 write_whole(self.poll_path, new_poll)

@@ -16,8 +16,8 @@ NO_BALLOTS = "/dev/null"
 
 def file_words(election: Election, counted: PollAndBallots) -> list[str]:
     """The words that name the two files to debvote, which runs in the folder of the election."""
-    ballots = NO_BALLOTS if counted.ballots_bytes is None else election.ballots_path.name
-    return ["--poll", election.poll_path.name, "--ballots", ballots]
+    ballots_file = NO_BALLOTS if counted.ballots_bytes is None else election.ballots_path.name
+    return ["--poll", election.poll_path.name, "--ballots", ballots_file]
 
 
 def answer_about(election: Election, task: str, poll_path: str, ballots_bytes: bytes) -> Answer:

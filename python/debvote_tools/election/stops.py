@@ -246,9 +246,9 @@ def doubles_words(batch_file: BatchFile) -> list[str]:
         if line.finding is None:
             by_elector.setdefault(line.as_entered.partition(b" ")[0], []).append(line)
     return [
-        f"Note: {batch_file.name} has {len(lines)} ballots of {name.decode('ascii')} "
+        f"Note: {batch_file.name} has {len(lines)} ballots of {elector.decode('ascii')} "
         f"({', '.join(line.came.where.rpartition(':')[2].strip() for line in lines[:5])}{', ..' if lines[5:] else ''}); "
         "the last one counts."
-        for name, lines in by_elector.items()
+        for elector, lines in by_elector.items()
         if len(lines) > 1
     ]

@@ -92,7 +92,7 @@ PUBLISHED = marked("It is the published one:")
 PUBLISHED_WITH_LAST = marked("It is the published one, with its last envelope, {number}:")
 
 
-def page_of(published: Published, counted_files: list[WholeFile], others: list[NamedFile]) -> str:
+def page_of(published: Published, counted_files: list[WholeFile], other_files: list[NamedFile]) -> str:
     """The page, whole. It carries the files that are counted, poll, ballots and sheet, and names them and the others, in this order."""
     data_by_name = {file.name: file.data for file in counted_files}
     about_parts = result.about(published)
@@ -111,7 +111,7 @@ def page_of(published: Published, counted_files: list[WholeFile], others: list[N
         *published.further.parts,
         unseen(published),
         count_again.count_again(data_by_name, published.language),
-        check(published, [*counted_files, *others]),
+        check(published, [*counted_files, *other_files]),
     ]
     sections = "".join(map(published.with_names, [result.result(published), contents(published, parts), *parts]))
     sections += count_again.carried(data_by_name)
@@ -153,8 +153,8 @@ def standing_ballots(published: Published) -> str:
     standing = standing_in(published.standing_text)
     if not standing:
         return part(published.language, BALLOTS_HEADING, paragraph(say("No elector has a ballot that stands.")))
-    names = {option: f"{option} {published.name(option)}" for option in published.sheet.names}
-    has_names = len(standing) * sum(map(len, names.values())) <= NAMES_LIMIT
+    option_names = {option: f"{option} {published.name(option)}" for option in published.sheet.names}
+    has_names = len(standing) * sum(map(len, option_names.values())) <= NAMES_LIMIT
     said = published.further.about_ballots or say(
         "Of each elector the last ballot that was not late, in the order of the roll. "
         "The address of a ballot is this page's with # and the name behind it, as index.html#{elector}.",
@@ -162,7 +162,7 @@ def standing_ballots(published: Published) -> str:
     )
     if not has_names:
         said += f" {say('The names of the options stand under Options.')}"
-    shown = names if has_names else {option: str(option) for option in names}
+    shown = option_names if has_names else {option: str(option) for option in option_names}
     in_words = words_of_ballots(published, shown)
     entry = published.language.form("<b>{elector}</b> <code>{ranks}</code>: {ballot}")
     entries = "".join(
@@ -241,15 +241,17 @@ def enough(published: Published) -> list[str]:
 
 def whole_commands(published: Published) -> list[Command]:
     """What shows that the files are those that were published, and the poll the one that was sums."""
-    say, sums = published.say, published.poll_sums
+    say, poll_sums = published.say, published.poll_sums
     commands = [
         Command(say(CAME_WHOLE), "sha256sum -c SHA256SUMS"),
         Command(say(NO_OTHER), NO_OTHER_FILE, "SHA256SUMS"),
     ]
-    if sums.has_last_envelope:
-        commands.append(Command(say(AS_IT_IS, number=sums.last_envelope), WHOLE, f"{sums.whole_sum}  {POLL}"))
-    if sums.has_last_envelope or sums.announced is not None:
-        commands.append(Command(say(COMPARE_WHOLE_SUM if sums.is_secret else COMPARE_SUM), sums.command, sums.answer))
+    if poll_sums.has_last_envelope:
+        commands.append(Command(say(AS_IT_IS, number=poll_sums.last_envelope), WHOLE, f"{poll_sums.whole_sum}  {POLL}"))
+    if poll_sums.has_last_envelope or poll_sums.announced is not None:
+        commands.append(
+            Command(say(COMPARE_WHOLE_SUM if poll_sums.is_secret else COMPARE_SUM), poll_sums.command, poll_sums.answer)
+        )
     commands.append(Command(say(BALLOTS_SUM), f"sha256sum {BALLOTS}", f"{published.ballots_sum}  {BALLOTS}"))
     commands.append(Command(say(PAGE_SUM), "sha256sum index.html"))
     return commands + times.commands(published.times, published.language)

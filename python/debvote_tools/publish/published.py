@@ -92,7 +92,7 @@ class Published:
     # the lines that are refused, late ones among them
     refused: list[Finding]
     # the lines of the published ballots, that of envelope i at i - 1
-    lines: list[bytes]
+    published_lines: list[bytes]
     picture: bytes | None
     # the words of the casting vote, as the commands of the page have them
     casting_words: list[str]

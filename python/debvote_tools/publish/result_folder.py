@@ -47,7 +47,7 @@ class Given:
 
     # the labels by their numbers, and the file that they are from
     labels_file: str | None
-    labels: dict[int, GivenLabel]
+    given_labels: dict[int, GivenLabel]
     about: str | None
     # the list of members that gives the real names, and these by the names of the roll
     who_file: str | None
@@ -77,13 +77,13 @@ def make_folder(arguments: Arguments, program_folder: pathlib.Path | None) -> En
 
     `program_folder` is that of the program: debvote may lie beside it.
     """
-    target = pathlib.Path(os.path.realpath(arguments.target_folder))
-    if os.path.lexists(target) and not (target.is_dir() and not any(target.iterdir())):
+    target_folder = pathlib.Path(os.path.realpath(arguments.target_folder))
+    if os.path.lexists(target_folder) and not (target_folder.is_dir() and not any(target_folder.iterdir())):
         words = f"{arguments.target_folder} is there already, and is no empty folder"
         raise Fault(None, words, "name another one", Status.BAD_WORDS)
     demand_arguments_together(arguments)
     given = given_in(arguments)
-    folder = pathlib.Path(tempfile.mkdtemp(prefix=f".{target.name}.", dir=target.parent))
+    folder = pathlib.Path(tempfile.mkdtemp(prefix=f".{target_folder.name}.", dir=target_folder.parent))
     try:
         if arguments.codes_path is None:
             ended = fill_open(folder, arguments, given, program_folder)
@@ -91,8 +91,8 @@ def make_folder(arguments: Arguments, program_folder: pathlib.Path | None) -> En
             ended = fill_secret(folder, arguments, pathlib.Path(arguments.codes_path), given, program_folder)
         folder.chmod(0o755)
         sync_folder(folder)
-        folder.rename(target)
-        sync_folder(target.parent)
+        folder.rename(target_folder)
+        sync_folder(target_folder.parent)
     except BaseException as fault:
         shutil.rmtree(folder, ignore_errors=True)
         if isinstance(fault, BadPoll):
@@ -124,7 +124,7 @@ def demand_arguments_together(arguments: Arguments) -> None:
 
 def given_in(arguments: Arguments) -> Given:
     """Reads what is given beside poll and ballots. A fault of it is told before anything is counted."""
-    labels = {} if arguments.labels is None else labels_in(arguments.labels)
+    given_labels = {} if arguments.labels is None else labels_in(arguments.labels)
     about = None if arguments.about is None else text_in(arguments.about, "about")
     who = {} if arguments.who is None else roll.who_in(arguments.who)
     because = None if arguments.because is None else reason_in(arguments.because)
@@ -133,7 +133,7 @@ def given_in(arguments: Arguments) -> Given:
     called = texts_called(arguments)
     return Given(
         labels_file=arguments.labels,
-        labels=labels,
+        given_labels=given_labels,
         about=about,
         who_file=arguments.who,
         who=who,
@@ -176,9 +176,11 @@ def fill_secret(
 ) -> Ended:
     """Writes all files of a secret vote: poll and ballots are published under aliases, and what they come from is not written."""
     poll_bytes, ballots_bytes = inputs_of(arguments)
-    poll = under_aliases.InputFile(arguments.poll_path, poll_bytes)
-    ballots = under_aliases.InputFile(arguments.ballots_path, ballots_bytes)
-    under_aliases.demand_texts(page_texts_of(arguments, given), codes_path, poll, ballots, are_read=arguments.texts_read)
+    poll_input = under_aliases.InputFile(arguments.poll_path, poll_bytes)
+    ballots_input = under_aliases.InputFile(arguments.ballots_path, ballots_bytes)
+    under_aliases.demand_texts(
+        page_texts_of(arguments, given), codes_path, poll_input, ballots_input, are_read=arguments.texts_read
+    )
     with under_aliases.private_folder(poll_bytes, ballots_bytes) as private_folder:
         private_debvote = debvote_in(private_folder, program_folder, arguments.casting, arguments.desks)
         private_text = count(private_debvote, arguments).text
@@ -207,8 +209,8 @@ def fill_secret(
 
 def inputs_of(arguments: Arguments) -> tuple[bytes, bytes]:
     """The poll and the ballots. They are read once, so that all commands read the same bytes."""
-    poll = input_in(arguments.poll_path, POLL_LIMIT, "poll", Status.BAD_POLL)
-    return poll, input_in(arguments.ballots_path, BALLOTS_LIMIT, "ballots", Status.BAD_BALLOTS)
+    poll_bytes = input_in(arguments.poll_path, POLL_LIMIT, "poll", Status.BAD_POLL)
+    return poll_bytes, input_in(arguments.ballots_path, BALLOTS_LIMIT, "ballots", Status.BAD_BALLOTS)
 
 
 def input_in(file: str, limit: int, kind: str, status: int) -> bytes:
@@ -232,15 +234,15 @@ def count(debvote: FolderDebvote, arguments: Arguments) -> Answer:
 
 def page_texts_of(arguments: Arguments, given: Given) -> dict[str, str]:
     """The texts that are given for the page, by their files."""
-    label_texts = "\n".join(label.text for label in given.labels.values())
-    said = [
+    label_texts = "\n".join(label.text for label in given.given_labels.values())
+    text_by_file = [
         (arguments.labels, label_texts),
         (arguments.about, given.about),
         ("--because", given.because),
         ("--cast-by", given.casting_vote.by),
     ]
-    said += [(f"{arguments.texts or option_texts.FOLDER}/{number}.txt", text) for number, text in given.shown_texts.items()]
-    return {where: text for where, text in said if where is not None and text is not None}
+    text_by_file += [(f"{arguments.texts or option_texts.FOLDER}/{number}.txt", text) for number, text in given.shown_texts.items()]
+    return {where: text for where, text in text_by_file if where is not None and text is not None}
 
 
 def about_texts(arguments: Arguments, given: Given, sheet: Sheet) -> list[Doubt]:
@@ -276,7 +278,7 @@ def write_result(
     Returns the last line of the sheet with what `debvote verify` says.
     """
     folder, sheet = debvote.folder, sheet_in(sheet_text)
-    labels = labels_of(given.labels_file, given.labels, sheet, given.language)
+    labels = labels_of(given.labels_file, given.given_labels, sheet, given.language)
     if not labels.is_empty:
         tell(*told(labels, sheet))
     version, standing_text, refused = debvote.version(), debvote.standing(), findings_in(debvote.explain()).refused
@@ -287,7 +289,7 @@ def write_result(
         sheet=sheet,
         standing_text=standing_text,
         refused=refused,
-        lines=ballot_lines(ballots_bytes),
+        published_lines=ballot_lines(ballots_bytes),
         picture=picture,
         casting_words=debvote.casting_words,
         verified=verified.rstrip("\n"),

@@ -159,18 +159,22 @@ def secret_folder_of(place: pathlib.Path) -> pathlib.Path | None:
     return None
 
 
-def demand_texts(texts: dict[str, str], codes: pathlib.Path, poll: InputFile, ballots: InputFile, *, are_read: bool) -> None:
+def demand_texts(
+    page_texts: dict[str, str], codes: pathlib.Path, poll_input: InputFile, ballots_input: InputFile, *, are_read: bool
+) -> None:
     """Stops where a text for the page, by its file, would tell what is private, or was not read."""
-    if not texts:
+    if not page_texts:
         return
-    folders = (secret_folder_of(place) for file in (poll.file, ballots.file, str(codes.parent)) for place in folders_of(file))
+    folders = (
+        secret_folder_of(place) for file in (poll_input.file, ballots_input.file, str(codes.parent)) for place in folders_of(file)
+    )
     election_folder = next(filter(None, folders), None)
-    sums = untelling.private_sums(poll.data, ballots.data, election_folder)
-    holders, options = secret.holders_in(codes), poll_file.options_of(poll.data)
-    for file, text in texts.items():
+    sums = untelling.private_sums(poll_input.data, ballots_input.data, election_folder)
+    holders, options = secret.holders_in(codes), poll_file.options_of(poll_input.data)
+    for file, text in page_texts.items():
         untelling.demand_no_private_file(file, election_folder)
         untelling.demand_untelling(file, text, holders, sums)
-    untelling.demand_read(texts, holders, options, are_read=are_read)
+    untelling.demand_read(page_texts, holders, options, are_read=are_read)
 
 
 # ---------------------------------------------------------------- the files under aliases

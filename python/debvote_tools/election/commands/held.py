@@ -59,8 +59,8 @@ def add_arguments(parser: argparse.ArgumentParser) -> None:
     parser.add_argument("--again", action="store_true", help="Have a letter that was set aside wait again")
     all_late = "When the vote is closed: enter the ballots that arrived behind the deadline, as late ones"
     parser.add_argument("--late", action="store_true", help=all_late)
-    late = "Enter a ballot that arrived behind the deadline although the vote is not closed, or before one that is in"
-    parser.add_argument("--even-so", action="store_true", help=late)
+    even_so_help = "Enter a ballot that arrived behind the deadline although the vote is not closed, or before one that is in"
+    parser.add_argument("--even-so", action="store_true", help=even_so_help)
 
 
 def run(election: Election, namespace: argparse.Namespace) -> int:
@@ -314,8 +314,8 @@ def line_of(election: Election, counted: PollAndBallots, kept: store.KeptLetter,
         cure = f"see its lines with {election.command('held', str(kept.number))}"
         raise Fault(where, "there is no such line", cure, Status.BAD_WORDS, "nothing was changed")
     texts = [lines[line_number - 1], *filter(None, [letter.paragraphs.get(line_number - 1)])]
-    texts_bytes = [text.encode("utf-8", "replace").strip()[:LONGEST_LINE] for text in texts]
-    tried = [Line(where, came, came, changed(came.removeprefix(b">"))) for came in texts_bytes]
+    bare_lines = [text.encode("utf-8", "replace").strip()[:LONGEST_LINE] for text in texts]
+    tried = [Line(where, bare, bare, changed(bare.removeprefix(b">"))) for bare in bare_lines]
     batch = batch_of(election, counted, tried)
     valid = next((line.came for line in batch.lines if line.finding is None), None)
     if valid is None:

@@ -43,8 +43,8 @@ def letters_that_came(received_name: str, raws: list[Raw], others: list[str]) ->
     """Reads letters that came. One that stands behind a letter of which a part has no end may stand in its text."""
     letters: list[Letter] = []
     for letter in map(letter_of, raws):
-        last = letters[-1] if letters else None
-        is_behind_open_one = last is not None and last.is_open and last.raw.source is letter.raw.source
+        before = letters[-1] if letters else None
+        is_behind_open_one = before is not None and before.is_open and before.raw.source is letter.raw.source
         doubt = BEHIND_OPEN_ONE if is_behind_open_one and letter.doubt is None else letter.doubt
         letters.append(dataclasses.replace(letter, doubt=doubt))
     return LettersThatCame(received_name, letters, others)
@@ -203,11 +203,11 @@ def keep_what_came(election: Election, came: LettersThatCame, plan: Plan, first_
     """Keeps the letters, their numbers from the first one on, and the lines of the batch; returns the name of the record of the act."""
     envelopes = iter([] if batch is None else [line.envelope for line in batch.lines])
     record = store.prepare_record(election)
-    file = store.keep_letters(election, record, came.received_name, [one.letter.raw for one in plan.decisions])
+    letters_file = store.keep_letters(election, record, came.received_name, [one.letter.raw for one in plan.decisions])
     rows = []
-    for number, (one, start) in enumerate(zip(plan.decisions, file.starts), start=first_number):
+    for number, (one, start) in enumerate(zip(plan.decisions, letters_file.starts), start=first_number):
         envelope = None if one.ballot is None else next(envelopes, None)
-        rows.append(store.row_of(kept_of(number, one, file.name, start, envelope)))
+        rows.append(store.row_of(kept_of(number, one, letters_file.name, start, envelope)))
     if batch is not None:
         write_new(election.received_folder, f"{came.received_name}{received.LINES}", batch.own_bytes)
     store.keep_record(election, record, rows)

@@ -159,17 +159,17 @@ def readings_of(election: Election, poll_bytes: bytes, letters: list[Letter]) ->
         own_by_line = are_own_lines(letter)
         reading = reading_of(letter, candidates, html_candidates, own_by_line, replies)
         without_near.append(reading)
-        near = [
-            near_candidate(candidate, replies[candidate.changed], own_by_line[candidate.number - 1], roll, option_count)
+        near_candidates = [
+            nearness_of(candidate, replies[candidate.changed], own_by_line[candidate.number - 1], roll, option_count)
             for candidate in ([] if reading.has_one_alone else candidates)
         ]
-        near_by_letter.append([one for one in near if one.is_near or one.within is not None][:MOST_NEAR])
-    all_near = [one for near in near_by_letter for one in near]
+        near_by_letter.append([one for one in near_candidates if one.is_near or one.within is not None][:MOST_NEAR])
+    all_near = [one for near_candidates in near_by_letter for one in near_candidates]
     refused = [one.candidate.changed for one in all_near if replies[one.candidate.changed] not in TAKEN]
     findings = findings_of(election, poll_bytes, [*refused, *(one.within for one in all_near if one.within is not None)])
     return [
-        dataclasses.replace(reading, near=[near_of(reading.letter, one, findings) for one in near])
-        for reading, near in zip(without_near, near_by_letter)
+        dataclasses.replace(reading, near=[near_of(reading.letter, one, findings) for one in near_candidates])
+        for reading, near_candidates in zip(without_near, near_by_letter)
     ]
 
 
@@ -239,7 +239,7 @@ def one_a_meaning(candidates: Iterable[Candidate]) -> list[Candidate]:
     return sorted(first_by_meaning.values(), key=lambda candidate: candidate.number)
 
 
-def near_candidate(candidate: Candidate, reply: str, is_own: bool, roll: set[str], option_count: int) -> NearCandidate:
+def nearness_of(candidate: Candidate, reply: str, is_own: bool, roll: set[str], option_count: int) -> NearCandidate:
     """How near a line comes to a ballot."""
     is_shaped = reply in TAKEN or reply in SHAPED
     within = None if is_shaped or not is_own else ballot_within(candidate.bare.decode("utf-8"), roll, option_count)
@@ -265,17 +265,17 @@ def comes_near(candidate: Candidate, roll: set[str]) -> bool:
     return first_word in roll and re.search(rb"\d", candidate.changed) is not None
 
 
-def near_of(letter: Letter, near: NearCandidate, findings: dict[bytes, Finding]) -> Near:
+def near_of(letter: Letter, near_candidate: NearCandidate, findings: dict[bytes, Finding]) -> Near:
     """What is said of a line that comes near: why debvote refuses it, or, where it is a ballot, why it is not the letter's."""
-    candidate, finding = near.candidate, findings.get(near.candidate.changed)
-    within_finding = None if near.within is None else findings.get(near.within)
-    if near.within is not None and (within_finding is None or not near.is_near):
-        shown = shown_line(near.within)
+    candidate, finding = near_candidate.candidate, findings.get(near_candidate.candidate.changed)
+    within_finding = None if near_candidate.within is None else findings.get(near_candidate.within)
+    if near_candidate.within is not None and (within_finding is None or not near_candidate.is_near):
+        shown = shown_line(near_candidate.within)
         refused = "" if within_finding is None else f", and is refused: {within_finding.word}: {within_finding.hint}"
         why = f"`{shown}` {WITHIN}{refused}"
     elif finding is not None:
         why = f"{finding.word}: {finding.hint}"
-    elif not near.is_own:
+    elif not near_candidate.is_own:
         why = QUOTED
     else:
         why = IS_BALLOT if is_signed(letter, candidate) else UNSIGNED

@@ -109,18 +109,18 @@ def form_of(said: bytes) -> tuple[bool, bool]:
     return (said.startswith(b"- "), TIME.search(said) is not None)
 
 
-def long_mailbox(name: str, file: BinaryIO, begun: bytes, *, may_be_mapped: bool) -> bytes | mmap.mmap:
-    """A file of letters, whole, of which so much was read already. One on the disk may be mapped: then no more of it is read than is
+def long_mailbox(name: str, file: BinaryIO, read_already: bytes, *, may_be_mapped: bool) -> bytes | mmap.mmap:
+    """A file of letters, whole, of which its first bytes were read already. One on the disk may be mapped: then no more of it is read than is
     asked for. Of a pipe the rest is read. Raises OSError.
     """
     if may_be_mapped and stat.S_ISREG(os.fstat(file.fileno()).st_mode):
         size = os.fstat(file.fileno()).st_size
     else:
-        begun += file.read(LIMIT + 1 - len(begun))
-        size = len(begun)
+        read_already += file.read(LIMIT + 1 - len(read_already))
+        size = len(read_already)
     if size > LIMIT:
         raise Fault(name, f"it is longer than {LIMIT} bytes", "add it in parts", Status.BAD_BALLOTS, NOTHING)
-    return begun if size == len(begun) else mmap.mmap(file.fileno(), 0, access=mmap.ACCESS_READ)
+    return read_already if size == len(read_already) else mmap.mmap(file.fileno(), 0, access=mmap.ACCESS_READ)
 
 
 def letters_of_folder(name: str) -> tuple[list[Raw], list[str]]:
