@@ -113,12 +113,13 @@ def entries_in(file: pathlib.Path, most: int | None = None) -> list[Entry]:
 
 
 def entry_of(line: str) -> Entry | None:
-    """The entry of a line."""
-    row = line.split("\t")
-    if len(row) not in (5, 6) or not re.fullmatch(TIME, row[0]):
+    """The entry of a line; none of a line that is not one."""
+    parts = line.split("\t")
+    if len(parts) not in (5, 6) or not re.fullmatch(TIME, parts[0]):
         return None
-    envelopes, _, detail = row[2].partition(" ")
-    return Entry(row[0], row[1], envelopes, Sums(row[3], row[4]), row[5] if row[5:] else None, detail)
+    time, act, what, poll_sum, ballots_sum, *sixth_part = parts
+    envelopes, _, detail = what.partition(" ")
+    return Entry(time, act, envelopes, Sums(poll_sum, ballots_sum), sixth_part[0] if sixth_part else None, detail)
 
 
 def last_entries(file: pathlib.Path) -> list[Entry]:

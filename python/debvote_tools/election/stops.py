@@ -198,8 +198,8 @@ def first_lines_before(
 def beginning_of(data: bytes) -> bytes:
     """The first line of a file, as far as two files are compared by it at first sight: signs that may be changed are left out."""
     parts = PART.finditer(data.removeprefix(MARK))
-    first = next((part[1] for part in parts if part[1].strip(BLANKS) or part.end() == len(data)), b"")
-    return comparable(bytes(byte for byte in first[:LONGEST_LINE] if byte < 0x80).replace(b"-", b""))
+    first_line = next((part["line"] for part in parts if part["line"].strip(BLANKS) or part.end() == len(data)), b"")
+    return comparable(bytes(byte for byte in first_line[:LONGEST_LINE] if byte < 0x80).replace(b"-", b""))
 
 
 def comparable(data: bytes) -> bytes:

@@ -43,14 +43,14 @@ NOT_AS_CLOSED = sentence(
 )
 
 
-def tell_lines(lines: list[str]) -> None:
+def tell_each_aside(lines: list[str]) -> None:
     """Tells each line on standard error."""
     tell_aside(*(f"debvote-publish: {line}" for line in lines))
 
 
 def stop(found: list[Doubt]) -> Fault:
     """The fault that ends the run at these doubts, which are told."""
-    tell_lines([f"{doubt.told()} {EVEN_SO}" for doubt in found])
+    tell_each_aside([f"{doubt.told()} {EVEN_SO}" for doubt in found])
     return Told(Status.DOUBT)
 
 

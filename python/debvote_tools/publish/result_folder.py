@@ -166,7 +166,7 @@ def fill_open(folder: pathlib.Path, arguments: Arguments, given: Given, program_
     found_doubts += about_casting_vote(arguments, given, sheet, poll_bytes)
     found_doubts += about_texts(arguments, given, sheet)
     found_doubts += about_announced(arguments.poll_path, poll_sums_of(poll_bytes, sheet.last_envelope, given.announced))
-    stop_at_doubts(found_doubts, arguments)
+    stop_unless_even_so(found_doubts, arguments)
     times = times_of(doubts.election_of(arguments.poll_path), poll_bytes, ballots_bytes, sheet.last_envelope)
     return Ended(write_result(debvote, answer.text, given, found_doubts, Further(), times), answer.status)
 
@@ -191,7 +191,7 @@ def fill_secret(
         found_doubts += about_texts(arguments, given, private_sheet)
         found_doubts += about_announced(arguments.poll_path, poll_sums_of(hidden.poll_bytes, None, given.announced, is_secret=True))
         found_doubts += filter(None, [copy_is_gone(codes_path, poll_bytes)])
-        stop_at_doubts(found_doubts, arguments)
+        stop_unless_even_so(found_doubts, arguments)
         totals = findings_in(private_debvote.explain()).totals
     write_public(folder / POLL, hidden.poll_bytes)
     write_public(folder / BALLOTS, hidden.ballots_bytes)
@@ -226,7 +226,7 @@ def count(debvote: FolderDebvote, arguments: Arguments) -> Answer:
         return debvote.count()
     except Fault as fault:
         if fault.status == Status.BAD_POLL:
-            doubts.tell_lines(
+            doubts.tell_each_aside(
                 [doubt.told() for doubt in doubts.misplaced(debvote.program, arguments.poll_path, arguments.ballots_path)]
             )
         raise
@@ -259,7 +259,7 @@ def about_casting_vote(arguments: Arguments, given: Given, sheet: Sheet, poll_by
     return casting_vote.doubts_of(sheet, given.casting_vote, poll_bytes, dict.fromkeys([beside, *folders_of(arguments.poll_path)]))
 
 
-def stop_at_doubts(found_doubts: list[Doubt], arguments: Arguments) -> None:
+def stop_unless_even_so(found_doubts: list[Doubt], arguments: Arguments) -> None:
     """Stops at doubts, unless it is published even so; and at a reason that is given although there is no doubt."""
     if found_doubts and not arguments.even_so:
         raise doubts.stop(found_doubts)

@@ -14,7 +14,7 @@ from debvote_tools.election.folder import Election
 from debvote_tools.election.letters import keyring, store
 from debvote_tools.election.letters.adding import head_of, near_lines, waiting_words
 from debvote_tools.election.letters.message import Letter, letter_of
-from debvote_tools.election.letters.plan import BEHIND_DEADLINE, LATER_ONE, SIGNED_LATER, name_of
+from debvote_tools.election.letters.plan import BEHIND_DEADLINE, LATER_ONE, SIGNED_LATER, elector_of
 from debvote_tools.election.letters.quoting import are_own
 from debvote_tools.election.letters.reading import LONGEST_LINE, WITHIN, are_own_lines
 from debvote_tools.election.letters.signed import with_signed_part
@@ -250,9 +250,9 @@ def stop_at_later_one(election: Election, counted: PollAndBallots, kept: store.K
     """
     if kept.why in (LATER_ONE, SIGNED_LATER):
         return
-    name = name_of(line.changed.decode("ascii"))
+    name = elector_of(line.changed.decode("ascii"))
     for other in store.state_of(election, counted).kept_letters.values():
-        if other.is_in and name_of(other.ballot or "") == name and is_later(other, kept):
+        if other.is_in and elector_of(other.ballot or "") == name and is_later(other, kept):
             words = f"a ballot of {name} that came later is in already (letter {other.number}, envelope {other.envelope})"
             cure = "set it aside, or, if it is to take the place of that one, repeat the command with --even-so"
             raise Fault(f"letter {kept.number}", words, cure, Status.DOUBT, "nothing was changed")

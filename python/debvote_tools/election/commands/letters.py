@@ -181,7 +181,7 @@ def write_receipts(election: Election, arguments: Arguments) -> int:
         tell_edits(election, counted)
         sender = sender_of(counted.poll_bytes, arguments)
         known = addresses_of(election)
-        names = {address: name for name, member in known.members.items() for address in plan.addresses_in(member)}
+        names = {address: name for name, member in known.members.items() for address in plan.addresses_of_member(member)}
         answer = election.debvote.run("steps", *file_words(election, counted))
         if answer.faults:
             raise refusal(election, answer)
@@ -227,7 +227,7 @@ def receiver_of(letter: store.KeptLetter, names: dict[str, str], known: Known) -
     if letter.why == AUTOMATIC or letter.is_set_aside:
         return None
     if letter.is_in:
-        name = plan.name_of(letter.ballot or "")
+        name = plan.elector_of(letter.ballot or "")
         address = known.address(name)
         return None if address is None else Receiver(name, address)
     is_known = len(letter.senders) == 1 and letter.senders[0] in names and mail.is_address(letter.senders[0])

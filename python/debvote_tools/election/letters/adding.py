@@ -74,7 +74,7 @@ def add_letters(election: Election, came: LettersThatCame, *, is_look: bool, has
         elif plan.agreed_to() != seen.agreed_to():
             words = "what would become of the letters is not what was shown: somebody has changed the election meanwhile"
             raise Fault("add", words, "run the command again", Status.DOUBT, "nothing was added")
-        enter(election, counted, came, plan, is_told=seen is not None)
+        enter_letters(election, counted, came, plan, is_told=seen is not None)
     tell(f"Next: {what_next(election, plan)}")
     return Status.DONE
 
@@ -175,7 +175,7 @@ def near_lines(near: list[Near]) -> list[str]:
 
 
 # ---------------------------------------------------------------- what is entered
-def enter(election: Election, counted: PollAndBallots, came: LettersThatCame, plan: Plan, *, is_told: bool) -> None:
+def enter_letters(election: Election, counted: PollAndBallots, came: LettersThatCame, plan: Plan, *, is_told: bool) -> None:
     """Enters the ballots, and keeps the letters, as one act; tells the reply to each ballot, and which letters wait. The caller holds
     the lock alone.
     """

@@ -276,7 +276,7 @@ def text_of(data: bytes) -> Text:
     for part in parts_of(message):
         kind = part.get_content_type()
         if is_attachment(part):
-            attachments.append(name_of(part))
+            attachments.append(attachment_name(part))
         elif kind == "text/plain":
             plain_parts.append(part)
         elif kind == "text/html":
@@ -291,12 +291,12 @@ def text_of(data: bytes) -> Text:
         lines += part_text.lines
     is_open = any(isinstance(defect, CloseBoundaryNotFoundDefect) for part in message.walk() for defect in part.defects)
     if not any(line.strip() for line in lines):
-        return Text(lines_of_html(html_parts) or lines, paragraphs, tuple(attachments), (), is_open)
+        return Text(lines_of_html(html_parts) or lines, paragraphs, tuple(attachments), is_open=is_open)
     html_lines: list[str] = []
     # what is not read need not be readable
     with contextlib.suppress(Unread):
         html_lines = lines_of_html(html_parts)
-    return Text(lines, paragraphs, tuple(attachments), tuple(html_lines), is_open)
+    return Text(lines, paragraphs, tuple(attachments), tuple(html_lines), is_open=is_open)
 
 
 def lines_of_html(parts: list[email.message.Message]) -> list[str]:
@@ -350,7 +350,7 @@ def is_attachment(part: email.message.Message) -> bool:
     return part.get_content_disposition() == "attachment" or part.get_filename() is not None
 
 
-def name_of(part: email.message.Message) -> str:
+def attachment_name(part: email.message.Message) -> str:
     """What an attachment is called."""
     return str(part.get_filename() or part.get_content_type())[:100]
 

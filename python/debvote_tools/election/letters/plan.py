@@ -149,7 +149,7 @@ def signing_of(election: Election, counted: PollAndBallots, state: store.State) 
     last_signed: dict[str, datetime.datetime] = {}
     for kept in letters_in:
         if kept.signed_at is not None:
-            name = name_of(kept.ballot or "")
+            name = elector_of(kept.ballot or "")
             last_signed[name] = max(last_signed.get(name, EPOCH), datetime.datetime.fromisoformat(kept.signed_at))
     return Signing(
         demanded,
@@ -184,12 +184,12 @@ def last_arrivals(kept_letters: Iterable[store.KeptLetter]) -> dict[str, datetim
     last_arrived: dict[str, datetime.datetime] = {}
     for kept in kept_letters:
         if kept.ballot is not None and kept.envelope is not None and kept.time is not None:
-            name = name_of(kept.ballot)
+            name = elector_of(kept.ballot)
             last_arrived[name] = max(last_arrived.get(name, EPOCH), kept.time)
     return last_arrived
 
 
-def name_of(ballot: str) -> str:
+def elector_of(ballot: str) -> str:
     """The elector of a ballot."""
     return ballot.partition(" ")[0]
 
@@ -199,10 +199,10 @@ def addresses_of(election: Election) -> dict[str, frozenset[str]]:
     if not election.members_path.exists():
         return {}
     members = members_in(election.members_path, may_be_empty=True).members
-    return {member.name: found for member in members if member.name and (found := addresses_in(member))}
+    return {member.name: found for member in members if member.name and (found := addresses_of_member(member))}
 
 
-def addresses_in(member: Member) -> frozenset[str]:
+def addresses_of_member(member: Member) -> frozenset[str]:
     """The addresses of a member, in small letters; a cell may have several, each between angle brackets or not."""
     cells = (cell.strip("<>").removeprefix("mailto:").lower() for cell in BETWEEN_ADDRESSES.split(member.mail))
     return frozenset(cell for cell in cells if "@" in cell)
@@ -238,7 +238,7 @@ class Judge:
         if why is not None:
             return Decision(reading, None, why)
         (ballot,) = reading.ballots
-        name = name_of(ballot.changed.decode("ascii"))
+        name = elector_of(ballot.changed.decode("ascii"))
         if letter.arrived is not None:
             self.last_arrived[name] = letter.arrived
         if signing is not None and signature is not None:
@@ -267,7 +267,7 @@ class Judge:
         (ballot,) = reading.ballots
         if reading.html_ballots and ballot.changed not in reading.html_ballots:
             return f"{OTHER_SHOWN}: `{ballot.changed.decode('ascii')}` and `{reading.html_ballots[0].decode('ascii')}`"
-        name = name_of(ballot.changed.decode("ascii"))
+        name = elector_of(ballot.changed.decode("ascii"))
         other = self.other_signer(letter, name) or self.other_sender(letter, name)
         if other is not None:
             return other

@@ -207,11 +207,11 @@ def keep_letters(election: Election, record: str, received_name: str, raws: list
         starts.append(place + len(BETWEEN))
         place += len(BETWEEN) + raw.end - raw.start + 2
     file_name = f"{record}-{received_name}{LETTERS}"
-    write_whole(folder_of(election) / file_name, pieces_of(raws), FILE_MODE)
+    write_whole(folder_of(election) / file_name, bytes_of_letters(raws), FILE_MODE)
     return LettersFile(file_name, starts)
 
 
-def pieces_of(raws: list[Raw]) -> collections.abc.Iterator[bytes | memoryview]:
+def bytes_of_letters(raws: list[Raw]) -> collections.abc.Iterator[bytes | memoryview]:
     """The bytes of a file of letters."""
     for raw in raws:
         yield BETWEEN
