@@ -6,7 +6,9 @@ import email.policy
 import html
 import pathlib
 import re
+import tempfile
 
+import forks
 import support
 from support import BEGIN, BALLOTS, END, MARKED, POLL
 
@@ -53,9 +55,12 @@ def words_of(said: str) -> str:
 class Marked(support.LanguageTest):
     """A test in a language whose words are all marked."""
 
-    def setUp(self) -> None:
-        super().setUp()
-        self.tree = support.marked_tree(self.scratch / "tree")
+    @classmethod
+    def setUpClass(cls) -> None:
+        super().setUpClass()
+        tree = pathlib.Path(cls.enterClassContext(tempfile.TemporaryDirectory(prefix="debvote-marked-")))
+        cls.tree = support.marked_tree(tree / "tree")
+        cls.enterClassContext(forks.servers(1, [str(cls.tree / "bin" / program) for program in support.PROGRAMS]))
 
     def check_page(self, file: pathlib.Path) -> str:
         page = file.read_text(encoding="utf-8")

@@ -4,15 +4,16 @@ import os
 import pathlib
 import re
 import shutil
-import subprocess
 import sys
 import tempfile
 import unittest
 
+import forks
 import sentences
 
 ROOT = pathlib.Path(__file__).resolve().parents[2]
 PROGRAM = ROOT / "crates" / "debvote" / "out" / "debvote"
+PROGRAMS = ("debvote-election", "debvote-publish")
 LANGUAGES = ("de", "es", "fr")
 
 # a run that has not ended by then hangs: far more than any takes beside other work
@@ -75,17 +76,17 @@ class LanguageTest(unittest.TestCase):
     """A test with a folder of its own."""
 
     maxDiff = None
+    # where the programs are
+    tree = ROOT
 
     def setUp(self) -> None:
         self.scratch = pathlib.Path(tempfile.mkdtemp(prefix="debvote-languages-"))
         self.addCleanup(shutil.rmtree, self.scratch, ignore_errors=True)
-        self.tree = ROOT
-
     def run_program(self, program: str, *words: object, given: str = "", statuses: tuple[int, ...] = (0,)) -> str:
         """What a program says, which has to end with one of these statuses."""
         path = os.pathsep.join([str(PROGRAM.parent), os.environ["PATH"]])
-        ended = subprocess.run(
-            [sys.executable, self.tree / "bin" / program, *map(str, words)],
+        ended = forks.run(
+            [sys.executable, str(self.tree / "bin" / program), *map(str, words)],
             cwd=self.scratch,
             input=given,
             capture_output=True,

@@ -203,17 +203,13 @@ def are_own_lines(letter: Letter) -> list[bool]:
 def other_words_in(letter: Letter, own_by_line: list[bool], ballot: Candidate) -> list[str]:
     """The lines with words that are the elector's own now, and neither the ballot nor a part of it where it is wrapped."""
     ballot_text = ballot.bare.decode("utf-8")
-    places = [
-        place
+    own_lines = [
+        letter.lines[place]
         for place, is_own in enumerate(own_by_line)
         if is_own and (letter.signed_lines is None or place in letter.signed_lines)
     ]
-    lines = [letter.lines[place] for place in places]
-    return [
-        line
-        for line in lines
-        if re.search(r"\w", line) and line.strip() not in ballot_text and changed(line.encode()) != ballot.changed
-    ]
+    lines = [line for line in own_lines if re.search(r"\w", line) and line.strip() not in ballot_text]
+    return [line for line in lines if changed(line.encode("utf-8", "replace")) != ballot.changed]
 
 
 def html_ballots_in(letter: Letter, html_candidates: list[Candidate], replies: dict[bytes, str]) -> list[bytes]:

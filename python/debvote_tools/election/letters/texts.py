@@ -72,7 +72,7 @@ OTHER_KEY = marked("The reason: it is signed with another key than the list of m
 NO_KEY = marked("The reason: the list of members has no key for the name on the ballot.")
 # why a letter can't be read, or its signature is not good, by the words of the program
 UNREAD = [
-    (re.compile(pattern), text)
+    (re.compile(pattern, re.DOTALL), text)
     for pattern, text in (
         (r"it has (?P<bytes>\d+) bytes, .*", marked("The reason: it has {bytes} bytes, and letters so long are not read.")),
         (
