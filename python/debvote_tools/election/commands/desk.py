@@ -54,14 +54,14 @@ class Desk:
         """Enters lines, and keeps what came before, unless it is kept already; empty lines are left out and told."""
         with self.election.changing() as counted:
             tell_edits(self.election, counted)
-            full = [line for line in lines if not line.is_empty]
+            filled = [line for line in lines if not line.is_empty]
             for line in lines:
                 if line.is_empty:
                     tell(f"{line.where}: it is empty, and was left out")
             # what is told is counted too
             with uninterrupted():
-                if full:
-                    self.batches.append(self.entered(counted, full, data))
+                if filled:
+                    self.batches.append(self.entered(counted, filled, data))
                 else:
                     self.keep(data)
 

@@ -45,8 +45,8 @@ def letters_that_came(received_name: str, raws: list[Raw], others: list[str]) ->
     for letter in map(letter_of, raws):
         before = letters[-1] if letters else None
         is_behind_open_one = before is not None and before.is_open and before.raw.source is letter.raw.source
-        doubt = BEHIND_OPEN_ONE if is_behind_open_one and letter.doubt is None else letter.doubt
-        letters.append(dataclasses.replace(letter, doubt=doubt))
+        why_not_own = letter.why_not_own or (BEHIND_OPEN_ONE if is_behind_open_one else None)
+        letters.append(dataclasses.replace(letter, why_not_own=why_not_own))
     return LettersThatCame(received_name, letters, others)
 
 

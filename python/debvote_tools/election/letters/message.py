@@ -68,7 +68,7 @@ class Raw:
     source: memoryview
     start: int
     end: int
-    doubt: str | None = None
+    why_not_own: str | None = None
 
     @property
     def data(self) -> bytes:
@@ -102,7 +102,7 @@ class Letter:
     # whether one of its parts has no end
     is_open: bool
     # why it may be no letter of its own
-    doubt: str | None
+    why_not_own: str | None
     # where letters have to be signed, `signed.py` reads the lines, paragraphs and attachments anew, part by part, and adds the places of
     # the lines that are signed, what was signed, or why there is not one signature; `verifying.py` asks gpgv, and adds the good
     # signature, or why it is none
@@ -191,7 +191,7 @@ def letter_of(raw: Raw) -> Letter:
         text_sum=sum_of("\n".join(text.lines).encode("utf-8", "replace") if trouble is None else data),
         html_lines=tuple(text.html_lines),
         is_open=text.is_open,
-        doubt=raw.doubt,
+        why_not_own=raw.why_not_own,
     )
 
 

@@ -255,8 +255,8 @@ class Judge:
             return letter.trouble
         if letter.is_automatic:
             return AUTOMATIC
-        if letter.doubt is not None:
-            return letter.doubt
+        if letter.why_not_own is not None:
+            return letter.why_not_own
         why = why_ballot_unsigned(reading)
         if why is not None:
             return why

@@ -102,11 +102,11 @@ class State:
     kept_letters: dict[int, KeptLetter]
     next_number: int
     # for each act that entered lines, and was not taken back, the letters that it has changed, as they were before it
-    entering: list[dict[int, KeptLetter | None]] = dataclasses.field(default_factory=list)
+    before_acts: list[dict[int, KeptLetter | None]] = dataclasses.field(default_factory=list)
 
     def take_back(self) -> None:
         """Takes back what the last act that entered lines has changed of the letters, as `undo` does."""
-        for number, before in self.entering.pop().items() if self.entering else ():
+        for number, before in self.before_acts.pop().items() if self.before_acts else ():
             if before is None:
                 self.kept_letters.pop(number, None)
             else:
@@ -135,7 +135,7 @@ def state_of(election: Election, counted: PollAndBallots) -> State:
             continue
         after = letters_after(election, entry, state)
         if entry.act in journal.ENTERING:
-            state.entering.append({number: state.kept_letters.get(number) for number in after})
+            state.before_acts.append({number: state.kept_letters.get(number) for number in after})
         state.kept_letters |= after
         state.next_number = max([state.next_number, *(number + 1 for number in after)])
     return state
