@@ -103,13 +103,16 @@ def changes_in(folder: pathlib.Path, acts: Sequence[Entry], ballots_bytes: bytes
     """
     lines, late_lines = parted(folder, acts, ballots_bytes)
     acts_in_time = acts_until_close(acts)
-    in_time_sums = {sum_of(ballot_file(lines)), *sums_noted_of(ballots_bytes)}
-    edit = first_edit(acts_in_time, in_time_sums)
-    if edit is not None:
-        return changes_before_close(folder, acts, edit, lines, late_lines)
-    if is_edited_since(acts[len(acts_in_time) - 1 :], ballots_bytes):
+    # if nobody has edited the ballots since the last of these acts, it has one of these sums
+    unedited_sums = {sum_of(ballot_file(lines)), *sums_noted_of(ballots_bytes)}
+    edit_place = first_edit(acts_in_time, unedited_sums)
+    if edit_place is not None:
+        return changes_before_close(folder, acts, edit_place, lines, late_lines)
+    # the close, and what was done behind it; while the election is open this begins with an act that is no close
+    acts_from_close = acts[len(acts_in_time) - 1 :]
+    if is_edited_since(acts_from_close, ballots_bytes):
         # without its copy nobody knows which lines were in time at the close; that is told where they are compared
-        is_known = (folder / BALLOTS_COPY).is_file() or acts_in_time[-1].sums.ballots in in_time_sums
+        is_known = (folder / BALLOTS_COPY).is_file() or acts_in_time[-1].sums.ballots in unedited_sums
         return changes_after_close(folder, acts, lines, late_lines) if is_known else NOTHING
     if stand_as_entered(acts_in_time, len(acts_in_time), lines, set()):
         return NOTHING
@@ -122,23 +125,25 @@ def sums_noted_of(ballots_bytes: bytes) -> set[str]:
 
 
 def changes_before_close(
-    folder: pathlib.Path, acts: Sequence[Entry], edit: int | None, lines: list[bytes], late_lines: list[bytes]
+    folder: pathlib.Path, acts: Sequence[Entry], edit_place: int | None, lines: list[bytes], late_lines: list[bytes]
 ) -> Changes:
-    """What was done before the close, or while the election is open; `edit` is the place of the first edit among the acts."""
+    """What was done before the close, or while the election is open; `edit_place` is that of the first edit among the acts (`first_edit`),
+    and there is none where the journal tells of no edit, but its acts do not make these lines.
+    """
     acts_in_time = acts_until_close(acts)
-    came = lines_that_came(folder, acts)
-    missing = missing_of(came, lines + late_lines)
-    added = not_come(came, lines)
-    edit_place = len(acts_in_time) if edit is None else edit
-    is_as_entered = stand_as_entered(acts_in_time, edit_place, lines, {one.number for one in added})
+    came_lines = lines_that_came(folder, acts)
+    missing = missing_of(came_lines, lines + late_lines)
+    added = not_come(came_lines, lines)
+    unedited_acts = len(acts_in_time) if edit_place is None else edit_place
+    is_as_entered = stand_as_entered(acts_in_time, unedited_acts, lines, {one.number for one in added})
     if is_as_entered and all(entry.lines_sum is not None for entry in journal.entered_and_not_undone(acts_in_time)):
         # an `add` that was killed before its act began has kept what came, and so has the one that was run again
         lines_there = set(lines)
         missing = [came_line for came_line in missing if came_line.changed not in lines_there and came_line.bare not in lines_there]
     if missing or is_as_entered:
         # lines that were there before the first act are no edit
-        return NOTHING if edit is None and not missing else Changes(missing, added)
-    is_same_order = stand_as_came(lines, came)
+        return NOTHING if edit_place is None and not missing else Changes(missing, added)
+    is_same_order = stand_as_came(lines, came_lines)
     return Changes(missing, added, is_reordered=not is_same_order, is_other=is_same_order)
 
 
@@ -202,10 +207,10 @@ def lines_that_came(folder: pathlib.Path, acts: Sequence[Entry]) -> list[Receive
     return kept[::-1]
 
 
-def missing_of(came: list[ReceivedLine], lines: list[bytes]) -> list[ReceivedLine]:
+def missing_of(came_lines: list[ReceivedLine], lines: list[bytes]) -> list[ReceivedLine]:
     """Those that came and are not among these lines; a line that came twice has to stand there twice."""
     there = collections.Counter(lines)
-    return [came_line for came_line in came if not is_taken(there, came_line)]
+    return [came_line for came_line in came_lines if not is_taken(there, came_line)]
 
 
 def is_taken(left: collections.Counter[bytes], came_line: ReceivedLine) -> bool:
@@ -216,16 +221,17 @@ def is_taken(left: collections.Counter[bytes], came_line: ReceivedLine) -> bool:
     return text is not None
 
 
-def not_come(came: list[ReceivedLine], lines: list[bytes]) -> list[NumberedLine]:
+def not_come(came_lines: list[ReceivedLine], lines: list[bytes]) -> list[NumberedLine]:
     """The lines that have the shape of a ballot, and stand more often here than they came."""
-    may_stand_there = [text for came_line in came for text in {came_line.changed, came_line.bare}]
+    may_stand_there = [text for came_line in came_lines for text in {came_line.changed, came_line.bare}]
     return [numbered_line for numbered_line in beyond(lines, may_stand_there) if BALLOT.fullmatch(numbered_line.line)]
 
 
-def stand_as_entered(acts: Sequence[Entry], edit_place: int, lines: list[bytes], left_out: set[int]) -> bool:
-    """Whether the lines, but for these, are those that the acts have entered, in their order.
+def stand_as_entered(acts: Sequence[Entry], unedited_acts: int, lines: list[bytes], left_out: set[int]) -> bool:
+    """Whether the lines, but for those with these numbers, are the ones that the acts have entered, in their order.
 
-    Where an act has no sum of its own lines, they have to begin with what stood there before the first edit.
+    Where an act has no sum of its own lines, as those of earlier versions, they have to begin with what stood there before the first
+    edit, behind so many acts.
     """
     own_lines = [line for number, line in enumerate(lines, start=1) if number not in left_out]
     entering = journal.entered_and_not_undone(acts)
@@ -234,7 +240,7 @@ def stand_as_entered(acts: Sequence[Entry], edit_place: int, lines: list[bytes],
     starts = {0, max(0, count_before), max(0, count_before - sum(number <= count_before for number in left_out))}
     if not any(follow(entering, own_lines[start:]) for start in starts):
         return False
-    last_before_edit = next(reversed(journal.entered_and_not_undone(acts[:edit_place])), None)
+    last_before_edit = next(reversed(journal.entered_and_not_undone(acts[:unedited_acts])), None)
     if last_before_edit is None or all(entry.lines_sum is not None for entry in entering):
         return True
     return sum_of(ballot_file(own_lines[: last_before_edit.last_envelope()])) == last_before_edit.sums.ballots
@@ -251,11 +257,13 @@ def follow(entering: list[Entry], lines: list[bytes]) -> bool:
     return True
 
 
-def stand_as_came(lines: list[bytes], came: list[ReceivedLine]) -> bool:
+def stand_as_came(lines: list[bytes], came_lines: list[ReceivedLine]) -> bool:
     """Whether the lines that came stand in the order in which they are kept."""
-    may_stand_there = {text for line in came for text in (line.changed, line.bare)}
+    may_stand_there = {text for came_line in came_lines for text in (came_line.changed, came_line.bare)}
     there = [line for line in lines if line in may_stand_there]
-    return len(there) == len(came) and all(line in (came_line.changed, came_line.bare) for line, came_line in zip(there, came))
+    return len(there) == len(came_lines) and all(
+        line in (came_line.changed, came_line.bare) for line, came_line in zip(there, came_lines)
+    )
 
 
 # ---------------------------------------------------------------- the publication
