@@ -78,12 +78,12 @@ class Question:
     at that time, of which it is told already what was edited by hand.
     """
 
-    lines_by_file: list[FileLines]
+    lines_of_files: list[FileLines]
     sums: Sums
 
-    def is_about(self, lines_by_file: list[FileLines]) -> bool:
+    def is_about(self, lines_of_files: list[FileLines]) -> bool:
         """Whether the same first lines of the same files came before as when it was asked."""
-        return [one.came_before for one in self.lines_by_file] == [one.came_before for one in lines_by_file]
+        return [one.came_before for one in self.lines_of_files] == [one.came_before for one in lines_of_files]
 
 
 # ---------------------------------------------------------------- add, look
@@ -91,7 +91,7 @@ def add_lines(election: Election, adding: Adding) -> int:
     """Adds lines, and returns the exit status. Whoever is asked about a file holds up no other command: the lock is free meanwhile."""
     question = add_unless_asked(election, adding)
     if question is not None:
-        ask_about_rest(question.lines_by_file)
+        ask_about_rest(question.lines_of_files)
         add_unless_asked(election, adding, agreed=question)
     tell(f"Next: {what_next(election)}")
     return Status.DONE
@@ -105,23 +105,25 @@ def add_unless_asked(election: Election, adding: Adding, agreed: Question | None
         demand_own_folder(election)
         if agreed is None or agreed.sums != counted.sums or election.cut_off is not None:
             tell_edits(election, counted)
-        lines_by_file = read_lines(election, counted, adding)
-        if agreed is not None and not agreed.is_about(lines_by_file):
+        lines_of_files = read_lines(election, counted, adding)
+        if agreed is not None and not agreed.is_about(lines_of_files):
             words = "what would be added is not what was asked about: somebody has changed the election meanwhile"
             raise Fault("add", words, "run the command again", Status.DOUBT, "nothing was added")
-        has_rest = any(file_lines.came_before is not None for file_lines in lines_by_file)
+        has_rest = any(file_lines.came_before is not None for file_lines in lines_of_files)
         if has_rest and agreed is None and not adding.has_yes:
-            return Question(lines_by_file, counted.sums)
+            return Question(lines_of_files, counted.sums)
         tell_if_early_or_late(election, counted, "what is added")
-        tell_lines(rest_words(lines_by_file))
-        batch = batch_or_keep(election, counted, filled_lines(lines_by_file), lambda: keep_inputs(election, lines_by_file, adding))
-        batch_files = files_of_batch(lines_by_file, batch)
+        tell_lines(rest_words(lines_of_files))
+        batch = batch_or_keep(
+            election, counted, filled_lines(lines_of_files), lambda: keep_inputs(election, lines_of_files, adding)
+        )
+        batch_files = files_of_batch(lines_of_files, batch)
         if not adding.even_so:
             stop_at_doubts(election, counted, batch_files, adding)
-        tell_empty(lines_by_file)
+        tell_empty(lines_of_files)
         with whole_act(election):
-            keep_inputs(election, lines_by_file, adding)
-            keep_lines(election, lines_by_file, batch_files, adding)
+            keep_inputs(election, lines_of_files, adding)
+            keep_lines(election, lines_of_files, batch_files, adding)
             enter_batch(election, "add", counted, batch)
     tell_lines([words for batch_file in batch_files for words in doubles_words(batch_file)])
     tell(f"Added {summary([batch])}.")
@@ -132,12 +134,12 @@ def look_at_lines(election: Election, adding: Adding) -> int:
     """Tells what would become of lines, and changes nothing: it stops where `add_lines` would, but asks nothing."""
     with election.reading() as counted:
         demand_own_folder(election)
-        lines_by_file = read_lines(election, counted, adding)
+        lines_of_files = read_lines(election, counted, adding)
         tell_if_early_or_late(election, counted, "what is added")
-        tell_lines(rest_words(lines_by_file))
-        tell_empty(lines_by_file)
-        batch = batch_of(election, counted, filled_lines(lines_by_file))
-        batch_files = files_of_batch(lines_by_file, batch)
+        tell_lines(rest_words(lines_of_files))
+        tell_empty(lines_of_files)
+        batch = batch_of(election, counted, filled_lines(lines_of_files))
+        batch_files = files_of_batch(lines_of_files, batch)
         tell_lines([words for batch_file in batch_files for words in doubles_words(batch_file)])
         tell(*report(election, batch, is_entered=False))
         if not adding.even_so:
@@ -205,52 +207,52 @@ def without_first_lines(election: Election, counted: PollAndBallots, whole_file:
     return FileLines(lines_input, lines[filled_places[came_before.line_count] :], came_before)
 
 
-def filled_lines(lines_by_file: list[FileLines]) -> list[Line]:
+def filled_lines(lines_of_files: list[FileLines]) -> list[Line]:
     """The lines of all files that are not empty."""
-    return [line for file_lines in lines_by_file for line in file_lines.filled]
+    return [line for file_lines in lines_of_files for line in file_lines.filled]
 
 
-def files_of_batch(lines_by_file: list[FileLines], batch: Batch) -> list[BatchFile]:
+def files_of_batch(lines_of_files: list[FileLines], batch: Batch) -> list[BatchFile]:
     """The lines of a batch by the files that they came in."""
     left = iter(batch.lines)
     return [
         BatchFile(file_lines.lines_input.name, file_lines.lines_input.data, [next(left) for _ in file_lines.filled])
-        for file_lines in lines_by_file
+        for file_lines in lines_of_files
     ]
 
 
 # ---------------------------------------------------------------- what is kept in received/
-def keep_inputs(election: Election, lines_by_file: list[FileLines], adding: Adding) -> None:
+def keep_inputs(election: Election, lines_of_files: list[FileLines], adding: Adding) -> None:
     """Keeps the files that came, as they came."""
-    for file_lines in lines_by_file:
+    for file_lines in lines_of_files:
         ending = received.IN_PART if file_lines.came_before is not None and not adding.is_table else ""
         lines_input = file_lines.lines_input
         write_new(election.received_folder, f"{lines_input.received_name}{ending}", lines_input.data)
 
 
-def keep_lines(election: Election, lines_by_file: list[FileLines], batch_files: list[BatchFile], adding: Adding) -> None:
+def keep_lines(election: Election, lines_of_files: list[FileLines], batch_files: list[BatchFile], adding: Adding) -> None:
     """Keeps the lines that the rows of a table have made, and those of a file that alone are entered, so that they can be looked
     for.
     """
-    for file_lines, batch_file in zip(lines_by_file, batch_files):
+    for file_lines, batch_file in zip(lines_of_files, batch_files):
         if adding.is_table or file_lines.came_before is not None:
             data = ballot_file(line.as_entered for line in batch_file.lines)
             write_new(election.received_folder, f"{file_lines.lines_input.received_name}{received.LINES}", data)
 
 
 # ---------------------------------------------------------------- first lines that came before
-def rest_words(lines_by_file: list[FileLines]) -> list[str]:
+def rest_words(lines_of_files: list[FileLines]) -> list[str]:
     """Which first lines came before, in words."""
     return [
         f"{file_lines.lines_input.name}: {file_lines.came_before.words(len(file_lines.filled))}"
-        for file_lines in lines_by_file
+        for file_lines in lines_of_files
         if file_lines.came_before is not None
     ]
 
 
-def ask_about_rest(lines_by_file: list[FileLines]) -> None:
+def ask_about_rest(lines_of_files: list[FileLines]) -> None:
     """Asks at a terminal whether the lines that are new are to be added alone; elsewhere it stops."""
-    known = [(one.lines_input.name, one.came_before) for one in lines_by_file if one.came_before is not None]
+    known = [(one.lines_input.name, one.came_before) for one in lines_of_files if one.came_before is not None]
     for name, came_before in known[1:]:
         tell(
             f"{name}: its first {count_of(came_before.line_count, 'line')} came before, in this order, with {came_before.earlier_path}."
@@ -263,9 +265,9 @@ def ask_about_rest(lines_by_file: list[FileLines]) -> None:
 
 
 # ---------------------------------------------------------------- what is told
-def tell_empty(lines_by_file: list[FileLines]) -> None:
+def tell_empty(lines_of_files: list[FileLines]) -> None:
     """Says which lines are left out."""
-    empty = [line for file_lines in lines_by_file for line in file_lines.lines if line.is_empty]
+    empty = [line for file_lines in lines_of_files for line in file_lines.lines if line.is_empty]
     tell_lines([f"{line.where}: it is empty, and was left out" for line in empty])
 
 

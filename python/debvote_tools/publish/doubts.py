@@ -133,7 +133,7 @@ def from_windows(poll_path: str, ballots_path: str) -> Doubt:
     reason = "all refused lines end with a carriage return, as those of a file from Windows do"
     unix = f"{ballots_path}.unix"
     cure = f"take it out, and give the file that this makes: tr -d '\\r' < {shlex.quote(ballots_path)} > {shlex.quote(unix)}"
-    if election_of(poll_path) is not None:
+    if election_folder_of(poll_path) is not None:
         cure = f"take it out of the file: sed -i 's/\\r$//' {shlex.quote(ballots_path)}"
     said = sentence(
         "All refused lines end with a carriage return, as those of a file from Windows do: they may be ballots that were meant to "
@@ -199,7 +199,7 @@ def about_election(made_folder: pathlib.Path, poll_path: str, ballots_path: str,
 
     `made_folder` is the folder that is made: it has the copies of both files that are published.
     """
-    folder = election_of(poll_path)
+    folder = election_folder_of(poll_path)
     if folder is None:
         return []
     poll_bytes, ballots_bytes = (made_folder / POLL).read_bytes(), (made_folder / BALLOTS).read_bytes()
@@ -249,7 +249,7 @@ def no_folder(folder: pathlib.Path, call: called.Called) -> Doubt:
     return Doubt(str(folder / called.FOLDER), reason, cure, said, said)
 
 
-def election_of(poll_path: str) -> pathlib.Path | None:
+def election_folder_of(poll_path: str) -> pathlib.Path | None:
     """The folder of the election in which the poll lies, if there is one."""
     places = folders_of(poll_path)
     return next((place for place in places if (place / journal.NAME).is_file() or lost.trace_in(place) is not None), None)

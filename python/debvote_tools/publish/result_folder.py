@@ -148,7 +148,7 @@ def given_in(arguments: Arguments) -> Given:
 
 def texts_called(arguments: Arguments) -> option_texts.Texts | None:
     """The texts of the options that the call has shown, where the poll lies in an election that has called them."""
-    election_folder = doubts.election_of(arguments.poll_path)
+    election_folder = doubts.election_folder_of(arguments.poll_path)
     return None if election_folder is None or call_of(election_folder) is None else option_texts.called_in(election_folder)
 
 
@@ -167,7 +167,7 @@ def fill_open(folder: pathlib.Path, arguments: Arguments, given: Given, program_
     found_doubts += about_texts(arguments, given, sheet)
     found_doubts += about_announced(arguments.poll_path, poll_sums_of(poll_bytes, sheet.last_envelope, given.announced))
     stop_unless_even_so(found_doubts, arguments)
-    times = times_of(doubts.election_of(arguments.poll_path), poll_bytes, ballots_bytes, sheet.last_envelope)
+    times = times_of(doubts.election_folder_of(arguments.poll_path), poll_bytes, ballots_bytes, sheet.last_envelope)
     return Ended(write_result(debvote, answer.text, given, found_doubts, Further(), times), answer.status)
 
 
@@ -201,7 +201,7 @@ def fill_secret(
     under_aliases.demand_all_count(sheet_in(answer.text))
     further = under_aliases.further_of(hidden, totals, given.language, with_voters=arguments.voters)
     # the sum of the lines in time is private
-    times = times_of(doubts.election_of(arguments.poll_path), poll_bytes, ballots_bytes, None)
+    times = times_of(doubts.election_folder_of(arguments.poll_path), poll_bytes, ballots_bytes, None)
     said = write_result(debvote, answer.text, given, under_aliases.without_names(found_doubts), further, times)
     under_aliases.demand_no_code(folder, codes_path)
     return Ended(said, answer.status)
