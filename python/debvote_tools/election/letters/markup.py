@@ -184,8 +184,8 @@ class Reader:
             self.parts.append(line)
 
     def end_line(self) -> None:
-        """Ends the line, where there is something on it. Whether it is quoted says the innermost element: so a line is ended before an
-        element that is quoted, or is not, is opened or closed.
+        """Ends the line, where there is something on it. It is quoted where the innermost element is: so a line has to be ended before
+        `open` is changed, where that makes a difference.
         """
         text = "".join(self.parts).strip()
         self.parts.clear()

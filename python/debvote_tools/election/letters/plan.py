@@ -104,8 +104,8 @@ def plan_of(election: Election, counted: PollAndBallots, letters: list[Letter]) 
     state = store.state_of(election, counted)
     signing = signing_of(election, counted, state)
     if signing is not None:
-        # before they are told from those that came before: to their identity belongs the sum of the signature, which stands in the text.
-        # The sum of the text stays that of the first reading, by which letters are known in elections without signatures, too.
+        # this finds the signature, whose sum belongs to the identity of a letter, so it comes before `new_letters`; the sum of the text
+        # stays that of the first reading, as the records have it
         letters = [with_signed_part(letter) for letter in letters]
     ordered = in_order(new_letters(letters, state))
     if signing is not None:
