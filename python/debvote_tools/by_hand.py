@@ -12,7 +12,7 @@ import pathlib
 from collections.abc import Sequence
 
 from debvote_tools import journal
-from debvote_tools.closed import BALLOTS_COPY, beyond, number_of
+from debvote_tools.closed import BALLOTS_COPY, NumberedLine, beyond, number_of
 from debvote_tools.faults import Doubt
 from debvote_tools.files import sum_of
 from debvote_tools.journal import Entry
@@ -33,13 +33,13 @@ REORDERED_AFTER = marked("The order of lines that came was changed by hand after
 
 @dataclasses.dataclass(frozen=True)
 class Changes:
-    """What differs from what came: lines that are not there, lines that are there and did not come, each with its number; whether
-    the lines that came stand in another order, or are others by the journal alone, as where what is kept was changed with them; and
-    how many late ones are gone of which nothing is kept.
+    """What differs from what came: lines that are not there, lines that are there and did not come; whether the lines that came stand
+    in another order, or are others by the journal alone, as where what is kept was changed with them; and how many late ones are gone
+    of which nothing is kept.
     """
 
     missing: list[ReceivedLine]
-    added: list[tuple[int, bytes]]
+    added: list[NumberedLine]
     is_reordered: bool = False
     is_other: bool = False
     fewer: int = 0
@@ -57,25 +57,27 @@ class Changes:
 
     def said(self) -> tuple[Sentence, ...]:
         """The same, as they may be said in any language."""
-        missing, added = len(self.missing) - MOST, len(self.added) - MOST
+        more_missing, more_added = len(self.missing) - MOST, len(self.added) - MOST
         found = [
             sentence("`{line}` came ({where}), and is not among the ballots", line=shown_line(came.changed), where=came.where)
             for came in self.missing[:MOST]
         ]
-        if missing > 0:
+        if more_missing > 0:
             found.append(
                 numbered(
                     "and {number} more came, and is not among the ballots",
                     "and {number} more came, and are not among the ballots",
-                    missing,
+                    more_missing,
                 )
             )
         found += [
             sentence("line {number}, `{line}`, is not among what came", number=number, line=shown_line(line))
             for number, line in self.added[:MOST]
         ]
-        if added > 0:
-            found.append(numbered("and {number} more is not among what came", "and {number} more are not among what came", added))
+        if more_added > 0:
+            found.append(
+                numbered("and {number} more is not among what came", "and {number} more are not among what came", more_added)
+            )
         if self.is_reordered:
             found.append(sentence("the lines stand in another order than that in which they came"))
         if self.is_other:
@@ -101,37 +103,47 @@ def changes_in(folder: pathlib.Path, acts: Sequence[Entry], ballots_bytes: bytes
     """
     lines, late_lines = parted(folder, acts, ballots_bytes)
     acts_in_time = acts_until_close(acts)
-    sums = {sum_of(ballot_file(lines)), sum_of(ballots_bytes), *([] if ballots_bytes else [journal.NONE])}
-    edit = first_edit(acts_in_time, sums)
-    if edit is not None:
-        return changes_before_close(folder, acts, edit, lines, late_lines)
-    if is_edited_since(acts[len(acts_in_time) - 1 :], ballots_bytes):
+    # if nobody has edited the ballots since the last of these acts, it has one of these sums
+    unedited_sums = {sum_of(ballot_file(lines)), *sums_noted_of(ballots_bytes)}
+    edit_place = first_edit(acts_in_time, unedited_sums)
+    if edit_place is not None:
+        return changes_before_close(folder, acts, edit_place, lines, late_lines)
+    # the close, and what was done behind it; while the election is open this begins with an act that is no close
+    acts_from_close = acts[len(acts_in_time) - 1 :]
+    if is_edited_since(acts_from_close, ballots_bytes):
         # without its copy nobody knows which lines were in time at the close; that is told where they are compared
-        is_known = (folder / BALLOTS_COPY).is_file() or acts_in_time[-1].sums.ballots in sums
+        is_known = (folder / BALLOTS_COPY).is_file() or acts_in_time[-1].sums.ballots in unedited_sums
         return changes_after_close(folder, acts, lines, late_lines) if is_known else NOTHING
     if stand_as_entered(acts_in_time, len(acts_in_time), lines, set()):
         return NOTHING
     return changes_before_close(folder, acts, None, lines, late_lines)
 
 
+def sums_noted_of(ballots_bytes: bytes) -> set[str]:
+    """What the journal may have as the sum of these ballots: of none it is that of an empty file, or that there is no file."""
+    return {sum_of(ballots_bytes), *([] if ballots_bytes else [journal.NONE])}
+
+
 def changes_before_close(
-    folder: pathlib.Path, acts: Sequence[Entry], edit: int | None, lines: list[bytes], late_lines: list[bytes]
+    folder: pathlib.Path, acts: Sequence[Entry], edit_place: int | None, lines: list[bytes], late_lines: list[bytes]
 ) -> Changes:
-    """What was done before the close, or while the election is open; `edit` is the place of the first edit among the acts."""
+    """What was done before the close, or while the election is open; `edit_place` is that of the first edit among the acts (`first_edit`),
+    and there is none where the journal tells of no edit, but its acts do not make these lines.
+    """
     acts_in_time = acts_until_close(acts)
-    came = lines_that_came(folder, acts)
-    missing = missing_of(came, lines + late_lines)
-    added = not_come(came, lines)
-    first_edit_place = len(acts_in_time) if edit is None else edit
-    is_as_entered = stand_as_entered(acts_in_time, first_edit_place, lines, {number for number, _ in added})
+    came_lines = lines_that_came(folder, acts)
+    missing = missing_of(came_lines, lines + late_lines)
+    added = not_come(came_lines, lines)
+    unedited_acts = len(acts_in_time) if edit_place is None else edit_place
+    is_as_entered = stand_as_entered(acts_in_time, unedited_acts, lines, {one.number for one in added})
     if is_as_entered and all(entry.lines_sum is not None for entry in journal.entered_and_not_undone(acts_in_time)):
         # an `add` that was killed before its act began has kept what came, and so has the one that was run again
-        there = set(lines)
-        missing = [line for line in missing if line.changed not in there and line.bare not in there]
+        lines_there = set(lines)
+        missing = [came_line for came_line in missing if came_line.changed not in lines_there and came_line.bare not in lines_there]
     if missing or is_as_entered:
         # lines that were there before the first act are no edit
-        return NOTHING if edit is None and not missing else Changes(missing, added)
-    is_same_order = stand_as_came(lines, came)
+        return NOTHING if edit_place is None and not missing else Changes(missing, added)
+    is_same_order = stand_as_came(lines, came_lines)
     return Changes(missing, added, is_reordered=not is_same_order, is_other=is_same_order)
 
 
@@ -139,8 +151,8 @@ def changes_after_close(folder: pathlib.Path, acts: Sequence[Entry], lines: list
     """What was done after the close alone: late lines that came and are gone."""
     missing = missing_of(lines_that_came(folder, acts), lines + late_lines)
     late_acts = acts[len(acts_until_close(acts)) :]
-    entered = sum(entry.envelope_count() for entry in late_acts if entry.act in journal.ENTERING)
-    fewer = 0 if missing else max(0, entered - len(late_lines))
+    entered_count = sum(entry.envelope_count() for entry in late_acts if entry.act in journal.ENTERING)
+    fewer = 0 if missing else max(0, entered_count - len(late_lines))
     return Changes(missing, [], fewer=fewer, is_late=True)
 
 
@@ -153,95 +165,105 @@ def parted(folder: pathlib.Path, acts: Sequence[Entry], ballots_bytes: bytes) ->
         return lines, []
     copy_path = folder / BALLOTS_COPY
     closed_lines = ballot_lines(copy_path.read_bytes()) if copy_path.is_file() else lines[:number]
-    return closed_lines, [line for _, line in beyond(lines, closed_lines)]
+    return closed_lines, [one.line for one in beyond(lines, closed_lines)]
 
 
 def acts_until_close(acts: Sequence[Entry]) -> list[Entry]:
     """The acts up to the close, and with it."""
-    closes = [at for at, entry in enumerate(acts) if entry.act == "close"]
-    return list(acts[: closes[-1] + 1]) if closes else list(acts)
+    close_places = [place for place, entry in enumerate(acts) if entry.act == "close"]
+    return list(acts[: close_places[-1] + 1]) if close_places else list(acts)
 
 
-def first_edit(acts: Sequence[Entry], now: set[str]) -> int | None:
-    """The place behind the last act before somebody first edited the ballots; none where nobody has."""
-    sums = [journal.NONE, *(entry.sums.ballots for entry in acts)]
-    for at, entry in enumerate(acts):
-        if entry.act == journal.FOUND and entry.sums.ballots != sums[at]:
-            return at
+def edits_noted(acts: Sequence[Entry], first_sum: str) -> list[int]:
+    """The places of the acts that have noted an edit of the ballots: their sum is another one there than behind the act before.
+    `first_sum` is the one before the first of these acts.
+    """
+    sums_before = [first_sum, *(entry.sums.ballots for entry in acts)]
+    pairs = enumerate(zip(acts, sums_before))
+    return [place for place, (entry, sum_before) in pairs if entry.act == journal.FOUND and entry.sums.ballots != sum_before]
+
+
+def first_edit(acts: Sequence[Entry], sums_now: set[str]) -> int | None:
+    """The place behind the last act before somebody first edited the ballots, which have one of these sums now; none where nobody has."""
+    places = edits_noted(acts, journal.NONE)
+    if places:
+        return places[0]
     is_closed = bool(acts) and acts[-1].act == "close"
-    return None if not acts or is_closed or acts[-1].sums.ballots in now else len(acts)
+    return None if not acts or is_closed or acts[-1].sums.ballots in sums_now else len(acts)
 
 
 def is_edited_since(acts: Sequence[Entry], ballots_bytes: bytes) -> bool:
     """Whether somebody has edited the ballots since the first of these acts, which is a close; not where it is none."""
     if not acts or acts[0].act != "close":
         return False
-    sums = [entry.sums.ballots for entry in acts]
-    is_found = any(entry.act == journal.FOUND and entry.sums.ballots != sums[at] for at, entry in enumerate(acts[1:]))
-    return is_found or sums[-1] not in {sum_of(ballots_bytes), *([] if ballots_bytes else [journal.NONE])}
+    is_noted = bool(edits_noted(acts[1:], acts[0].sums.ballots))
+    return is_noted or acts[-1].sums.ballots not in sums_noted_of(ballots_bytes)
 
 
 def lines_that_came(folder: pathlib.Path, acts: Sequence[Entry]) -> list[ReceivedLine]:
     """The lines that came but for those that acts have taken back; of equal ones these are the last."""
     taken_back = collections.Counter(lines_taken_back(folder, acts))
-    others = [line for line in reversed(lines_received(folder)) if not is_taken(taken_back, line)]
-    return others[::-1]
+    kept = [came_line for came_line in reversed(lines_received(folder)) if not is_taken(taken_back, came_line)]
+    return kept[::-1]
 
 
-def missing_of(came: list[ReceivedLine], lines: list[bytes]) -> list[ReceivedLine]:
+def missing_of(came_lines: list[ReceivedLine], lines: list[bytes]) -> list[ReceivedLine]:
     """Those that came and are not among these lines; a line that came twice has to stand there twice."""
     there = collections.Counter(lines)
-    return [line for line in came if not is_taken(there, line)]
+    return [came_line for came_line in came_lines if not is_taken(there, came_line)]
 
 
-def is_taken(left: collections.Counter[bytes], line: ReceivedLine) -> bool:
+def is_taken(left: collections.Counter[bytes], came_line: ReceivedLine) -> bool:
     """Whether a line that came is among those that are left, and takes it away."""
-    text = next((text for text in (line.changed, line.bare) if left[text] > 0), None)
+    text = next((text for text in (came_line.changed, came_line.bare) if left[text] > 0), None)
     if text is not None:
         left[text] -= 1
     return text is not None
 
 
-def not_come(came: list[ReceivedLine], lines: list[bytes]) -> list[tuple[int, bytes]]:
-    """The lines, each with its number, that have the shape of a ballot, and stand more often here than they came."""
-    texts = [text for line in came for text in {line.changed, line.bare}]
-    return [(number, line) for number, line in beyond(lines, texts) if BALLOT.fullmatch(line)]
+def not_come(came_lines: list[ReceivedLine], lines: list[bytes]) -> list[NumberedLine]:
+    """The lines that have the shape of a ballot, and stand more often here than they came."""
+    may_stand_there = [text for came_line in came_lines for text in {came_line.changed, came_line.bare}]
+    return [numbered_line for numbered_line in beyond(lines, may_stand_there) if BALLOT.fullmatch(numbered_line.line)]
 
 
-def stand_as_entered(acts: Sequence[Entry], first: int, lines: list[bytes], left_out: set[int]) -> bool:
-    """Whether the lines, but for these, are those that the acts have entered, in their order.
+def stand_as_entered(acts: Sequence[Entry], unedited_acts: int, lines: list[bytes], left_out: set[int]) -> bool:
+    """Whether the lines, but for those with these numbers, are the ones that the acts have entered, in their order.
 
-    Where an act has no sum of its own lines, they have to begin with what stood there before the first edit.
+    Where an act has no sum of its own lines, as those of earlier versions, they have to begin with what stood there before the first
+    edit, behind so many acts.
     """
-    own = [line for number, line in enumerate(lines, start=1) if number not in left_out]
+    own_lines = [line for number, line in enumerate(lines, start=1) if number not in left_out]
     entering = journal.entered_and_not_undone(acts)
     # lines that were there before the first act, or before a journal that was lost, may be left out or not
-    there = entering[0].first_envelope() - 1 if entering else 0
-    starts = {0, max(0, there), max(0, there - sum(number <= there for number in left_out))}
-    if not any(follow(entering, own[start:]) for start in starts):
+    count_before = entering[0].first_envelope() - 1 if entering else 0
+    starts = {0, max(0, count_before), max(0, count_before - sum(number <= count_before for number in left_out))}
+    if not any(follow(entering, own_lines[start:]) for start in starts):
         return False
-    last = next(reversed(journal.entered_and_not_undone(acts[:first])), None)
-    if last is None or all(entry.lines_sum is not None for entry in entering):
+    last_before_edit = next(reversed(journal.entered_and_not_undone(acts[:unedited_acts])), None)
+    if last_before_edit is None or all(entry.lines_sum is not None for entry in entering):
         return True
-    return sum_of(ballot_file(own[: last.last_envelope()])) == last.sums.ballots
+    return sum_of(ballot_file(own_lines[: last_before_edit.last_envelope()])) == last_before_edit.sums.ballots
 
 
 def follow(entering: list[Entry], lines: list[bytes]) -> bool:
     """Whether the lines begin with those that the acts have entered, as far as these have a sum of them."""
     place = 0
     for entry in entering:
-        end = place + entry.envelope_count()
-        if entry.lines_sum is not None and entry.lines_sum != sum_of(ballot_file(lines[place:end])):
+        next_place = place + entry.envelope_count()
+        if entry.lines_sum is not None and entry.lines_sum != sum_of(ballot_file(lines[place:next_place])):
             return False
-        place = end
+        place = next_place
     return True
 
 
-def stand_as_came(lines: list[bytes], came: list[ReceivedLine]) -> bool:
+def stand_as_came(lines: list[bytes], came_lines: list[ReceivedLine]) -> bool:
     """Whether the lines that came stand in the order in which they are kept."""
-    texts = {text for line in came for text in (line.changed, line.bare)}
-    there = [line for line in lines if line in texts]
-    return len(there) == len(came) and all(line in (came_line.changed, came_line.bare) for line, came_line in zip(there, came))
+    may_stand_there = {text for came_line in came_lines for text in (came_line.changed, came_line.bare)}
+    there = [line for line in lines if line in may_stand_there]
+    return len(there) == len(came_lines) and all(
+        line in (came_line.changed, came_line.bare) for line, came_line in zip(there, came_lines)
+    )
 
 
 # ---------------------------------------------------------------- the publication
@@ -251,26 +273,26 @@ def doubts_about(changes: Changes, ballots_path: str) -> list[Doubt]:
         return []
     said = what_was_done(changes)
     cure = "look who did it, and why; what came is kept in received"
-    told = ENGLISH.of(said)
+    told_words = ENGLISH.of(said)
     which = sentence("{what}: {which}.", what=said, which=changes.said())
-    reason = f"{told[0].lower()}{told[1:]}: {'; '.join(changes.sentences())}"
+    reason = f"{told_words[0].lower()}{told_words[1:]}: {'; '.join(changes.sentences())}"
     return [Doubt(ballots_path, reason, cure, which, sentence("{what}.", what=said))]
 
 
 def what_was_done(changes: Changes) -> Sentence:
     """What was done, without the lines."""
-    many = len(changes.missing) or changes.fewer
-    if many and changes.is_late:
+    line_count = len(changes.missing) or changes.fewer
+    if line_count and changes.is_late:
         return numbered(
             "{number} line that came after the close was changed or taken out by hand",
             "{number} lines that came after the close were changed or taken out by hand",
-            many,
+            line_count,
         )
-    if many:
+    if line_count:
         return numbered(
             "{number} line that came was changed or taken out by hand before the close",
             "{number} lines that came were changed or taken out by hand before the close",
-            many,
+            line_count,
         )
     if changes.is_other:
         return sentence(OTHERS_AFTER if changes.is_late else OTHERS_BEFORE)

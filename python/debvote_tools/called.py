@@ -7,6 +7,7 @@ import dataclasses
 import difflib
 import pathlib
 import re
+from typing import NamedTuple
 
 from debvote_tools import journal, poll_file
 from debvote_tools.announced import announced_in, time_in_words
@@ -31,6 +32,16 @@ LINE = re.compile(
 )
 
 
+class CallAct(NamedTuple):
+    """A line of the journal about a call (`LINE`): when it was written, the act, and the sum of the poll after it."""
+
+    time: str
+    act: str
+    poll_sum: str
+    # the line feed behind it; nothing where it is the last one, and not ended yet
+    end: str
+
+
 @dataclasses.dataclass(frozen=True)
 class Called:
     """The call that holds: when it was made last, the sums of its polls that have the latest time, and the poll itself.
@@ -39,7 +50,7 @@ class Called:
     """
 
     time: str | None
-    latest: frozenset[str]
+    latest_sums: frozenset[str]
     poll_bytes: bytes | None
 
     def is_of(self, poll_bytes: bytes) -> bool:
@@ -50,7 +61,7 @@ class Called:
 
     def is_latest(self, poll_bytes: bytes) -> bool:
         """Whether the journal has this poll, its last envelope aside, with the latest time that was called."""
-        return not self.latest.isdisjoint((sum_of(poll_bytes), sum_of(poll_file.without_last_envelope(poll_bytes))))
+        return not self.latest_sums.isdisjoint((sum_of(poll_bytes), sum_of(poll_file.without_last_envelope(poll_bytes))))
 
     def has_other_time(self, poll_bytes: bytes) -> bool:
         """Whether the poll says another later time than this call, or none: the sum of the call leaves that line out.
@@ -59,7 +70,7 @@ class Called:
         """
         called_poll = self.poll_bytes or poll_bytes
         is_same = announced_in(called_poll).extended_to == announced_in(poll_bytes).extended_to
-        return not (is_same and (not self.latest or self.is_latest(called_poll))) and not self.is_latest(poll_bytes)
+        return not (is_same and (not self.latest_sums or self.is_latest(called_poll))) and not self.is_latest(poll_bytes)
 
     def change_in(self, poll_bytes: bytes) -> str:
         """How a poll that is another one differs from the one that was called."""
@@ -69,9 +80,9 @@ class Called:
         return difference(before, now) if before != now else times_that_differ(self.poll_bytes, poll_bytes)
 
 
-def times_that_differ(called: bytes, poll_bytes: bytes) -> str:
+def times_that_differ(called_bytes: bytes, poll_bytes: bytes) -> str:
     """What a poll says of a later time, and what the poll that was called says of it."""
-    then, now = (announced_in(data).extended_to for data in (called, poll_bytes))
+    then, now = (announced_in(data).extended_to for data in (called_bytes, poll_bytes))
     if then is not None and (now is None or now < then):
         return f"the vote was extended until {time_in_words(then)}, and the poll does not say so any more"
     if now is None or now == then:
@@ -82,19 +93,31 @@ def times_that_differ(called: bytes, poll_bytes: bytes) -> str:
 
 def call_of(folder: pathlib.Path) -> Called | None:
     """The call of the election in this folder; none where there was none, or where it was taken back. Raises OSError."""
-    acts = [tuple(part.decode("ascii", "replace") for part in parts) for parts in LINE.findall(journal_of(folder))]
-    if acts and acts[-1][1] == TAKEN_BACK:
+    acts = call_acts_in(folder)
+    if acts and acts[-1].act == TAKEN_BACK:
         return None
-    copy = read_at_most(folder / POLL_COPY, POLL_LIMIT) if (folder / POLL_COPY).is_file() else None
-    if not acts and copy is None:
+    copied_bytes = read_at_most(folder / POLL_COPY, POLL_LIMIT) if (folder / POLL_COPY).is_file() else None
+    if not acts and copied_bytes is None:
         return None
-    ours = acts[max((at for at, act in enumerate(acts, start=1) if act[1] == TAKEN_BACK), default=0) :]
+    # those behind the last one that took a call back
+    ours = acts[max((at for at, one in enumerate(acts, start=1) if one.act == TAKEN_BACK), default=0) :]
     # of an extension that is not ended yet either poll may be there
-    latest = ours[max((at for at, act in enumerate(ours) if act[1] == LATER and act[3]), default=0) :]
-    sums, of_latest = (frozenset(act[2] for act in some) for some in (ours, latest))
-    is_called = not sums or (copy is not None and not sums.isdisjoint((sum_of(copy), sum_of(poll_file.as_announced(copy)))))
-    time = next((act[0] for act in reversed(ours) if act[1] == MADE), None)
-    return Called(time, of_latest, copy if is_called else None)
+    latest = ours[max((at for at, one in enumerate(ours) if one.act == LATER and one.end), default=0) :]
+    sums, latest_sums = (frozenset(one.poll_sum for one in some) for some in (ours, latest))
+    is_called = not sums or (copied_bytes is not None and not sums.isdisjoint(sums_of_called(copied_bytes)))
+    time = next((one.time for one in reversed(ours) if one.act == MADE), None)
+    return Called(time, latest_sums, copied_bytes if is_called else None)
+
+
+def call_acts_in(folder: pathlib.Path) -> list[CallAct]:
+    """The acts about calls in the journal of the election in this folder, first to last."""
+    lines = LINE.findall(journal_of(folder))
+    return [CallAct(*(part.decode("ascii", "replace") for part in parts)) for parts in lines]
+
+
+def sums_of_called(poll_bytes: bytes) -> tuple[str, str]:
+    """The sums of a poll by which the journal may have it: as it is, and as a call announces it."""
+    return sum_of(poll_bytes), sum_of(poll_file.as_announced(poll_bytes))
 
 
 def journal_of(folder: pathlib.Path) -> bytes:

@@ -8,6 +8,7 @@ import collections
 import dataclasses
 import pathlib
 import re
+from typing import NamedTuple
 
 from debvote_tools.faults import Doubt
 from debvote_tools.files import sum_of
@@ -26,12 +27,17 @@ LINES_IN_TIME = "head -n {number} ballots.txt | sha256sum"
 # so many lines of each kind are told, each with its text
 MOST = 3
 
-Numbered = list[tuple[int, bytes]]
+
+class NumberedLine(NamedTuple):
+    """A line of a ballot file, and its number there, from 1."""
+
+    number: int
+    line: bytes
 
 
 @dataclasses.dataclass(frozen=True)
 class BallotsAndSheet:
-    """The ballots as they are now: the files of poll and ballots as they are called, the bytes of the ballots, and the sheet of both."""
+    """The ballots as they are now: the files of poll and ballots as they are named, the bytes of the ballots, and the sheet of both."""
 
     poll_path: str
     ballots_path: str
@@ -60,10 +66,10 @@ def changed_since(close: Entry, folder: pathlib.Path, current: BallotsAndSheet) 
     doubts = about_last_envelope(number, current)
     closed_sum = sum_of(b"") if close.sums.ballots == NONE else close.sums.ballots
     if not copy_path.is_file():
-        lines = ballot_file(ballot_lines(current.ballots_bytes)[:number])
+        lines_bytes = ballot_file(ballot_lines(current.ballots_bytes)[:number])
         return (
             doubts
-            if closed_sum in (sum_of(lines), sum_of(lines.removesuffix(b"\n")))
+            if closed_sum in (sum_of(lines_bytes), sum_of(lines_bytes.removesuffix(b"\n")))
             else [*doubts, are_others(number, copy_path, current)]
         )
     copied_bytes = copy_path.read_bytes()
@@ -75,27 +81,27 @@ def changed_since(close: Entry, folder: pathlib.Path, current: BallotsAndSheet) 
 # ---------------------------------------------------------------- the last envelope
 def about_last_envelope(number: int, current: BallotsAndSheet) -> list[Doubt]:
     """That the poll has another last envelope than that of the close, or none."""
-    now = current.sheet.last_envelope
-    if now == number:
+    last_envelope = current.sheet.last_envelope
+    if last_envelope == number:
         return []
-    has = "has no last envelope now" if now is None else f"has last_envelope = {now} now"
+    has_words = "has no last envelope now" if last_envelope is None else f"has last_envelope = {last_envelope} now"
     # who puts in a line that came in time and was forgotten raises the number
-    unless = "" if now is None else ", unless lines that had come in time were put in before the late ones"
+    unless = "" if last_envelope is None else ", unless lines that had come in time were put in before the late ones"
     said = (
         sentence(
             "The vote was closed at line {number} of the ballot file, and the poll file has no last envelope now.", number=number
         )
-        if now is None
+        if last_envelope is None
         else sentence(
             "The vote was closed at line {number} of the ballot file, and the poll file has {line} now.",
             number=number,
-            line=f"last_envelope = {now}",
+            line=f"last_envelope = {last_envelope}",
         )
     )
     return [
         Doubt(
             current.poll_path,
-            f"it was closed at line {number}, and {has}",
+            f"it was closed at line {number}, and {has_words}",
             f"write last_envelope = {number} into it, above every line that begins with [{unless}",
             said,
         )
@@ -103,11 +109,11 @@ def about_last_envelope(number: int, current: BallotsAndSheet) -> list[Doubt]:
 
 
 # ---------------------------------------------------------------- the lines that are in time
-def about_lines(before: list[bytes], copy_path: pathlib.Path, current: BallotsAndSheet) -> list[Doubt]:
+def about_lines(closed_lines: list[bytes], copy_path: pathlib.Path, current: BallotsAndSheet) -> list[Doubt]:
     """That lines are in time that were not among the closed ones, that closed lines are missing, or that all are in disorder."""
-    now = current.lines_in_time()
-    added, missing = beyond(now, before), beyond(before, now)
-    if not added and not missing and now != before:
+    lines_now = current.lines_in_time()
+    added, missing = beyond(lines_now, closed_lines), beyond(closed_lines, lines_now)
+    if not added and not missing and lines_now != closed_lines:
         return [other_order(copy_path, current)]
     doubts = [is_new(number, line, current) for number, line in added[:MOST]]
     doubts += more_new(len(added) - MOST, current)
@@ -209,13 +215,13 @@ def lines_and(number: int, one: str, many: str) -> str:
     return f"{number} more line {one}" if number == 1 else f"{number} more lines {many}"
 
 
-def beyond(lines: list[bytes], others: list[bytes]) -> Numbered:
+def beyond(lines: list[bytes], others: list[bytes]) -> list[NumberedLine]:
     """The lines, each with its number, that stand more often here than among the others."""
     left = collections.Counter(others)
-    more = []
+    found = []
     for number, line in enumerate(lines, start=1):
         if left[line] > 0:
             left[line] -= 1
         else:
-            more.append((number, line))
-    return more
+            found.append(NumberedLine(number, line))
+    return found

@@ -36,6 +36,11 @@ class Fault(Exception):
         super().__init__(words, status)
         self.words: str | None = words
         self.status = status
+        self.file, self.reason, self.cure, self.done = file, reason, cure, done
+
+    def where_done(self, done: str) -> "Fault":
+        """The same fault, where this was done, too."""
+        return Fault(self.file, self.reason, self.cure, self.status, "; ".join(filter(None, [self.done, done])))
 
 
 class Told(Fault):
@@ -45,6 +50,10 @@ class Told(Fault):
         Exception.__init__(self, words, status)
         self.words = words
         self.status = status
+
+    def where_done(self, done: str) -> "Told":
+        """The same: of what is told already, nothing more is said."""
+        return self
 
 
 def other_format(what: str) -> Fault:

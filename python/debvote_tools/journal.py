@@ -3,7 +3,7 @@
     2026-11-25T18:04:11Z  add  13-15  <sum of poll.toml>  <sum of ballots>
 
 Its parts have a tab between them, and `-` stands for what there is not. Behind the envelopes, and a space, stands the
-record that an act has, as `13-15 0004`. An act that enters lines has the sum of these lines as a sixth part.
+detail that an act has, as `13-15 0004`. An act that enters lines has the sum of these lines as a sixth part.
 
 A line is written before the act is done, and gets its line feed after that. So where a run is killed between the two, the next act
 finds a line that is not ended: either the files have its sums, and it is ended, or the act was not done, and this is noted.
@@ -46,8 +46,8 @@ class Sums:
     ballots: str
 
     @classmethod
-    def of(cls, poll: bytes | None, ballots: bytes | None) -> "Sums":
-        return cls(*(NONE if data is None else sum_of(data) for data in (poll, ballots)))
+    def of(cls, poll_bytes: bytes | None, ballots_bytes: bytes | None) -> "Sums":
+        return cls(*(NONE if data is None else sum_of(data) for data in (poll_bytes, ballots_bytes)))
 
 
 @dataclasses.dataclass(frozen=True)
@@ -55,8 +55,8 @@ class Entry:
     """A line of the journal: the time in UTC, the act, the envelopes as `13-15`, the sums after the act, and the sum of the lines
     that it entered, each with its line feed; other acts, and those of earlier versions, have none.
 
-    The record of an act about letters, or of one that takes lines back, is the name by which the file begins that says which. Other acts
-    have another one: `new` the language, those of a keyring and of a web form a sum.
+    The detail of an act about letters is the number of their record (`letters.store`), that of an act that takes lines back what the name
+    of the file begins with that has them. Other acts have another one: `new` the language, those of a keyring and of a web form a sum.
     """
 
     time: str
@@ -64,12 +64,12 @@ class Entry:
     envelopes: str
     sums: Sums
     lines_sum: str | None = None
-    record: str = ""
+    detail: str = ""
 
     def line(self) -> str:
-        lines_sum = () if self.lines_sum is None else (self.lines_sum,)
-        what = f"{self.envelopes} {self.record}".rstrip()
-        return "\t".join((self.time, self.act, what, self.sums.poll, self.sums.ballots, *lines_sum)) + "\n"
+        sixth_part = () if self.lines_sum is None else (self.lines_sum,)
+        what = f"{self.envelopes} {self.detail}".rstrip()
+        return "\t".join((self.time, self.act, what, self.sums.poll, self.sums.ballots, *sixth_part)) + "\n"
 
     def first_envelope(self) -> int:
         """The first of its envelopes; 0 where it has none."""
@@ -113,12 +113,13 @@ def entries_in(file: pathlib.Path, most: int | None = None) -> list[Entry]:
 
 
 def entry_of(line: str) -> Entry | None:
-    """The entry of a line."""
-    row = line.split("\t")
-    if len(row) not in (5, 6) or not re.fullmatch(TIME, row[0]):
+    """The entry of a line; none of a line that is not one."""
+    parts = line.split("\t")
+    if len(parts) not in (5, 6) or not re.fullmatch(TIME, parts[0]):
         return None
-    envelopes, _, record = row[2].partition(" ")
-    return Entry(row[0], row[1], envelopes, Sums(row[3], row[4]), row[5] if row[5:] else None, record)
+    time, act, what, poll_sum, ballots_sum, *sixth_part = parts
+    envelopes, _, detail = what.partition(" ")
+    return Entry(time, act, envelopes, Sums(poll_sum, ballots_sum), sixth_part[0] if sixth_part else None, detail)
 
 
 def last_entries(file: pathlib.Path) -> list[Entry]:
@@ -181,9 +182,9 @@ def note(file: pathlib.Path, act: str, envelopes: str, sums: Sums) -> None:
     append_whole(file, line_now(act, envelopes, sums) + b"\n", has_lines=True)
 
 
-def begin(file: pathlib.Path, act: str, envelopes: str, sums: Sums, lines_sum: str | None = None, record: str = "") -> None:
+def begin(file: pathlib.Path, act: str, envelopes: str, sums: Sums, lines_sum: str | None = None, detail: str = "") -> None:
     """Notes that an act begins. Raises OSError, and then nothing is noted."""
-    append_whole(file, line_now(act, envelopes, sums, lines_sum, record), has_lines=True)
+    append_whole(file, line_now(act, envelopes, sums, lines_sum, detail), has_lines=True)
 
 
 def end(file: pathlib.Path) -> None:
@@ -196,7 +197,7 @@ def end_undone(file: pathlib.Path, sums: Sums) -> None:
     append_whole(file, b"\n" + line_now(UNDONE, NONE, sums) + b"\n")
 
 
-def line_now(act: str, envelopes: str, sums: Sums, lines_sum: str | None = None, record: str = "") -> bytes:
+def line_now(act: str, envelopes: str, sums: Sums, lines_sum: str | None = None, detail: str = "") -> bytes:
     """The line of an act at this time, without its line feed."""
     time = datetime.datetime.now(datetime.UTC).strftime("%Y-%m-%dT%H:%M:%SZ")
-    return Entry(time, act, envelopes, sums, lines_sum, record).line().removesuffix("\n").encode("ascii")
+    return Entry(time, act, envelopes, sums, lines_sum, detail).line().removesuffix("\n").encode("ascii")

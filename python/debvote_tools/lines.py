@@ -18,7 +18,7 @@ MARK = codecs.BOM_UTF8
 BLANKS = b" \t"
 
 # a line and its end; a carriage return alone ends a line too
-PART = re.compile(rb"([^\r\n]*)(\r\n|\n|\r|\Z)")
+PART = re.compile(rb"(?P<line>[^\r\n]*)(?P<end>\r\n|\n|\r|\Z)")
 
 # in bytes; a longer line is no ballot, and nothing of it is repaired
 LONGEST = 1_000
@@ -101,8 +101,9 @@ def lines_in(data: bytes, name: str, first: int = 1) -> list[Line]:
     for part in PART.finditer(data):
         if part.start() == len(data):
             break
-        whole = part[1] + (b"\r" if part[2].startswith(b"\r") else b"")
-        bare = part[1].removeprefix(MARK) if number == 1 else part[1]
+        line = part["line"]
+        whole = line + (b"\r" if part["end"].startswith(b"\r") else b"")
+        bare = line.removeprefix(MARK) if number == 1 else line
         lines.append(Line(f"{name}:{number}", whole, bare, changed(bare)))
         number += 1
     return lines

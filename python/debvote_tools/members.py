@@ -109,7 +109,7 @@ def members_in(file: pathlib.Path, *, may_be_empty: bool = False) -> Members:
     """Reads a list of members. What can't be read as one is a fault, which says what it is, and so is a list with nobody on it
     unless it may be empty.
     """
-    data = bytes_of(file)
+    data = read_or_stop(file)
     mark = mark_of(data)
     encoding = MARKS.get(mark, "utf-8")
     text = text_in(file, data.removeprefix(mark), encoding)
@@ -126,7 +126,7 @@ def doubt(file: pathlib.Path, reason: str, cure: str, line: int | None = None) -
     return Fault(file if line is None else f"{file}:{line}", reason, cure, Status.DOUBT)
 
 
-def bytes_of(file: pathlib.Path) -> bytes:
+def read_or_stop(file: pathlib.Path) -> bytes:
     """The bytes of a file that may be a text."""
     cure = f"the list of members is a CSV file, as a spreadsheet saves it: name it, {AGAIN}"
     try:

@@ -8,6 +8,7 @@ import hashlib
 import importlib.resources
 from collections.abc import Iterable, Mapping
 from html import escape
+from typing import NamedTuple
 
 from debvote_tools.language import Language
 from debvote_tools.sentences import marked
@@ -116,6 +117,14 @@ def in_their_words(language: Language, texts: Iterable[str], whose: str = WHOSE)
     said = "\n".join(f'<p class="about"><bdi>{escape(text)}</bdi></p>' for text in texts)
     frame = f'<div class="given" role="note" aria-label="{language.say("Not the words of the program")}">'
     return f'{frame}\n<p class="whose">{language.say(whose)}</p>\n{said}\n</div>'
+
+
+class Command(NamedTuple):
+    """A command that a reader may type: the sentence above it, in HTML, the command, and what it answers, where that is known."""
+
+    what: str
+    command: str
+    output: str | None = None
 
 
 def command_block(language: Language, what: str, command: str, output: str | None = None) -> str:

@@ -101,11 +101,11 @@ class BadPoll(Fault):
 
     def __init__(self, reason: str, cure: str, file: str = "poll.toml", then: str = f"run: {CHECK}") -> None:
         super().__init__(file, reason, f"{cure}, then {then}", Status.BAD_POLL)
-        self.reason, self.cure = reason, cure
+        self.poll_reason, self.poll_cure = reason, cure
 
     def of(self, file: str, then: str) -> "BadPoll":
         """The same of a file of this name; `then` is what comes behind the cure."""
-        return BadPoll(self.reason, self.cure, file, then)
+        return BadPoll(self.poll_reason, self.poll_cure, file, then)
 
 
 def unread(why: str) -> Fault:

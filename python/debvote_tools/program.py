@@ -76,7 +76,7 @@ class Debvote:
                 "nothing was counted",
             )
         try:
-            ended = self.ended([self.path, *(os.fspath(word) for word in words)], given)
+            ended = self.run_in_folder([self.path, *(os.fspath(word) for word in words)], given)
         except OSError as error:
             raise Fault(
                 self.path,
@@ -89,7 +89,7 @@ class Debvote:
         answer = Answer(ended.stdout.decode("ascii", "replace"), ended.stderr.decode("utf-8", "replace"), status)
         return without_announced(answer) if words[:1] == ("explain",) else answer
 
-    def ended(self, words: list[str], given: bytes | None) -> subprocess.CompletedProcess[bytes]:
+    def run_in_folder(self, words: list[str], given: bytes | None) -> subprocess.CompletedProcess[bytes]:
         """How a program ended that was run in the folder. Raises OSError where it can't be started."""
         if given is None:
             return subprocess.run(words, cwd=self.folder, capture_output=True, stdin=subprocess.DEVNULL)

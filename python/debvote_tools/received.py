@@ -58,7 +58,7 @@ def lines_received(folder: pathlib.Path) -> list[ReceivedLine]:
 
 def lines_taken_back(folder: pathlib.Path, acts: Sequence[Entry]) -> list[bytes]:
     """The lines that acts have taken back: they came, and are not among the ballots."""
-    files = [folder / FOLDER / f"{entry.record}{TAKEN_BACK}" for entry in acts if entry.act == journal.UNDO and entry.record]
+    files = [folder / FOLDER / f"{entry.detail}{TAKEN_BACK}" for entry in acts if entry.act == journal.UNDO and entry.detail]
     return [line for file in files if file.is_file() for line in ballot_lines(file.read_bytes())]
 
 

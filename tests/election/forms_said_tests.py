@@ -32,7 +32,7 @@ class Form(support.ElectionTest):
         self.assertIn("The call says that in a web form an empty field is a hyphen.\n", ended.output)
         for file in ("call.txt", "index.html"):
             self.assertIn(SAID, " ".join(self.read(f"call/{file}").decode().split()))
-        acts = {act.act: act.record for act in journal.entries_in(self.folder / "journal")}
+        acts = {act.act: act.detail for act in journal.entries_in(self.folder / "journal")}
         self.assertEqual(acts["form"], f"sha256:{hashlib.sha256(self.read('call/index.html')).hexdigest()}")
         # debvote has nothing to say of the poll
         self.assertEqual(self.debvote("explain", "--poll", "poll.toml").status, 0)

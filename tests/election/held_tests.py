@@ -112,7 +112,7 @@ class Enter(HeldTest):
         self.assertIn("2 letters wait.\n", ended.output)
         self.assertEqual(self.lines(), [f"ada {RANKS}", f"ben {OTHER_RANKS}"])
         act = journal.entries_in(self.folder / "journal")[-1]
-        self.assertEqual((act.act, act.envelopes, act.record), ("enter", "2", "0002"))
+        self.assertEqual((act.act, act.envelopes, act.detail), ("enter", "2", "0002"))
         before = self.contents()
         self.assert_unchanged(
             self.election("held", 2, "--enter", 1), before, 9, "letter 2: it does not wait: its ballot is in (envelope 2); "
@@ -176,7 +176,7 @@ class Again(HeldTest):
             ],
         )
         act = journal.entries_in(self.folder / "journal")[-1]
-        self.assertEqual((act.act, act.envelopes, act.record), ("again", "-", "0003"))
+        self.assertEqual((act.act, act.envelopes, act.detail), ("again", "-", "0003"))
         self.assertEqual((self.whys(), self.election("held").output), (whys, listed))
         self.assertIn("Letters that wait until you have looked: 3 ", self.election("status").output)
         self.assert_fault(self.election("close"), 9, "3 letters wait until you have looked")

@@ -203,7 +203,7 @@ class Kept(LettersTest):
         self.assertEqual(self.read("ballots"), f"ada {RANKS}\n".encode())
         self.assertIn(data.rstrip(b"\n"), self.read("received/letters/0001-inbox.mbox"))
         act = journal.entries_in(self.folder / "journal")[-1]
-        self.assertEqual((act.act, act.envelopes, act.record), ("add", "1", "0001"))
+        self.assertEqual((act.act, act.envelopes, act.detail), ("add", "1", "0001"))
         self.assertEqual(act.sums, journal.Sums.of(self.read("poll.toml"), self.read("ballots")))
 
     def test_nobody_else_may_read_it(self) -> None:

@@ -12,7 +12,7 @@ from debvote_tools.election.folder import Election
 from debvote_tools.election.forms import Columns, LineReader, columns_of
 from debvote_tools.election.inputs import LinesInput, stop_at_other_kind
 from debvote_tools.election.letters import keyring
-from debvote_tools.election.record import PollAndBallots
+from debvote_tools.election.election_files import PollAndBallots
 from debvote_tools.election.running import option_names
 from debvote_tools.election.secrecy import demand_own_folder
 from debvote_tools.election.stops import (
@@ -27,6 +27,7 @@ from debvote_tools.election.stops import (
 from debvote_tools.election.telling import count_of, tell_edits, tell_if_early_or_late
 from debvote_tools.faults import Fault, Status
 from debvote_tools.files import write_new
+from debvote_tools.journal import Sums
 from debvote_tools.lines import Line, ballot_file
 
 
@@ -61,73 +62,88 @@ class Adding:
 class FileLines:
     """The lines of a file that are to be added; where the first lines of the file came before, these are the others."""
 
-    source: LinesInput
+    lines_input: LinesInput
     lines: list[Line]
-    before: CameBefore | None
+    came_before: CameBefore | None
 
     @property
-    def full(self) -> list[Line]:
+    def filled(self) -> list[Line]:
         """The lines that are not empty."""
         return [line for line in self.lines if not line.is_empty]
 
 
-class RestNotAgreed(Exception):
-    """The first lines of some files came before, and nobody has agreed yet that the others alone are added."""
+@dataclasses.dataclass(frozen=True)
+class Question:
+    """What a person has to be asked: whether to add the others alone, where first lines came before. With the sums of poll and ballots
+    at that time, of which it is told already what was edited by hand.
+    """
 
-    def __init__(self, file_lines: list[FileLines]) -> None:
-        super().__init__()
-        self.file_lines = file_lines
+    lines_of_files: list[FileLines]
+    sums: Sums
+
+    def is_about(self, lines_of_files: list[FileLines]) -> bool:
+        """Whether the same first lines of the same files came before as when it was asked."""
+        return [one.came_before for one in self.lines_of_files] == [one.came_before for one in lines_of_files]
 
 
 # ---------------------------------------------------------------- add, look
 def add_lines(election: Election, adding: Adding) -> int:
     """Adds lines, and returns the exit status. Whoever is asked about a file holds up no other command: the lock is free meanwhile."""
-    try:
-        add_agreed(election, adding, [])
-    except RestNotAgreed as question:
-        ask_about_rest(question.file_lines)
-        add_agreed(election, adding, [file.before for file in question.file_lines])
+    question = add_unless_asked(election, adding)
+    if question is not None:
+        ask_about_rest(question.lines_of_files)
+        add_unless_asked(election, adding, agreed=question)
     tell(f"Next: {what_next(election)}")
     return Status.DONE
 
 
-def add_agreed(election: Election, adding: Adding, agreed: list[CameBefore | None]) -> None:
-    """Adds lines. Of a file whose first lines came before it adds the others, where that is agreed."""
+def add_unless_asked(election: Election, adding: Adding, agreed: Question | None = None) -> Question | None:
+    """Adds lines, and returns nothing; or adds none, and returns what has to be asked before. Of a file whose first lines came before it
+    adds the others, with a yes, or where that question was asked and is agreed to; it stops where another one would be asked now.
+    """
     with election.changing() as counted:
         demand_own_folder(election)
-        tell_edits(election, counted)
-        file_lines = read_lines(election, counted, adding)
-        before = [file.before for file in file_lines]
-        if any(before) and not adding.has_yes and before != agreed:
-            raise RestNotAgreed(file_lines)
+        if agreed is None or agreed.sums != counted.sums or election.cut_off is not None:
+            tell_edits(election, counted)
+        lines_of_files = read_lines(election, counted, adding)
+        if agreed is not None and not agreed.is_about(lines_of_files):
+            words = "what would be added is not what was asked about: somebody has changed the election meanwhile"
+            raise Fault("add", words, "run the command again", Status.DOUBT, "nothing was added")
+        has_rest = any(file_lines.came_before is not None for file_lines in lines_of_files)
+        if has_rest and agreed is None and not adding.has_yes:
+            return Question(lines_of_files, counted.sums)
         tell_if_early_or_late(election, counted, "what is added")
-        tell_lines(rest_words(file_lines))
-        batch = batch_or_keep(election, counted, full_lines(file_lines), lambda: keep_inputs(election, file_lines, adding))
-        batch_files = files_of_batch(file_lines, batch)
+        tell_lines(rest_words(lines_of_files))
+        batch = batch_or_keep(
+            election, counted, filled_lines(lines_of_files), lambda: keep_inputs(election, lines_of_files, adding)
+        )
+        batch_files = files_of_batch(lines_of_files, batch)
         if not adding.even_so:
             stop_at_doubts(election, counted, batch_files, adding)
-        tell_empty(file_lines)
+        tell_empty(lines_of_files)
         with whole_act(election):
-            keep_inputs(election, file_lines, adding)
-            keep_lines(election, file_lines, batch_files, adding)
+            keep_inputs(election, lines_of_files, adding)
+            keep_lines(election, lines_of_files, batch_files, adding)
             enter_batch(election, "add", counted, batch)
-    tell_lines([words for file in batch_files for words in doubles_words(file)])
+    tell_lines([words for batch_file in batch_files for words in doubles_words(batch_file)])
     tell(f"Added {summary([batch])}.")
+    return None
 
 
 def look_at_lines(election: Election, adding: Adding) -> int:
-    """Tells what would become of lines, and changes nothing."""
+    """Tells what would become of lines, and changes nothing: it stops where `add_lines` would, but asks nothing."""
     with election.reading() as counted:
         demand_own_folder(election)
-        file_lines = read_lines(election, counted, dataclasses.replace(adding, even_so=False))
+        lines_of_files = read_lines(election, counted, adding)
         tell_if_early_or_late(election, counted, "what is added")
-        tell_lines(rest_words(file_lines))
-        tell_empty(file_lines)
-        batch = batch_of(election, counted, full_lines(file_lines))
-        batch_files = files_of_batch(file_lines, batch)
-        tell_lines([words for file in batch_files for words in doubles_words(file)])
+        tell_lines(rest_words(lines_of_files))
+        tell_empty(lines_of_files)
+        batch = batch_of(election, counted, filled_lines(lines_of_files))
+        batch_files = files_of_batch(lines_of_files, batch)
+        tell_lines([words for batch_file in batch_files for words in doubles_words(batch_file)])
         tell(*report(election, batch, is_entered=False))
-        stop_at_doubts(election, counted, batch_files, adding)
+        if not adding.even_so:
+            stop_at_doubts(election, counted, batch_files, adding)
     tell(f"These would be {summary([batch])}. Nothing was changed.")
     return Status.DONE
 
@@ -155,16 +171,15 @@ def stop_at_unsigned(election: Election, batch_files: list[BatchFile]) -> None:
 # ---------------------------------------------------------------- the lines of each file
 def read_lines(election: Election, counted: PollAndBallots, adding: Adding) -> list[FileLines]:
     """The lines of each file that are to be added: unless all of them are, those behind the first ones that came before."""
-    for source in adding.inputs:
-        stop_at_other_kind(election, source, is_table=adding.is_table)
+    for lines_input in adding.inputs:
+        stop_at_other_kind(election, lines_input, is_table=adding.is_table)
     reader = LineReader(columns_in(election, counted, adding.table))
-    lines_by_file = [reader.lines_in(source.data, source.name) for source in adding.inputs]
-    for source, lines in zip(adding.inputs, lines_by_file):
-        demand_a_line(source, lines, adding)
-    return [
-        file_lines_of(election, counted, source, lines, None if adding.even_so else reader)
-        for source, lines in zip(adding.inputs, lines_by_file)
-    ]
+    whole_files = [FileLines(one, reader.lines_in(one.data, one.name), None) for one in adding.inputs]
+    for file_lines in whole_files:
+        demand_a_line(file_lines, adding)
+    if adding.even_so:
+        return whole_files
+    return [without_first_lines(election, counted, file_lines, reader) for file_lines in whole_files]
 
 
 def columns_in(election: Election, counted: PollAndBallots, table: Table | None) -> Columns | None:
@@ -175,77 +190,85 @@ def columns_in(election: Election, counted: PollAndBallots, table: Table | None)
     return columns_of(table.name, table.ranks, names, is_blank_unranked=table.is_blank_unranked)
 
 
-def demand_a_line(source: LinesInput, lines: list[Line], adding: Adding) -> None:
+def demand_a_line(file_lines: FileLines, adding: Adding) -> None:
     """Stops at a file that has empty lines alone."""
-    if all(line.is_empty for line in lines):
+    if not file_lines.filled:
         what = "it has no row of a ballot" if adding.is_table else "it has empty lines alone"
-        raise Fault(source.name, what, "write a ballot a line into it", Status.DOUBT, "nothing was added")
+        raise Fault(file_lines.lines_input.name, what, "write a ballot a line into it", Status.DOUBT, "nothing was added")
 
 
-def file_lines_of(
-    election: Election, counted: PollAndBallots, source: LinesInput, lines: list[Line], reader: LineReader | None
-) -> FileLines:
-    """The lines of a file that are to be added. With the reader that has read them, which then reads the earlier files, too, the first
-    lines that came before are left out; without one all are added.
-    """
-    before = None if reader is None else first_lines_before(election, counted, source.data, lines, reader, source.name)
-    if before is None:
-        return FileLines(source, lines, None)
-    full_places = [place for place, line in enumerate(lines) if not line.is_empty]
-    return FileLines(source, lines[full_places[before.line_count] :], before)
+def without_first_lines(election: Election, counted: PollAndBallots, whole_file: FileLines, reader: LineReader) -> FileLines:
+    """The lines of a file but for the first ones that came before. `reader` has read it, and reads the earlier files, too."""
+    lines_input, lines = whole_file.lines_input, whole_file.lines
+    came_before = first_lines_before(election, counted, lines_input, lines, reader)
+    if came_before is None:
+        return whole_file
+    filled_places = [place for place, line in enumerate(lines) if not line.is_empty]
+    return FileLines(lines_input, lines[filled_places[came_before.line_count] :], came_before)
 
 
-def full_lines(file_lines: list[FileLines]) -> list[Line]:
+def filled_lines(lines_of_files: list[FileLines]) -> list[Line]:
     """The lines of all files that are not empty."""
-    return [line for file in file_lines for line in file.full]
+    return [line for file_lines in lines_of_files for line in file_lines.filled]
 
 
-def files_of_batch(file_lines: list[FileLines], batch: Batch) -> list[BatchFile]:
+def files_of_batch(lines_of_files: list[FileLines], batch: Batch) -> list[BatchFile]:
     """The lines of a batch by the files that they came in."""
-    lines = iter(batch.lines)
-    return [BatchFile(file.source.name, file.source.data, [next(lines) for _ in file.full]) for file in file_lines]
+    left = iter(batch.lines)
+    return [
+        BatchFile(file_lines.lines_input.name, file_lines.lines_input.data, [next(left) for _ in file_lines.filled])
+        for file_lines in lines_of_files
+    ]
 
 
 # ---------------------------------------------------------------- what is kept in received/
-def keep_inputs(election: Election, file_lines: list[FileLines], adding: Adding) -> None:
+def keep_inputs(election: Election, lines_of_files: list[FileLines], adding: Adding) -> None:
     """Keeps the files that came, as they came."""
-    for file in file_lines:
-        ending = received.IN_PART if file.before is not None and not adding.is_table else ""
-        write_new(election.received_folder, f"{file.source.received_name}{ending}", file.source.data)
+    for file_lines in lines_of_files:
+        ending = received.IN_PART if file_lines.came_before is not None and not adding.is_table else ""
+        lines_input = file_lines.lines_input
+        write_new(election.received_folder, f"{lines_input.received_name}{ending}", lines_input.data)
 
 
-def keep_lines(election: Election, file_lines: list[FileLines], batch_files: list[BatchFile], adding: Adding) -> None:
+def keep_lines(election: Election, lines_of_files: list[FileLines], batch_files: list[BatchFile], adding: Adding) -> None:
     """Keeps the lines that the rows of a table have made, and those of a file that alone are entered, so that they can be looked
     for.
     """
-    for file, batch_file in zip(file_lines, batch_files):
-        if adding.is_table or file.before is not None:
-            lines = ballot_file(line.text for line in batch_file.lines)
-            write_new(election.received_folder, f"{file.source.received_name}{received.LINES}", lines)
+    for file_lines, batch_file in zip(lines_of_files, batch_files):
+        if adding.is_table or file_lines.came_before is not None:
+            data = ballot_file(line.as_entered for line in batch_file.lines)
+            write_new(election.received_folder, f"{file_lines.lines_input.received_name}{received.LINES}", data)
 
 
 # ---------------------------------------------------------------- first lines that came before
-def rest_words(file_lines: list[FileLines]) -> list[str]:
+def rest_words(lines_of_files: list[FileLines]) -> list[str]:
     """Which first lines came before, in words."""
-    return [f"{file.source.name}: {file.before.words(len(file.full))}" for file in file_lines if file.before is not None]
+    return [
+        f"{file_lines.lines_input.name}: {file_lines.came_before.words(len(file_lines.filled))}"
+        for file_lines in lines_of_files
+        if file_lines.came_before is not None
+    ]
 
 
-def ask_about_rest(file_lines: list[FileLines]) -> None:
+def ask_about_rest(lines_of_files: list[FileLines]) -> None:
     """Asks at a terminal whether the lines that are new are to be added alone; elsewhere it stops."""
-    known = [(file.source.name, file.before) for file in file_lines if file.before is not None]
-    for name, before in known[1:]:
-        tell(f"{name}: its first {count_of(before.line_count, 'line')} came before, in this order, with {before.earlier_path}.")
-    name, before = known[0]
-    words = f"its first {count_of(before.line_count, 'line')} came before, in this order, with {before.earlier_path}"
+    known = [(one.lines_input.name, one.came_before) for one in lines_of_files if one.came_before is not None]
+    for name, came_before in known[1:]:
+        tell(
+            f"{name}: its first {count_of(came_before.line_count, 'line')} came before, in this order, with {came_before.earlier_path}."
+        )
+    name, came_before = known[0]
+    words = f"its first {count_of(came_before.line_count, 'line')} came before, in this order, with {came_before.earlier_path}"
     if not is_terminal() or not is_yes(f"{name}: {words}. Add the lines behind them alone?", YES_OR_NO):
         cure = "add the lines behind them alone with --yes, or all of them once more with --even-so"
         raise Fault(name, words, cure, Status.DOUBT, "nothing was added")
 
 
 # ---------------------------------------------------------------- what is told
-def tell_empty(file_lines: list[FileLines]) -> None:
+def tell_empty(lines_of_files: list[FileLines]) -> None:
     """Says which lines are left out."""
-    tell_lines([f"{line.where}: it is empty, and was left out" for file in file_lines for line in file.lines if line.is_empty])
+    empty = [line for file_lines in lines_of_files for line in file_lines.lines if line.is_empty]
+    tell_lines([f"{line.where}: it is empty, and was left out" for line in empty])
 
 
 def tell_lines(lines: list[str]) -> None:
@@ -256,7 +279,7 @@ def tell_lines(lines: list[str]) -> None:
 
 def what_next(election: Election) -> str:
     """What the election needs next."""
-    if election.closed() is not None:
+    if election.close_entry() is not None:
         return election.command("count")
     more = election.command("add", "FILE")
     return f"{election.command('status')}; add what comes with {more}, and when the vote is over: {election.command('close')}"

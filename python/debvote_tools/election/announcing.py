@@ -10,7 +10,7 @@ from debvote_tools import announced, poll_file
 from debvote_tools.announced import ADDRESS, DEADLINE, EXTENDED, SECRET, WORDS, announced_in, time_in_words
 from debvote_tools.election import call_page, deadlines
 from debvote_tools.election.folder import Election
-from debvote_tools.election.record import PollAndBallots
+from debvote_tools.election.election_files import PollAndBallots
 from debvote_tools.election.telling import time_of
 from debvote_tools.faults import Fault, Status
 from debvote_tools.language import ENGLISH, Language
@@ -145,7 +145,7 @@ def extended(election: Election, poll_bytes: bytes, wanted: Wanted) -> bytes:
         raise said_already(election, "--until-words", f"one can vote until {before.until}" if before.until else "no time is said")
     if wanted.until is None or wanted.until == said.until:
         return poll_bytes
-    close = election.closed()
+    close = election.close_entry()
     if close is not None:
         raise Fault(
             "--until",

@@ -26,9 +26,9 @@ def report(election: Election, batch: Batch, *, is_entered: bool = True) -> Iter
         yield from cause_words(line, is_entered=is_entered)
     if any(line.finding for line in batch.lines):
         yield right_words(batch)
-    late = sum(line.reply == "late" for line in batch.lines)
-    if late:
-        yield f"{count_of(late, 'line')} came after the close, and late ones count for nothing."
+    late_count = sum(line.reply == "late" for line in batch.lines)
+    if late_count:
+        yield f"{count_of(late_count, 'line')} came after the close, and late ones count for nothing."
 
 
 def frame_words(batch_lines: list[BatchLine]) -> Iterator[str]:
@@ -36,21 +36,21 @@ def frame_words(batch_lines: list[BatchLine]) -> Iterator[str]:
     by_file: dict[str, list[Line]] = {}
     for batch_line in batch_lines:
         by_file.setdefault(batch_line.came.where.rpartition(":")[0], []).append(batch_line.came)
-    for file, came in by_file.items():
-        ends = sum(line.had_return for line in came)
-        if any(line.had_mark for line in came):
-            yield f"{file}: it begins with a mark that Windows writes (byte-order mark); it was taken off"
-        if ends:
-            verb, they = ("ends", "it") if ends == 1 else ("end", "them")
-            yield f"{file}: {count_of(ends, 'line')} {verb} as Windows ends {they} (carriage return); that was taken off"
+    for name, lines in by_file.items():
+        return_count = sum(line.had_return for line in lines)
+        if any(line.had_mark for line in lines):
+            yield f"{name}: it begins with a mark that Windows writes (byte-order mark); it was taken off"
+        if return_count:
+            verb, they = ("ends", "it") if return_count == 1 else ("end", "them")
+            yield f"{name}: {count_of(return_count, 'line')} {verb} as Windows ends {they} (carriage return); that was taken off"
 
 
 def change_words(line: BatchLine) -> Iterator[str]:
     """What was changed of a line, before and after."""
     before = line.came.without_frame
-    if before != line.text:
-        how = ", ".join(differences(before, line.text))
-        yield f"{line.came.where}: `{shown_line(before)}` was changed to `{shown_line(line.text)}` ({how})"
+    if before != line.as_entered:
+        how = ", ".join(differences(before, line.as_entered))
+        yield f"{line.came.where}: `{shown_line(before)}` was changed to `{shown_line(line.as_entered)}` ({how})"
 
 
 def ballot_words(line: BatchLine, option_names: list[str]) -> str:
@@ -58,8 +58,8 @@ def ballot_words(line: BatchLine, option_names: list[str]) -> str:
     if line.finding is not None:
         word = "" if line.finding.word == line.reply else f"{line.finding.word}: "
         plain = "" if other_cause(line) else plainly(line.came.changed, line.finding)
-        return f"{shown_line(line.text)}: {word}{line.finding.hint}{plain}{more_words(line)}"
-    voter, ranks = line.text.decode("ascii").split(" ")
+        return f"{shown_line(line.as_entered)}: {word}{line.finding.hint}{plain}{more_words(line)}"
+    voter, ranks = line.as_entered.decode("ascii").split(" ")
     return f"{voter}: {ranks_in_words(ranks, option_names)}"
 
 
@@ -88,7 +88,7 @@ def would_words(line: BatchLine) -> str:
     """A line that is not entered yet, as it would go in, and the one cause that would stay after the changes that are allowed."""
     finding = line.finding_of_changed
     why = "" if finding is None else f": {finding.word}: {finding.hint}{plainly(line.came.changed, finding)}"
-    return f"{shown_line(line.text)}{why}"
+    return f"{shown_line(line.as_entered)}{why}"
 
 
 def other_cause(line: BatchLine) -> Finding | None:

@@ -5,7 +5,7 @@ No sum of the poll covers this, so the journal notes it: the keyring by its sum,
 
 from debvote_tools import called, journal
 from debvote_tools.election.folder import Election
-from debvote_tools.election.record import PollAndBallots
+from debvote_tools.election.election_files import PollAndBallots
 from debvote_tools.faults import Fault, Status
 from debvote_tools.files import sum_of
 
@@ -43,7 +43,7 @@ def wants_form(election: Election, *, is_asked: bool) -> bool:
 
 def note_form(election: Election, counted: PollAndBallots, page: bytes) -> None:
     """Notes that this page says it."""
-    election.act(FORM, counted, record=SUM + sum_of(page))
+    election.act(FORM, counted, detail=SUM + sum_of(page))
 
 
 def demand_blank_was_called(election: Election) -> None:
@@ -52,7 +52,7 @@ def demand_blank_was_called(election: Election) -> None:
     page = election.call_folder / called.PAGE
     if not election.is_called() or not acts:
         why = "the call does not say that an empty cell is a hyphen, so an elector may have meant otherwise"
-    elif page.is_file() and acts[-1].record != SUM + sum_of(page.read_bytes()):
+    elif page.is_file() and acts[-1].detail != SUM + sum_of(page.read_bytes()):
         why = f"the call said that an empty cell is a hyphen, and its page {page} is not the one that said so"
     else:
         return

@@ -3,7 +3,7 @@
 from debvote_tools import by_hand, journal
 from debvote_tools.console import tell
 from debvote_tools.election.folder import Election
-from debvote_tools.election.record import PollAndBallots
+from debvote_tools.election.election_files import PollAndBallots
 from debvote_tools.faults import Fault, Status
 
 EVEN_SO = "Close although lines that came were taken out or changed by hand; the page of the result says so"

@@ -5,7 +5,7 @@ import re
 from debvote_tools import poll_file
 from debvote_tools.console import tell, tell_as_it_is
 from debvote_tools.election.folder import Election
-from debvote_tools.election.record import PollAndBallots
+from debvote_tools.election.election_files import PollAndBallots
 from debvote_tools.election.running import NO_BALLOTS, explanation_of, refusal
 from debvote_tools.faults import Fault, Status
 from debvote_tools.members import plain

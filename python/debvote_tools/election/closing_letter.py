@@ -7,7 +7,7 @@ import dataclasses
 
 from debvote_tools import closed, poll_file
 from debvote_tools.election.folder import Election
-from debvote_tools.election.record import PollAndBallots
+from debvote_tools.election.election_files import PollAndBallots
 from debvote_tools.election.telling import time_of
 from debvote_tools.faults import Fault, Status
 from debvote_tools.files import sum_of, write_whole

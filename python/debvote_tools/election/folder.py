@@ -6,7 +6,7 @@ import stat
 from collections.abc import Iterator
 
 from debvote_tools import called, closed, journal, secret
-from debvote_tools.election.record import PollAndBallots
+from debvote_tools.election.election_files import PollAndBallots
 from debvote_tools.election.recovery import Recovery
 from debvote_tools.faults import Fault, Status
 from debvote_tools.files import locked, sum_of, write_new, write_whole
@@ -73,14 +73,14 @@ class Election(Recovery):
         *,
         new_poll: bytes | None = None,
         new_ballots: bytes | None = None,
-        entered: bytes | None = None,
-        record: str = "",
+        entered_bytes: bytes | None = None,
+        detail: str = "",
     ) -> PollAndBallots:
         """Notes that an act begins, writes the new poll or the new ballots, whole, notes that it is done, and returns poll and ballots
         as they are after it.
 
         The caller holds the lock alone. At most one of both is given, so that an act that is cut off is done or not done; with
-        none of them the act is noted alone. `entered` has the lines that it enters, each with its line feed, and `record` what the
+        none of them the act is noted alone. `entered_bytes` has the lines that it enters, each with its line feed, and `detail` what the
         journal has of it besides (`journal.Entry`).
 
         Raises OSError where the file was not changed, and a `Fault` where it was, but perhaps is not on the disk yet: then the act is done.
@@ -89,7 +89,9 @@ class Election(Recovery):
             counted.poll_bytes if new_poll is None else new_poll, counted.ballots_bytes if new_ballots is None else new_ballots
         )
         self.note_edits(counted)
-        journal.begin(self.journal_path, name, envelopes, after.sums, None if entered is None else sum_of(entered), record)
+        journal.begin(
+            self.journal_path, name, envelopes, after.sums, None if entered_bytes is None else sum_of(entered_bytes), detail
+        )
         try:
             if new_poll is not None:
                 write_whole(self.poll_path, new_poll)
@@ -130,7 +132,7 @@ class Election(Recovery):
     # ------------------------------------------------------------ what electors read
     def language(self) -> Language:
         """The language of what electors read. The journal has it since the folder was made; without it, it is English."""
-        made = next((entry.record for entry in self.entries() if entry.act == NEW), "")
+        made = next((entry.detail for entry in self.entries() if entry.act == NEW), "")
         if made and made not in LANGUAGES:
             cure = f"write one of these into its first line, or install the debvote that made it: {', '.join(LANGUAGES)}"
             raise Fault(self.journal_path, f"its language `{made}` is none that these programs have", cure, Status.DOUBT)
@@ -172,7 +174,7 @@ class Election(Recovery):
 
     def and_its_last_envelope(self) -> str:
         """The line that the close has put into the poll: who copies the called poll back has to write it again."""
-        close = self.closed()
+        close = self.close_entry()
         number = None if close is None else closed.number_of(close)
         if number is None:
             return ""

@@ -49,51 +49,55 @@ def columns_of(name: str, ranks: str, options: list[str], *, is_blank_unranked: 
             "name a column for each, in this order",
             Status.BAD_WORDS,
         )
-    keys = [key_of(head) for head in [name, *heads]]
-    double = next((head for head, key in zip([name, *heads], keys) if keys.count(key) > 1), None)
-    if double is not None:
-        raise Fault("--name, --ranks", f"the column `{double}` is named twice", "name each once", Status.BAD_WORDS)
+    compared_heads = [compared_form(head) for head in [name, *heads]]
+    named_twice = next((head for head, compared in zip([name, *heads], compared_heads) if compared_heads.count(compared) > 1), None)
+    if named_twice is not None:
+        raise Fault("--name, --ranks", f"the column `{named_twice}` is named twice", "name each once", Status.BAD_WORDS)
     return Columns(name.strip(), heads, is_blank_unranked)
 
 
-def lines_of_form(data: bytes, file: str, columns: Columns) -> list[Line]:
+def lines_of_form(data: bytes, file_name: str, columns: Columns) -> list[Line]:
     """The lines that the rows of a form make. A cell that is empty stays so, and debvote refuses its line, unless it is told that it
     stands for an option that is not ranked.
     """
-    rows = rows_in(text_in(data, file), file, columns)
-    number, head = next(((number, row) for number, row in enumerate(rows, start=1) if any(row)), (0, list[str]()))
-    places = places_of(head, file, columns)
+    rows = rows_in(text_in(data, file_name), file_name, columns)
+    head_number, head_row = next(((number, row) for number, row in enumerate(rows, start=1) if any(row)), (0, list[str]()))
+    places = places_of(head_row, file_name, columns)
     lines = []
-    for at, row in enumerate(rows[number:], start=number + 1):
-        demand_width(row, head, f"{file}: row {at}")
-        lines.append(line_of(row, places, f"{file}: row {at}", is_blank_unranked=columns.is_blank_unranked))
+    for number, row in enumerate(rows[head_number:], start=head_number + 1):
+        demand_width(row, head_row, f"{file_name}: row {number}")
+        lines.append(line_of(row, places, f"{file_name}: row {number}", is_blank_unranked=columns.is_blank_unranked))
     return lines
 
 
 # ---------------------------------------------------------------- the table
-def text_in(data: bytes, file: str) -> str:
+def text_in(data: bytes, file_name: str) -> str:
     """The text of a file, by its mark; without one it is in UTF-8."""
     mark = mark_of(data)
     try:
         return data.removeprefix(mark).decode(MARKS.get(mark, "utf-8"))
     except UnicodeDecodeError as error:
-        line = data.count(b"\n", 0, error.start) + 1
+        line_number = data.count(b"\n", 0, error.start) + 1
         raise Fault(
-            file, f"line {line} is not in UTF-8", "save it anew as CSV in UTF-8", Status.BAD_BALLOTS, "nothing was added"
+            file_name,
+            f"line {line_number} is not in UTF-8",
+            "save it anew as CSV in UTF-8",
+            Status.BAD_BALLOTS,
+            "nothing was added",
         ) from None
 
 
-def rows_in(text: str, file: str, columns: Columns) -> list[list[str]]:
+def rows_in(text: str, file_name: str, columns: Columns) -> list[list[str]]:
     """The rows of a table, by the delimiter with which most of the columns are found."""
     csv.field_size_limit(LONGEST_CELL)
-    first = next((line for line in re.split(r"[\r\n]+", text) if line.strip(" \t,;")), "")
-    delimiter = max(DELIMITERS, key=lambda sign: (heads_found(first, sign, columns), first.count(sign)))
+    head_line = next((line for line in re.split(r"[\r\n]+", text) if line.strip(" \t,;")), "")
+    delimiter = max(DELIMITERS, key=lambda sign: (heads_found(head_line, sign, columns), head_line.count(sign)))
     reader = csv.reader(io.StringIO(text, newline=""), delimiter=delimiter, strict=True)
     try:
         return list(reader)
     except csv.Error as error:
         raise Fault(
-            f"{file}:{reader.line_num}",
+            f"{file_name}:{reader.line_num}",
             f"it is no table with a {DELIMITERS[delimiter]} between its cells ({error})",
             "save it anew as CSV",
             Status.BAD_BALLOTS,
@@ -101,46 +105,46 @@ def rows_in(text: str, file: str, columns: Columns) -> list[list[str]]:
         ) from None
 
 
-def heads_found(line: str, delimiter: str, columns: Columns) -> int:
-    """How many of the columns the head line has, read with this delimiter."""
-    heads = {key_of(head) for head in next(csv.reader([line], delimiter=delimiter), [])}
-    return sum(key_of(head) in heads for head in [columns.name, *columns.ranks])
+def heads_found(head_line: str, delimiter: str, columns: Columns) -> int:
+    """How many of the columns the head line has where it is read with this delimiter."""
+    heads = {compared_form(head) for head in next(csv.reader([head_line], delimiter=delimiter), [])}
+    return sum(compared_form(head) in heads for head in [columns.name, *columns.ranks])
 
 
-def key_of(head: str) -> str:
-    """What two heads are compared by: case and outer spaces do not matter."""
+def compared_form(head: str) -> str:
+    """A head as it is compared with others: case and outer spaces do not matter."""
     return head.strip().casefold()
 
 
-def places_of(head: list[str], file: str, columns: Columns) -> list[int]:
+def places_of(head_row: list[str], file_name: str, columns: Columns) -> list[int]:
     """The place of the names, and that of each rank."""
-    keys = [key_of(cell) for cell in head]
-    there = ", ".join(f"`{cell.strip()}`" for cell in head if cell.strip()) or "none"
+    compared_heads = [compared_form(cell) for cell in head_row]
+    there = ", ".join(f"`{cell.strip()}`" for cell in head_row if cell.strip()) or "none"
     for column in [columns.name, *columns.ranks]:
-        if keys.count(key_of(column)) != 1:
-            what = "there is no column" if key_of(column) not in keys else "there is more than one column"
+        if compared_heads.count(compared_form(column)) != 1:
+            what = "there is no column" if compared_form(column) not in compared_heads else "there is more than one column"
             words = f"{what} `{column}`; its heads are {there}"
-            raise Fault(file, words, "name each by its head", Status.BAD_WORDS, "nothing was added")
-    return [keys.index(key_of(column)) for column in [columns.name, *columns.ranks]]
+            raise Fault(file_name, words, "name each by its head", Status.BAD_WORDS, "nothing was added")
+    return [compared_heads.index(compared_form(column)) for column in [columns.name, *columns.ranks]]
 
 
-def demand_width(row: list[str], head: list[str], where: str) -> None:
+def demand_width(row: list[str], head_row: list[str], where: str) -> None:
     """Stops at a row that is longer than the head line: its cells do not stand below their heads."""
-    if any(cell.strip() for cell in row[len(head) :]):
+    if any(cell.strip() for cell in row[len(head_row) :]):
         cure = "put a cell that has the delimiter in it into quotation marks, and add the file again"
         raise Fault(
-            where, f"it has {len(row)} cells, and the head line has {len(head)}", cure, Status.BAD_BALLOTS, "nothing was added"
+            where, f"it has {len(row)} cells, and the head line has {len(head_row)}", cure, Status.BAD_BALLOTS, "nothing was added"
         )
 
 
 def line_of(row: list[str], places: list[int], where: str, *, is_blank_unranked: bool = False) -> Line:
     """The line of a row. What may be changed is changed in each cell by itself, so that none becomes a part of another."""
-    name, *ranks = [(row[place] if place < len(row) else "").encode("utf-8", "backslashreplace") for place in places]
+    elector, *ranks = [(row[place] if place < len(row) else "").encode("utf-8", "backslashreplace") for place in places]
     if not any(cell.strip() for cell in row):
         return Line(where, b"", b"", b"")
-    came = name + b" " + b",".join(ranks)
-    bare = re.sub(rb"[\r\n]+", b" ", came)
-    name, *ranks = [re.sub(rb"[\r\n]+", b" ", cell).strip(BLANKS) for cell in (name, *ranks)]
-    if is_blank_unranked and name:
+    whole = elector + b" " + b",".join(ranks)
+    bare = re.sub(rb"[\r\n]+", b" ", whole)
+    elector, *ranks = [re.sub(rb"[\r\n]+", b" ", cell).strip(BLANKS) for cell in (elector, *ranks)]
+    if is_blank_unranked and elector:
         ranks = [cell or UNRANKED.encode() for cell in ranks]
-    return Line(where, came, bare, name.lower() + b" " + b",".join(ranks))
+    return Line(where, whole, bare, elector.lower() + b" " + b",".join(ranks))

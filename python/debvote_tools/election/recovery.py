@@ -20,21 +20,23 @@ import contextlib
 
 from debvote_tools import called, journal, lost
 from debvote_tools.console import tell_aside
-from debvote_tools.election.record import PollAndBallots, Record
+from debvote_tools.election.election_files import ElectionFiles, PollAndBallots
 from debvote_tools.faults import Fault, Status
 from debvote_tools.files import append_whole, take_away_temporaries
 from debvote_tools.journal import Entry
 
 
-class Recovery(Record):
+class Recovery(ElectionFiles):
     """An election whose files and journal have to agree: where they do not, this finds out what was done."""
 
-    # the act that was found cut off, and not done
+    # the act that `recover` found cut off, and not done: it is known behind `changing` alone
     cut_off: Entry | None = None
 
     # ------------------------------------------------------------ after a kill
     def recover(self, counted: PollAndBallots) -> None:
-        """Notes an act that was cut off, and takes away what a run that was killed has left half written."""
+        """Notes an act that was cut off, and takes away what a run that was killed has left half written. The act is `cut_off` from then
+        on, if it was not done, so that it can be told.
+        """
         take_away_temporaries(self.folder, called.NAMES)
         for folder in (self.received_folder, self.backup_folder, self.private_folder):
             take_away_temporaries(folder)
@@ -49,11 +51,11 @@ class Recovery(Record):
     def recover_failed(self, name: str, after: PollAndBallots, error: OSError) -> None:
         """Settles an act that has failed. Where its file has taken its place all the same, the act is done, and this is said."""
         # where there is no room for this note either, the next run makes it
-        now = None
+        found = None
         with contextlib.suppress(OSError, Fault):
-            now = self.poll_and_ballots()
-            self.recover(now)
-        if now is not None and now.sums == after.sums:
+            found = self.poll_and_ballots()
+            self.recover(found)
+        if found is not None and found.sums == after.sums:
             raise Fault(
                 error.filename,
                 f"it is written, but perhaps not on the disk yet ({error.strerror})",

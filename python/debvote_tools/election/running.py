@@ -5,7 +5,7 @@ import shlex
 from collections.abc import Iterable
 
 from debvote_tools.election.folder import Election
-from debvote_tools.election.record import PollAndBallots
+from debvote_tools.election.election_files import PollAndBallots
 from debvote_tools.faults import Fault, Status
 from debvote_tools.files import BALLOTS_LIMIT, LINES_LIMIT, POLL_LIMIT, in_memory
 from debvote_tools.program import Answer
@@ -16,17 +16,20 @@ NO_BALLOTS = "/dev/null"
 
 def file_words(election: Election, counted: PollAndBallots) -> list[str]:
     """The words that name the two files to debvote, which runs in the folder of the election."""
-    ballots = NO_BALLOTS if counted.ballots_bytes is None else election.ballots_path.name
-    return ["--poll", election.poll_path.name, "--ballots", ballots]
+    ballots_file = NO_BALLOTS if counted.ballots_bytes is None else election.ballots_path.name
+    return ["--poll", election.poll_path.name, "--ballots", ballots_file]
 
 
 def answer_about(election: Election, task: str, poll_path: str, ballots_bytes: bytes) -> Answer:
-    """What debvote writes about a poll and these ballots. Where it refuses them, nothing is added."""
+    """What debvote writes about a poll and these ballots. Where it refuses them as a whole, nothing is added; whether what came is kept
+    then, `entering.batch_or_keep` says.
+    """
     answer = election.debvote.run(task, "--poll", poll_path, "--ballots", "/dev/stdin", given=ballots_bytes)
     if answer.status == Status.BAD_BALLOTS:
         said = answer.faults.strip().removeprefix("debvote: ")
-        cure = f"it takes {LINES_LIMIT} lines and {BALLOTS_LIMIT} bytes at most; what came is kept in {election.received_folder}: add less of it"
-        raise Fault(election.ballots_path, f"nothing was added, for with it debvote says `{said}`", cure, Status.BAD_BALLOTS)
+        at_most = f"it takes {LINES_LIMIT} lines and {BALLOTS_LIMIT} bytes at most"
+        words = f"nothing was added, for with it debvote says `{said}`; {at_most}"
+        raise Fault(election.ballots_path, words, "add less of it", Status.BAD_BALLOTS, "")
     if answer.faults:
         raise refusal(election, answer)
     return answer

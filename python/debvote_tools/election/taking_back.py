@@ -7,7 +7,7 @@ import re
 from debvote_tools import called, journal
 from debvote_tools.console import tell
 from debvote_tools.election.folder import Election
-from debvote_tools.election.record import PollAndBallots
+from debvote_tools.election.election_files import PollAndBallots
 from debvote_tools.election.telling import time_of
 from debvote_tools.faults import Fault, Status
 from debvote_tools.files import sync_folder, uninterrupted
@@ -48,11 +48,11 @@ def demand_unvoted(election: Election, counted: PollAndBallots) -> None:
     given = given_already(election, counted) or given_before(election, counted)
     if given is not None:
         raise Fault(election.call_folder, "the call can't be taken back any more", given, Status.DOUBT, "")
-    closed = election.closed()
-    if closed is not None:
+    close = election.close_entry()
+    if close is not None:
         raise Fault(
             election.call_folder,
-            f"the election was closed at {time_of(closed)}, and its call can't be taken back any more",
+            f"the election was closed at {time_of(close)}, and its call can't be taken back any more",
             "hold a new election in a new folder: debvote-election new FOLDER",
             Status.DOUBT,
             "nothing was changed",

@@ -6,7 +6,7 @@ from debvote_tools import announced, journal
 from debvote_tools.announced import announced_in, time_in_words
 from debvote_tools.console import tell
 from debvote_tools.election.folder import Election
-from debvote_tools.election.record import PollAndBallots
+from debvote_tools.election.election_files import PollAndBallots
 from debvote_tools.faults import Fault
 from debvote_tools.files import sum_of
 from debvote_tools.journal import Entry
@@ -24,9 +24,9 @@ def time_of(entry: Entry) -> str:
 
 def tell_if_early_or_late(election: Election, counted: PollAndBallots, what: str) -> None:
     """Says where ballots come before the call for votes, after its time, or after the close, and what was taken away of the call and the journal; the words say what is done with them."""
-    closed = election.closed()
-    if closed is not None:
-        tell(f"Note: the election was closed at {time_of(closed)}; {what} now is late.")
+    close = election.close_entry()
+    if close is not None:
+        tell(f"Note: the election was closed at {time_of(close)}; {what} now is late.")
     else:
         if not election.call_folder.exists() and not election.is_called():
             tell("Note: the call for votes has not been made yet.")
@@ -54,34 +54,34 @@ def tell_what_is_gone(election: Election, counted: PollAndBallots) -> None:
 def tell_edits(election: Election, counted: PollAndBallots) -> None:
     """Says what was not done, and which files somebody has edited by hand: an editor is allowed, unseen is not.
 
-    The caller holds the lock alone.
+    The caller holds the lock alone by `changing`, which has found out what was not done (`cut_off`).
     """
     undone = election.cut_off
     if undone is not None:
-        many = "envelopes" if "-" in undone.envelopes else "envelope"
-        what = f"{many} {undone.envelopes}, " if undone.act in journal.ENTERING else ""
-        where_kept = f"; what came is kept in {election.received_folder}" if what else ""
-        tell(f"Note: the last act ({undone.act}, {what}{time_of(undone)}) was cut off, and is not done{where_kept}.")
+        envelopes_word = "envelopes" if "-" in undone.envelopes else "envelope"
+        what_words = f"{envelopes_word} {undone.envelopes}, " if undone.act in journal.ENTERING else ""
+        where_kept = f"; what came is kept in {election.received_folder}" if what_words else ""
+        tell(f"Note: the last act ({undone.act}, {what_words}{time_of(undone)}) was cut off, and is not done{where_kept}.")
     for file in election.edited_paths(counted):
         acts = election.last_acts()
-        how = f": {what_differs(counted.ballots_bytes or b'', acts)}" if file == election.ballots_path else ""
-        tell(f"Note: {file} was changed by hand since {time_of(acts[-1])} ({acts[-1].act}){how}.")
+        how_words = f": {what_differs(counted.ballots_bytes or b'', acts)}" if file == election.ballots_path else ""
+        tell(f"Note: {file} was changed by hand since {time_of(acts[-1])} ({acts[-1].act}){how_words}.")
 
 
 def what_differs(ballots_bytes: bytes, acts: list[Entry]) -> str:
     """How the ballots differ from those that the journal has last."""
-    noted = acts[-1].sums.ballots
-    before = lines_noted(acts)
-    if noted == journal.NONE:
+    sum_then = acts[-1].sums.ballots
+    line_count_then = lines_noted(acts)
+    if sum_then == journal.NONE:
         return "it was not there"
-    if before is None:
+    if line_count_then is None:
         return "it is another one"
-    now = ballots_bytes.count(b"\n")
-    if now < before:
-        return f"it has {count_of(now, 'whole line')}, and had {before}; what came is kept in received"
-    if sum_of(beginning(ballots_bytes, before)) == noted:
-        return f"something was written behind its first {count_of(before, 'line')}, which are as they were"
-    return f"its first {count_of(before, 'line')} are not all as they were; what came is kept in received"
+    line_count = ballots_bytes.count(b"\n")
+    if line_count < line_count_then:
+        return f"it has {count_of(line_count, 'whole line')}, and had {line_count_then}; what came is kept in received"
+    if sum_of(beginning(ballots_bytes, line_count_then)) == sum_then:
+        return f"something was written behind its first {count_of(line_count_then, 'line')}, which are as they were"
+    return f"its first {count_of(line_count_then, 'line')} are not all as they were; what came is kept in received"
 
 
 def lines_noted(acts: list[Entry]) -> int | None:

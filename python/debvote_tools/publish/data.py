@@ -76,11 +76,11 @@ def votes_csv(sheet: Sheet) -> str:
     writer.writerow(["option", "name", "ratio", "ended", *sheet.names])
     for a, name in sheet.names.items():
         votes = [sheet.votes.get((a, b), "") for b in sheet.names]
-        writer.writerow([a, name, sheet.ratios.get(a, ""), ended(sheet, a), *votes])
+        writer.writerow([a, name, sheet.ratios.get(a, ""), how_ended(sheet, a), *votes])
     return table.getvalue()
 
 
-def ended(sheet: Sheet, option: int) -> str:
+def how_ended(sheet: Sheet, option: int) -> str:
     """How it ended for an option, in a word: `won`, `left` in a tie, dropped for its `quorum` or its `majority`, or `lost`."""
     if option in sheet.dropped:
         return sheet.dropped[option]

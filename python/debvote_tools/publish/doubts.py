@@ -43,14 +43,14 @@ NOT_AS_CLOSED = sentence(
 )
 
 
-def tell_lines(lines: list[str]) -> None:
+def tell_each_aside(lines: list[str]) -> None:
     """Tells each line on standard error."""
     tell_aside(*(f"debvote-publish: {line}" for line in lines))
 
 
 def stop(found: list[Doubt]) -> Fault:
     """The fault that ends the run at these doubts, which are told."""
-    tell_lines([f"{doubt.told()} {EVEN_SO}" for doubt in found])
+    tell_each_aside([f"{doubt.told()} {EVEN_SO}" for doubt in found])
     return Told(Status.DOUBT)
 
 
@@ -61,7 +61,7 @@ def found_in(debvote: FolderDebvote, poll_path: str, ballots_path: str, sheet: S
     """
     findings = findings_in(debvote.explain())
     return [
-        *misplaced(debvote.debvote, poll_path, ballots_path),
+        *misplaced(debvote.program, poll_path, ballots_path),
         *about_ballots(findings, poll_path, ballots_path),
         *unended(debvote.folder / BALLOTS, ballots_path),
         *unread_keys(findings, poll_path),
@@ -70,9 +70,9 @@ def found_in(debvote: FolderDebvote, poll_path: str, ballots_path: str, sheet: S
 
 
 # ---------------------------------------------------------------- a file in the place of the other
-def misplaced(debvote: Debvote, poll_path: str, ballots_path: str) -> list[Doubt]:
+def misplaced(program: Debvote, poll_path: str, ballots_path: str) -> list[Doubt]:
     """That the poll reads as ballots, and that the ballots read as a poll."""
-    has_no_poll, has_no_ballots = reads_as_ballots(debvote, POLL), reads_as_poll(debvote, BALLOTS)
+    has_no_poll, has_no_ballots = reads_as_ballots(program, POLL), reads_as_poll(program, BALLOTS)
     swap = f"the two are swapped: give {shlex.join(['--poll', ballots_path, '--ballots', poll_path])}"
     is_swapped = has_no_poll and has_no_ballots
     found = []
@@ -87,21 +87,23 @@ def misplaced(debvote: Debvote, poll_path: str, ballots_path: str) -> list[Doubt
     return found
 
 
-def reads_as_poll(debvote: Debvote, file: str) -> bool:
+def reads_as_poll(program: Debvote, file: str) -> bool:
     """Whether debvote reads a file as TOML that has a key of a poll, be the poll in order or not."""
-    lines = debvote.run("explain", "--poll", file).text.splitlines()
+    lines = program.run("explain", "--poll", file).text.splitlines()
     is_toml = bool(lines) and not any(re.match(r"poll:\d+:\d+: ", line) for line in lines[:2])
     missing = [line for line in lines if re.fullmatch(r"poll: key \w+: it is missing", line)]
     return is_toml and len(missing) < len(REQUIRED)
 
 
-def reads_as_ballots(debvote: Debvote, file: str) -> bool:
+def reads_as_ballots(program: Debvote, file: str) -> bool:
     """Whether more than half of the lines of a file have the shape of ballots, a carriage return at their end aside."""
-    answer = debvote.run("explain", "--poll", "/dev/stdin", "--ballots", file, given=ANY_POLL)
+    answer = program.run("explain", "--poll", "/dev/stdin", "--ballots", file, given=ANY_POLL)
     if not answer.text:
         return False
     findings = findings_in(answer.text)
-    others = [line for line in findings.refused if line.word == "bad shape" and not line.hint.endswith("carriage return")]
+    others = [
+        finding for finding in findings.refused if finding.word == "bad shape" and not finding.hint.endswith("carriage return")
+    ]
     return 2 * len(others) < findings.totals.lines
 
 
@@ -121,7 +123,7 @@ def about_ballots(findings: Findings, poll_path: str, ballots_path: str) -> list
         )
         found.append(Doubt(ballots_path, reason, ask_why(poll_path, ballots_path), said, MOSTLY_REFUSED))
     # explain says of the lines of bad shape alone that they come from Windows
-    if findings.is_windows and all(line.word in ("bad shape", "late") for line in findings.refused):
+    if findings.is_windows and all(finding.word in ("bad shape", "late") for finding in findings.refused):
         found.append(from_windows(poll_path, ballots_path))
     return found
 
@@ -131,7 +133,7 @@ def from_windows(poll_path: str, ballots_path: str) -> Doubt:
     reason = "all refused lines end with a carriage return, as those of a file from Windows do"
     unix = f"{ballots_path}.unix"
     cure = f"take it out, and give the file that this makes: tr -d '\\r' < {shlex.quote(ballots_path)} > {shlex.quote(unix)}"
-    if election_of(poll_path) is not None:
+    if election_folder_of(poll_path) is not None:
         cure = f"take it out of the file: sed -i 's/\\r$//' {shlex.quote(ballots_path)}"
     said = sentence(
         "All refused lines end with a carriage return, as those of a file from Windows do: they may be ballots that were meant to "
@@ -197,7 +199,7 @@ def about_election(made_folder: pathlib.Path, poll_path: str, ballots_path: str,
 
     `made_folder` is the folder that is made: it has the copies of both files that are published.
     """
-    folder = election_of(poll_path)
+    folder = election_folder_of(poll_path)
     if folder is None:
         return []
     poll_bytes, ballots_bytes = (made_folder / POLL).read_bytes(), (made_folder / BALLOTS).read_bytes()
@@ -247,7 +249,7 @@ def no_folder(folder: pathlib.Path, call: called.Called) -> Doubt:
     return Doubt(str(folder / called.FOLDER), reason, cure, said, said)
 
 
-def election_of(poll_path: str) -> pathlib.Path | None:
+def election_folder_of(poll_path: str) -> pathlib.Path | None:
     """The folder of the election in which the poll lies, if there is one."""
     places = folders_of(poll_path)
     return next((place for place in places if (place / journal.NAME).is_file() or lost.trace_in(place) is not None), None)

@@ -13,13 +13,13 @@ from debvote_tools.publish.names import FILES, SHEET
 class FolderDebvote:
     """debvote in the folder, with the words of the casting vote, and of the number of desks, that were given."""
 
-    debvote: Debvote
+    program: Debvote
     casting_words: list[str]
     desks_words: list[str]
 
     @property
     def folder(self) -> pathlib.Path:
-        return self.debvote.folder
+        return self.program.folder
 
     def version(self) -> str:
         """The name of debvote with its version."""
@@ -55,7 +55,7 @@ class FolderDebvote:
 
         Its fault lines go to standard error as they are.
         """
-        answer = self.debvote.run(*words)
+        answer = self.program.run(*words)
         tell_aside_as_it_is(answer.faults)
         if answer.status != Status.DONE and not (answer.text and answer.status in also):
             raise Told(answer.status)

@@ -9,6 +9,7 @@ A line has a number, a tab and a text. The number is that of an option, or 0 for
 import dataclasses
 import re
 import unicodedata
+from typing import NamedTuple
 
 from debvote_tools.faults import Fault, Status
 from debvote_tools.language import ENGLISH, Language
@@ -30,6 +31,13 @@ UNSEEN = ("Mn", "Mc", "Me", "Cf")
 IN_POLL = marked("in the poll: {name}")
 
 
+class GivenLabel(NamedTuple):
+    """A label as a file has it: the number of its line, and its text."""
+
+    line_number: int
+    text: str
+
+
 @dataclasses.dataclass(frozen=True)
 class Labels:
     """The label of the title, and those of options by their numbers; who has none is called as in the poll."""
@@ -42,19 +50,19 @@ class Labels:
         return self.title is None and not self.options
 
 
-def labels_in(file: str) -> dict[int, tuple[int, str]]:
-    """The labels of a file, each with the number of its line, by the numbers that they have."""
-    labels: dict[int, tuple[int, str]] = {}
-    for place, line in enumerate(text_in(file, "labels").split("\n"), start=1):
+def labels_in(file: str) -> dict[int, GivenLabel]:
+    """The labels of a file by the numbers that they have: those of options, or 0."""
+    given: dict[int, GivenLabel] = {}
+    for line_number, line in enumerate(text_in(file, "labels").split("\n"), start=1):
         if not line.strip():
             continue
-        number, text = label_in(line, f"{file}:{place}")
-        if number in labels:
-            raise bad_label(
-                f"{file}:{place}", f"number {number} has a label already, on line {labels[number][0]}", "take one of the two out"
-            )
-        labels[number] = (place, text)
-    return labels
+        where = f"{file}:{line_number}"
+        number, text = label_in(line, where)
+        if number in given:
+            words = f"number {number} has a label already, on line {given[number].line_number}"
+            raise bad_label(where, words, "take one of the two out")
+        given[number] = GivenLabel(line_number, text)
+    return given
 
 
 def label_in(line: str, where: str) -> tuple[int, str]:
@@ -73,41 +81,41 @@ def label_in(line: str, where: str) -> tuple[int, str]:
     return int(number), text
 
 
-def labels_of(file: str | None, labels: dict[int, tuple[int, str]], sheet: Sheet, language: Language) -> Labels:
+def labels_of(file: str | None, given: dict[int, GivenLabel], sheet: Sheet, language: Language) -> Labels:
     """The labels for a sheet. Stops at the number of an option that it does not have."""
-    for number, (place, _) in labels.items():
+    for number, label in given.items():
         if number != TITLE and number not in sheet.names:
             words = f"the poll has no option {number}: its options are 1 to {sheet.default}, and 0 stands for the title"
-            raise bad_label(f"{file}:{place}", words, "put the number right")
-    demand_unlike(file, labels, sheet, language)
-    texts = {number: text for number, (_, text) in labels.items()}
+            raise bad_label(f"{file}:{label.line_number}", words, "put the number right")
+    demand_unlike(file, given, sheet, language)
+    texts = {number: label.text for number, label in given.items()}
     return Labels(texts.pop(TITLE, None), texts)
 
 
-def demand_unlike(file: str | None, labels: dict[int, tuple[int, str]], sheet: Sheet, language: Language) -> None:
+def demand_unlike(file: str | None, given: dict[int, GivenLabel], sheet: Sheet, language: Language) -> None:
     """Stops where a label would be read as another option: it is the name of one in the poll, or its label."""
     names = {alike(name): number for number, name in sheet.names.items()}
     labelled: dict[str, int] = {}
     of_page = [re.sub(r"\W", "", alike(said.say(IN_POLL, name=""))) for said in (ENGLISH, language)]
-    for number, (place, text) in labels.items():
+    for number, (line_number, text) in given.items():
         if number == TITLE:
             continue
         form = alike(text)
         if any(words in form for words in of_page):
             raise bad_label(
-                f"{file}:{place}",
+                f"{file}:{line_number}",
                 "it says what an option is called in the poll, and the page says that itself",
                 "write another text",
             )
         cure = "call each option by a text of its own"
         if form in names and form != alike(sheet.names[number]):
             raise bad_label(
-                f"{file}:{place}",
+                f"{file}:{line_number}",
                 f"option {number} would be called as option {names[form]}, {sheet.names[names[form]]}, is in the poll",
                 cure,
             )
         if labelled.setdefault(form, number) != number:
-            raise bad_label(f"{file}:{place}", f"option {number} would be called as option {labelled[form]} is", cure)
+            raise bad_label(f"{file}:{line_number}", f"option {number} would be called as option {labelled[form]} is", cure)
 
 
 def alike(text: str) -> str:

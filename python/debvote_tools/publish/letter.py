@@ -26,14 +26,18 @@ THEN = marked("The page index.html, under {verifying}, says how to look at your 
 
 def letter_of(published: Published, poll_bytes: bytes, ballots_bytes: bytes, page: bytes) -> bytes:
     """The letter, in plain text. The names are those of the poll."""
-    sums, say, told = published.poll_sums, published.say, casting_vote.told(published.casting_vote, published.language)
+    poll_sums, say, casting_words = (
+        published.poll_sums,
+        published.say,
+        casting_vote.told(published.casting_vote, published.language),
+    )
     said = [wrapped(say(SAME))]
-    if sums.last_envelope is not None:
-        said = [wrapped(say(LATER, number=sums.last_envelope)), copied(sums.poll_sum)]
+    if poll_sums.last_envelope is not None:
+        said = [wrapped(say(LATER, number=poll_sums.last_envelope)), copied(poll_sums.poll_sum)]
     parts = [
         wrapped(published.sheet.title),
-        wrapped(ended(published)),
-        *([] if told is None else [wrapped(told)]),
+        wrapped(how_ended(published)),
+        *([] if casting_words is None else [wrapped(casting_words)]),
         heading(say("The files of the result")),
         wrapped(say("The sum (SHA-256) of the file poll.toml:")),
         copied(sum_of(poll_bytes)),
@@ -49,7 +53,7 @@ def letter_of(published: Published, poll_bytes: bytes, ballots_bytes: bytes, pag
     return "\n".join(parts).encode("utf-8")
 
 
-def ended(published: Published) -> str:
+def how_ended(published: Published) -> str:
     """How the vote ended: in English the last line of the sheet."""
     sheet, say = published.sheet, published.say
     winner = sheet.winner()

@@ -61,12 +61,12 @@ def as_kept(texts: Texts) -> bytes:
     return (json.dumps({str(number): text for number, text in texts.items()}, ensure_ascii=False, indent=1) + "\n").encode()
 
 
-def called_in(election: pathlib.Path) -> dict[int, str] | None:
+def called_in(election_folder: pathlib.Path) -> dict[int, str] | None:
     """The texts that the call of the election in this folder has shown; none where it kept none, or where that was changed so that
     it can't be read.
     """
     try:
-        kept = json.loads((election / CALLED).read_bytes())
+        kept = json.loads((election_folder / CALLED).read_bytes())
         return {int(number): str(text) for number, text in kept.items()}
     except (OSError, ValueError, AttributeError):
         return None

@@ -7,13 +7,14 @@ from collections.abc import Callable
 from html import escape
 
 from debvote_tools import ballots, pages
-from debvote_tools.pages import command_block, link_to, listed, paragraph, part
+from debvote_tools.pages import Command, command_block, link_to, listed, paragraph, part
+from debvote_tools.program import standing_in
 from debvote_tools.publish.parts import bars, count, count_again, result, roll, times
 from debvote_tools.publish.headings import BALLOTS as BALLOTS_HEADING, COUNT_AGAIN, VERIFYING, VOTED
 from debvote_tools.publish.names import BALLOTS, FILES, POLL, SHEET
 from debvote_tools.publish.picture import words_for_dot
 from debvote_tools.publish.poll_sums import WHOLE
-from debvote_tools.publish.published import File, Published
+from debvote_tools.publish.published import NamedFile, Published, WholeFile
 from debvote_tools.publish.recounting import GUIDE_LINK, NAME as RECOUNT, SCRIPT
 from debvote_tools.publish.parts.refused import refused
 from debvote_tools.publish.second_count import ISOLATED
@@ -91,13 +92,13 @@ PUBLISHED = marked("It is the published one:")
 PUBLISHED_WITH_LAST = marked("It is the published one, with its last envelope, {number}:")
 
 
-def page_of(published: Published, files: list[File]) -> str:
-    """The page, whole. The files are those of the folder, in the order in which the page names them."""
-    data_by_name = {file.name: file.data for file in files}
-    about = result.about(published)
+def page_of(published: Published, counted_files: list[WholeFile], other_files: list[NamedFile]) -> str:
+    """The page, whole. It carries the files that are counted, poll, ballots and sheet, and names them and the others, in this order."""
+    data_by_name = {file.name: file.data for file in counted_files}
+    about_parts = result.about(published)
     parts = [
         bars.bars(published),
-        *about,
+        *about_parts,
         why(published),
         times.times(published),
         count.options(published),
@@ -110,7 +111,7 @@ def page_of(published: Published, files: list[File]) -> str:
         *published.further.parts,
         unseen(published),
         count_again.count_again(data_by_name, published.language),
-        check(published, files),
+        check(published, [*counted_files, *other_files]),
     ]
     sections = "".join(map(published.with_names, [result.result(published), contents(published, parts), *parts]))
     sections += count_again.carried(data_by_name)
@@ -123,7 +124,9 @@ def page_of(published: Published, files: list[File]) -> str:
         + (result.DOUBTS_STYLE if published.doubts else "")
     )
     style += (
-        (pages.GIVEN_STYLE if about or published.because or published.texts else "") + count_again.STYLE + published.further.style
+        (pages.GIVEN_STYLE if about_parts or published.because or published.texts else "")
+        + count_again.STYLE
+        + published.further.style
     )
     title = published.title()
     head = published.say("Result: {title}", title=head_of(published))
@@ -147,23 +150,23 @@ def contents(published: Published, parts: list[str]) -> str:
 def standing_ballots(published: Published) -> str:
     """Each ballot that stands, at a place of the page that has the name of its elector."""
     say = published.say
-    standing = [line.split(" ") for line in published.standing.splitlines()]
+    standing = standing_in(published.standing_text)
     if not standing:
         return part(published.language, BALLOTS_HEADING, paragraph(say("No elector has a ballot that stands.")))
-    names = {option: f"{option} {published.name(option)}" for option in published.sheet.names}
-    has_names = len(standing) * sum(map(len, names.values())) <= NAMES_LIMIT
+    option_names = {option: f"{option} {published.name(option)}" for option in published.sheet.names}
+    has_names = len(standing) * sum(map(len, option_names.values())) <= NAMES_LIMIT
     said = published.further.about_ballots or say(
         "Of each elector the last ballot that was not late, in the order of the roll. "
         "The address of a ballot is this page's with # and the name behind it, as index.html#{elector}.",
-        elector=standing[0][0],
+        elector=next(iter(standing)),
     )
     if not has_names:
         said += f" {say('The names of the options stand under Options.')}"
-    shown = names if has_names else {option: str(option) for option in names}
+    shown = option_names if has_names else {option: str(option) for option in option_names}
     in_words = words_of_ballots(published, shown)
     entry = published.language.form("<b>{elector}</b> <code>{ranks}</code>: {ballot}")
     entries = "".join(
-        f'<li id="{voter}">{entry(elector=voter, ranks=ranks, ballot=in_words(ranks))}</li>\n' for voter, ranks in standing
+        f'<li id="{voter}">{entry(elector=voter, ranks=ranks, ballot=in_words(ranks))}</li>\n' for voter, ranks in standing.items()
     )
     in_poll = [names_in_poll(published)] if has_names and published.labels.options else []
     return part(published.language, BALLOTS_HEADING, paragraph(said), *in_poll, f'<ul class="ballots">\n{entries}</ul>')
@@ -200,19 +203,19 @@ def words_of_ballots(published: Published, shown: dict[int, str]) -> Callable[[s
 
 
 # ---------------------------------------------------------------- what the reader can do
-def check(published: Published, files: list[File]) -> str:
+def check(published: Published, files: list[NamedFile]) -> str:
     """What is enough for an elector; then the files, and the commands with which a reader counts again."""
     language, say = published.language, published.say
-    what = {file.name: file.what for file in files} | published.further.described
+    what_by_name = {file.name: file.what for file in files} | published.further.described
     links = {file.name: f'<a href="{file.name}">{file.name}</a>' for file in files}
-    shown = [say("{file}: {what}", file=links[file.name], what=what[file.name]) for file in files]
+    named_files = [say("{file}: {what}", file=links[file.name], what=what_by_name[file.name]) for file in files]
     version = f"<code>{escape(published.version)}</code>"
     blocks = [
         f"<h3>{say('What is enough for an elector')}</h3>",
         *enough(published),
         f"<h3>{say('To count again')}</h3>",
         paragraph(say(PUT_TOGETHER)),
-        listed("ul", shown),
+        listed("ul", named_files),
         *(command_block(language, *command) for command in whole_commands(published)),
         f"<h3>{say('With the program {program}', program=version)}</h3>\n{paragraph(say(WHERE_DEBVOTE))}",
         *(command_block(language, *command) for command in debvote_commands(published)),
@@ -236,44 +239,44 @@ def enough(published: Published) -> list[str]:
     return [listed("ul", entries), paragraph(say(TOGETHER)), paragraph(guide)]
 
 
-Command = tuple[str, str, str | None]
-
-
 def whole_commands(published: Published) -> list[Command]:
     """What shows that the files are those that were published, and the poll the one that was sums."""
-    say, sums = published.say, published.poll_sums
-    commands: list[Command] = [
-        (say(CAME_WHOLE), "sha256sum -c SHA256SUMS", None),
-        (say(NO_OTHER), NO_OTHER_FILE, "SHA256SUMS"),
+    say, poll_sums = published.say, published.poll_sums
+    commands = [
+        Command(say(CAME_WHOLE), "sha256sum -c SHA256SUMS"),
+        Command(say(NO_OTHER), NO_OTHER_FILE, "SHA256SUMS"),
     ]
-    if sums.has_last_envelope:
-        commands.append((say(AS_IT_IS, number=sums.last_envelope), WHOLE, f"{sums.whole_sum}  {POLL}"))
-    if sums.has_last_envelope or sums.announced is not None:
-        commands.append((say(COMPARE_WHOLE_SUM if sums.is_secret else COMPARE_SUM), sums.command, sums.answer))
-    commands.append((say(BALLOTS_SUM), f"sha256sum {BALLOTS}", f"{published.ballots_sum}  {BALLOTS}"))
-    commands.append((say(PAGE_SUM), "sha256sum index.html", None))
+    if poll_sums.has_last_envelope:
+        commands.append(Command(say(AS_IT_IS, number=poll_sums.last_envelope), WHOLE, f"{poll_sums.whole_sum}  {POLL}"))
+    if poll_sums.has_last_envelope or poll_sums.announced is not None:
+        commands.append(
+            Command(say(COMPARE_WHOLE_SUM if poll_sums.is_secret else COMPARE_SUM), poll_sums.command, poll_sums.answer)
+        )
+    commands.append(Command(say(BALLOTS_SUM), f"sha256sum {BALLOTS}", f"{published.ballots_sum}  {BALLOTS}"))
+    commands.append(Command(say(PAGE_SUM), "sha256sum index.html"))
     return commands + times.commands(published.times, published.language)
 
 
-def with_last(published: Published, without: str, named: str) -> str:
-    """A sentence that names the last envelope, where there is one, or the one without it."""
-    return published.say(named if published.poll_sums.has_last_envelope else without, number=published.poll_sums.last_envelope)
+def with_last(published: Published, without_last: str, names_last: str) -> str:
+    """The sentence that names the last envelope, where there is one, or the one without it."""
+    sums = published.poll_sums
+    return published.say(names_last if sums.has_last_envelope else without_last, number=sums.last_envelope)
 
 
 def debvote_commands(published: Published) -> list[Command]:
     """What debvote says of the files."""
     say, number = published.say, published.poll_sums.last_envelope
-    voter = published.standing.partition(" ")[0] or "NAME"
+    voter = published.standing_text.partition(" ")[0] or "NAME"
     draw = shlex.join(words_for_dot(len(published.sheet.names)))
     theirs = with_last(published, SHEET_IS_THEIRS, SHEET_IS_THEIRS_WITH_LAST)
     ballot_of = say(BALLOT_OF_IN_TIME if published.poll_sums.has_last_envelope else BALLOT_OF, elector=voter, number=number)
     return [
-        (theirs, debvote("verify", *FILES, "--sheet", SHEET), published.verified),
-        (ballot_of, debvote("standing", *FILES) + f" | grep '^{voter} '", None),
-        (say(SAME_STANDING), same_standing(debvote("standing", *FILES)), "the same"),
-        (say(BECAME), debvote("steps", *FILES), None),
-        (say(ANEW), debvote("count", *FILES, *published.casting_words), None),
-        (say(PICTURE), f"{debvote('picture', *FILES, *published.casting_words)} | {draw} > picture.svg", None),
+        Command(theirs, typed("verify", *FILES, "--sheet", SHEET), published.verified),
+        Command(ballot_of, typed("standing", *FILES) + f" | grep '^{voter} '"),
+        Command(say(SAME_STANDING), same_standing(typed("standing", *FILES)), "the same"),
+        Command(say(BECAME), typed("steps", *FILES)),
+        Command(say(ANEW), typed("count", *FILES, *published.casting_words)),
+        Command(say(PICTURE), f"{typed('picture', *FILES, *published.casting_words)} | {draw} > picture.svg"),
     ]
 
 
@@ -282,16 +285,16 @@ def python_commands(published: Published) -> list[Command]:
     words = shlex.join([*ISOLATED, RECOUNT, "count", *FILES, *published.casting_words])
     same_sheet = with_last(published, PUBLISHED, PUBLISHED_WITH_LAST)
     return [
-        (published.say(ANEW), words, None),
-        (same_sheet, f"{words} | cmp - {SHEET} && echo the same", "the same"),
-        (published.say(SAME_STANDING), same_standing(shlex.join([*ISOLATED, RECOUNT, "standing", *FILES])), "the same"),
+        Command(published.say(ANEW), words),
+        Command(same_sheet, f"{words} | cmp - {SHEET} && echo the same", "the same"),
+        Command(published.say(SAME_STANDING), same_standing(shlex.join([*ISOLATED, RECOUNT, "standing", *FILES])), "the same"),
     ]
 
 
 def script_commands(published: Published) -> list[Command]:
     """What the count in JavaScript says of them."""
     words = shlex.join(["nodejs", SCRIPT, "verify", *FILES, "--sheet", SHEET])
-    return [(with_last(published, SHEET_IS_THEIRS, SHEET_IS_THEIRS_WITH_LAST), words, published.verified)]
+    return [Command(with_last(published, SHEET_IS_THEIRS, SHEET_IS_THEIRS_WITH_LAST), words, published.verified)]
 
 
 def same_standing(command: str) -> str:
@@ -299,6 +302,6 @@ def same_standing(command: str) -> str:
     return f"{command} | cmp - standing.txt && echo the same"
 
 
-def debvote(*words: str) -> str:
+def typed(*words: str) -> str:
     """A call of debvote as a reader types it."""
     return shlex.join(["debvote", *words])

@@ -18,11 +18,17 @@ from debvote_tools.sheet import Sheet
 
 
 @dataclasses.dataclass(frozen=True)
-class File:
-    """A file of the folder, and what it has, as a part of a sentence in HTML."""
+class NamedFile:
+    """A file of the folder as the page names it: its name, and what it has, as a part of a sentence in HTML."""
 
     name: str
     what: str
+
+
+@dataclasses.dataclass(frozen=True)
+class WholeFile(NamedFile):
+    """A file of the folder, and all its bytes."""
+
     data: bytes
 
 
@@ -45,7 +51,7 @@ class Further:
     style: str = ""
     script: str = ""
     # further files
-    files: Sequence[File] = ()
+    files: Sequence[WholeFile] = ()
     # what files of the ordinary names are called on the page, by their names
     described: Mapping[str, str] = dataclasses.field(default_factory=dict)
 
@@ -81,11 +87,12 @@ class Published:
     """What the page is made from: the texts of debvote, the picture, what there is to doubt, and what was given beside."""
 
     sheet: Sheet
-    standing: str
+    # the ballots that stand, as `debvote standing` writes them
+    standing_text: str
     # the lines that are refused, late ones among them
     refused: list[Finding]
     # the lines of the published ballots, that of envelope i at i - 1
-    lines: list[bytes]
+    published_lines: list[bytes]
     picture: bytes | None
     # the words of the casting vote, as the commands of the page have them
     casting_words: list[str]
@@ -122,7 +129,9 @@ class Published:
         return shown(self.labels.options.get(option), self.sheet.names[option])
 
     def option(self, option: int) -> str:
-        """An option as it is called in a sentence, by its number and its name."""
+        """An option as it is called in a sentence, by its number and its name, in HTML that is not whole yet: `with_names` puts the name of
+        the poll beside the label, or takes its place away.
+        """
         return f"<b>{option} {self.name(option)}</b>{self.place_of_name(option)}"
 
     def place_of_name(self, option: int) -> str:

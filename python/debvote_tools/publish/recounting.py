@@ -19,7 +19,7 @@ PLACE = pathlib.Path(__file__).resolve().parents[2]
 
 def recount_program() -> bytes:
     """The bytes of the program."""
-    return bytes_of("the second count", PLACE / NAME, PLACE.parent / "tests" / "reference.py")
+    return first_there("the second count", PLACE / NAME, PLACE.parent / "tests" / "reference.py")
 
 
 def recount_script() -> bytes:
@@ -29,10 +29,10 @@ def recount_script() -> bytes:
 
 def guide() -> bytes:
     """The bytes of the guide."""
-    return bytes_of("the guide for electors", PLACE / GUIDE, PLACE.parent / "docs" / GUIDE)
+    return first_there("the guide for electors", PLACE / GUIDE, PLACE.parent / "docs" / GUIDE)
 
 
-def bytes_of(what: str, *places: pathlib.Path) -> bytes:
+def first_there(what: str, *places: pathlib.Path) -> bytes:
     """The bytes of the first of these files that is there."""
     file = next((place for place in places if place.is_file()), None)
     if file is None:

@@ -24,12 +24,12 @@ from debvote_tools.publish.arguments import Arguments
 from debvote_tools.publish.casting_vote import CastingVote
 from debvote_tools.publish.data import result_json, votes_csv
 from debvote_tools.publish.folder_debvote import FolderDebvote, debvote_in
-from debvote_tools.publish.labels import labels_in, labels_of, told
+from debvote_tools.publish.labels import GivenLabel, labels_in, labels_of, told
 from debvote_tools.publish.names import BALLOTS, POLL, SHEET
 from debvote_tools.publish.page import page_of
 from debvote_tools.publish.picture import picture_of
 from debvote_tools.publish.poll_sums import about_announced, announced_sum, folders_of, poll_sums_of
-from debvote_tools.publish.published import File, Further, Published, Times
+from debvote_tools.publish.published import Further, NamedFile, Published, Times, WholeFile
 from debvote_tools.publish.texts import reason_in, text_in
 from debvote_tools.publish.parts.times import times_of
 from debvote_tools.secret import copy_is_gone
@@ -45,9 +45,9 @@ MOST_OPTIONS = 32
 class Given:
     """What is given for a publication beside poll and ballots."""
 
-    # the labels by their numbers, each with its line, and the file that they are from
+    # the labels by their numbers, and the file that they are from
     labels_file: str | None
-    labels: dict[int, tuple[int, str]]
+    given_labels: dict[int, GivenLabel]
     about: str | None
     # the list of members that gives the real names, and these by the names of the roll
     who_file: str | None
@@ -77,13 +77,13 @@ def make_folder(arguments: Arguments, program_folder: pathlib.Path | None) -> En
 
     `program_folder` is that of the program: debvote may lie beside it.
     """
-    target = pathlib.Path(os.path.realpath(arguments.target_folder))
-    if os.path.lexists(target) and not (target.is_dir() and not any(target.iterdir())):
+    target_folder = pathlib.Path(os.path.realpath(arguments.target_folder))
+    if os.path.lexists(target_folder) and not (target_folder.is_dir() and not any(target_folder.iterdir())):
         words = f"{arguments.target_folder} is there already, and is no empty folder"
         raise Fault(None, words, "name another one", Status.BAD_WORDS)
     demand_arguments_together(arguments)
     given = given_in(arguments)
-    folder = pathlib.Path(tempfile.mkdtemp(prefix=f".{target.name}.", dir=target.parent))
+    folder = pathlib.Path(tempfile.mkdtemp(prefix=f".{target_folder.name}.", dir=target_folder.parent))
     try:
         if arguments.codes_path is None:
             ended = fill_open(folder, arguments, given, program_folder)
@@ -91,8 +91,8 @@ def make_folder(arguments: Arguments, program_folder: pathlib.Path | None) -> En
             ended = fill_secret(folder, arguments, pathlib.Path(arguments.codes_path), given, program_folder)
         folder.chmod(0o755)
         sync_folder(folder)
-        folder.rename(target)
-        sync_folder(target.parent)
+        folder.rename(target_folder)
+        sync_folder(target_folder.parent)
     except BaseException as fault:
         shutil.rmtree(folder, ignore_errors=True)
         if isinstance(fault, BadPoll):
@@ -124,7 +124,7 @@ def demand_arguments_together(arguments: Arguments) -> None:
 
 def given_in(arguments: Arguments) -> Given:
     """Reads what is given beside poll and ballots. A fault of it is told before anything is counted."""
-    labels = {} if arguments.labels is None else labels_in(arguments.labels)
+    given_labels = {} if arguments.labels is None else labels_in(arguments.labels)
     about = None if arguments.about is None else text_in(arguments.about, "about")
     who = {} if arguments.who is None else roll.who_in(arguments.who)
     because = None if arguments.because is None else reason_in(arguments.because)
@@ -133,7 +133,7 @@ def given_in(arguments: Arguments) -> Given:
     called = texts_called(arguments)
     return Given(
         labels_file=arguments.labels,
-        labels=labels,
+        given_labels=given_labels,
         about=about,
         who_file=arguments.who,
         who=who,
@@ -148,8 +148,8 @@ def given_in(arguments: Arguments) -> Given:
 
 def texts_called(arguments: Arguments) -> option_texts.Texts | None:
     """The texts of the options that the call has shown, where the poll lies in an election that has called them."""
-    election = doubts.election_of(arguments.poll_path)
-    return None if election is None or call_of(election) is None else option_texts.called_in(election)
+    election_folder = doubts.election_folder_of(arguments.poll_path)
+    return None if election_folder is None or call_of(election_folder) is None else option_texts.called_in(election_folder)
 
 
 # ---------------------------------------------------------------- poll and ballots
@@ -166,8 +166,8 @@ def fill_open(folder: pathlib.Path, arguments: Arguments, given: Given, program_
     found_doubts += about_casting_vote(arguments, given, sheet, poll_bytes)
     found_doubts += about_texts(arguments, given, sheet)
     found_doubts += about_announced(arguments.poll_path, poll_sums_of(poll_bytes, sheet.last_envelope, given.announced))
-    stop_at_doubts(found_doubts, arguments)
-    times = times_of(doubts.election_of(arguments.poll_path), poll_bytes, ballots_bytes, sheet.last_envelope)
+    stop_unless_even_so(found_doubts, arguments)
+    times = times_of(doubts.election_folder_of(arguments.poll_path), poll_bytes, ballots_bytes, sheet.last_envelope)
     return Ended(write_result(debvote, answer.text, given, found_doubts, Further(), times), answer.status)
 
 
@@ -176,8 +176,11 @@ def fill_secret(
 ) -> Ended:
     """Writes all files of a secret vote: poll and ballots are published under aliases, and what they come from is not written."""
     poll_bytes, ballots_bytes = inputs_of(arguments)
-    poll, ballots = (arguments.poll_path, poll_bytes), (arguments.ballots_path, ballots_bytes)
-    under_aliases.demand_texts(page_texts_of(arguments, given), codes_path, poll, ballots, are_read=arguments.texts_read)
+    poll_input = under_aliases.InputFile(arguments.poll_path, poll_bytes)
+    ballots_input = under_aliases.InputFile(arguments.ballots_path, ballots_bytes)
+    under_aliases.demand_texts(
+        page_texts_of(arguments, given), codes_path, poll_input, ballots_input, are_read=arguments.texts_read
+    )
     with under_aliases.private_folder(poll_bytes, ballots_bytes) as private_folder:
         private_debvote = debvote_in(private_folder, program_folder, arguments.casting, arguments.desks)
         private_text = count(private_debvote, arguments).text
@@ -188,7 +191,7 @@ def fill_secret(
         found_doubts += about_texts(arguments, given, private_sheet)
         found_doubts += about_announced(arguments.poll_path, poll_sums_of(hidden.poll_bytes, None, given.announced, is_secret=True))
         found_doubts += filter(None, [copy_is_gone(codes_path, poll_bytes)])
-        stop_at_doubts(found_doubts, arguments)
+        stop_unless_even_so(found_doubts, arguments)
         totals = findings_in(private_debvote.explain()).totals
     write_public(folder / POLL, hidden.poll_bytes)
     write_public(folder / BALLOTS, hidden.ballots_bytes)
@@ -198,7 +201,7 @@ def fill_secret(
     under_aliases.demand_all_count(sheet_in(answer.text))
     further = under_aliases.further_of(hidden, totals, given.language, with_voters=arguments.voters)
     # the sum of the lines in time is private
-    times = times_of(doubts.election_of(arguments.poll_path), poll_bytes, ballots_bytes, None)
+    times = times_of(doubts.election_folder_of(arguments.poll_path), poll_bytes, ballots_bytes, None)
     said = write_result(debvote, answer.text, given, under_aliases.without_names(found_doubts), further, times)
     under_aliases.demand_no_code(folder, codes_path)
     return Ended(said, answer.status)
@@ -206,8 +209,8 @@ def fill_secret(
 
 def inputs_of(arguments: Arguments) -> tuple[bytes, bytes]:
     """The poll and the ballots. They are read once, so that all commands read the same bytes."""
-    poll = input_in(arguments.poll_path, POLL_LIMIT, "poll", Status.BAD_POLL)
-    return poll, input_in(arguments.ballots_path, BALLOTS_LIMIT, "ballots", Status.BAD_BALLOTS)
+    poll_bytes = input_in(arguments.poll_path, POLL_LIMIT, "poll", Status.BAD_POLL)
+    return poll_bytes, input_in(arguments.ballots_path, BALLOTS_LIMIT, "ballots", Status.BAD_BALLOTS)
 
 
 def input_in(file: str, limit: int, kind: str, status: int) -> bytes:
@@ -223,23 +226,23 @@ def count(debvote: FolderDebvote, arguments: Arguments) -> Answer:
         return debvote.count()
     except Fault as fault:
         if fault.status == Status.BAD_POLL:
-            doubts.tell_lines(
-                [doubt.told() for doubt in doubts.misplaced(debvote.debvote, arguments.poll_path, arguments.ballots_path)]
+            doubts.tell_each_aside(
+                [doubt.told() for doubt in doubts.misplaced(debvote.program, arguments.poll_path, arguments.ballots_path)]
             )
         raise
 
 
 def page_texts_of(arguments: Arguments, given: Given) -> dict[str, str]:
     """The texts that are given for the page, by their files."""
-    labels = "\n".join(text for _, text in given.labels.values())
-    said = [
-        (arguments.labels, labels),
+    label_texts = "\n".join(label.text for label in given.given_labels.values())
+    text_by_file = [
+        (arguments.labels, label_texts),
         (arguments.about, given.about),
         ("--because", given.because),
         ("--cast-by", given.casting_vote.by),
     ]
-    said += [(f"{arguments.texts or option_texts.FOLDER}/{number}.txt", text) for number, text in given.shown_texts.items()]
-    return {where: text for where, text in said if where is not None and text is not None}
+    text_by_file += [(f"{arguments.texts or option_texts.FOLDER}/{number}.txt", text) for number, text in given.shown_texts.items()]
+    return {where: text for where, text in text_by_file if where is not None and text is not None}
 
 
 def about_texts(arguments: Arguments, given: Given, sheet: Sheet) -> list[Doubt]:
@@ -256,7 +259,7 @@ def about_casting_vote(arguments: Arguments, given: Given, sheet: Sheet, poll_by
     return casting_vote.doubts_of(sheet, given.casting_vote, poll_bytes, dict.fromkeys([beside, *folders_of(arguments.poll_path)]))
 
 
-def stop_at_doubts(found_doubts: list[Doubt], arguments: Arguments) -> None:
+def stop_unless_even_so(found_doubts: list[Doubt], arguments: Arguments) -> None:
     """Stops at doubts, unless it is published even so; and at a reason that is given although there is no doubt."""
     if found_doubts and not arguments.even_so:
         raise doubts.stop(found_doubts)
@@ -275,18 +278,18 @@ def write_result(
     Returns the last line of the sheet with what `debvote verify` says.
     """
     folder, sheet = debvote.folder, sheet_in(sheet_text)
-    labels = labels_of(given.labels_file, given.labels, sheet, given.language)
+    labels = labels_of(given.labels_file, given.given_labels, sheet, given.language)
     if not labels.is_empty:
         tell(*told(labels, sheet))
-    version, standing, refused = debvote.version(), debvote.standing(), findings_in(debvote.explain()).refused
+    version, standing_text, refused = debvote.version(), debvote.standing(), findings_in(debvote.explain()).refused
     write_public(folder / SHEET, sheet_text.encode())
     verified, picture = debvote.verify(), picture_of(debvote.picture(), len(sheet.names))
     poll_bytes, ballots_bytes = ((folder / name).read_bytes() for name in (POLL, BALLOTS))
     published = Published(
         sheet=sheet,
-        standing=standing,
+        standing_text=standing_text,
         refused=refused,
-        lines=ballot_lines(ballots_bytes),
+        published_lines=ballot_lines(ballots_bytes),
         picture=picture,
         casting_words=debvote.casting_words,
         verified=verified.rstrip("\n"),
@@ -297,7 +300,7 @@ def write_result(
         about=given.about,
         further=further,
         times=times,
-        voting=voting_of(poll_bytes, standing, given, further),
+        voting=voting_told(poll_bytes, standing_text, given, further),
         because=given.because,
         casting_vote=given.casting_vote,
         ballots_sum=sum_of(ballots_bytes),
@@ -305,14 +308,14 @@ def write_result(
         texts={number: text for number, text in given.shown_texts.items() if number in sheet.names},
     )
     write_files(folder, published, poll_bytes, ballots_bytes)
-    second_count.demand_same(folder, debvote.casting_words, sheet_text, standing)
+    second_count.demand_same(folder, debvote.casting_words, sheet_text, standing_text)
     return f"{sheet.last_line}\n{verified}"
 
 
-def voting_of(poll_bytes: bytes, standing: str, given: Given, further: Further) -> roll.Voting | None:
+def voting_told(poll_bytes: bytes, standing_text: str, given: Given, further: Further) -> roll.Voting | None:
     """Who voted and who did not; in a secret vote who voted alone, and only where that is told."""
     if not further.is_secret:
-        voting = roll.voting_of(roll_of(poll_bytes), standing_in(standing), given.who)
+        voting = roll.voting_of(roll_of(poll_bytes), standing_in(standing_text), given.who)
     elif further.voters is not None:
         voting = roll.Voting(further.voters, None, given.who)
     else:
@@ -322,20 +325,24 @@ def voting_of(poll_bytes: bytes, standing: str, given: Given, further: Further) 
 
 
 def write_files(folder: pathlib.Path, published: Published, poll_bytes: bytes, ballots_bytes: bytes) -> None:
-    """Writes what follows from the sheet, the page, the letter that has its sum, and the sums last."""
+    """Writes what follows from the sheet, the page, the letter that has its sum, and the sums last. The page comes before the letter and
+    the sums, which it can name alone: both have its sum.
+    """
     files, say = files_of(published), published.say
     for file in files:
         write_public(folder / file.name, file.data)
-    there = [
-        File(POLL, say("the poll: title, options, quorum and roll"), poll_bytes),
-        File(BALLOTS, say("the ballots, a line each, in the order in which they were entered"), ballots_bytes),
-        File(SHEET, say("the result sheet, from which this page is made"), (folder / SHEET).read_bytes()),
-        *files,
-        File(letter.NAME, say(letter.WHAT), b""),
-        *published.further.files,
-        File(SUMS, say("the sums of these files and of this page"), b""),
+    counted_files = [
+        WholeFile(POLL, say("the poll: title, options, quorum and roll"), poll_bytes),
+        WholeFile(BALLOTS, say("the ballots, a line each, in the order in which they were entered"), ballots_bytes),
+        WholeFile(SHEET, say("the result sheet, from which this page is made"), (folder / SHEET).read_bytes()),
     ]
-    page = page_of(published, there).encode()
+    behind_sheet = [
+        *files,
+        NamedFile(letter.NAME, say(letter.WHAT)),
+        *published.further.files,
+        NamedFile(SUMS, say("the sums of these files and of this page")),
+    ]
+    page = page_of(published, counted_files, behind_sheet).encode()
     write_public(folder / PAGE, page)
     write_public(folder / letter.NAME, letter.letter_of(published, poll_bytes, ballots_bytes, page))
     for file in published.further.files:
@@ -343,23 +350,23 @@ def write_files(folder: pathlib.Path, published: Published, poll_bytes: bytes, b
     write_public(folder / SUMS, sums_of(folder).encode())
 
 
-def files_of(published: Published) -> list[File]:
+def files_of(published: Published) -> list[WholeFile]:
     """The files that follow from poll, ballots and sheet."""
     say = published.say
     files = [
-        File("standing.txt", say("of each elector the ballot that stands"), published.standing.encode()),
-        File(
+        WholeFile("standing.txt", say("of each elector the ballot that stands"), published.standing_text.encode()),
+        WholeFile(
             "result.json",
             say("what the sheet says, for programs"),
             result_json(published.sheet, published.labels, published.version).encode(),
         ),
-        File("votes.csv", say("the table of votes, for spreadsheets"), votes_csv(published.sheet).encode()),
-        File(recounting.NAME, say("a second count, in Python"), recounting.recount_program()),
-        File(recounting.SCRIPT, say("a third count, in JavaScript"), recounting.recount_script()),
-        File(recounting.GUIDE, say("how to read the sheet, what to check, and what a doubt is"), recounting.guide()),
+        WholeFile("votes.csv", say("the table of votes, for spreadsheets"), votes_csv(published.sheet).encode()),
+        WholeFile(recounting.NAME, say("a second count, in Python"), recounting.recount_program()),
+        WholeFile(recounting.SCRIPT, say("a third count, in JavaScript"), recounting.recount_script()),
+        WholeFile(recounting.GUIDE, say("how to read the sheet, what to check, and what a doubt is"), recounting.guide()),
     ]
     if published.picture is not None:
-        files.append(File("picture.svg", say("the picture of the defeats"), published.picture))
+        files.append(WholeFile("picture.svg", say("the picture of the defeats"), published.picture))
     return files
 
 

@@ -16,7 +16,7 @@ ISOLATED = ("python3", "-I")
 TASKS = ("count", "standing")
 
 
-def demand_same(folder: pathlib.Path, casting_words: list[str], sheet: str, standing: str) -> None:
+def demand_same(folder: pathlib.Path, casting_words: list[str], sheet_text: str, standing_text: str) -> None:
     """Stops where the program of the folder finds another sheet there, or other ballots that stand. Both are counted at once."""
     with contextlib.ExitStack() as stack:
         runs = {
@@ -25,7 +25,7 @@ def demand_same(folder: pathlib.Path, casting_words: list[str], sheet: str, stan
         for run in runs.values():
             stack.callback(run.kill)
         answers = {task: run.communicate() for task, run in runs.items()}
-    for task, wanted in zip(TASKS, (sheet, standing), strict=True):
+    for task, wanted in zip(TASKS, (sheet_text, standing_text), strict=True):
         text, faults = (data.decode("utf-8", "replace") for data in answers[task])
         if text != wanted:
             said = f"it says `{faults.strip()}`" if faults else difference(text, wanted)

@@ -8,6 +8,7 @@ import re
 import tempfile
 from collections.abc import Iterator
 from html import escape
+from typing import NamedTuple
 
 from debvote_tools import journal, pages, poll_file, secret
 from debvote_tools.faults import Doubt, Fault, Status
@@ -19,7 +20,7 @@ from debvote_tools.publish import untelling
 from debvote_tools.publish.headings import REMAINS as REMAINS_HEADING
 from debvote_tools.publish.names import BALLOTS, POLL
 from debvote_tools.publish.poll_sums import folders_of
-from debvote_tools.publish.published import File, Further
+from debvote_tools.publish.published import Further, WholeFile
 from debvote_tools.publish.parts.roll import VOTERS
 from debvote_tools.secret_words import ALIAS, BY_OPENSSL, BY_PYTHON, FIND, REMAINS
 from debvote_tools.sentences import marked
@@ -96,6 +97,13 @@ ABOUT_BALLOTS = marked(
 OWN = "standing --poll poll.toml --ballots ballots.txt | cmp - ballots.txt && grep '^ALIAS ' ballots.txt"
 
 
+class InputFile(NamedTuple):
+    """The poll or the ballots that were given: the file as it was named, and its bytes."""
+
+    file: str
+    data: bytes
+
+
 @dataclasses.dataclass(frozen=True)
 class Hidden:
     """A vote under aliases: the two files that are published, and who is behind them."""
@@ -152,54 +160,55 @@ def secret_folder_of(place: pathlib.Path) -> pathlib.Path | None:
 
 
 def demand_texts(
-    texts: dict[str, str], codes: pathlib.Path, poll: tuple[str, bytes], ballots: tuple[str, bytes], *, are_read: bool
+    page_texts: dict[str, str], codes: pathlib.Path, poll_input: InputFile, ballots_input: InputFile, *, are_read: bool
 ) -> None:
-    """Stops where a text for the page, by its file, would tell what is private, or was not read. Poll and ballots stand with their
-    files.
-    """
-    if not texts:
+    """Stops where a text for the page, by its file, would tell what is private, or was not read."""
+    if not page_texts:
         return
-    folders = (secret_folder_of(place) for file in (poll[0], ballots[0], str(codes.parent)) for place in folders_of(file))
-    election = next(filter(None, folders), None)
-    sums = untelling.private_sums(poll[1], ballots[1], election)
-    holders, options = secret.holders_in(codes), poll_file.options_of(poll[1])
-    for file, text in texts.items():
-        untelling.demand_no_private_file(file, election)
+    folders = (
+        secret_folder_of(place) for file in (poll_input.file, ballots_input.file, str(codes.parent)) for place in folders_of(file)
+    )
+    election_folder = next(filter(None, folders), None)
+    sums = untelling.private_sums(poll_input.data, ballots_input.data, election_folder)
+    holders, options = secret.holders_in(codes), poll_file.options_of(poll_input.data)
+    for file, text in page_texts.items():
+        untelling.demand_no_private_file(file, election_folder)
         untelling.demand_untelling(file, text, holders, sums)
-    untelling.demand_read(texts, holders, options, are_read=are_read)
+    untelling.demand_read(page_texts, holders, options, are_read=are_read)
 
 
 # ---------------------------------------------------------------- the files under aliases
 def hidden_of(codes: pathlib.Path, poll_bytes: bytes, standing: dict[str, str]) -> Hidden:
     """The vote under aliases. Stops where an elector has no code, or where the poll is not the one that was called."""
     aliases = secret.aliases_of(codes, poll_file.roll_of(poll_bytes), secret.LOST)
-    published = secret.poll_of(poll_bytes, aliases)
-    secret.demand_called(codes, published, is_published=True)
+    alias_poll = secret.poll_of(poll_bytes, aliases)
+    secret.demand_called(codes, alias_poll, is_published=True)
     absent = sorted(alias for name, alias in aliases.items() if name not in standing)
-    return Hidden(published, secret.ballots_of(standing, aliases), list(standing), absent)
+    return Hidden(alias_poll, secret.ballots_of(standing, aliases), list(standing), absent)
 
 
-def demand_same(private: str, published: str) -> None:
+def demand_same(private_sheet: str, published_sheet: str) -> None:
     """Stops where the sheet under aliases is not the one of the private files: from the line `Voters:` on, and in its head."""
-    if from_voters(private) != from_voters(published) or head_of(private) != head_of(published):
+    is_same = from_voters(private_sheet) == from_voters(published_sheet) and head_of(private_sheet) == head_of(published_sheet)
+    if not is_same:
         words = "the sheet under aliases is not that of the votes as they came"
         raise Fault(None, words, KEEP_FILES, Status.DOUBT, "nothing was published")
 
 
-def from_voters(sheet: str) -> str:
+def from_voters(sheet_text: str) -> str:
     """The sheet from its line `Voters:` on; a title stands above."""
-    return sheet[sheet.index("\nVoters: ") :]
+    return sheet_text[sheet_text.index("\nVoters: ") :]
 
 
-def head_of(sheet: str) -> list[str]:
+def head_of(sheet_text: str) -> list[str]:
     """The lines above it, but for those that count lines."""
-    lines = sheet[: sheet.index("\nVoters: ")].split("\n")
+    lines = sheet_text[: sheet_text.index("\nVoters: ")].split("\n")
     return lines[:1] + [line for line in lines[1:] if not re.match("(Lines|Last envelope|Valid|Refused): ", line)]
 
 
-def demand_all_count(published: Sheet) -> None:
+def demand_all_count(sheet: Sheet) -> None:
     """Stops where a line of the published ballots would not count, or counts no more."""
-    if published.last_envelope is not None or not published.lines == published.valid == published.voters:
+    if sheet.last_envelope is not None or not sheet.lines == sheet.valid == sheet.voters:
         words = "not each of the ballots under aliases would count, once"
         raise Fault(None, words, KEEP_FILES, Status.DOUBT, "nothing was published")
 
@@ -221,7 +230,7 @@ def further_of(hidden: Hidden, totals: Totals, language: Language, *, with_voter
         BALLOTS: language.say("the ballots that count, each under its alias, in the order of the aliases"),
     }
     what = language.say("the electors who have voted, in the order of the roll, without their votes")
-    files = [File(VOTERS, what, "".join(f"{name}\n" for name in hidden.voters).encode())] if with_voters else []
+    files = [WholeFile(VOTERS, what, "".join(f"{name}\n" for name in hidden.voters).encode())] if with_voters else []
     return Further(
         private_totals=totals,
         voters=hidden.voters if with_voters else None,

@@ -30,12 +30,12 @@ HOW = "Type y where everybody may read it, or n to publish nothing."
 SIXTY_FOUR = re.compile(r"(?<![0-9a-f])[0-9a-f]{64}(?![0-9a-f])")
 
 
-def demand_no_private_file(file: str, election: pathlib.Path | None) -> None:
+def demand_no_private_file(file: str, election_folder: pathlib.Path | None) -> None:
     """Stops where the file that is given for the page is one of those of the election that are private, under any name."""
-    if election is None or not pathlib.Path(file).exists():
+    if election_folder is None or not pathlib.Path(file).exists():
         return
     given = pathlib.Path(file).resolve()
-    home = election.resolve()
+    home = election_folder.resolve()
     is_private = any((home / name).exists() and given.samefile(home / name) for name in FILES)
     if is_private or any(home / name in given.parents for name in FOLDERS):
         raise Fault(
@@ -90,8 +90,8 @@ def ballot_with_name(holders: list[Holder], options: list[str]) -> re.Pattern[st
     return re.compile(rf"(?<![\w.-])(?:{names})(?:{BETWEEN}(?:{RANKS}|{spaced})|{in_words})", re.MULTILINE)
 
 
-def private_sums(poll_bytes: bytes, ballots_bytes: bytes, election: pathlib.Path | None) -> set[str]:
+def private_sums(poll_bytes: bytes, ballots_bytes: bytes, election_folder: pathlib.Path | None) -> set[str]:
     """The sums of the private files, as they are and as they were."""
     sums = {sum_of(data) for data in (poll_bytes, as_announced(poll_bytes), ballots_bytes)}
-    entries = [] if election is None else journal.entries_in(election / journal.NAME)
+    entries = [] if election_folder is None else journal.entries_in(election_folder / journal.NAME)
     return sums.union(*({entry.sums.poll, entry.sums.ballots} for entry in entries))

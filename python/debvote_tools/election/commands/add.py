@@ -47,19 +47,19 @@ def run(election: Election, namespace: argparse.Namespace) -> int:
     arguments = arguments_of(Arguments, namespace)
     table = table_of(arguments)
     election.demand_folder()
-    line_files, letters = inputs_in(arguments.files)
-    if letters:
-        demand_letters_alone(letters, line_files, is_table=arguments.csv)
-        return add_all_letters(election, letters, arguments)
-    adding = Adding(line_files, table, arguments.yes, arguments.even_so)
+    lines_inputs, letters_inputs = inputs_in(arguments.files)
+    if letters_inputs:
+        demand_letters_alone(letters_inputs, lines_inputs, is_table=arguments.csv)
+        return add_all_letters(election, letters_inputs, arguments)
+    adding = Adding(lines_inputs, table, arguments.yes, arguments.even_so)
     return look_at_lines(election, adding) if arguments.look else add_lines(election, adding)
 
 
-def add_all_letters(election: Election, letters: list[LettersInput], arguments: Arguments) -> int:
+def add_all_letters(election: Election, letters_inputs: list[LettersInput], arguments: Arguments) -> int:
     """Adds the letters of all files and folders together, by the name of the first."""
-    raws = [raw for source in letters for raw in source.letters]
-    others = [name for source in letters for name in source.others]
-    came = letters_that_came(letters[0].received_name, raws, others)
+    raws = [raw for one in letters_inputs for raw in one.raws]
+    others = [name for one in letters_inputs for name in one.others]
+    came = letters_that_came(letters_inputs[0].received_name, raws, others)
     return add_letters(election, came, is_look=arguments.look, has_yes=arguments.yes)
 
 

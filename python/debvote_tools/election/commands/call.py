@@ -17,7 +17,7 @@ from debvote_tools.election.checking import check_poll
 from debvote_tools.election.commands.codes import write_slips
 from debvote_tools.election.folder import Election
 from debvote_tools.election.letters import keyring
-from debvote_tools.election.record import PollAndBallots
+from debvote_tools.election.election_files import PollAndBallots
 from debvote_tools.election.running import NO_BALLOTS
 from debvote_tools.election.secrecy import aliases_now, demand_own_folder, told_apart
 from debvote_tools.election.taking_back import given_already
@@ -386,7 +386,7 @@ def say(election: Election, call: Call, is_anew: bool) -> None:
         tell("The vote is secret: the poll of the call has aliases, and no name of an elector is in the folder.")
     tell(f"The sum of the poll: {call.poll_sum}")
     tell(*said_lines(election, call))
-    if election.closed() is not None:
+    if election.close_entry() is not None:
         tell("The election is closed already: ballots that come now are late.")
     tell(f"{election.poll_path} must not be changed any more.")
 

@@ -8,7 +8,7 @@ from debvote_tools.arguments import arguments_of
 from debvote_tools.console import tell
 from debvote_tools.election.checking import check_poll
 from debvote_tools.election.folder import Election
-from debvote_tools.election.record import PollAndBallots
+from debvote_tools.election.election_files import PollAndBallots
 from debvote_tools.election.running import quorum_words
 from debvote_tools.election.secrecy import without_code
 from debvote_tools.faults import Status

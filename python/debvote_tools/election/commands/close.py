@@ -14,7 +14,7 @@ from debvote_tools.election.folder import Election
 from debvote_tools.election.letters import store
 from debvote_tools.election.letters.adding import waiting_words
 from debvote_tools.election.letters.plan import BEHIND_DEADLINE
-from debvote_tools.election.record import PollAndBallots
+from debvote_tools.election.election_files import PollAndBallots
 from debvote_tools.election.running import NO_BALLOTS, refusal
 from debvote_tools.election.secrecy import demand_own_folder
 from debvote_tools.election.telling import count_of, tell_edits, tell_what_is_gone, time_of
@@ -36,8 +36,8 @@ class Arguments:
 
 
 def add_arguments(parser: argparse.ArgumentParser) -> None:
-    early = "Close before the time until which one can vote; the page of the result tells it"
-    parser.add_argument("--early", action="store_true", help=early)
+    early_help = "Close before the time until which one can vote; the page of the result tells it"
+    parser.add_argument("--early", action="store_true", help=early_help)
     parser.add_argument("--yes", action="store_true", help="Close without a question although letters wait")
     parser.add_argument("--even-so", action="store_true", help=EVEN_SO)
 
@@ -50,9 +50,9 @@ def run(election: Election, namespace: argparse.Namespace) -> int:
         tell_edits(election, counted)
         tell_what_is_gone(election, counted)
         sheet = sheet_of_all(election, counted)
-        before = election.closed()
-        if before is not None:
-            return say_again(election, counted, sheet, before)
+        close_before = election.close_entry()
+        if close_before is not None:
+            return say_again(election, counted, sheet, close_before)
         stop_at_a_last_envelope(election, counted, sheet)
         tell_waiting(election, counted, seen)
         stop_at_changes_by_hand(election, counted, even_so=arguments.even_so)
@@ -66,7 +66,7 @@ def run(election: Election, namespace: argparse.Namespace) -> int:
 def ask_about_letters(election: Election) -> set[int]:
     """The letters that wait, about which it asks at a terminal, and elsewhere stops."""
     with election.reading() as counted:
-        if election.closed() is not None:
+        if election.close_entry() is not None:
             return set()
         numbers = waiting_now(election, counted)
     if numbers:
@@ -101,8 +101,8 @@ def tell_waiting(election: Election, counted: PollAndBallots, seen: set[int] | N
 def sheet_of_all(election: Election, counted: PollAndBallots) -> Sheet:
     """The sheet of the poll and the ballots, which has the number of lines."""
     with in_memory(counted.poll_bytes) as poll_path:
-        ballots = NO_BALLOTS if counted.ballots_bytes is None else "/dev/stdin"
-        answer = election.debvote.run("count", "--poll", poll_path, "--ballots", ballots, given=counted.ballots_bytes)
+        ballots_file = NO_BALLOTS if counted.ballots_bytes is None else "/dev/stdin"
+        answer = election.debvote.run("count", "--poll", poll_path, "--ballots", ballots_file, given=counted.ballots_bytes)
     if not answer.text:
         raise refusal(election, answer)
     return sheet_in(answer.text)
@@ -128,24 +128,24 @@ def demand_over(election: Election, counted: PollAndBallots, *, early: bool) -> 
 
 
 # ---------------------------------------------------------------- where there is a last envelope already
-def say_again(election: Election, counted: PollAndBallots, sheet: Sheet, before: Entry) -> int:
+def say_again(election: Election, counted: PollAndBallots, sheet: Sheet, close: Entry) -> int:
     """Says when the close was; stops where the poll has another last envelope than this one gave it.
 
     Of a close that was killed it makes the letter.
     """
-    number, now = closed.number_of(before) or 0, sheet.last_envelope
-    if now != number:
-        there = "that line is gone" if now is None else f"`last_envelope = {now}` stands there"
+    number, number_now = closed.number_of(close) or 0, sheet.last_envelope
+    if number_now != number:
+        there = "that line is gone" if number_now is None else f"`last_envelope = {number_now}` stands there"
         cure = "find out who changed it, and put the line of the close back, above every line that begins with ["
         raise Fault(
             election.poll_path,
-            f"the close at {time_of(before)} wrote `last_envelope = {number}` into it, and now {there}",
+            f"the close at {time_of(close)} wrote `last_envelope = {number}` into it, and now {there}",
             cure,
             Status.DOUBT,
         )
-    tell(f"The election was closed at {time_of(before)}; the last envelope in time is {number}. Nothing was changed.")
-    if not election.is_secret() and not election.closing_letter_path.exists() and counted.sums.poll == before.sums.poll:
-        closing_letter.write(election, counted, before, sheet.title)
+    tell(f"The election was closed at {time_of(close)}; the last envelope in time is {number}. Nothing was changed.")
+    if not election.is_secret() and not election.closing_letter_path.exists() and counted.sums.poll == close.sums.poll:
+        closing_letter.write(election, counted, close, sheet.title)
         tell(f"{election.closing_letter_path} was not there, and was made anew: send it to all electors before you count anything.")
     late = sheet.lines - number
     if late > 0:
@@ -193,11 +193,11 @@ def close(election: Election, counted: PollAndBallots, sheet: Sheet) -> None:
 
 def closed_poll(election: Election, counted: PollAndBallots, number: int) -> bytes:
     """The poll with the number of the last envelope, of which debvote says that it is in order and reads the number."""
-    poll = poll_file.with_key(counted.poll_bytes, poll_file.LAST_ENVELOPE, str(number))
-    answer = election.debvote.run("explain", "--poll", "/dev/stdin", given=poll)
+    poll_bytes = poll_file.with_key(counted.poll_bytes, poll_file.LAST_ENVELOPE, str(number))
+    answer = election.debvote.run("explain", "--poll", "/dev/stdin", given=poll_bytes)
     is_refused = answer.status not in (Status.DONE, Status.DOUBT)
-    sheet = None if is_refused else sheet_of_all(election, PollAndBallots(poll, counted.ballots_bytes))
-    is_same = poll_file.as_announced(poll) == poll_file.as_announced(counted.poll_bytes)
+    sheet = None if is_refused else sheet_of_all(election, PollAndBallots(poll_bytes, counted.ballots_bytes))
+    is_same = poll_file.as_announced(poll_bytes) == poll_file.as_announced(counted.poll_bytes)
     if sheet is None or sheet.last_envelope != number or sheet.lines != number or not is_same:
         raise Fault(
             election.poll_path,
@@ -206,7 +206,7 @@ def closed_poll(election: Election, counted: PollAndBallots, number: int) -> byt
             Status.BAD_POLL,
             "nothing was changed",
         )
-    return poll
+    return poll_bytes
 
 
 def say(election: Election, after: PollAndBallots, number: int) -> None:

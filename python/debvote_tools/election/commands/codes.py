@@ -11,7 +11,7 @@ from debvote_tools.console import tell
 from debvote_tools.election import announcing, slips
 from debvote_tools.election.checking import check_poll
 from debvote_tools.election.folder import Election
-from debvote_tools.election.record import PollAndBallots
+from debvote_tools.election.election_files import PollAndBallots
 from debvote_tools.election.secrecy import aliases_now
 from debvote_tools.election.telling import count_of, time_of
 from debvote_tools.faults import Fault, Status

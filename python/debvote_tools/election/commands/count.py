@@ -53,7 +53,7 @@ def run(election: Election, namespace: argparse.Namespace) -> int:
 
 def what_next(election: Election, sheet: Sheet, casting: str | None) -> str:
     """What the secretary does with this sheet. Before the close it is no result yet."""
-    over = "" if election.closed() else f"this is no result yet: when the vote is over {election.command('close')}, then "
+    over = "" if election.close_entry() else f"this is no result yet: when the vote is over {election.command('close')}, then "
     publish = publish_words(election)
     winner = sheet.winner()
     if winner is not None:

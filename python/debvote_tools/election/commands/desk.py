@@ -13,7 +13,7 @@ from debvote_tools.election.batch import Batch, BatchLine, batch_of, right_line
 from debvote_tools.election.batch_words import ballot_words, change_words, right_words, summary, would_words
 from debvote_tools.election.entering import batch_or_keep, enter_batch, whole_act
 from debvote_tools.election.folder import Election
-from debvote_tools.election.record import PollAndBallots
+from debvote_tools.election.election_files import PollAndBallots
 from debvote_tools.election.running import answer_about, sheet_without_ballots
 from debvote_tools.election.letters import keyring
 from debvote_tools.election.secrecy import demand_own_folder
@@ -54,14 +54,14 @@ class Desk:
         """Enters lines, and keeps what came before, unless it is kept already; empty lines are left out and told."""
         with self.election.changing() as counted:
             tell_edits(self.election, counted)
-            full = [line for line in lines if not line.is_empty]
+            filled = [line for line in lines if not line.is_empty]
             for line in lines:
                 if line.is_empty:
                     tell(f"{line.where}: it is empty, and was left out")
             # what is told is counted too
             with uninterrupted():
-                if full:
-                    self.batches.append(self.entered(counted, full, data))
+                if filled:
+                    self.batches.append(self.entered(counted, filled, data))
                 else:
                     self.keep(data)
 
@@ -255,4 +255,4 @@ def standing_ranks_of(election: Election, counted: PollAndBallots, elector: str)
 
 def name_of(ballot: BatchLine) -> str:
     """The elector of a valid ballot."""
-    return ballot.text.decode("ascii").partition(" ")[0]
+    return ballot.as_entered.decode("ascii").partition(" ")[0]

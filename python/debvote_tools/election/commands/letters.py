@@ -14,7 +14,7 @@ from debvote_tools.election.folder import Election
 from debvote_tools.election.letters import keyring, mail, plan, store, texts
 from debvote_tools.election.letters.mail import Mail
 from debvote_tools.election.letters.message import AUTOMATIC
-from debvote_tools.election.record import PollAndBallots
+from debvote_tools.election.election_files import PollAndBallots
 from debvote_tools.election.running import file_words, refusal
 from debvote_tools.election.secrecy import demand_own_folder
 from debvote_tools.election.telling import count_of, tell_edits
@@ -126,7 +126,7 @@ def mails_of(election: Election, counted: PollAndBallots, arguments: Arguments, 
     """The letters of a kind to all electors whom it is for, and those who have no address."""
     roll = poll_file.roll_of(counted.poll_bytes)
     if arguments.kind == REMINDERS:
-        close = election.closed()
+        close = election.close_entry()
         if close is not None:
             raise Fault("reminders", "the vote is closed", "nobody can vote any more", Status.DOUBT, "nothing was written")
         stands = standing_now(election, counted)
@@ -181,12 +181,12 @@ def write_receipts(election: Election, arguments: Arguments) -> int:
         tell_edits(election, counted)
         sender = sender_of(counted.poll_bytes, arguments)
         known = addresses_of(election)
-        names = {address: name for name, member in known.members.items() for address in plan.addresses_in(member)}
+        names = {address: name for name, member in known.members.items() for address in plan.addresses_of_member(member)}
         answer = election.debvote.run("steps", *file_words(election, counted))
         if answer.faults:
             raise refusal(election, answer)
         replies, language = replies_in(answer.text), election.language()
-        new = [letter for letter in store.state_of(election, counted).letters.values() if not letter.has_receipt]
+        new = [letter for letter in store.state_of(election, counted).kept_letters.values() if not letter.has_receipt]
         told = [letter for letter in new if receiver_of(letter, names, known) is not None]
         is_signed = keyring.is_demanded(election)
         mails = [
@@ -199,9 +199,9 @@ def write_receipts(election: Election, arguments: Arguments) -> int:
             with uninterrupted():
                 election.begin_journal()
                 place = mail.write(election, RECEIPTS, mails, sender, is_mbox=arguments.mbox)
-                record = store.next_record(election)
+                record = store.prepare_record(election)
                 store.keep_record(election, record, ({"number": letter.number, "has_receipt": True} for letter in told))
-                election.act(store.RECEIPTS, counted, record=record)
+                election.act(store.RECEIPTS, counted, detail=record)
     others = [str(letter.number) for letter in new if letter not in told]
     say(election, place, mails, [])
     if others:
@@ -227,7 +227,7 @@ def receiver_of(letter: store.KeptLetter, names: dict[str, str], known: Known) -
     if letter.why == AUTOMATIC or letter.is_set_aside:
         return None
     if letter.is_in:
-        name = plan.name_of(letter.ballot or "")
+        name = plan.elector_of(letter.ballot or "")
         address = known.address(name)
         return None if address is None else Receiver(name, address)
     is_known = len(letter.senders) == 1 and letter.senders[0] in names and mail.is_address(letter.senders[0])

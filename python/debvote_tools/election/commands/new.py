@@ -126,7 +126,7 @@ def fill(made: Election, language: str) -> None:
     with locked(made.lock_path):
         write_whole(made.members_path, MEMBERS.encode())
         write_whole(made.poll_path, POLL.encode())
-        made.act(NEW, made.poll_and_ballots(), record="" if language == ENGLISH.code else language)
+        made.act(NEW, made.poll_and_ballots(), detail="" if language == ENGLISH.code else language)
 
 
 def take_away(made: Election, is_made: bool) -> None:

@@ -11,7 +11,7 @@ from debvote_tools.console import tell
 from debvote_tools.election.commands.count import add_casting_argument
 from debvote_tools.election.other_publications import tell_other_publications
 from debvote_tools.election.folder import Election
-from debvote_tools.election.record import PollAndBallots
+from debvote_tools.election.election_files import PollAndBallots
 from debvote_tools.election.running import NO_BALLOTS, demand_option
 from debvote_tools.election.secrecy import demand_own_folder
 from debvote_tools.faults import Fault, Status
@@ -63,31 +63,31 @@ def add_arguments(parser: argparse.ArgumentParser) -> None:
     parser.add_argument(
         "--even-so", action="store_true", help="Publish where debvote-publish stops at a doubt; the page says what the doubt is"
     )
-    secret = "The vote is secret: publish the ballots that stand under their aliases, and nothing else of what came"
-    parser.add_argument("--secret", action="store_true", help=secret)
+    secret_help = "The vote is secret: publish the ballots that stand under their aliases, and nothing else of what came"
+    parser.add_argument("--secret", action="store_true", help=secret_help)
     add_voters_argument(parser)
     add_casting_vote_arguments(parser)
     add_page_arguments(parser)
-    language = "The language of page and letter: de, en, es or fr; that of the folder if it is not given"
-    parser.add_argument("--language", metavar="CODE", choices=sorted(LANGUAGES), help=language)
-    said = "The folder to make; the folder result of the election if it is not given"
-    parser.add_argument("target", metavar="FOLDER", nargs="?", help=said)
+    language_help = "The language of page and letter: de, en, es or fr; that of the folder if it is not given"
+    parser.add_argument("--language", metavar="CODE", choices=sorted(LANGUAGES), help=language_help)
+    folder_help = "The folder to make; the folder result of the election if it is not given"
+    parser.add_argument("target", metavar="FOLDER", nargs="?", help=folder_help)
 
 
 def run(election: Election, namespace: argparse.Namespace) -> int:
     arguments = arguments_of(Arguments, namespace)
-    target = pathlib.Path(arguments.target) if arguments.target else election.result_folder
+    target_folder = pathlib.Path(arguments.target) if arguments.target else election.result_folder
     with election.reading() as counted:
         demand_secrecy(election, arguments)
-        demand_free(election, arguments, target)
+        demand_free(election, arguments, target_folder)
         demand_ballots(election, counted, arguments)
         if arguments.casting is not None:
             demand_option(election, arguments.casting)
-        status = make_result_folder(publish_arguments(election, counted, arguments, target), election.program_folder)
-    if status in (Status.DONE, Status.TIE, Status.CASTING_OUTSIDE) and target.is_dir():
+        status = make_result_folder(publish_arguments(election, counted, arguments, target_folder), election.program_folder)
+    if status in (Status.DONE, Status.TIE, Status.CASTING_OUTSIDE) and target_folder.is_dir():
         if arguments.secret:
-            tell_other_publications(election, target)
-        tell(f"Next: {what_next(election, arguments, target, status)}")
+            tell_other_publications(election, target_folder)
+        tell(f"Next: {what_next(election, arguments, target_folder, status)}")
     return status
 
 
@@ -109,12 +109,14 @@ def demand_secrecy(election: Election, arguments: Arguments) -> None:
         raise Fault("--voters", words, "leave it out", Status.BAD_WORDS)
 
 
-def publish_arguments(election: Election, counted: PollAndBallots, arguments: Arguments, target: pathlib.Path) -> PublishArguments:
+def publish_arguments(
+    election: Election, counted: PollAndBallots, arguments: Arguments, target_folder: pathlib.Path
+) -> PublishArguments:
     """The arguments with which debvote-publish makes this folder."""
     return PublishArguments(
         poll_path=str(election.poll_path),
         ballots_path=NO_BALLOTS if counted.ballots_bytes is None else str(election.ballots_path),
-        target_folder=str(target),
+        target_folder=str(target_folder),
         casting=arguments.casting,
         even_so=arguments.even_so,
         codes_path=str(election.codes_path) if arguments.secret else None,
@@ -131,13 +133,13 @@ def publish_arguments(election: Election, counted: PollAndBallots, arguments: Ar
     )
 
 
-def demand_free(election: Election, arguments: Arguments, target: pathlib.Path) -> None:
+def demand_free(election: Election, arguments: Arguments, target_folder: pathlib.Path) -> None:
     """Stops where the folder is there and has something in it, and says which name is free."""
-    if not os.path.lexists(target) or (target.is_dir() and not any(target.iterdir())):
+    if not os.path.lexists(target_folder) or (target_folder.is_dir() and not any(target_folder.iterdir())):
         return
-    free = free_name(target)
+    free = free_name(target_folder)
     cure = f"publish into another folder: {election.command(*arguments.again(is_secret=arguments.secret), str(free))}"
-    raise Fault(target, "it is there already, and stays as it is", cure, Status.BAD_WORDS)
+    raise Fault(target_folder, "it is there already, and stays as it is", cure, Status.BAD_WORDS)
 
 
 def demand_ballots(election: Election, counted: PollAndBallots, arguments: Arguments) -> None:
@@ -147,21 +149,21 @@ def demand_ballots(election: Election, counted: PollAndBallots, arguments: Argum
         raise Fault(election.ballots_path, "there are no ballots", cure, Status.DOUBT)
 
 
-def free_name(target: pathlib.Path) -> pathlib.Path:
+def free_name(target_folder: pathlib.Path) -> pathlib.Path:
     """The first of result-2, result-3 and so on that is not there."""
     number = 2
-    while os.path.lexists(target.with_name(f"{target.name}-{number}")):
+    while os.path.lexists(target_folder.with_name(f"{target_folder.name}-{number}")):
         number += 1
-    return target.with_name(f"{target.name}-{number}")
+    return target_folder.with_name(f"{target_folder.name}-{number}")
 
 
-def what_next(election: Election, arguments: Arguments, target: pathlib.Path, status: int) -> str:
+def what_next(election: Election, arguments: Arguments, target_folder: pathlib.Path, status: int) -> str:
     """What the secretary does with the folder."""
     if status == Status.DONE:
-        return f"put the folder {target} on the web site as it is, and send {target / letter.NAME} to each elector"
+        return f"put the folder {target_folder} on the web site as it is, and send {target_folder / letter.NAME} to each elector"
     more = [*(["--secret"] if arguments.secret else []), *(["--voters"] if arguments.voters else [])]
     # the ordinary folder is taken where it is free
     place = "" if not os.path.lexists(election.result_folder) else f" {shlex.quote(str(free_name(election.result_folder)))}"
     chosen = f"{election.command('publish', *more)} --casting=NAME --cast-by=WHO --cast-on=DATE{place}"
-    ask = f"put the folder {target} on the web site, ask for the casting vote, and write its option, its voter and its day"
+    ask = f"put the folder {target_folder} on the web site, ask for the casting vote, and write its option, its voter and its day"
     return f"it is a tie: {ask}: {chosen}"

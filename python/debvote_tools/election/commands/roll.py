@@ -11,7 +11,7 @@ from debvote_tools import called, poll_file
 from debvote_tools.arguments import arguments_of
 from debvote_tools.console import tell
 from debvote_tools.election.folder import Election
-from debvote_tools.election.record import PollAndBallots
+from debvote_tools.election.election_files import PollAndBallots
 from debvote_tools.election.running import explanation_of, quorum_words, sheet_if_in_order
 from debvote_tools.election.taking_back import given_already
 from debvote_tools.election.telling import count_of

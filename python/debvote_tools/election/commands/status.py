@@ -12,7 +12,7 @@ from debvote_tools.console import shows, tell
 from debvote_tools.election.changed_by_hand import changes_by_hand
 from debvote_tools.election.folder import Election
 from debvote_tools.election.letters import keyring, store
-from debvote_tools.election.record import PollAndBallots
+from debvote_tools.election.election_files import PollAndBallots
 from debvote_tools.election.running import file_words, quorum_words, refusal
 from debvote_tools.election.secrecy import aliases_now, demand_own_folder, publish_words
 from debvote_tools.election.telling import time_of

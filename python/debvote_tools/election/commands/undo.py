@@ -9,7 +9,7 @@ from debvote_tools.ballots import ranks_in_words
 from debvote_tools.console import YES_OR_NO, is_terminal, is_yes, tell
 from debvote_tools.election.folder import Election
 from debvote_tools.election.letters import store
-from debvote_tools.election.record import PollAndBallots
+from debvote_tools.election.election_files import PollAndBallots
 from debvote_tools.election.running import answer_about, option_names
 from debvote_tools.election.secrecy import demand_own_folder
 from debvote_tools.election.telling import count_of, tell_edits, tell_what_is_gone, time_of
@@ -42,11 +42,11 @@ def run(election: Election, namespace: argparse.Namespace) -> int:
         tell_edits(election, counted)
         tell_what_is_gone(election, counted)
         demand_open(election)
-        act = last_entering_act(election, counted)
-        if agreed is not None and act != agreed:
+        entry = last_entering_act(election, counted)
+        if agreed is not None and entry != agreed:
             words = "what would be taken back is not what was shown: somebody has changed the election meanwhile"
             raise Fault("undo", words, "run the command again", Status.DOUBT, "nothing was changed")
-        take_back(election, counted, act, is_told=agreed is not None)
+        take_back(election, counted, entry, is_told=agreed is not None)
     tell(f"Next: {election.command('status')}; once more {election.command('undo')} takes back the act before")
     return Status.DONE
 
@@ -56,48 +56,48 @@ def run(election: Election, namespace: argparse.Namespace) -> int:
 class Change:
     """What it changes to take back an act: its lines, those that are left, the ballots that stand, and the letters."""
 
-    act: Entry
+    entry: Entry
     lines_back: list[bytes]
     ballots_left: bytes
     standing: dict[str, str]
     standing_then: dict[str, str]
-    letters: dict[int, store.KeptLetter]
-    letters_then: dict[int, store.KeptLetter]
+    kept_letters: dict[int, store.KeptLetter]
+    kept_letters_then: dict[int, store.KeptLetter]
 
     @property
     def what(self) -> str:
         """What is taken back, in words."""
-        return f"{count_of(len(self.lines_back), 'line')} ({self.act.act}, {time_of(self.act)}, {envelope_words(self.act)})"
+        return f"{count_of(len(self.lines_back), 'line')} ({self.entry.act}, {time_of(self.entry)}, {envelope_words(self.entry)})"
 
     @property
     def gone(self) -> list[store.KeptLetter]:
         """The letters that then count as not come."""
-        return [letter for number, letter in self.letters.items() if number not in self.letters_then]
+        return [letter for number, letter in self.kept_letters.items() if number not in self.kept_letters_then]
 
     @property
     def waiting_again(self) -> list[store.KeptLetter]:
         """The letters that then wait again, as they are then."""
-        return [letter for number, letter in self.letters_then.items() if letter.waits and not self.letters[number].waits]
+        return [letter for number, letter in self.kept_letters_then.items() if letter.waits and not self.kept_letters[number].waits]
 
     @property
     def with_wrong_receipt(self) -> list[store.KeptLetter]:
         """The letters, as they are now, for which a receipt was written that then does not hold any more."""
-        both = [*self.gone, *(self.letters[letter.number] for letter in self.waiting_again)]
+        both = [*self.gone, *(self.kept_letters[letter.number] for letter in self.waiting_again)]
         return [letter for letter in both if letter.has_receipt]
 
 
-def change_by(election: Election, counted: PollAndBallots, act: Entry) -> Change:
+def change_by(election: Election, counted: PollAndBallots, entry: Entry) -> Change:
     """What it changes to take back the last act. The caller holds the lock."""
-    first, last = act.first_and_last()
+    first, last = entry.first_and_last()
     lines = ballot_lines(counted.ballots_bytes or b"")
     ballots_left = ballot_file(lines[: first - 1])
     standing, standing_then = (
         standing_of(election, counted.poll_bytes, data) for data in (counted.ballots_bytes or b"", ballots_left)
     )
     state = store.state_of(election, counted)
-    letters = dict(state.letters)
+    kept_letters = dict(state.kept_letters)
     state.take_back()
-    return Change(act, lines[first - 1 : last], ballots_left, standing, standing_then, letters, state.letters)
+    return Change(entry, lines[first - 1 : last], ballots_left, standing, standing_then, kept_letters, state.kept_letters)
 
 
 def ask(election: Election) -> Entry:
@@ -113,20 +113,20 @@ def ask(election: Election) -> Entry:
     if not is_yes(f"Take back {change.what}?", YES_OR_NO):
         cure = "run the command again when you want to take it back"
         raise Fault("undo", "you did not say yes", cure, Status.DOUBT, "nothing was changed")
-    return change.act
+    return change.entry
 
 
-def take_back(election: Election, counted: PollAndBallots, act: Entry, *, is_told: bool) -> None:
+def take_back(election: Election, counted: PollAndBallots, entry: Entry, *, is_told: bool) -> None:
     """Takes the lines of the last act out of the ballots, keeps them, and tells who has another ballot now, unless that was told."""
-    change = change_by(election, counted, act)
+    change = change_by(election, counted, entry)
     told = (
         [] if is_told else [*ballots_then(change, option_names(election, counted), "no ballot stands now"), *letters_then(change)]
     )
     with uninterrupted():
         election.begin_journal()
-        file = write_new(election.received_folder, f"{act.act}{TAKEN_BACK}", ballot_file(change.lines_back))
-        record = file.name.removesuffix(TAKEN_BACK)
-        election.act(journal.UNDO, counted, act.envelopes, new_ballots=change.ballots_left, record=record)
+        file = write_new(election.received_folder, f"{entry.act}{TAKEN_BACK}", ballot_file(change.lines_back))
+        file_begin = file.name.removesuffix(TAKEN_BACK)
+        election.act(journal.UNDO, counted, entry.envelopes, new_ballots=change.ballots_left, detail=file_begin)
         tell(f"Took back {change.what}; they are kept in {file}.", *told, *receipts_then(change))
 
 
@@ -135,22 +135,22 @@ def ballots_then(change: Change, names: list[str], none: str) -> list[str]:
     """Whose ballot is another one then, or none: so the words say that."""
     told = []
     for elector, ranks in change.standing.items():
-        before = change.standing_then.get(elector)
-        if before is None:
+        ranks_then = change.standing_then.get(elector)
+        if ranks_then is None:
             told.append(f"  {elector}: {none}")
-        elif before != ranks:
-            told.append(f"  {elector}: {ranks_in_words(before, names)}, as before")
+        elif ranks_then != ranks:
+            told.append(f"  {elector}: {ranks_in_words(ranks_then, names)}, as before")
     return told
 
 
 def letters_then(change: Change, would: str = "") -> list[str]:
     """What becomes of the letters whose ballots are taken back."""
     told = []
-    gone = len(change.gone)
-    if gone:
-        verb = f"{would} count" if would else "counts" if gone == 1 else "count"
-        them = "it again, and it is" if gone == 1 else "them again, and they are"
-        told.append(f"{count_of(gone, 'letter')} that came with them {verb} as not come: add {them} read anew.")
+    gone_count = len(change.gone)
+    if gone_count:
+        verb = f"{would} count" if would else "counts" if gone_count == 1 else "count"
+        them = "it again, and it is" if gone_count == 1 else "them again, and they are"
+        told.append(f"{count_of(gone_count, 'letter')} that came with them {verb} as not come: add {them} read anew.")
     verb = f"{would} wait" if would else "waits"
     return [*told, *(f"Letter {letter.number} {verb} again: {letter.why}" for letter in change.waiting_again)]
 
@@ -166,7 +166,7 @@ def receipts_then(change: Change) -> list[str]:
 
 def demand_open(election: Election) -> None:
     """Stops where the vote is closed."""
-    close = election.closed()
+    close = election.close_entry()
     if close is not None:
         words = f"the vote was closed at {time_of(close)}, and its ballots stay"
         raise Fault(
@@ -194,8 +194,8 @@ def last_entering_act(election: Election, counted: PollAndBallots) -> Entry:
     return entering[-1]
 
 
-def envelope_words(act: Entry) -> str:
-    return f"{'envelopes' if '-' in act.envelopes else 'envelope'} {act.envelopes}"
+def envelope_words(entry: Entry) -> str:
+    return f"{'envelopes' if '-' in entry.envelopes else 'envelope'} {entry.envelopes}"
 
 
 def standing_of(election: Election, poll_bytes: bytes, ballots_bytes: bytes) -> dict[str, str]:
@@ -204,8 +204,8 @@ def standing_of(election: Election, poll_bytes: bytes, ballots_bytes: bytes) -> 
         return standing_in(answer_about(election, "standing", poll_path, ballots_bytes).text)
 
 
-def outcome(letter: store.KeptLetter) -> str:
+def outcome(kept: store.KeptLetter) -> str:
     """What a receipt has said."""
-    if letter.envelope is None:
+    if kept.envelope is None:
         return "it waits"
-    return f"envelope {letter.envelope}, the ballot of {(letter.ballot or '').partition(' ')[0]}"
+    return f"envelope {kept.envelope}, the ballot of {(kept.ballot or '').partition(' ')[0]}"

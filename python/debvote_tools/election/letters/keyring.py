@@ -14,7 +14,7 @@ from debvote_tools.election.folder import Election
 from debvote_tools.election.letters import openpgp
 from debvote_tools.election.letters.openpgp import Key
 from debvote_tools.election.letters.verifying import demand_program
-from debvote_tools.election.record import PollAndBallots
+from debvote_tools.election.election_files import PollAndBallots
 from debvote_tools.election.telling import count_of
 from debvote_tools.faults import Fault, Status
 from debvote_tools.files import read_at_most, sum_of, uninterrupted, write_new, write_whole
@@ -37,16 +37,16 @@ CURE = "export the keys of the members with gpg --export, and name this file"
 
 @dataclasses.dataclass(frozen=True)
 class Demanded:
-    """What a letter has to be signed with: the keys of the keyring, that of each member by the name on the roll, and the sums of
-    both.
+    """What a letter has to be signed with: the keys of the keyring, the fingerprint of each member's key by the name on the roll, and the
+    sums of both.
     """
 
     keys: list[Key]
-    members: dict[str, str]
+    fingerprints: dict[str, str]
     ring_sum: str
-    members_sum: str
+    fingerprints_sum: str
 
-    def by_number(self) -> dict[bytes, list[Key]]:
+    def keys_by_number(self) -> dict[bytes, list[Key]]:
         """The keys by their numbers, and by those of their subkeys."""
         found: dict[bytes, list[Key]] = {}
         for key in self.keys:
@@ -55,8 +55,8 @@ class Demanded:
         return found
 
     def owner(self, fingerprint: str) -> str | None:
-        """The member who has a key."""
-        return next((name for name, key in self.members.items() if key == fingerprint), None)
+        """The member who has the key with this fingerprint."""
+        return next((name for name, its_own in self.fingerprints.items() if its_own == fingerprint), None)
 
 
 # ---------------------------------------------------------------- what the election has
@@ -72,16 +72,16 @@ def is_demanded(election: Election) -> bool:
 
 def last_given(election: Election) -> journal.Entry | None:
     """The last act that gave a keyring, or said that none is needed."""
-    acts = journal.done(election.entries())
-    return next((entry for entry in reversed(acts) if entry.act in (GIVEN, NONE)), None)
+    acts_done = journal.done(election.entries())
+    return next((entry for entry in reversed(acts_done) if entry.act in (GIVEN, NONE)), None)
 
 
 def demanded(election: Election) -> Demanded | None:
     """What letters have to be signed with; none where they need no signature. Stops where it is not what the journal has."""
-    given = last_given(election)
+    given_entry = last_given(election)
     file = file_of(election)
     again = f"to take it as it is, give it anew: {election.command('call', '--keyring', str(file))}"
-    if given is None or given.act == NONE:
+    if given_entry is None or given_entry.act == NONE:
         if file.exists():
             cure = f"take it away, or have letters signed: {election.command('call', '--keyring', str(file))}"
             raise Fault(file, "it is there, and the journal has no act that gave it", cure, Status.DOUBT, "nothing was changed")
@@ -89,30 +89,30 @@ def demanded(election: Election) -> Demanded | None:
     if not file.exists():
         cure = f"put it back from {election.backup_folder}"
         raise Fault(file, "letters have to be signed, and the keyring is gone", cure, Status.DOUBT, "nothing was changed")
-    found = read(election, file)
-    if given.record != SUM + found.ring_sum:
-        words = f"it is another keyring than the one that was given at {journal.act_time_in_words(given.time)}"
+    found = read_keyring(election, file)
+    if given_entry.detail != SUM + found.ring_sum:
+        words = f"it is another keyring than the one that was given at {journal.act_time_in_words(given_entry.time)}"
         raise Fault(
             file, words, f"put that one back from {election.backup_folder}, or, {again}", Status.DOUBT, "nothing was changed"
         )
-    whose = journal.last(election.entries(), WHOSE)
-    if whose is None or whose.record != SUM + found.members_sum:
+    whose_entry = journal.last(election.entries(), WHOSE)
+    if whose_entry is None or whose_entry.detail != SUM + found.fingerprints_sum:
         words = "its column `key` is not as it was when the keyring was given"
         raise Fault(election.members_path, words, f"put it right, or, {again}", Status.DOUBT, "nothing was changed")
     return found
 
 
-def read(election: Election, file: pathlib.Path) -> Demanded:
+def read_keyring(election: Election, file: pathlib.Path) -> Demanded:
     """A keyring, and whose keys are in the list of members."""
-    data = bytes_of(file)
+    data = keyring_bytes(file)
     keys = keys_of(file, data)
     members = members_in(election.members_path).members if election.members_path.exists() else []
-    whose = whose_keys(election, members)
-    rows = "".join(f"{name} {key}\n" for name, key in sorted(whose.items()))
-    return Demanded(keys, whose, sum_of(data), sum_of(rows.encode("ascii", "backslashreplace")))
+    fingerprints = whose_keys(election, members)
+    rows = "".join(f"{name} {fingerprint}\n" for name, fingerprint in sorted(fingerprints.items()))
+    return Demanded(keys, fingerprints, sum_of(data), sum_of(rows.encode("ascii", "backslashreplace")))
 
 
-def bytes_of(file: pathlib.Path) -> bytes:
+def keyring_bytes(file: pathlib.Path) -> bytes:
     try:
         data = read_at_most(file, LIMIT)
     except OSError as error:
@@ -133,18 +133,18 @@ def keys_of(file: pathlib.Path, data: bytes) -> list[Key]:
         raise Fault(file, f"it is no keyring of OpenPGP: {error}", CURE, Status.BAD_WORDS, "nothing was changed") from None
     if not keys:
         raise Fault(file, "it has no key", CURE, Status.BAD_WORDS, "nothing was changed")
-    seen: set[str] = set()
+    seen_fingerprints: set[str] = set()
     for key in keys:
-        if key.fingerprint in seen:
+        if key.fingerprint in seen_fingerprints:
             cure = "import the file with gpg --import, which joins both, and export the keys anew"
             raise Fault(file, f"the key {key.fingerprint} stands there twice", cure, Status.BAD_WORDS, "nothing was changed")
-        seen.add(key.fingerprint)
+        seen_fingerprints.add(key.fingerprint)
     return keys
 
 
 def whose_keys(election: Election, members: list[Member]) -> dict[str, str]:
     """The key of each member who has one, by the name on the roll. Stops where two members have one."""
-    found: dict[str, str] = {}
+    fingerprints: dict[str, str] = {}
     owners: dict[str, Member] = {}
     for member in members:
         if not member.name or not member.key:
@@ -158,14 +158,16 @@ def whose_keys(election: Election, members: list[Member]) -> dict[str, str]:
                 Status.DOUBT,
                 "nothing was changed",
             )
-        found[member.name] = member.key
-    return found
+        fingerprints[member.name] = member.key
+    return fingerprints
 
 
 def poll_sum(election: Election, counted: PollAndBallots) -> str:
     """The sum of the poll as the call announces it."""
-    aliases = election.called_alias_poll_path
-    return sum_of(aliases.read_bytes() if election.is_secret() and aliases.exists() else as_announced(counted.poll_bytes))
+    alias_poll_path = election.called_alias_poll_path
+    return sum_of(
+        alias_poll_path.read_bytes() if election.is_secret() and alias_poll_path.exists() else as_announced(counted.poll_bytes)
+    )
 
 
 # ---------------------------------------------------------------- how it is given
@@ -183,38 +185,38 @@ def demand_may_change(election: Election, *, is_wanted: bool) -> None:
         )
 
 
-def give(election: Election, counted: PollAndBallots, name: str) -> None:
+def give(election: Election, counted: PollAndBallots, file_name: str) -> None:
     """Takes a keyring for the election, and keeps a copy. The caller holds the lock alone."""
     demand_may_change(election, is_wanted=True)
     demand_program()
-    source = pathlib.Path(name)
-    found = read(election, source)
-    missing = sorted(set(found.members.values()) - {key.fingerprint for key in found.keys})
-    if not found.members:
+    given_path = pathlib.Path(file_name)
+    found = read_keyring(election, given_path)
+    missing_fingerprints = sorted(set(found.fingerprints.values()) - {key.fingerprint for key in found.keys})
+    if not found.fingerprints:
         cure = "write the fingerprint of each member's key into a column `key`, then call again"
         raise Fault(election.members_path, "no member has a key in it", cure, Status.DOUBT, "nothing was changed")
-    data = bytes_of(source)
+    data = keyring_bytes(given_path)
     file = file_of(election)
     with uninterrupted():
         if not file.exists() or file.read_bytes() != data or not is_demanded(election):
             election.begin_journal()
             write_new(election.backup_folder, NAME, data)
             write_whole(file, data)
-        election.act(GIVEN, counted, record=SUM + found.ring_sum)
-        election.act(WHOSE, counted, record=SUM + found.members_sum)
+        election.act(GIVEN, counted, detail=SUM + found.ring_sum)
+        election.act(WHOSE, counted, detail=SUM + found.fingerprints_sum)
         tell(f"Letters have to be signed: {file} has {count_of(len(found.keys), 'key')}, and its sum is {found.ring_sum}")
-        tell_missing(election, counted, found, missing)
+        tell_missing(election, counted, found, missing_fingerprints)
 
 
-def tell_missing(election: Election, counted: PollAndBallots, found: Demanded, missing: list[str]) -> None:
+def tell_missing(election: Election, counted: PollAndBallots, found: Demanded, missing_fingerprints: list[str]) -> None:
     """Says whose letters will wait."""
-    without = [name for name in roll_of(counted.poll_bytes) if name not in found.members]
-    if without:
-        tell(f"No key in {election.members_path}, so that their letters wait: {some(without)}")
-    for key in missing[:MOST]:
-        tell(f"Note: the key {key} of {found.owner(key)} is not in the keyring, so that their letters wait.")
-    if len(missing) > MOST:
-        tell(f"Note: so are {len(missing) - MOST} more.")
+    names_without = [name for name in roll_of(counted.poll_bytes) if name not in found.fingerprints]
+    if names_without:
+        tell(f"No key in {election.members_path}, so that their letters wait: {some(names_without)}")
+    for fingerprint in missing_fingerprints[:MOST]:
+        tell(f"Note: the key {fingerprint} of {found.owner(fingerprint)} is not in the keyring, so that their letters wait.")
+    if len(missing_fingerprints) > MOST:
+        tell(f"Note: so are {len(missing_fingerprints) - MOST} more.")
 
 
 def some(names: list[str]) -> str:
@@ -242,4 +244,6 @@ def status_lines(election: Election) -> list[str]:
         return [f"Note: {fault.words}"]
     if found is None:
         return []
-    return [f"Letters have to be signed: the keyring has {count_of(len(found.keys), 'key')}, the list names {len(found.members)}"]
+    return [
+        f"Letters have to be signed: the keyring has {count_of(len(found.keys), 'key')}, the list names {len(found.fingerprints)}"
+    ]

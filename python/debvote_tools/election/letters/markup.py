@@ -8,6 +8,7 @@ import functools
 import html
 import re
 from collections.abc import Iterator
+from typing import NamedTuple
 
 # a comment, a declaration, a mark with its attributes, a sign that begins none of them, or a text; what has no end ends with the text
 TOKEN = re.compile(
@@ -96,22 +97,33 @@ def rules_in(style: str) -> Iterator[tuple[str, str]]:
             yield parts[place - 2], parts[place]
 
 
+class Element(NamedTuple):
+    """An open element, and what holds of all that stands in it: whether it is quoted, is not shown, and keeps its line ends."""
+
+    tag: str
+    is_quoted: bool = False
+    is_unseen: bool = False
+    keeps_ends: bool = False
+
+
 class Reader:
     """Collects the lines. What is quoted gets the sign > before it, as mail programs write it in plain text."""
 
     def __init__(self) -> None:
         self.lines: list[str] = []
+        # what stands on the line that is not ended yet
         self.parts: list[str] = []
         # what a style hides: elements, classes and ids
         self.hidden: set[str] = set()
-        # the open elements, each with whether what is in it is quoted, is shown, and keeps its line ends
-        self.open: list[tuple[str, bool, bool, bool]] = []
+        # the open elements, the outermost first
+        self.open: list[Element] = []
 
-    def state(self) -> tuple[bool, bool, bool]:
-        """Whether what comes is quoted, is not shown, and keeps its line ends."""
-        return self.open[-1][1:] if self.open else (False, False, False)
+    @property
+    def innermost(self) -> Element:
+        """The element in which stands what comes."""
+        return self.open[-1] if self.open else Element("")
 
-    def begin(self, tag: str, given: dict[str, str]) -> None:
+    def begin(self, tag: str, attributes: dict[str, str]) -> None:
         """An element begins."""
         if tag == "br":
             self.end_line()
@@ -122,18 +134,19 @@ class Reader:
             self.parts.append(" ")
         if tag in BARE:
             return
-        was_quoted, is_unseen, is_kept = self.state()
-        is_quoted = was_quoted or is_quotation(tag, given)
-        if is_quoted != was_quoted:
+        outer = self.innermost
+        is_quoted = outer.is_quoted or is_quotation(tag, attributes)
+        if is_quoted != outer.is_quoted:
             self.end_line()
-        is_unseen = is_unseen or tag in UNSEEN or self.is_hidden(tag, given)
-        self.open.append((tag, is_quoted, is_unseen, is_kept or tag == "pre"))
+        is_unseen = outer.is_unseen or tag in UNSEEN or self.is_hidden(tag, attributes)
+        self.open.append(Element(tag, is_quoted, is_unseen, outer.keeps_ends or tag == "pre"))
 
-    def is_hidden(self, tag: str, given: dict[str, str]) -> bool:
+    def is_hidden(self, tag: str, attributes: dict[str, str]) -> bool:
         """Whether an element is not shown, as it says itself, or as a style says of it."""
-        if "hidden" in given or hides(given.get("style", "")) or (tag == "font" and WHITE.fullmatch(given.get("color", ""))):
+        is_white = tag == "font" and WHITE.fullmatch(attributes.get("color", ""))
+        if "hidden" in attributes or hides(attributes.get("style", "")) or is_white:
             return True
-        names = {tag, *(f".{name}" for name in given.get("class", "").split()), f"#{given.get('id', '')}"}
+        names = {tag, *(f".{name}" for name in attributes.get("class", "").split()), f"#{attributes.get('id', '')}"}
         return bool(self.hidden) and not self.hidden.isdisjoint(names)
 
     def style(self, text: str) -> None:
@@ -149,20 +162,19 @@ class Reader:
             self.end_line()
         # an end without a beginning is none; one of an outer element ends all in it
         place = next(
-            (place for place in range(len(self.open) - 1, max(-1, len(self.open) - 50), -1) if self.open[place][0] == tag), None
+            (place for place in range(len(self.open) - 1, max(-1, len(self.open) - 50), -1) if self.open[place].tag == tag), None
         )
         if place is None:
             return
-        if self.open[-1][1] != (place > 0 and self.open[place - 1][1]):
+        if self.innermost.is_quoted != (place > 0 and self.open[place - 1].is_quoted):
             self.end_line()
         del self.open[place:]
 
     def text(self, data: str) -> None:
         """A text comes."""
-        _, is_unseen, is_kept = self.state()
-        if is_unseen:
+        if self.innermost.is_unseen:
             return
-        if not is_kept:
+        if not self.innermost.keeps_ends:
             self.parts.append(re.sub(r"[ \t\r\n\f]+", " ", data))
             return
         first, *others = data.split("\n")
@@ -172,11 +184,13 @@ class Reader:
             self.parts.append(line)
 
     def end_line(self) -> None:
-        """Ends the line, where there is something on it."""
+        """Ends the line, where there is something on it. It is quoted where the innermost element is: so a line has to be ended before
+        `open` is changed, where that makes a difference.
+        """
         text = "".join(self.parts).strip()
         self.parts.clear()
         if text:
-            self.lines.append(f"> {text}" if self.state()[0] else text)
+            self.lines.append(f"> {text}" if self.innermost.is_quoted else text)
 
 
 def attributes_of(text: str) -> dict[str, str]:
@@ -188,12 +202,12 @@ def attributes_of(text: str) -> dict[str, str]:
     return found
 
 
-def is_quotation(tag: str, given: dict[str, str]) -> bool:
+def is_quotation(tag: str, attributes: dict[str, str]) -> bool:
     """Whether an element holds what another has written."""
     return (
         tag == "blockquote"
-        or QUOTED.search(given.get("class", "")) is not None
-        or given.get("id", "").removeprefix("x_") in QUOTED_IDS
+        or QUOTED.search(attributes.get("class", "")) is not None
+        or attributes.get("id", "").removeprefix("x_") in QUOTED_IDS
     )
 
 
@@ -201,7 +215,7 @@ def lines_of(text: str) -> list[str]:
     """The lines of a text with marks."""
     reader = Reader()
     for token in TOKEN.finditer(text):
-        if reader.open and reader.open[-1][0] == "style" and token["tag"] is None:
+        if reader.innermost.tag == "style" and token["tag"] is None:
             # what stands in a comment of a style holds all the same
             reader.style(token[0])
         elif token["text"] is not None:

@@ -10,6 +10,7 @@ import email.parser
 import email.utils
 import re
 from email.errors import CloseBoundaryNotFoundDefect
+from typing import NamedTuple
 
 from debvote_tools.election.letters import markup
 from debvote_tools.election.letters.openpgp import GoodSignature, Signed
@@ -67,7 +68,7 @@ class Raw:
     source: memoryview
     start: int
     end: int
-    doubt: str | None = None
+    why_not_own: str | None = None
 
     @property
     def data(self) -> bytes:
@@ -101,7 +102,7 @@ class Letter:
     # whether one of its parts has no end
     is_open: bool
     # why it may be no letter of its own
-    doubt: str | None
+    why_not_own: str | None
     # where letters have to be signed, `signed.py` reads the lines, paragraphs and attachments anew, part by part, and adds the places of
     # the lines that are signed, what was signed, or why there is not one signature; `verifying.py` asks gpgv, and adds the good
     # signature, or why it is none
@@ -126,14 +127,14 @@ class Letter:
         return None if self.signed is None else sum_of(self.signed.signature.data)
 
     @property
-    def key(self) -> "LetterKey":
-        """By what it is known when it comes again."""
+    def identity(self) -> "LetterIdentity":
+        """By what it is known when it comes again; where letters have to be signed, behind `signed.with_signed_part`."""
         says_automatic = self.is_automatic and self.trouble is None
-        return LetterKey(self.known_id, self.text_sum, self.senders, self.signature_sum, says_automatic)
+        return LetterIdentity(self.known_id, self.text_sum, self.senders, self.signature_sum, says_automatic)
 
 
 @dataclasses.dataclass(frozen=True)
-class LetterKey:
+class LetterIdentity:
     """By what a letter is known when it comes again: its Message-ID and the sum of its text; and all for which a letter waits that
     may stand in the head of one letter and not of another with the same text. So nobody has a letter of another passed over by
     sending a copy that waits.
@@ -166,7 +167,7 @@ class Unread(Exception):
 def letter_of(raw: Raw) -> Letter:
     """Reads a letter. Whatever it has in it, this ends, and soon."""
     data = raw.data
-    fields, _ = parted(data)
+    fields = parted(data).head
     text, trouble = Text([], {}), None
     try:
         text = text_of(data)
@@ -190,15 +191,22 @@ def letter_of(raw: Raw) -> Letter:
         text_sum=sum_of("\n".join(text.lines).encode("utf-8", "replace") if trouble is None else data),
         html_lines=tuple(text.html_lines),
         is_open=text.is_open,
-        doubt=raw.doubt,
+        why_not_own=raw.why_not_own,
     )
 
 
-def parted(data: bytes) -> tuple[email.message.Message, bytes]:
+class HeadAndBody(NamedTuple):
     """The head of a letter, or of a part of it, and all that stands below."""
-    end = END_OF_HEAD.search(data[: LONGEST_HEAD + 4])
-    head, body = (data[:LONGEST_HEAD], b"") if end is None else (data[: end.start()], data[end.end() :])
-    return email.parser.BytesHeaderParser().parsebytes(head), body
+
+    head: email.message.Message
+    body: bytes
+
+
+def parted(data: bytes) -> HeadAndBody:
+    """A letter, or a part of it, parted where its head ends."""
+    head_end = END_OF_HEAD.search(data[: LONGEST_HEAD + 4])
+    head_bytes, body = (data[:LONGEST_HEAD], b"") if head_end is None else (data[: head_end.start()], data[head_end.end() :])
+    return HeadAndBody(email.parser.BytesHeaderParser().parsebytes(head_bytes), body)
 
 
 # ---------------------------------------------------------------- the head
@@ -219,24 +227,24 @@ def senders_of(fields: email.message.Message) -> tuple[str, ...]:
 
 def addresses_in(value: str) -> list[str]:
     """The addresses of a line of the head, in small letters. Names and comments may have signs of an address in them."""
-    bare = re.sub(r'"(?:[^"\\]|\\.)*"', "", value)
-    bare = re.sub(r"\([^()]*\)", "", bare)
-    found = []
-    for part in bare.split(","):
+    bare_value = re.sub(r'"(?:[^"\\]|\\.)*"', "", value)
+    bare_value = re.sub(r"\([^()]*\)", "", bare_value)
+    addresses = []
+    for part in bare_value.split(","):
         between = re.fullmatch(r"[^<>]*<\s*([^<>]*?)\s*>\s*", part)
         address = between[1] if between else part.strip()
-        found.append(address.lower() if ADDRESS.fullmatch(address) else "")
-    return found
+        addresses.append(address.lower() if ADDRESS.fullmatch(address) else "")
+    return addresses
 
 
 def arrival_of(fields: email.message.Message) -> datetime.datetime | None:
     """When the letter arrived: the time of the topmost line Received, which their own mail server wrote."""
     time = field(fields, "Received").rpartition(";")[2]
     try:
-        found = email.utils.parsedate_to_datetime(time.strip())
-        if found.tzinfo is None:
-            found = found.replace(tzinfo=datetime.UTC)
-        return found.astimezone(datetime.UTC).replace(microsecond=0)
+        arrived = email.utils.parsedate_to_datetime(time.strip())
+        if arrived.tzinfo is None:
+            arrived = arrived.replace(tzinfo=datetime.UTC)
+        return arrived.astimezone(datetime.UTC).replace(microsecond=0)
     except (ValueError, TypeError, OverflowError, IndexError):
         return None
 
@@ -262,37 +270,37 @@ def text_of(data: bytes) -> Text:
         raise Unread(f"its head is longer than {LONGEST_HEAD} bytes")
     demand_readable(data)
     message = email.message_from_bytes(data)
-    plain: list[email.message.Message] = []
-    marked: list[email.message.Message] = []
+    plain_parts: list[email.message.Message] = []
+    html_parts: list[email.message.Message] = []
     attachments = []
     for part in parts_of(message):
         kind = part.get_content_type()
         if is_attachment(part):
-            attachments.append(name_of(part))
+            attachments.append(attachment_name(part))
         elif kind == "text/plain":
-            plain.append(part)
+            plain_parts.append(part)
         elif kind == "text/html":
-            marked.append(part)
-    if not plain and not marked:
+            html_parts.append(part)
+    if not plain_parts and not html_parts:
         demand_text(message)
     lines: list[str] = []
     paragraphs: dict[int, str] = {}
-    for part in plain:
-        found = plain_text(part)
-        paragraphs |= {len(lines) + place: text for place, text in found.paragraphs.items()}
-        lines += found.lines
+    for part in plain_parts:
+        part_text = plain_text(part)
+        paragraphs |= {len(lines) + place: paragraph for place, paragraph in part_text.paragraphs.items()}
+        lines += part_text.lines
     is_open = any(isinstance(defect, CloseBoundaryNotFoundDefect) for part in message.walk() for defect in part.defects)
     if not any(line.strip() for line in lines):
-        return Text(lines_of_marks(marked) or lines, paragraphs, tuple(attachments), (), is_open)
+        return Text(lines_of_html(html_parts) or lines, paragraphs, tuple(attachments), is_open=is_open)
     html_lines: list[str] = []
     # what is not read need not be readable
     with contextlib.suppress(Unread):
-        html_lines = lines_of_marks(marked)
-    return Text(lines, paragraphs, tuple(attachments), tuple(html_lines), is_open)
+        html_lines = lines_of_html(html_parts)
+    return Text(lines, paragraphs, tuple(attachments), tuple(html_lines), is_open=is_open)
 
 
-def lines_of_marks(parts: list[email.message.Message]) -> list[str]:
-    """The lines of parts that have marks alone."""
+def lines_of_html(parts: list[email.message.Message]) -> list[str]:
+    """The lines of parts in HTML."""
     return [line for part in parts for line in markup.lines_of(decoded(part))]
 
 
@@ -313,11 +321,11 @@ def demand_readable(data: bytes) -> None:
 
 def parts_of(message: email.message.Message) -> list[email.message.Message]:
     """The parts of a letter that have no parts. A letter that stands in it, whole, is not its text."""
-    found: list[email.message.Message] = []
+    parts: list[email.message.Message] = []
     left = [message]
     while left:
         part = left.pop(0)
-        if len(found) + len(left) > MOST_PARTS:
+        if len(parts) + len(left) > MOST_PARTS:
             raise Unread(f"it has more than {MOST_PARTS} parts")
         demand_said_once(part)
         payload = part.get_payload()
@@ -326,15 +334,15 @@ def parts_of(message: email.message.Message) -> list[email.message.Message]:
                 raise Unread("its parts can't be told apart: the line between them is not named, or is not there")
             left[:0] = payload
         elif part.get_content_maintype() != "message":
-            found.append(part)
-    return found
+            parts.append(part)
+    return parts
 
 
 def demand_said_once(part: email.message.Message) -> None:
     """Stops where two programs may read a part in two ways, since what it is stands there twice."""
     for name in ONCE:
         values = [str(value) for value in part.get_all(name, [])]
-        if len(values) > 1 or any(len(found.findall(value)) > 1 for value in values for found in PARAMETERS):
+        if len(values) > 1 or any(len(parameter.findall(value)) > 1 for value in values for parameter in PARAMETERS):
             raise Unread(f"what it says of a part stands there twice: {name}")
 
 
@@ -342,7 +350,7 @@ def is_attachment(part: email.message.Message) -> bool:
     return part.get_content_disposition() == "attachment" or part.get_filename() is not None
 
 
-def name_of(part: email.message.Message) -> str:
+def attachment_name(part: email.message.Message) -> str:
     """What an attachment is called."""
     return str(part.get_filename() or part.get_content_type())[:100]
 
@@ -356,7 +364,7 @@ def demand_text(message: email.message.Message) -> None:
         raise Unread("its text is packed by S/MIME, or encrypted")
 
 
-def bytes_of(part: email.message.Message) -> bytes:
+def payload_of(part: email.message.Message) -> bytes:
     """The text of a part, as its charset writes it."""
     payload = part.get_payload(decode=True)
     data: bytes = payload if isinstance(payload, bytes) else b""
@@ -367,7 +375,7 @@ def bytes_of(part: email.message.Message) -> bytes:
 
 def decoded(part: email.message.Message) -> str:
     """The text of a part, by its charset; signs that this charset does not have are no part of a ballot."""
-    data = bytes_of(part)
+    data = payload_of(part)
     charset = part.get_content_charset()
     if charset is None or charset in ("us-ascii", "ascii"):
         # programs that name no charset, or the least, write others all the same
@@ -376,9 +384,9 @@ def decoded(part: email.message.Message) -> str:
         except UnicodeDecodeError:
             return str(data, "latin-1")
     try:
-        known = codecs.lookup(charset).name
-        demand_charset(known, data)
-        return str(data, known, "replace")
+        codec = codecs.lookup(charset).name
+        demand_charset(codec, data)
+        return str(data, codec, "replace")
     except (LookupError, ValueError):
         raise Unread(f"its charset `{charset[:40]}` is unknown") from None
 
@@ -404,12 +412,14 @@ def plain_text(part: email.message.Message) -> Text:
 
 def flowing(lines: list[str], end: str) -> dict[int, str]:
     """The paragraphs of lines that flow, but for quoted ones, each by the place of its first line."""
-    found: dict[int, str] = {}
+    paragraphs: dict[int, str] = {}
     first = None
     for place, line in enumerate(lines):
         is_bare = bool(line.strip()) and not line.startswith(">") and line != "-- "
         if first is not None and is_bare:
-            found[first] = found.get(first, lines[first][:-1] + end) + line.removesuffix(" ") + (end if line.endswith(" ") else "")
+            paragraphs[first] = (
+                paragraphs.get(first, lines[first][:-1] + end) + line.removesuffix(" ") + (end if line.endswith(" ") else "")
+            )
         goes_on = is_bare and line.endswith(" ")
         first = (place if first is None else first) if goes_on else None
-    return found
+    return paragraphs

@@ -74,13 +74,13 @@ class Signature:
 
 @dataclasses.dataclass(frozen=True)
 class Signed:
-    """What was signed, as gpgv has to see it, the signature, and the words in which the vote has to be named: those that were
-    signed, and the subject where that was signed with them.
+    """What was signed, as gpgv has to see it, the signature, and what a person reads of it, in which the vote has to be named: the lines
+    that were signed, and the subject where that was signed with them.
     """
 
     data: bytes
     signature: Signature
-    words: str
+    readable: str
 
 
 @dataclasses.dataclass(frozen=True)
@@ -101,15 +101,15 @@ def good_signature(fingerprint: str, time: datetime.datetime, signed: Signed) ->
 # ---------------------------------------------------------------- packets
 def packets_in(data: bytes) -> list[Packet]:
     """The packets of some bytes. Raises Unread."""
-    found: list[Packet] = []
+    packets: list[Packet] = []
     place = 0
     while place < len(data):
         kind, start, size = head_at(data, place)
         if start + size > len(data):
             raise Unread("it is cut off")
-        found.append(Packet(kind, data[start : start + size], place, start + size))
+        packets.append(Packet(kind, data[start : start + size], place, start + size))
         place = start + size
-    return found
+    return packets
 
 
 def head_at(data: bytes, place: int) -> tuple[int, int, int]:
@@ -141,14 +141,14 @@ def length_at(data: bytes, place: int) -> tuple[int, int]:
 
 def without_armor(data: bytes, kind: bytes) -> list[bytes]:
     """What each armor of this kind has in it, in their order. Raises Unread."""
-    found = []
+    armored = []
     for armor in ARMOR.finditer(data.replace(b"\r\n", b"\n")):
         if armor["kind"] == kind:
             try:
-                found.append(base64.b64decode(CHECKSUM.sub(b"", armor["text"].rstrip(b" \t")), validate=False))
+                armored.append(base64.b64decode(CHECKSUM.sub(b"", armor["text"].rstrip(b" \t")), validate=False))
             except binascii.Error:
                 raise Unread("its armor is damaged") from None
-    return found
+    return armored
 
 
 # ---------------------------------------------------------------- keys
@@ -172,9 +172,9 @@ def keys_in(data: bytes) -> list[Key]:
 
 def key_of(data: bytes, packets: list[Packet]) -> Key:
     """A key, from its packets."""
-    marks = [fingerprint_of(packet.body) for packet in packets if packet.kind in (PUBLIC, SUBKEY)]
-    numbers = frozenset(mark[-8:] for mark in marks)
-    return Key(marks[0].hex().upper(), numbers, data[packets[0].start : packets[-1].end])
+    fingerprints = [fingerprint_of(packet.body) for packet in packets if packet.kind in (PUBLIC, SUBKEY)]
+    numbers = frozenset(fingerprint[-8:] for fingerprint in fingerprints)
+    return Key(fingerprints[0].hex().upper(), numbers, data[packets[0].start : packets[-1].end])
 
 
 def fingerprint_of(body: bytes) -> bytes:
@@ -184,7 +184,7 @@ def fingerprint_of(body: bytes) -> bytes:
 
 def keys_of_keybox(data: bytes) -> list[bytes]:
     """The keys of a keybox."""
-    found = []
+    keys = []
     place = 0
     while place + 16 <= len(data):
         size = int.from_bytes(data[place : place + 4])
@@ -193,9 +193,9 @@ def keys_of_keybox(data: bytes) -> list[bytes]:
             raise Unread("it is cut off")
         if part[4] == KEY_PART:
             start, length = int.from_bytes(part[8:12]), int.from_bytes(part[12:16])
-            found.append(part[start : start + length])
+            keys.append(part[start : start + length])
         place += size
-    return found
+    return keys
 
 
 # ---------------------------------------------------------------- signatures
@@ -204,13 +204,13 @@ def signatures_in(armored: bytes) -> list[Signature]:
     parts = without_armor(armored, b"SIGNATURE")
     if not parts or armored.count(b"-----BEGIN PGP") != len(parts):
         raise Unread("it has no armor of a signature")
-    found = []
+    signatures = []
     for part in parts:
         for packet in packets_in(part):
             if packet.kind != SIGNATURE:
                 raise Unread("something else stands where the signature has to be")
-            found.append(signature_of(packet, part[packet.start : packet.end]))
-    return found
+            signatures.append(signature_of(packet, part[packet.start : packet.end]))
+    return signatures
 
 
 def signature_of(packet: Packet, data: bytes) -> Signature:
@@ -220,21 +220,21 @@ def signature_of(packet: Packet, data: bytes) -> Signature:
         return Signature(data, body[16], frozenset((body[7:15],)))
     if body[:1] != bytes([VERSION]) or len(body) < 8:
         raise Unread("it is of a version that is not read")
-    signed = int.from_bytes(body[4:6])
-    unsigned = int.from_bytes(body[6 + signed : 8 + signed])
-    parts = [body[6 : 6 + signed], body[8 + signed : 8 + signed + unsigned]]
+    hashed_size = int.from_bytes(body[4:6])
+    unhashed_size = int.from_bytes(body[6 + hashed_size : 8 + hashed_size])
+    parts = [body[6 : 6 + hashed_size], body[8 + hashed_size : 8 + hashed_size + unhashed_size]]
     issuers = frozenset(issuer for part in parts for issuer in issuers_in(part))
     return Signature(data, body[3], issuers)
 
 
 def issuers_in(data: bytes) -> list[bytes]:
     """The numbers of the keys that the parts of a signature name."""
-    found = []
+    numbers = []
     place = 0
     while place < len(data):
         start, size = length_at(data, place)
         part = data[start : start + size]
         if part and part[0] & 127 in (ISSUER, ISSUER_FINGERPRINT):
-            found.append(part[-8:])
+            numbers.append(part[-8:])
         place = start + max(size, 1)
-    return found
+    return numbers

@@ -44,34 +44,36 @@ NAME_AND_RANKS = re.compile(
 
 @dataclasses.dataclass(frozen=True)
 class Candidate:
-    """A line of a letter: its number in the text, from 1, as it came, and after the changes that are allowed."""
+    """A line of a letter that may be a ballot: its number in the text, from 1, as it came, and after the changes that are allowed (as in
+    `Line`). Two candidates have one meaning where they are the same after these changes.
+    """
 
     number: int
-    came: bytes
-    text: bytes
+    bare: bytes
+    changed: bytes
 
     def line(self, where: str) -> Line:
-        return Line(where, self.came, self.came, self.text)
+        return Line(where, self.bare, self.bare, self.changed)
 
 
 @dataclasses.dataclass(frozen=True)
-class NearLine:
-    """A line that comes near to a ballot, of which nothing is said yet: whether it is the elector's own words now; whether it comes near as
-    a whole; and what may be a ballot within it.
+class NearCandidate:
+    """A line that may come near to a ballot, of which nothing is said yet: whether it is the elector's own words now; whether it comes
+    near as a whole; and what may be a ballot within it.
     """
 
-    line: Candidate
+    candidate: Candidate
     is_own: bool
     is_near: bool
-    part: bytes | None
+    within: bytes | None
 
 
 @dataclasses.dataclass(frozen=True)
 class Near:
-    """A line that comes near to a ballot: its number in the letter, its text, and what is said of it."""
+    """A line that comes near to a ballot: its number in the letter, how it came, and what is said of it. A record has these three."""
 
     number: int
-    text: str
+    as_it_came: str
     why: str
 
 
@@ -86,8 +88,13 @@ class Reading:
     unsigned_ballots: list[Candidate] = dataclasses.field(default_factory=list)
     # the ballots of its HTML, where plain text is what is read
     html_ballots: list[bytes] = dataclasses.field(default_factory=list)
-    # where it has one ballot: the elector's other words
+    # where it has one alone: the elector's other words
     other_words: list[str] = dataclasses.field(default_factory=list)
+
+    @property
+    def has_one_alone(self) -> bool:
+        """Whether it has one ballot, and none that is not signed."""
+        return len(self.ballots) == 1 and not self.unsigned_ballots
 
 
 # ---------------------------------------------------------------- lines
@@ -102,39 +109,38 @@ def candidates_in(lines: Sequence[str], paragraphs: dict[int, str]) -> list[Cand
     for place, line in enumerate(lines):
         if line.lstrip().startswith(">"):
             continue
-        texts = [line, paragraphs[place]] if place in paragraphs else [line]
-        for text in texts:
-            came = text.encode("utf-8", "replace")
-            if came.strip() and len(came) <= LONGEST_LINE and b"\0" not in came:
-                found.append(Candidate(place + 1, came, changed(came)))
+        for text in [line, paragraphs[place]] if place in paragraphs else [line]:
+            bare = text.encode("utf-8", "replace")
+            if bare.strip() and len(bare) <= LONGEST_LINE and b"\0" not in bare:
+                found.append(Candidate(place + 1, bare, changed(bare)))
     return found
 
 
-def replies_to(election: Election, poll_bytes: bytes, texts: Iterable[bytes]) -> dict[bytes, str]:
+def replies_to(election: Election, poll_bytes: bytes, changed_lines: Iterable[bytes]) -> dict[bytes, str]:
     """What debvote replies to lines, each asked about once, many in one run; the last envelope is left out, so that no line is late."""
-    found: dict[bytes, str] = {}
-    lines = list(dict.fromkeys(texts))
-    with in_memory(poll_file.without_key(poll_bytes, poll_file.LAST_ENVELOPE)) as path:
+    replies_by_line: dict[bytes, str] = {}
+    lines = list(dict.fromkeys(changed_lines))
+    with in_memory(poll_file.without_key(poll_bytes, poll_file.LAST_ENVELOPE)) as poll_path:
         for start in range(0, len(lines), AT_ONCE):
             part = lines[start : start + AT_ONCE]
-            answer = answer_about(election, "steps", path, b"".join(line + b"\n" for line in part))
+            answer = answer_about(election, "steps", poll_path, b"".join(line + b"\n" for line in part))
             replies = replies_in(answer.text)
             if len(replies) != len(part):
                 raise refusal(election, answer)
-            found |= dict(zip(part, replies))
-    return found
+            replies_by_line |= dict(zip(part, replies))
+    return replies_by_line
 
 
-def findings_of(election: Election, poll_bytes: bytes, texts: Iterable[bytes]) -> dict[bytes, Finding]:
+def findings_of(election: Election, poll_bytes: bytes, changed_lines: Iterable[bytes]) -> dict[bytes, Finding]:
     """Why debvote refuses lines that are no ballots, each by its text."""
-    lines = list(dict.fromkeys(texts))
-    found: dict[bytes, Finding] = {}
-    with in_memory(poll_file.without_key(poll_bytes, poll_file.LAST_ENVELOPE)) as path:
+    lines = list(dict.fromkeys(changed_lines))
+    findings_by_line: dict[bytes, Finding] = {}
+    with in_memory(poll_file.without_key(poll_bytes, poll_file.LAST_ENVELOPE)) as poll_path:
         # of many refused lines only the first get names that are near
         for start in range(0, len(lines), AT_ONCE):
             part = lines[start : start + AT_ONCE]
-            found |= {part[place]: finding for place, finding in findings_by_place(election, path, part).items()}
-    return found
+            findings_by_line |= {part[place]: finding for place, finding in findings_by_place(election, poll_path, part).items()}
+    return findings_by_line
 
 
 # ---------------------------------------------------------------- letters
@@ -142,107 +148,131 @@ def readings_of(election: Election, poll_bytes: bytes, letters: list[Letter]) ->
     """Reads letters, in their order: first their ballots, by the replies to all lines at once; then what is said of the lines that come
     near to one, in the letters alone that do not have one ballot and nothing else.
     """
-    candidates = [candidates_of(letter) if letter.trouble is None else [] for letter in letters]
-    html_candidates = [candidates_in(letter.html_lines, {}) if letter.trouble is None else [] for letter in letters]
-    replies = replies_to(election, poll_bytes, (line.text for lines in [*candidates, *html_candidates] for line in lines))
+    candidates_by_letter = [candidates_of(letter) if letter.trouble is None else [] for letter in letters]
+    html_by_letter = [candidates_in(letter.html_lines, {}) if letter.trouble is None else [] for letter in letters]
+    asked = (candidate.changed for candidates in [*candidates_by_letter, *html_by_letter] for candidate in candidates)
+    replies = replies_to(election, poll_bytes, asked)
     roll, option_count = set(poll_file.roll_of(poll_bytes)), len(poll_file.options_of(poll_bytes))
     without_near: list[Reading] = []
-    near_lines: list[list[NearLine]] = []
-    for letter, lines, html_lines in zip(letters, candidates, html_candidates):
-        own = are_own_lines(letter)
-        own_ballots = [line for line in lines if own[line.number - 1] and replies[line.text] in TAKEN]
-        ballots = one_a_meaning(line for line in own_ballots if is_signed(letter, line))
-        signed_texts = {line.text for line in ballots}
-        unsigned = one_a_meaning(line for line in own_ballots if not is_signed(letter, line))
-        unsigned = [line for line in unsigned if line.text not in signed_texts]
-        is_plain = len(ballots) == 1 and not unsigned
-        other_words = other_words_in(letter, own, ballots[0]) if is_plain else []
-        html_ballots = html_ballots_in(letter, html_lines, replies)
-        without_near.append(Reading(letter, ballots, [], unsigned, html_ballots, other_words))
-        seen = [] if is_plain else [near_line(line, replies[line.text], own[line.number - 1], roll, option_count) for line in lines]
-        near_lines.append([one for one in seen if one.is_near or one.part is not None][:MOST_NEAR])
-    near_ones = [one for lines_of_letter in near_lines for one in lines_of_letter]
-    refused = [one.line.text for one in near_ones if replies[one.line.text] not in TAKEN]
-    findings = findings_of(election, poll_bytes, [*refused, *(one.part for one in near_ones if one.part is not None)])
+    near_by_letter: list[list[NearCandidate]] = []
+    for letter, candidates, html_candidates in zip(letters, candidates_by_letter, html_by_letter):
+        own_by_line = are_own_lines(letter)
+        reading = reading_of(letter, candidates, html_candidates, own_by_line, replies)
+        without_near.append(reading)
+        near_candidates = [
+            nearness_of(candidate, replies[candidate.changed], own_by_line[candidate.number - 1], roll, option_count)
+            for candidate in ([] if reading.has_one_alone else candidates)
+        ]
+        near_by_letter.append([one for one in near_candidates if one.is_near or one.within is not None][:MOST_NEAR])
+    all_near = [one for near_candidates in near_by_letter for one in near_candidates]
+    refused = [one.candidate.changed for one in all_near if replies[one.candidate.changed] not in TAKEN]
+    findings = findings_of(election, poll_bytes, [*refused, *(one.within for one in all_near if one.within is not None)])
     return [
-        dataclasses.replace(reading, near=[near_of(reading.letter, one, findings) for one in lines_of_letter])
-        for reading, lines_of_letter in zip(without_near, near_lines)
+        dataclasses.replace(reading, near=[near_of(reading.letter, one, findings) for one in near_candidates])
+        for reading, near_candidates in zip(without_near, near_by_letter)
     ]
+
+
+def reading_of(
+    letter: Letter,
+    candidates: list[Candidate],
+    html_candidates: list[Candidate],
+    own_by_line: list[bool],
+    replies: dict[bytes, str],
+) -> Reading:
+    """What a letter says, but for the lines that come near to a ballot."""
+    taken = [one for one in candidates if own_by_line[one.number - 1] and replies[one.changed] in TAKEN]
+    ballots = one_a_meaning(one for one in taken if is_signed(letter, one))
+    meanings = {ballot.changed for ballot in ballots}
+    unsigned = one_a_meaning(one for one in taken if not is_signed(letter, one) and one.changed not in meanings)
+    reading = Reading(letter, ballots, [], unsigned, html_ballots_in(letter, html_candidates, replies))
+    if not reading.has_one_alone:
+        return reading
+    return dataclasses.replace(reading, other_words=other_words_in(letter, own_by_line, ballots[0]))
 
 
 def are_own_lines(letter: Letter) -> list[bool]:
     """For each line of a letter whether it is the elector's own words now. What is signed is read apart from what stands around it."""
-    signed = letter.signed_lines
-    if signed is None:
+    signed_lines = letter.signed_lines
+    if signed_lines is None:
         return are_own(letter.lines)
-    bounds = [0, signed.start, signed.stop, len(letter.lines)]
+    bounds = [0, signed_lines.start, signed_lines.stop, len(letter.lines)]
     return [is_own for first, end in itertools.pairwise(bounds) for is_own in are_own(letter.lines[first:end])]
 
 
-def other_words_in(letter: Letter, own: list[bool], ballot: Candidate) -> list[str]:
+def other_words_in(letter: Letter, own_by_line: list[bool], ballot: Candidate) -> list[str]:
     """The lines with words that are the elector's own now, and neither the ballot nor a part of it where it is wrapped."""
-    came = ballot.came.decode("utf-8")
-    places = [place for place, is_own in enumerate(own) if is_own and (letter.signed_lines is None or place in letter.signed_lines)]
-    lines = [line for line in (letter.lines[place] for place in places) if re.search(r"\w", line) and line.strip() not in came]
-    return [line for line in lines if changed(line.encode("utf-8", "replace")) != ballot.text]
+    ballot_text = ballot.bare.decode("utf-8")
+    own_lines = [
+        letter.lines[place]
+        for place, is_own in enumerate(own_by_line)
+        if is_own and (letter.signed_lines is None or place in letter.signed_lines)
+    ]
+    lines = [line for line in own_lines if re.search(r"\w", line) and line.strip() not in ballot_text]
+    return [line for line in lines if changed(line.encode("utf-8", "replace")) != ballot.changed]
 
 
-def html_ballots_in(letter: Letter, html_lines: list[Candidate], replies: dict[bytes, str]) -> list[bytes]:
+def html_ballots_in(letter: Letter, html_candidates: list[Candidate], replies: dict[bytes, str]) -> list[bytes]:
     """The ballots of the HTML of a letter."""
-    own = are_own(letter.html_lines) if html_lines else []
-    return [line.text for line in html_lines if own[line.number - 1] and replies[line.text] in TAKEN]
+    own_by_line = are_own(letter.html_lines) if html_candidates else []
+    return [
+        candidate.changed
+        for candidate in html_candidates
+        if own_by_line[candidate.number - 1] and replies[candidate.changed] in TAKEN
+    ]
 
 
-def is_signed(letter: Letter, line: Candidate) -> bool:
+def is_signed(letter: Letter, candidate: Candidate) -> bool:
     """Whether a line is signed, or need not be."""
-    return letter.signed_lines is None or line.number - 1 in letter.signed_lines
+    return letter.signed_lines is None or candidate.number - 1 in letter.signed_lines
 
 
-def one_a_meaning(lines: Iterable[Candidate]) -> list[Candidate]:
+def one_a_meaning(candidates: Iterable[Candidate]) -> list[Candidate]:
     """The first line of each meaning, in the order in which they stand."""
-    first: dict[bytes, Candidate] = {}
-    for line in lines:
-        first.setdefault(line.text, line)
-    return sorted(first.values(), key=lambda line: line.number)
+    first_by_meaning: dict[bytes, Candidate] = {}
+    for candidate in candidates:
+        first_by_meaning.setdefault(candidate.changed, candidate)
+    return sorted(first_by_meaning.values(), key=lambda candidate: candidate.number)
 
 
-def near_line(line: Candidate, reply: str, is_own: bool, roll: set[str], option_count: int) -> NearLine:
+def nearness_of(candidate: Candidate, reply: str, is_own: bool, roll: set[str], option_count: int) -> NearCandidate:
     """How near a line comes to a ballot."""
     is_shaped = reply in TAKEN or reply in SHAPED
-    part = None if is_shaped or not is_own else part_in(line.came.decode("utf-8"), roll, option_count)
-    return NearLine(line, is_own, is_shaped or comes_near(line, roll), part)
+    within = None if is_shaped or not is_own else ballot_within(candidate.bare.decode("utf-8"), roll, option_count)
+    return NearCandidate(candidate, is_own, is_shaped or comes_near(candidate, roll), within)
 
 
-def part_in(text: str, roll: set[str], option_count: int) -> bytes | None:
+def ballot_within(text: str, roll: set[str], option_count: int) -> bytes | None:
     """What may be a ballot within other words, as it would stand alone: a name of the roll with ranks, or any word with a rank for each
     option.
     """
     for found in NAME_AND_RANKS.finditer(text):
-        part = changed(f"{found[1]} {found[2]}".encode())
-        name, _, ranks = part.decode().partition(" ")
+        ballot = changed(f"{found[1]} {found[2]}".encode())
+        name, _, ranks = ballot.decode().partition(" ")
         has_words = re.search(r"\w", text[: found.start()] + text[found.end() :]) is not None
         if has_words and (name in roll or ranks.count(",") + 1 == option_count):
-            return part
+            return ballot
     return None
 
 
-def comes_near(line: Candidate, roll: set[str]) -> bool:
+def comes_near(candidate: Candidate, roll: set[str]) -> bool:
     """Whether a line begins with a name of the roll and has a number."""
-    first = re.split(rb"[\s:,;*\"']+", line.text.lstrip(b">*\"' "), maxsplit=1)[0].decode("utf-8", "replace").lower()
-    return first in roll and re.search(rb"\d", line.text) is not None
+    first_word = re.split(rb"[\s:,;*\"']+", candidate.changed.lstrip(b">*\"' "), maxsplit=1)[0].decode("utf-8", "replace").lower()
+    return first_word in roll and re.search(rb"\d", candidate.changed) is not None
 
 
-def near_of(letter: Letter, near: NearLine, findings: dict[bytes, Finding]) -> Near:
+def near_of(letter: Letter, near_candidate: NearCandidate, findings: dict[bytes, Finding]) -> Near:
     """What is said of a line that comes near: why debvote refuses it, or, where it is a ballot, why it is not the letter's."""
-    line, finding = near.line, findings.get(near.line.text)
-    part = None if near.part is None else findings.get(near.part)
-    if near.part is not None and (part is None or not near.is_near):
-        shown = shown_line(near.part)
-        why = f"`{shown}` {WITHIN}" + ("" if part is None else f", and is refused: {part.word}: {part.hint}")
+    candidate, finding = near_candidate.candidate, findings.get(near_candidate.candidate.changed)
+    within_finding = None if near_candidate.within is None else findings.get(near_candidate.within)
+    if near_candidate.within is not None and (within_finding is None or not near_candidate.is_near):
+        shown = shown_line(near_candidate.within)
+        refused = "" if within_finding is None else f", and is refused: {within_finding.word}: {within_finding.hint}"
+        why = f"`{shown}` {WITHIN}{refused}"
     elif finding is not None:
         why = f"{finding.word}: {finding.hint}"
-    elif not near.is_own:
+    elif not near_candidate.is_own:
         why = QUOTED
     else:
-        why = IS_BALLOT if is_signed(letter, line) else UNSIGNED
-    return Near(line.number, line.came.decode("utf-8", "replace").strip(), why)
+        why = IS_BALLOT if is_signed(letter, candidate) else UNSIGNED
+    return Near(candidate.number, candidate.bare.decode("utf-8", "replace").strip(), why)

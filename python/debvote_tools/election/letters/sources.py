@@ -4,6 +4,8 @@ import mmap
 import os
 import pathlib
 import re
+import stat
+from typing import BinaryIO
 
 from debvote_tools.election.letters.message import LONGEST_HEAD, Raw
 from debvote_tools.faults import Fault, Status
@@ -85,14 +87,20 @@ def demand_no_outlook(name: str, data: bytes) -> None:
 def letters_in(name: str, data: bytes | mmap.mmap) -> list[Raw]:
     """The letters of a file that are_letters, in its order."""
     source = memoryview(data)
-    begins = list(BETWEEN.finditer(data)) if data[:5] == b"From " else []
-    if not begins:
+    lines_from = list(BETWEEN.finditer(data)) if data[:5] == b"From " else []
+    if not lines_from:
         return [Raw(name, source, 0, len(source))]
-    ends = [found.start() for found in begins[1:]] + [len(source)]
-    first = form_of(begins[0]["said"])
+    ends = [line_from.start() for line_from in lines_from[1:]] + [len(source)]
+    first_form = form_of(lines_from[0]["said"])
     return [
-        Raw(f"{name}, message {number}", source, found.end(), end, None if form_of(found["said"]) == first else IN_ANOTHER)
-        for number, (found, end) in enumerate(zip(begins, ends), start=1)
+        Raw(
+            f"{name}, message {number}",
+            source,
+            line_from.end(),
+            end,
+            None if form_of(line_from["said"]) == first_form else IN_ANOTHER,
+        )
+        for number, (line_from, end) in enumerate(zip(lines_from, ends), start=1)
     ]
 
 
@@ -101,32 +109,37 @@ def form_of(said: bytes) -> tuple[bool, bool]:
     return (said.startswith(b"- "), TIME.search(said) is not None)
 
 
-def whole(name: str) -> bytes | mmap.mmap:
-    """A file of letters, whole; of a long one no more is read than is asked for. Raises OSError."""
-    with open(name, "rb") as source:
-        size = os.fstat(source.fileno()).st_size
-        if size > LIMIT:
-            raise Fault(name, f"it is longer than {LIMIT} bytes", "add it in parts", Status.BAD_BALLOTS, NOTHING)
-        return mmap.mmap(source.fileno(), 0, access=mmap.ACCESS_READ) if size else b""
+def long_mailbox(name: str, file: BinaryIO, read_already: bytes, *, may_be_mapped: bool) -> bytes | mmap.mmap:
+    """A file of letters, whole, of which its first bytes were read already. One on the disk may be mapped: then no more of it is read than is
+    asked for. Of a pipe the rest is read. Raises OSError.
+    """
+    if may_be_mapped and stat.S_ISREG(os.fstat(file.fileno()).st_mode):
+        size = os.fstat(file.fileno()).st_size
+    else:
+        read_already += file.read(LIMIT + 1 - len(read_already))
+        size = len(read_already)
+    if size > LIMIT:
+        raise Fault(name, f"it is longer than {LIMIT} bytes", "add it in parts", Status.BAD_BALLOTS, NOTHING)
+    return read_already if size == len(read_already) else mmap.mmap(file.fileno(), 0, access=mmap.ACCESS_READ)
 
 
 def letters_of_folder(name: str) -> tuple[list[Raw], list[str]]:
     """The letters of a Maildir, or of a folder of messages, in the order of their names, and the files that are none."""
     folder = pathlib.Path(name)
     is_maildir = all((folder / part).is_dir() for part in MAILDIR)
-    places = [folder / part for part in MAILDIR] if is_maildir else [folder]
-    files = [file for place in places for file in place.iterdir() if not file.name.startswith(".")]
-    found: list[Raw] = []
+    folders = [folder / part for part in MAILDIR] if is_maildir else [folder]
+    files = [file for place in folders for file in place.iterdir() if not file.name.startswith(".")]
+    raws: list[Raw] = []
     others: list[str] = []
     for file in sorted(files, key=lambda file: (file.name, file)):
         data = file.read_bytes() if file.is_file() else b""
         demand_no_outlook(str(file), data)
         if are_letters(data[:LONGEST_HEAD]):
-            found += letters_in(str(file), data)
+            raws += letters_in(str(file), data)
         elif not file.is_dir():
             others.append(str(file))
-    if not found:
+    if not raws:
         words = "Is a directory"
         cure = "name a file of ballots that you may read; of a folder the letters are taken (.eml files, or a Maildir), and it has none"
         raise Fault(name, words, cure, Status.BAD_BALLOTS, NOTHING)
-    return found, others
+    return raws, others

@@ -13,13 +13,13 @@ import json
 import pathlib
 import re
 from collections.abc import Iterable
-from typing import Any
+from typing import Any, NamedTuple
 
 from debvote_tools import journal
 from debvote_tools.election.folder import Election
-from debvote_tools.election.letters.message import AUTOMATIC, LetterKey, Letter, Raw
+from debvote_tools.election.letters.message import AUTOMATIC, LetterIdentity, Raw
 from debvote_tools.election.letters.reading import Near
-from debvote_tools.election.record import PollAndBallots
+from debvote_tools.election.election_files import PollAndBallots
 from debvote_tools.faults import Fault, Status
 from debvote_tools.files import take_away_temporaries, write_whole
 from debvote_tools.secret import FILE_MODE, FOLDER_MODE
@@ -42,14 +42,16 @@ BETWEEN = b"From debvote-election Thu Jan  1 00:00:00 1970\n"
 
 @dataclasses.dataclass(frozen=True)
 class KeptLetter:
-    """A letter that came: its number, where it is kept, who sent it and when it arrived, and what became of it."""
+    """A letter that came: its number, where it is kept, who sent it and when it arrived, and what became of it. The names of these fields
+    are the keys of the records in the folders, so they stay as they are.
+    """
 
     number: int
     where: str
     file: str
     start: int
     size: int
-    # the `known_id` of the letter: its Message-ID, or what stands in the place of it
+    # the `known_id` of the letter: its Message-ID, or, where it has none, what stands in the place of it
     message_id: str
     text_sum: str
     references: str
@@ -97,28 +99,28 @@ class KeptLetter:
 class State:
     """The letters by their numbers, in the order in which they came, and the number of the next one."""
 
-    letters: dict[int, KeptLetter]
-    next: int
+    kept_letters: dict[int, KeptLetter]
+    next_number: int
     # for each act that entered lines, and was not taken back, the letters that it has changed, as they were before it
-    entering: list[dict[int, KeptLetter | None]] = dataclasses.field(default_factory=list)
+    before_acts: list[dict[int, KeptLetter | None]] = dataclasses.field(default_factory=list)
 
     def take_back(self) -> None:
         """Takes back what the last act that entered lines has changed of the letters, as `undo` does."""
-        for number, before in self.entering.pop().items() if self.entering else ():
+        for number, before in self.before_acts.pop().items() if self.before_acts else ():
             if before is None:
-                self.letters.pop(number, None)
+                self.kept_letters.pop(number, None)
             else:
-                self.letters[number] = before
+                self.kept_letters[number] = before
 
     @property
     def waiting(self) -> list[KeptLetter]:
-        return [letter for letter in self.letters.values() if letter.waits]
+        return [letter for letter in self.kept_letters.values() if letter.waits]
 
-    def keys(self) -> set[LetterKey]:
+    def identities(self) -> set[LetterIdentity]:
         """By what each letter is known when it comes again."""
         return {
-            LetterKey(letter.message_id, letter.text_sum, tuple(letter.senders), letter.signature_sum, letter.why == AUTOMATIC)
-            for letter in self.letters.values()
+            LetterIdentity(letter.message_id, letter.text_sum, tuple(letter.senders), letter.signature_sum, letter.why == AUTOMATIC)
+            for letter in self.kept_letters.values()
         }
 
 
@@ -127,31 +129,31 @@ def state_of(election: Election, counted: PollAndBallots) -> State:
     """The letters as they are now. The caller holds the lock."""
     acts = journal.acts_done(election.journal_path, counted.sums)
     state = State({}, 1)
-    for act in acts:
-        if act.act == journal.UNDO:
+    for entry in acts:
+        if entry.act == journal.UNDO:
             state.take_back()
             continue
-        changed = changes_of(election, act, state)
-        if act.act in journal.ENTERING:
-            state.entering.append({number: state.letters.get(number) for number in changed})
-        state.letters |= changed
-        state.next = max([state.next, *(number + 1 for number in changed)])
+        after = letters_after(election, entry, state)
+        if entry.act in journal.ENTERING:
+            state.before_acts.append({number: state.kept_letters.get(number) for number in after})
+        state.kept_letters |= after
+        state.next_number = max([state.next_number, *(number + 1 for number in after)])
     return state
 
 
-def changes_of(election: Election, act: journal.Entry, state: State) -> dict[int, KeptLetter]:
-    """The letters that an act has brought or changed."""
-    if not act.record or not re.fullmatch(r"\d+", act.record):
+def letters_after(election: Election, entry: journal.Entry, state: State) -> dict[int, KeptLetter]:
+    """The letters that an act has brought or changed, as they are after it, by their numbers. The state is the one before it."""
+    if not entry.detail or not re.fullmatch(r"\d+", entry.detail):
         return {}
-    changed: dict[int, KeptLetter] = {}
-    for row in rows_of(folder_of(election) / f"{act.record}{RECORD}"):
+    after: dict[int, KeptLetter] = {}
+    for row in rows_of(folder_of(election) / f"{entry.detail}{RECORD}"):
         number = int(row["number"])
-        if act.act in (CAME, "add"):
-            near = [Near(*found) for found in row.pop("near")]
-            changed[number] = KeptLetter(**row, near=near)
-        elif number in state.letters:
-            changed[number] = KeptLetter(**(vars(state.letters[number]) | row))
-    return changed
+        if entry.act in (CAME, "add"):
+            near = [Near(*fields) for fields in row.pop("near")]
+            after[number] = KeptLetter(**row, near=near)
+        elif number in state.kept_letters:
+            after[number] = KeptLetter(**(vars(state.kept_letters[number]) | row))
+    return after
 
 
 def rows_of(file: pathlib.Path) -> list[dict[str, Any]]:
@@ -171,8 +173,10 @@ def folder_of(election: Election) -> pathlib.Path:
     return election.received_folder / FOLDER
 
 
-def next_record(election: Election) -> str:
-    """The name of the next record. What killed runs have left half written is taken away."""
+def prepare_record(election: Election) -> str:
+    """Makes the folders in which letters and records are kept, takes away what killed runs have left half written there, and returns the
+    name of the next record.
+    """
     folder = folder_of(election)
     election.received_folder.mkdir(exist_ok=True)
     make_own_folder(folder)
@@ -189,21 +193,27 @@ def make_own_folder(folder: pathlib.Path) -> None:
             folder.chmod(FOLDER_MODE)
 
 
-def keep_letters(election: Election, record: str, name: str, letters: Iterable[Letter]) -> tuple[str, list[int]]:
-    """Keeps letters whole in a file, and returns its name, and where each begins in it."""
-    parts: list[Raw] = [letter.raw for letter in letters]
+class LettersFile(NamedTuple):
+    """A file in which letters are kept: its name, and where each of them begins in it."""
+
+    name: str
+    starts: list[int]
+
+
+def keep_letters(election: Election, record: str, received_name: str, raws: list[Raw]) -> LettersFile:
+    """Keeps letters whole in a file that has the name of the record (`prepare_record`) before its own."""
     starts, place = [], 0
-    for raw in parts:
+    for raw in raws:
         starts.append(place + len(BETWEEN))
         place += len(BETWEEN) + raw.end - raw.start + 2
-    file = f"{record}-{name}{LETTERS}"
-    write_whole(folder_of(election) / file, pieces_of(parts), FILE_MODE)
-    return file, starts
+    file_name = f"{record}-{received_name}{LETTERS}"
+    write_whole(folder_of(election) / file_name, bytes_of_letters(raws), FILE_MODE)
+    return LettersFile(file_name, starts)
 
 
-def pieces_of(parts: list[Raw]) -> collections.abc.Iterator[bytes | memoryview]:
+def bytes_of_letters(raws: list[Raw]) -> collections.abc.Iterator[bytes | memoryview]:
     """The bytes of a file of letters."""
-    for raw in parts:
+    for raw in raws:
         yield BETWEEN
         yield raw.source[raw.start : raw.end]
         yield b"\n\n"
@@ -220,7 +230,7 @@ def row_of(letter: KeptLetter) -> dict[str, object]:
     row = dataclasses.asdict(letter)
     # a vote without signatures has none of these
     row = {name: value for name, value in row.items() if value is not None or name not in SIGNATURE_FIELDS}
-    return row | {"near": [[near.number, near.text, near.why] for near in letter.near]}
+    return row | {"near": [[near.number, near.as_it_came, near.why] for near in letter.near]}
 
 
 def raw_of(election: Election, letter: KeptLetter) -> Raw:

@@ -281,7 +281,7 @@ def about_line(language: Language, near: reading.Near, name: str) -> list[str]:
 
 def about_shape(language: Language, near: reading.Near) -> str:
     """That a line is not written as a ballot is, and from where on. Of a line that was put right the column is one of what it became."""
-    column, came = COLUMN.match(near.why), near.text.encode()
+    column, came = COLUMN.match(near.why), near.as_it_came.encode()
     if column is None or changed(came) != came:
         return language.say(NEAR_SHAPE, line=near.number)
     return language.say(NEAR_SHAPE_FROM, line=near.number, column=column["column"])

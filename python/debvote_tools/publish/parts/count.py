@@ -2,7 +2,7 @@
 
 from debvote_tools.pages import listed, paragraph, part, resource, wide
 from debvote_tools.publish import option_texts
-from debvote_tools.publish.data import ended
+from debvote_tools.publish.data import how_ended
 from debvote_tools.publish.picture import MOST_IN_PAGE, least_width, picture_in_page
 from debvote_tools.publish.published import Published
 from debvote_tools.sentences import marked
@@ -60,7 +60,7 @@ def votes(published: Published) -> str:
 
 def row(published: Published, a: int) -> str:
     """The row of an option, marked by how it ended."""
-    end = ended(published.sheet, a)
+    end = how_ended(published.sheet, a)
     kind = f' class="{"dropped" if a in published.sheet.dropped else end}"' if end in MARKS else ""
     mark = f' <span class="ended">{published.say(MARKS[end])}</span>' if end in MARKS else ""
     cells = "".join(cell(published.sheet, a, b) for b in published.sheet.names)

@@ -75,7 +75,7 @@ def runs_of(published: Published) -> list[Run]:
     left = TEXTS_LIMIT
     empty, cut = published.say("(an empty line)"), published.language.form("{text} (the first {shown} of {number} characters)")
     for finding in published.refused:
-        line = published.lines[finding.envelope - 1]
+        line = published.published_lines[finding.envelope - 1]
         cause, text = cause_of(finding, line), line_on_page(line, empty, cut) if left > 0 else None
         if runs and runs[-1].last == finding.envelope - 1 and (runs[-1].cause, runs[-1].text) == (cause, text):
             runs[-1].last = finding.envelope

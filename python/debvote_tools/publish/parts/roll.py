@@ -48,10 +48,10 @@ class Voting:
     who: Mapping[str, str]
 
 
-def voting_of(roll: Sequence[str], standing: Iterable[str], who: Mapping[str, str]) -> Voting:
+def voting_of(roll: Sequence[str], electors_with_ballots: Iterable[str], who: Mapping[str, str]) -> Voting:
     """Who of the roll has a ballot that stands, and who has none."""
-    voted = set(standing)
-    return Voting([name for name in roll if name in voted], [name for name in roll if name not in voted], who)
+    with_ballots = set(electors_with_ballots)
+    return Voting([name for name in roll if name in with_ballots], [name for name in roll if name not in with_ballots], who)
 
 
 # ---------------------------------------------------------------- the real names

@@ -14,7 +14,7 @@ from debvote_tools.closed import LINES_IN_TIME
 from debvote_tools.files import sum_of
 from debvote_tools.journal import Entry, Sums
 from debvote_tools.language import Language
-from debvote_tools.pages import paragraph, part
+from debvote_tools.pages import Command, paragraph, part
 from debvote_tools.publish.published import LinesInTime, Published, Times
 from debvote_tools.sentences import marked
 
@@ -30,9 +30,11 @@ UNSEEN = marked("Nobody can see from here whether that clock was right. Compare 
 CLOSED_BALLOTS = marked("The lines that were in time at the close; the letter of the close, if it was sent to you, names this sum:")
 
 
-def times_of(election: pathlib.Path | None, poll_bytes: bytes, ballots_bytes: bytes, last_envelope: int | None) -> Times:
+def times_of(election_folder: pathlib.Path | None, poll_bytes: bytes, ballots_bytes: bytes, last_envelope: int | None) -> Times:
     """What is known of an election in a folder, for its poll and its ballots; without a last envelope no sum is named."""
-    acts = None if election is None else journal.acts_done(election / journal.NAME, Sums.of(poll_bytes, ballots_bytes))
+    acts = (
+        None if election_folder is None else journal.acts_done(election_folder / journal.NAME, Sums.of(poll_bytes, ballots_bytes))
+    )
     in_time = None if last_envelope is None else LinesInTime(last_envelope, sum_of(first_lines(ballots_bytes, last_envelope)))
     return Times(announced_in(poll_bytes), acts, in_time)
 
@@ -125,9 +127,9 @@ def moment_of(entry: Entry) -> datetime.datetime:
 
 
 # ---------------------------------------------------------------- what the reader can compare
-def commands(known: Times, language: Language) -> list[tuple[str, str, str | None]]:
+def commands(known: Times, language: Language) -> list[Command]:
     """The command that answers the sum of the lines in time."""
     if known.in_time is None:
         return []
     command = LINES_IN_TIME.format(number=known.in_time.last_envelope)
-    return [(language.say(CLOSED_BALLOTS), command, f"{known.in_time.lines_sum}  -")]
+    return [Command(language.say(CLOSED_BALLOTS), command, f"{known.in_time.lines_sum}  -")]

@@ -1,4 +1,4 @@
-"""The record of an election: its poll and its ballots as they are, and what the journal says of them."""
+"""The files of an election as they are found: its poll, its ballots, and what the journal says of both."""
 
 import dataclasses
 import functools
@@ -23,17 +23,17 @@ class PollAndBallots:
         return Sums.of(self.poll_bytes, self.ballots_bytes)
 
 
-class Record(Paths):
+class ElectionFiles(Paths):
     """The poll, the ballots and the journal of an election, as they are found."""
 
     def poll_and_ballots(self) -> PollAndBallots:
         """Poll and ballots as they are. Of a file that is too long one byte more than its limit is read, so that debvote says so."""
         cure = f"write it, or take the last one from {self.backup_folder}"
-        poll = bytes_of(self.poll_path, POLL_LIMIT, Status.BAD_POLL, cure)
+        poll_bytes = read_or_stop(self.poll_path, POLL_LIMIT, Status.BAD_POLL, cure)
         if not self.ballots_path.exists() and not self.had_ballots():
-            return PollAndBallots(poll, None)
+            return PollAndBallots(poll_bytes, None)
         cure = f"what came is kept in {self.received_folder}"
-        return PollAndBallots(poll, bytes_of(self.ballots_path, BALLOTS_LIMIT, Status.BAD_BALLOTS, cure))
+        return PollAndBallots(poll_bytes, read_or_stop(self.ballots_path, BALLOTS_LIMIT, Status.BAD_BALLOTS, cure))
 
     def had_ballots(self) -> bool:
         """Whether ballots were there at the last act."""
@@ -48,7 +48,7 @@ class Record(Paths):
         """All entries of the journal."""
         return journal.entries_in(self.journal_path)
 
-    def closed(self) -> Entry | None:
+    def close_entry(self) -> Entry | None:
         """The entry of the close, if there was one."""
         return journal.last(self.entries(), "close")
 
@@ -66,8 +66,8 @@ class Record(Paths):
         return lost.lost_in(self.folder, counted.poll_bytes)
 
 
-def bytes_of(file: pathlib.Path, limit: int, status: int, cure: str) -> bytes:
-    """The bytes of a file, one more than the limit of a longer one; or the fault with its cure."""
+def read_or_stop(file: pathlib.Path, limit: int, status: int, cure: str) -> bytes:
+    """The bytes of a file, one more than the limit of a longer one; a fault with this cure where it can't be read."""
     try:
         return read_at_most(file, limit)
     except OSError as error:

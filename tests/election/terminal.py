@@ -1,0 +1,51 @@
+"""A program at a terminal of its own, whose keys a test types."""
+
+import os
+import pty
+import select
+import sys
+import time
+
+import support
+
+
+class Terminal:
+    """debvote-election at a terminal of its own, whose keys a test types; without words it is a desk."""
+
+    def __init__(self, test: support.ElectionTest, *words: str) -> None:
+        self.test, self.text = test, ""
+        self.process, self.keys = pty.fork()
+        if self.process == 0:
+            os.chdir(test.folder)
+            program = [sys.executable, str(support.ELECTION), *(words or ("desk",))]
+            os.execve(sys.executable, program, support.environment())
+
+    def until(self, words: str) -> str:
+        """What the terminal shows up to these words, from where the last call ended."""
+        end = time.monotonic() + support.SECONDS
+        while words not in self.text:
+            ready, _, _ = select.select([self.keys], [], [], max(0, end - time.monotonic()))
+            self.test.assertTrue(ready, f"waits for {words!r}, has {self.text!r}")
+            try:
+                self.text += os.read(self.keys, 65_536).decode().replace("\r\n", "\n")
+            except OSError:
+                self.test.fail(f"ended before {words!r}, with {self.text!r}")
+        shown, _, self.text = self.text.partition(words)
+        return shown + words
+
+    def type(self, keys: str) -> None:
+        os.write(self.keys, keys.encode())
+
+    def end(self) -> tuple[str, int]:
+        """What is still shown, and the exit status."""
+        while True:
+            try:
+                data = os.read(self.keys, 65_536)
+            except OSError:
+                break
+            if not data:
+                break
+            self.text += data.decode().replace("\r\n", "\n")
+        _, status = os.waitpid(self.process, 0)
+        os.close(self.keys)
+        return self.text, os.waitstatus_to_exitcode(status)
