@@ -15,7 +15,8 @@ AreNotGiven fault = (fault ≡ NotUtf8) ⊎ (fault ≡ Memory)
 -- this is answered to these words, or without any to a joined input, where files, standard input and standard output tell no bytes
 abbrev pub Answers : List (Bor (List ℕ)) → ℕ → Type 0
 Answers words answered =
-    (written : Written) × (length words ≡ 0 → AnswersJoined None written answered) × (0 < length words → AnswersWorded (λ name. None) (texts_of words) written answered)
+    (written : Written) × (length words ≡ 0 → AnswersJoined None written answered)
+    × (0 < length words → AnswersWorded (λ name. None) (texts_of words) written answered)
 
 -- this is answered to the words of a run, the first of which is the program's name: those after it are answered, or there is no
 -- memory for them

@@ -11,28 +11,27 @@ use Rattle.vote_count.specs.Rules.{MeetsQuorum, MeetsMajority, IsKept, PairwiseD
 use Rattle.vote_count.specs.Sets.{In, IsAlone, Pairs}
 use Rattle.vote_count.specs.Votes.{Votes, votes}
 
--- One round over the defeats that are left: its set is the Schwartz set, and it removes the weakest defeats within that set.
+-- One round over the defeats that are left: its set is the Schwartz set, and the defeats that it removes, or drops, are the weakest within that set.
 -- A.5.6: "We construct the Schwartz set from the set of transitive defeats."
--- A.5.7: "If there are defeats between options in the Schwartz set, we drop the weakest such defeats from the list of pairwise defeats"
+-- A.5.7: "If there are defeats between options in the Schwartz set, we drop the weakest such defeats from the list of pairwise defeats, and return to step 5."
 pub record IsRound (options : ℕ → Type 0) (matrix : Votes) (defeats : ℕ → ℕ → Type 0) (round : Round) : Type 0 where
   pub set : (a : ℕ) → In round.set a ↔ InSchwartzSet options (TransitivelyDefeats defeats) a
   pub removed : (a b : ℕ) → Pairs round.removed a b ↔ IsWeakest matrix (In round.set) defeats a b
 
--- The rounds of a count: the last removes nothing, and each round before it something, which the next goes without.
--- A.5.7: "we drop the weakest such defeats from the list of pairwise defeats, and return to step 5."
+-- The rounds of a count, by A.5.7: the last removes no defeat, and each before it some, which the next goes without.
 abbrev pub AreRounds : (ℕ → Type 0) → Votes → (ℕ → ℕ → Type 0) → List Round → Type 0
 AreRounds options matrix defeats [] = ⊥
 AreRounds options matrix defeats (round ∷ []) = IsRound options matrix defeats round × ((a b : ℕ) → ¬ Pairs round.removed a b)
-AreRounds options matrix defeats (round ∷ next ∷ later) =
+AreRounds options matrix defeats (round ∷ next ∷ rest) =
     IsRound options matrix defeats round × ((a : ℕ) × (b : ℕ) × Pairs round.removed a b)
-    × AreRounds options matrix (λ a b. defeats a b × ¬ Pairs round.removed a b) (next ∷ later)
+    × AreRounds options matrix (λ a b. defeats a b × ¬ Pairs round.removed a b) (next ∷ rest)
 
 -- The set of the last round.
 -- A.5.8: "If there are no defeats within the Schwartz set, then the winner is chosen from the options in the Schwartz set."
 abbrev pub final_set : List Round → List Bool
 final_set [] = []
 final_set (round ∷ []) = round.set
-final_set (round ∷ next ∷ later) = final_set (next ∷ later)
+final_set (round ∷ next ∷ rest) = final_set (next ∷ rest)
 
 -- Why an option is dropped, if it is, by A.5.2 or A.5.3: for the quorum, where it fails both.
 abbrev pub HasCause : PollContent → Votes → ℕ → Option Cause → Type 0
@@ -72,13 +71,13 @@ pub record VerdictState : Type 0 where
 abbrev pub cause_of : VerdictState → ℕ → Option Cause
 cause_of outcome o = at_option outcome.causes o None
 
--- What a count of the matrix comes to, by A.5.2 to A.5.7: who is dropped and why, the defeats between the options that are kept, and the rounds.
+-- What a count of the matrix comes to, by A.5.2 to A.5.7: which options are dropped and why, the defeats between the options that are kept, and the rounds.
 pub record IsOutcome (poll : PollContent) (matrix : Votes) (outcome : VerdictState) : Type 0 where
-  pub causes : (o : ℕ) → IsOption (option_count poll) o → HasCause poll matrix o (cause_of outcome o)
+  pub causes : (o : ℕ) → IsOption (option_count poll) o → HasCause poll matrix o (at_option outcome.causes o None)
   pub defeats : (a b : ℕ) → Pairs outcome.defeats a b ↔ PairwiseDefeats (IsKept poll matrix) matrix a b
   pub rounds : AreRounds (IsKept poll matrix) matrix (PairwiseDefeats (IsKept poll matrix) matrix) outcome.rounds
 
--- An option that is alone in the final set wins. The set is never empty, so else it has several, and the casting vote decides.
+-- An option that is alone in the set wins; where none is, the casting vote decides.
 -- A.5.8: "If there is only one such option, it is the winner."
 pub record IsDecision (set : List Bool) (casting : Option ℕ) (decision : Decision) : Type 0 where
   pub alone : (o : ℕ) → IsAlone set o → decision ≡ Winner o

@@ -5,9 +5,8 @@ use Rattle.vote_poll.specs.declared.wording.Wording.{Wording}
 use Rattle.vote_poll.specs.declared.wording.Wording.TheVariants.{AtLeast, MoreThan}
 use Rattle.vote_count.specs.Votes.{Votes, votes}
 
--- `n` votes are at least the quorum, k times half of the square root of the electors: both sides are doubled and squared, so nothing is rounded.
+-- `n` votes are at least the quorum R of A.5.2, k times half of the square root of the electors: both sides are doubled and squared, so nothing is rounded.
 -- 4.2.7: "Q is half of the square root of the number of current Developers." "Q and K need not be integers and are not rounded."
--- A.5.2: "at least R votes ranking that option above the default option"
 abbrev pub MeetsQuorum : PollContent → ℕ → Type 0
 MeetsQuorum poll n = poll.quorum_multiple ^ 2 * elector_count poll ≤ (2 * n) ^ 2
 
@@ -40,12 +39,12 @@ AreAhead poll matrix set = (o : ℕ) → set o → o ≢ option_count poll → I
 abbrev pub MeetsMajority : PollContent → Votes → ℕ → Type 0
 MeetsMajority poll matrix a = IsMajority poll.wording (ratio_of poll a) (votes matrix a (option_count poll)) (votes matrix (option_count poll) a)
 
--- A is not dropped: it is the default option, or it meets the quorum and its majority.
+-- The option A is not dropped from consideration: it is the default option, or it meets the quorum and its majority.
 -- A.5.2: "If the ballot has a quorum requirement R any options other than the default option which do not receive at least R votes ranking that option above the default option are dropped from consideration."
 -- A.5.3: "Any (non-default) option which does not defeat the default option by its required majority ratio is dropped from consideration."
 abbrev pub IsKept : PollContent → Votes → ℕ → Type 0
-IsKept poll matrix a =
-    (a ≡ option_count poll) ⊎ ((1 ≤ a) × (a < option_count poll) × MeetsQuorum poll (votes matrix a (option_count poll)) × MeetsMajority poll matrix a)
+IsKept poll matrix a = let default = option_count poll in
+    (a ≡ default) ⊎ ((1 ≤ a) × (a < default) × MeetsQuorum poll (votes matrix a default) × MeetsMajority poll matrix a)
 
 -- A.5.4: "From the list of undropped options, we generate a list of pairwise defeats." "An option A defeats an option B, if V(A,B) is strictly greater than V(B,A)."
 abbrev pub PairwiseDefeats : (ℕ → Type 0) → Votes → ℕ → ℕ → Type 0

@@ -26,7 +26,7 @@ pub enum Cause {
 pub struct Round {
     /// The Schwartz set.
     pub set: OptionSet,
-    /// The weakest defeats within it, which the next round goes without. The last round has none.
+    /// The weakest defeats within it, which are dropped: the next round goes without them. The last round has none.
     pub removed: Defeats,
 }
 

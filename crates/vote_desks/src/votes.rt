@@ -1,4 +1,10 @@
-//! Taking the votes of all lines.
+//! Taking the votes of all lines, by one box that desks share.
+//!
+//! Each desk is served in a thread of its own. The box takes stamps 1 to the number of lines, and the workers take the lines
+//! from one tray, so each line is cast once. A worker whose gate bars an envelope, or whose cast is refused, stops; the others go
+//! on. When all have ended, the desks are gathered and each line is read once more. The first fault in the order of `VoteFault`
+//! is returned, but `Memory` may come at any growth. Of all this the contract of `take_votes` says what comes out: a box that is
+//! audited, or which faults may come.
 ghost use Rattle.std.specs.Prelude.{◌≡◌, ◌<◌, [], IfOk, IfErr, IfSome, IsNone, All, None, length, map, vec_len};
 ghost use Rattle.std.specs.List.{range_with_len};
 ghost use Rattle.vote_steps.specs.Boxes.{box_of};
@@ -263,12 +269,10 @@ fn serve<
     gather_and_audit(rt, alloc, poll, lines, shared, back)
 }
 
-/// Takes the votes of all lines at desks 1 to `desks`, each served in a thread of its own.
+/// Takes the votes of all lines at desks 1 to `desks`.
 ///
-/// The box takes stamps 1 to the number of lines, and the workers take the lines from one tray, so
-/// each line is cast once. A worker whose gate bars an envelope, or whose cast is refused, stops;
-/// the others go on. When all have ended, the desks are gathered and each line is read once more.
-/// The first fault in the order of `VoteFault` is returned, but `Memory` may come at any growth.
+/// If it returns Ok, the box is audited for the poll and its lines, there is a sheet for each desk, and the stamps of each sheet
+/// rise. An error is one of those that may stop votes with this gate, and if it names a desk, one of these desks.
 pub fn take_votes<G: Gate + Sync, R: Threads + Wait + Sync>(
     rt: &R,
     alloc: Global,

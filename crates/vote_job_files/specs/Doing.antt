@@ -42,10 +42,12 @@ IsTaskDone asked inputs written performed = (job : Job) × IsJobOf asked inputs 
 abbrev pub EndsTask : (List ℕ → Option (List ℕ)) → Task → Written → Performed → Type 0
 EndsTask file_bytes asked written performed =
     StopsUnread (IsOneUnread asked) written performed
-    ⊎ ((poll ballots sheet : Bor (List ℕ)) × AreFilesOf file_bytes asked poll.now ballots.now sheet.now × IsDone (work_on asked poll ballots sheet) written performed)
+    ⊎ ((poll ballots sheet : Bor (List ℕ)) × AreFilesOf file_bytes asked poll.now ballots.now sheet.now
+    × IsDone (work_on asked poll ballots sheet) written performed)
 
 -- standard input was not read; or the replies are written to the ballots of the joined input that is told of it
 abbrev pub EndsJoined : Option (List ℕ) → Written → Performed → Type 0
 EndsJoined standard_bytes written performed =
     StopsUnread (IsUnread file.Ballots) written performed
-    ⊎ ((input : List ℕ) × (poll ballots : Bor (List ℕ)) × IsWhole standard_bytes input × AreParts input poll.now ballots.now × IsDone (work.List poll ballots listing.Steps) written performed)
+    ⊎ ((input : List ℕ) × (poll ballots : Bor (List ℕ)) × IsWhole standard_bytes input × AreParts input poll.now ballots.now
+    × IsDone (work.List poll ballots listing.Steps) written performed)

@@ -9,7 +9,7 @@ use Rattle.vote_work.specs.Asked.{ballot_file, sheet_file}
 
 -- this file was not read, or there was no memory for it
 abbrev pub IsUnread : InputFile → RunFault → Type 0
-IsUnread unread (run.Input told fault) = told ≡ unread
+IsUnread unread (run.Input input fault) = input ≡ unread
 IsUnread unread fault = fault ≡ run.Memory
 
 -- one of the files that the task names

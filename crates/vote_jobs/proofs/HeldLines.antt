@@ -22,6 +22,6 @@ counted_in inputs taken sealed same by = subst (IsCountedIn inputs) (sym same) (
   poll = taken.poll;
   meant = by.poll;
   audited = subst (λ lines. IsAuditedFor taken.poll lines taken.audited) by.ballots.lines by.ballots.audited;
-  at = by.ballots.at;
+  desks = by.ballots.desks;
   rising = by.ballots.rising;
 })

@@ -59,12 +59,12 @@ pub count_goes_through : (bars : ℕ → Bool) (inputs : Inputs) (taken : Taken)
 count_goes_through bars inputs taken by = rw by.poll (inr (by.casting.is_one, inr (by.ballots.few, refl)))
 
 -- ---- a run that only its output stops
-failed_output : (IsDue : Option RunFault → Type 0) (IsTold : Told → Type 0) (told : Told) (bytes : Text) (old new : Option Text) → bytes ≡ told.text → Stops IsDue None → IsTold told
-    → Writes (λ meant. meant ≡ bytes) old new (Some run.Output) → Runs IsDue (Tells IsTold (Err run.Output)) old new (Some run.Output)
-failed_output IsDue IsTold told bytes old new same due is (text, meant, prefix) = record { stops = due; writes = (text, (told, is, meant ∙ same, tt), prefix) }
+failed_output : (MayStop : Option RunFault → Type 0) (IsTold : Told → Type 0) (told : Told) (bytes : Text) (old new : Option Text) → bytes ≡ told.text → Stops MayStop None → IsTold told
+    → Writes (λ meant. meant ≡ bytes) old new (Some run.Output) → Runs MayStop (Tells IsTold (Err run.Output)) old new (Some run.Output)
+failed_output MayStop IsTold told bytes old new same due is (text, meant, prefix) = record { stops = due; writes = (text, (told, is, meant ∙ same, tt), prefix) }
 
-pub stops_at_output : (IsDue : Option RunFault → Type 0) (IsTold : Told → Type 0) (told : Told) (bytes : Text) (old new : Option Text) (result : Result Ended RunFault) (fault : RunFault)
-    → result ≡ Err fault → fault ≡ run.Output → bytes ≡ told.text → Stops IsDue None → IsTold told → Writes (λ meant. meant ≡ bytes) old new (Some fault)
-    → Runs IsDue (Tells IsTold result) old new (result_err result)
-stops_at_output IsDue IsTold told bytes old new result fault ends is same due meant written =
-    rw (ends, is) (failed_output IsDue IsTold told bytes old new same due meant (subst (λ f. Writes (λ text. text ≡ bytes) old new (Some f)) is written))
+pub stops_at_output : (MayStop : Option RunFault → Type 0) (IsTold : Told → Type 0) (told : Told) (bytes : Text) (old new : Option Text) (result : Result Ended RunFault) (fault : RunFault)
+    → result ≡ Err fault → fault ≡ run.Output → bytes ≡ told.text → Stops MayStop None → IsTold told → Writes (λ meant. meant ≡ bytes) old new (Some fault)
+    → Runs MayStop (Tells IsTold result) old new (result_err result)
+stops_at_output MayStop IsTold told bytes old new result fault ends is same due meant written =
+    rw (ends, is) (failed_output MayStop IsTold told bytes old new same due meant (subst (λ f. Writes (λ text. text ≡ bytes) old new (Some f)) is written))

@@ -18,7 +18,7 @@ use Rattle.vote_sheet.specs.SheetOf.{IsSheetAndDecision}
 use Rattle.vote_sheet.specs.Texts.{Text}
 use Rattle.vote_sheet.specs.Verify.{AreVerificationWords, IsVerification}
 use Rattle.vote_sheet.specs.declared.Verification.{Verification}
-use Rattle.vote_sheet.specs.declared.Verification.TheVariants as found
+use Rattle.vote_sheet.specs.declared.Verification.TheVariants as verification
 use Rattle.vote_jobs.specs.Inputs.{Inputs}
 use Rattle.vote_jobs.specs.Runs.{GoesThrough, StopsAtLines, StopsAtPoll, StopsWhere}
 use Rattle.vote_jobs.specs.Told.{Told}
@@ -45,7 +45,7 @@ pub record IsNamed (poll : PollContent) (named : Option Text) (option : Option �
   pub option_is : option ≡ casting_option poll named
   pub range : IfSome option (IsOption (option_count poll))
 
--- the votes are taken; or a fault of theirs stops them that they can have at so many desks, by a gate that may stop these of them
+-- allowed are both: the votes are taken, or a fault of theirs stops them that they can have at so many desks, by a gate that may stop these
 abbrev pub StopsAtVotes : (ℕ → Bool) → ℕ → Option RunFault → Type 0
 StopsAtVotes bars desks (Some (run.Vote fault)) = (fault ≢ vote.Memory) × CanStopVotes bars fault × IsOfDesk desks fault
 StopsAtVotes bars desks stop = GoesThrough stop
@@ -64,25 +64,27 @@ ended_by_decision (decision.CastingOutside option) = ended.CastingOutside option
 
 -- a published sheet differs, or it is one of the count
 abbrev pub ended_by_verification : Verification → Ended
-ended_by_verification found.Differs = ended.Differs
-ended_by_verification found.Matches = ended.Done
-ended_by_verification (found.MatchesCasting option) = ended.Done
+ended_by_verification verification.Differs = ended.Differs
+ended_by_verification verification.Matches = ended.Done
+ended_by_verification (verification.MatchesCasting option) = ended.Done
 
 -- this is an audited box of the lines of the inputs, with a sheet for each of their desks, whose stamps rise
 pub record IsCountedIn (inputs : Inputs) (sealed : SealedState) : Type 0 where
   pub poll : PollContent
   pub meant : poll_in inputs.poll ≡ Ok poll
   pub audited : IsAuditedFor poll (lines_of inputs.ballots) sealed
-  pub at : length sealed.sheets ≡ inputs.desks
+  pub desks : length sealed.sheets ≡ inputs.desks
   pub rising : All Rises sealed.sheets
 
 -- what is told of a count that is made for this, of the poll, the lines and the option of the casting vote
 abbrev pub IsMade : Purpose (Bor Text) → PollContent → List Text → Option ℕ → Told → Type 0
-IsMade purpose.Picture poll lines casting told = (decision : Decision) × IsPictureAndDecision poll lines casting told.text decision × (told.end ≡ ended_by_decision decision)
-IsMade purpose.Sheet poll lines casting told = (decision : Decision) × IsSheetAndDecision poll lines casting told.text decision × (told.end ≡ ended_by_decision decision)
+IsMade purpose.Picture poll lines casting told =
+    (decision : Decision) × IsPictureAndDecision poll lines casting told.text decision × (told.end ≡ ended_by_decision decision)
+IsMade purpose.Sheet poll lines casting told =
+    (decision : Decision) × IsSheetAndDecision poll lines casting told.text decision × (told.end ≡ ended_by_decision decision)
 IsMade (purpose.Verification sheet) poll lines casting told =
-    (verification : Verification) × IsVerification poll lines sheet.now verification × AreVerificationWords poll lines sheet.now verification told.text
-    × (told.end ≡ ended_by_verification verification)
+    (verification : Verification) × IsVerification poll lines sheet.now verification
+    × AreVerificationWords poll lines sheet.now verification told.text × (told.end ≡ ended_by_verification verification)
 
 -- what is told of a count that is made for this, of the bytes of both files
 abbrev pub IsCountFor : Purpose (Bor Text) → Inputs → Told → Type 0

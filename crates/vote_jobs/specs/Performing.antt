@@ -24,7 +24,7 @@ Job = Work (Bor Text)
 -- what the count of these inputs is made for is written, and the run ends by it; the box that it was counted in is told
 pub record Counts (bars : ℕ → Bool) (made_for : Purpose (Bor Text)) (inputs : Inputs) (old new : Option Text) (performed : Performed) : Type 0 where
   pub runs : Runs (StopsCount bars inputs) (Tells (IsCountFor made_for inputs) performed.end) old new (result_err performed.end)
-  pub at : OnOk performed.end (IsSomeAnd performed.audited (IsCountedIn inputs))
+  pub counted_in : OnOk performed.end (IsSomeAnd performed.audited (IsCountedIn inputs))
 
 -- what is to be listed of a poll file and a ballot file is written
 abbrev pub Lists : Listing → Text → Text → Option Text → Option Text → Option RunFault → Type 0

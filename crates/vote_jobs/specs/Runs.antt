@@ -17,7 +17,7 @@ use Rattle.vote_jobs.specs.declared.fault.Ended.{Ended}
 use Rattle.vote_jobs.specs.declared.fault.RunFault.{RunFault}
 use Rattle.vote_jobs.specs.declared.fault.RunFault.TheVariants as run
 
--- ---- what stops it, in the order in which it is looked for
+-- ---- what may stop it, in the order in which it is looked for; the fault of a link is due where it says so, but those of votes are allowed
 -- nothing stops it any more
 abbrev pub GoesThrough : Option RunFault → Type 0
 GoesThrough stop = stop ≡ None
@@ -35,12 +35,12 @@ StopsAtPoll (Ok poll) Next stop = Next poll stop
 abbrev pub StopsAtLines : Text → (Option RunFault → Type 0) → Option RunFault → Type 0
 StopsAtLines ballots = StopsWhere (HasTooManyLines ballots) run.TooManyLines
 
--- a run is stopped exactly by what is due; but before it has written, want of memory may stop it in place of that, and where nothing
--- else stops it, its output may
+-- a run is stopped by what is due or allowed, and by nothing else; but before it has written, want of memory may stop it in place of
+-- that, and where nothing else has to stop it, its output may
 abbrev pub Stops : (Option RunFault → Type 0) → Option RunFault → Type 0
-Stops IsDue (Some run.Memory) = Unit {0}
-Stops IsDue (Some run.Output) = IsDue None
-Stops IsDue stop = IsDue stop
+Stops MayStop (Some run.Memory) = Unit {0}
+Stops MayStop (Some run.Output) = MayStop None
+Stops MayStop stop = MayStop stop
 
 -- ---- what it writes
 -- the text that is meant is written once, and nothing else; where the output fails, a prefix of it; else nothing
@@ -49,14 +49,14 @@ Writes IsMeant old new None = (text : Text) × IsMeant text × Appends old new t
 Writes IsMeant old new (Some run.Output) = (text : Text) × IsMeant text × AppendsPrefix old new text
 Writes IsMeant old new (Some fault) = Keeps old new
 
--- a run that is stopped exactly by what is due, and else writes what is meant
-pub record Runs (IsDue : Option RunFault → Type 0) (IsMeant : Text → Type 0) (old new : Option Text) (stop : Option RunFault) : Type 0 where
-  pub stops : Stops IsDue stop
+-- a run that is stopped by what is due or allowed alone, and else writes what is meant
+pub record Runs (MayStop : Option RunFault → Type 0) (IsMeant : Text → Type 0) (old new : Option Text) (stop : Option RunFault) : Type 0 where
+  pub stops : Stops MayStop stop
   pub writes : Writes IsMeant old new stop
 
 -- one that is meant is told: its text is written, and a run that comes to its end ends by it
 abbrev pub Tells : (Told → Type 0) → Result Ended RunFault → Text → Type 0
-Tells IsMeant result text = (told : Told) × IsMeant told × (text ≡ told.text) × IfOk result (λ ended. ended ≡ told.end)
+Tells IsMeant result text = (told : Told) × IsMeant told × (text ≡ told.text) × IfOk result (λ end. end ≡ told.end)
 
 -- of a text of the program: its bytes are what is meant
 abbrev pub IsText : {Z : Type 0} → (Text → Type 0) → String Z → Type 0

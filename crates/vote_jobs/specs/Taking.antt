@@ -26,7 +26,7 @@ pub record AreBallotsTaken (poll : PollContent) (inputs : Inputs) (taken : List 
   pub lines : taken.0 ≡ lines_of inputs.ballots
   pub few : ¬ HasTooManyLines inputs.ballots
   pub audited : IsAudited poll taken.0 taken.1.ballot_box taken.1.sheets
-  pub at : length taken.1.sheets ≡ inputs.desks
+  pub desks : length taken.1.sheets ≡ inputs.desks
   pub rising : All Rises taken.1.sheets
 
 -- the poll of the inputs, the option of it that is named, and those of its ballots

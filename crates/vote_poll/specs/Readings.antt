@@ -50,7 +50,8 @@ ballot_in line =
 abbrev pub reading_of : PollContent → Option (List ℕ × List (Option ℕ)) → Reading
 reading_of poll None = Bad Shape
 reading_of poll (Some ballot) =
-    if length ballot.1 == option_count poll then unwrap_or (option_map (λ voter. Ballot voter ballot.1) (place_of ballot.0 poll.roll)) (Bad Roll) else Bad RankCount
+    if length ballot.1 == option_count poll
+    then unwrap_or (option_map (λ voter. Ballot voter ballot.1) (place_of ballot.0 poll.roll)) (Bad Roll) else Bad RankCount
 
 abbrev pub reading : PollContent → List ℕ → Reading
 reading poll line = reading_of poll (ballot_in line)

@@ -5,15 +5,15 @@ use Rattle.std.proofs.lemmas.List.Splits.{length-slice_split}
 use Rattle.vote_poll_text.specs.Lines.{line_feed, parts_of}
 use Rattle.vote_poll_text.specs.Shown.{shown}
 use Rattle.vote_poll.specs.BallotLine.{IsBallotText}
-use Rattle.vote_poll_findings.specs.Syntax.{IsSyntaxFinding, column_number, exchanged_poll_text, first_line, last_line, last_of, line_number, line_shown, part_text}
+use Rattle.vote_poll_findings.specs.Syntax.{IsSyntaxFinding, column_number, exchanged_poll_text, first_line, last_line, last_part, line_number, line_shown, part_text}
 use Rattle.vote_poll_findings.proofs.FindingLaws.{shown_unbroken}
 
 -- ---- the last of the parts between line feeds
-behind : (part : List ℕ) (parts : List (List ℕ)) → 1 ≤ length parts → last_of (part ∷ parts) ≡ last_of parts
+behind : (part : List ℕ) (parts : List (List ℕ)) → 1 ≤ length parts → last_part (part ∷ parts) ≡ last_part parts
 behind part [] some = absurd (omega (arith, some))
 behind part (next ∷ parts) some = refl
 
-pub last_behind : (part rest : List ℕ) → last_of (part ∷ parts_of rest) ≡ last_line rest
+pub last_behind : (part rest : List ℕ) → last_part (part ∷ parts_of rest) ≡ last_line rest
 last_behind part rest = behind part (parts_of rest) (omega (arith, length-slice_split (λ byte. byte == 10) rest))
 
 -- ---- a text that is no TOML

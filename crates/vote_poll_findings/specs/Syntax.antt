@@ -10,22 +10,22 @@ use Rattle.vote_poll_findings.specs.declared.TheConstants.{MAX_SHOWN}
 use Rattle.vote_poll_findings.specs.declared.syntax.TheConstants.{SPACES}
 
 -- ---- lines
-abbrev pub first_of : List (List ℕ) → List ℕ
-first_of [] = []
-first_of (part ∷ parts) = part
+abbrev pub first_part : List (List ℕ) → List ℕ
+first_part [] = []
+first_part (part ∷ parts) = part
 
--- the last one; of none it is empty
-abbrev pub last_of : List (List ℕ) → List ℕ
-last_of [] = []
-last_of (part ∷ []) = part
-last_of (part ∷ next ∷ parts) = last_of (next ∷ parts)
+-- the last part; of none it is empty
+abbrev pub last_part : List (List ℕ) → List ℕ
+last_part [] = []
+last_part (part ∷ []) = part
+last_part (part ∷ next ∷ parts) = last_part (next ∷ parts)
 
 -- the first line of a text, and what stands after its last line feed
 abbrev pub first_line : List ℕ → List ℕ
-first_line text = first_of (parts_of text)
+first_line text = first_part (parts_of text)
 
 abbrev pub last_line : List ℕ → List ℕ
-last_line text = last_of (parts_of text)
+last_line text = last_part (parts_of text)
 
 -- whether the files may be exchanged
 unfoldable pub exchanged_poll_text : Bool → List ℕ

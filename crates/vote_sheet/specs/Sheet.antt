@@ -61,11 +61,12 @@ unfoldable pub wording_text : Wording → Text
 wording_text AtLeast = []
 wording_text MoreThan = line (codes "Majority: more than" ∷ [])
 
+-- the title, the number of electors, the quorum in multiples of Q and in votes that are needed, and the wording
 unfoldable pub head_text : Text → ℕ → ℕ → ℕ → Wording → Text
-head_text title electors multiple votes wording = concat (
+head_text title electors multiple needed wording = concat (
     line (codes "Poll: " ∷ title ∷ [])
     ∷ line (codes "Electors: " ∷ decimal electors ∷ [])
-    ∷ line (codes "Quorum: " ∷ decimal multiple ∷ codes "Q, " ∷ decimal votes ∷ codes " votes" ∷ [])
+    ∷ line (codes "Quorum: " ∷ decimal multiple ∷ codes "Q, " ∷ decimal needed ∷ codes " votes" ∷ [])
     ∷ wording_text wording
     ∷ [])
 
@@ -117,6 +118,7 @@ abbrev pub cause_name : Cause → Text
 cause_name Quorum = codes "quorum"
 cause_name Majority = codes "majority"
 
+-- the line of an option that is dropped from consideration, and why it is
 unfoldable pub dropped_line : ℕ → Option Cause → Text
 dropped_line o None = []
 dropped_line o (Some cause) = line (right 3 (decimal o) ∷ codes " " ∷ cause_name cause ∷ [])
@@ -124,6 +126,7 @@ dropped_line o (Some cause) = line (right 3 (decimal o) ∷ codes " " ∷ cause_
 unfoldable pub causes_text : ℕ → VerdictState → Text
 causes_text n outcome = each n (λ o. dropped_line o (cause_of outcome o))
 
+-- the options that are dropped
 unfoldable pub dropped_text : ℕ → VerdictState → Text
 dropped_text n outcome = line (codes "Dropped:" ∷ []) ++ or_none (causes_text n outcome)
 
@@ -145,9 +148,11 @@ defeat_lines matrix defeats = each matrix.options (defeats_by matrix defeats)
 unfoldable pub defeats_text : Votes → List (List Bool) → Text
 defeats_text matrix defeats = line (codes "Defeats:" ∷ []) ++ or_none (defeat_lines matrix defeats)
 
+-- the line of a defeat, of b by a, that a round drops from the list of defeats
 unfoldable pub drop_line : ℕ → ℕ → Text
 drop_line a b = line (codes "  drop " ∷ decimal a ∷ codes " over " ∷ decimal b ∷ [])
 
+-- the defeats by a that a round drops
 unfoldable pub drops_of : ℕ → List (List Bool) → ℕ → Text
 drops_of n removed a = each n (λ b. when (has_pair removed a b) (drop_line a b))
 
@@ -171,6 +176,7 @@ winner_text names set o = concat (codes "Winner: " ∷ decimal o ∷ codes " " �
 unfoldable pub tie_text : ℕ → List Bool → Text
 tie_text n set = codes "Tie:" ++ numbers n set
 
+-- what the last line says of the decision
 abbrev pub ending : List Text → List Bool → Decision → Text
 ending names set (Winner o) = winner_text names set o
 ending names set Tie = tie_text (length names) set
@@ -190,7 +196,7 @@ counted_text n matrix outcome = concat (
     ∷ rounds_from n 1 outcome.rounds
     ∷ [])
 
--- what the votes come to
+-- the same, and the decision
 unfoldable pub count_text : List Text → Votes → VerdictState → Decision → Text
 count_text names matrix outcome decision = counted_text (length names) matrix outcome ++ decision_text names (final_set outcome.rounds) decision
 

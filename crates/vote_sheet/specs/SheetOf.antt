@@ -11,7 +11,7 @@ use Rattle.vote_sheet.specs.LastBallots.{refused_count, valid_count, voter_count
 use Rattle.vote_sheet.specs.Sheet.{Sheet, Text, sheet_text}
 
 -- the fewest votes that meet the quorum, what the lines are, the votes over each elector's last valid ballot, and what they come to
-pub record IsSheetOf (poll : PollContent) (lines : List Text) (casting : Option ℕ) (s : Sheet) : Type 0 where
+pub record IsSheetOf (poll : PollContent) (lines : List (List ℕ)) (casting : Option ℕ) (s : Sheet) : Type 0 where
   pub quorum : IsQuorum poll s.quorum_votes
   pub valid : s.valid ≡ valid_count poll lines
   pub refused : s.refused ≡ refused_count poll lines
@@ -23,7 +23,8 @@ pub record IsSheetOf (poll : PollContent) (lines : List Text) (casting : Option 
 
 -- the text is a sheet of the poll, the lines and the casting vote, and this is what the sheet decides
 abbrev pub IsSheetAndDecision : PollContent → List Text → Option ℕ → Text → Decision → Type 0
-IsSheetAndDecision poll lines casting text decision = (s : Sheet) × IsSheetOf poll lines casting s × (text ≡ sheet_text poll lines s) × (decision ≡ s.decision)
+IsSheetAndDecision poll lines casting text decision =
+    (s : Sheet) × IsSheetOf poll lines casting s × (text ≡ sheet_text poll lines s) × (decision ≡ s.decision)
 
 -- a sheet of the poll, the lines and the casting vote was printed, and this is what it decides
 abbrev pub PrintsSheet : {Z : Type 0} → PollContent → List Text → Option ℕ → String Z × Decision → Type 0

@@ -30,7 +30,6 @@ ballot_lines (voter ∷ voters) (ballot ∷ ballots) = ballot_line voter ballot 
 abbrev pub standing_lines : PollContent → List Text → List Text
 standing_lines poll lines = ballot_lines poll.roll (last_valid_ballots poll lines)
 
--- these lines, with a line feed after each
 abbrev pub standing_text : PollContent → List Text → Text
 standing_text poll lines = text_of_lines (standing_lines poll lines)
 

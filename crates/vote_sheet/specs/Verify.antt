@@ -21,7 +21,8 @@ use Rattle.vote_sheet.specs.declared.verify.Verification.TheVariants.{Matches, M
 abbrev pub IsVerification : PollContent → List Text → Text → Verification → Type 0
 IsVerification poll lines text Matches = IsSheet poll lines None text
 IsVerification poll lines text (MatchesCasting o) =
-    ¬ IsSheet poll lines None text × IsOption (option_count poll) o × IsSheet poll lines (Some o) text × ((p : ℕ) → IsOption (option_count poll) p → p < o → ¬ IsSheet poll lines (Some p) text)
+    ¬ IsSheet poll lines None text × IsOption (option_count poll) o × IsSheet poll lines (Some o) text
+    × ((p : ℕ) → IsOption (option_count poll) p → p < o → ¬ IsSheet poll lines (Some p) text)
 IsVerification poll lines text Differs =
     ¬ IsSheet poll lines None text × ((o : ℕ) → IsOption (option_count poll) o → ¬ IsSheet poll lines (Some o) text)
 
@@ -50,8 +51,10 @@ common_lines text other = feed_count (take (common_bytes text other) text)
 pub record AgreesLongest (poll : PollContent) (IsSheetFor : Option ℕ → Text → Type 0) (text : Text) (casting : Option ℕ) (sheet : Text) : Type 0 where
   pub vote : IsCasting poll casting
   pub is_sheet : IsSheetFor casting sheet
-  pub longest : (other : Option ℕ) (another : Text) → IsCasting poll other → IsSheetFor other another → common_lines text another ≤ common_lines text sheet
-  pub first : (earlier : Option ℕ) (another : Text) → IsCasting poll earlier → ComesBefore earlier casting → IsSheetFor earlier another → common_lines text another < common_lines text sheet
+  pub longest : (other : Option ℕ) (another : Text) → IsCasting poll other → IsSheetFor other another
+      → common_lines text another ≤ common_lines text sheet
+  pub first : (earlier : Option ℕ) (another : Text) → IsCasting poll earlier → ComesBefore earlier casting
+      → IsSheetFor earlier another → common_lines text another < common_lines text sheet
 
 -- ---- the search
 

@@ -78,10 +78,8 @@ fn push_sheet(
     push_decision(text, poll, &count.verdict.final_set(), decision)
 }
 
-/// The result sheet of a closed box that holds the lines of the poll, with the option of the casting vote, and what the sheet
-/// says is decided. Options are numbered from 1.
-///
-/// The sheet is the same for every number of desks and every order in which the lines were cast.
+/// A sheet of the poll, its lines and the casting vote, made from a box that holds the lines; and what the sheet decides. Options
+/// are numbered from 1. No desk, reply or order of the box occurs in what is promised of the sheet.
 pub fn sheet_of_box(
     alloc: Global,
     poll: &Poll,

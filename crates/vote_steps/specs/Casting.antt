@@ -14,12 +14,17 @@ use Rattle.vote_steps.specs.Recasts.{HasOwnReading}
 abbrev pub HasSizes : PollContent → List (List ℕ) → BoxState → Type 0
 HasSizes poll lines b = (b.options ≡ option_count poll) × (b.electors ≡ elector_count poll) × (b.limit ≡ length lines) × (b.last_in_time ≡ last_in_time poll)
 
--- The only close is the last step. Before it are as many casts as lines, with different stamps from 1 to their number: so each line is cast exactly once.
+-- Each line is cast exactly once: there are as many casts as lines, each with a stamp of its own from 1 to their number.
 pub record HoldsLines (poll : PollContent) (lines : List (List ℕ)) (b : BoxState) : Type 0 where
+  -- the box has the poll's sizes and last envelope, and a stamp for each line
   pub sizes : HasSizes poll lines b
+  -- before the first close are as many steps as lines
   pub casts : length (before_close b.steps) ≡ length lines
+  -- each step may follow those before it
   pub legal : IsLegal b
+  -- the only close is the last step
   pub closed_last : b.steps ≡ before_close b.steps ++ Close ∷ []
+  -- each cast has what the poll reads in the line with its stamp
   pub own_readings : All (HasOwnReading (readings poll lines)) b.steps
 
 -- desk 1 cast the lines in their order: the step at each line's place is the cast of that line

@@ -48,7 +48,7 @@ stamps steps = filter_map stamp_of steps
 
 -- whether a cast has this stamp
 abbrev pub is_used : List Step → ℕ → Bool
-is_used steps stamp = list_any (λ used. used == stamp) (stamps steps)
+is_used steps stamp = list_any (λ used. used == stamp) (filter_map stamp_of steps)
 
 -- whether an envelope is late: its own number is above the last, whenever it came
 abbrev pub is_late : ℕ → ℕ → Bool
@@ -64,7 +64,8 @@ ranks_read voter (Ballot v ranks) = if v == voter then Some ranks else None
 -- the ballot that a step gives a voter: a late cast gives nobody one
 abbrev pub ballot_of : ℕ → ℕ → Step → Option Received
 ballot_of last_in_time voter Close = None
-ballot_of last_in_time voter (Cast desk stamp reading reply) = if is_late last_in_time stamp then None else option_map (λ ranks. record { stamp = stamp; ranks = ranks }) (ranks_read voter reading)
+ballot_of last_in_time voter (Cast desk stamp reading reply) =
+    if is_late last_in_time stamp then None else option_map (λ ranks. record { stamp = stamp; ranks = ranks }) (ranks_read voter reading)
 
 -- of two ballots the one with the greater stamp
 abbrev pub later : Received → Option Received → Option Received
