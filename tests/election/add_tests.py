@@ -288,6 +288,87 @@ class AddedBefore(AddTest):
         self.assertIn("4 counted  cleo: ", self.election("add", "more").output)
 
 
+class Grown(AddTest):
+    """A file comes again with more lines at its end, and behind its first lines their electors have sent others."""
+
+    VOTES = "ada 1,2,4,3\nben 1,2,4,3\n"
+    LATER = "ada 2,1,4,3\n"
+
+    def added(self, *words: str, given: str | None = None) -> None:
+        ended = self.election("add", *words, given=given)
+        self.assertEqual((ended.status, ended.faults), (0, ""), ended)
+
+    def grow(self, data: str, *, first: int, earlier: str, rest: str) -> None:
+        """With these bytes it stops, and says how many first lines came before; with a yes the rest alone goes in."""
+        self.write("votes", data)
+        before = self.contents()
+        said = f"votes: its first {first} lines came before, in this order, with received/{earlier}; nothing was added: "
+        self.assert_refused_whole(self.election("add", "votes"), before, 9, said)
+        self.added("--yes", "votes")
+        self.assertEqual(self.read("ballots"), before["ballots"] + rest.encode())
+
+    def test_what_it_grew_by_first_was_taken_back(self) -> None:
+        self.write("votes", self.VOTES)
+        self.added("votes")
+        self.added(given=self.LATER)
+        self.grow(self.VOTES + "cleo 1,2,4,3\n", first=2, earlier="0001-votes", rest="cleo 1,2,4,3\n")
+        self.assertEqual(self.election("undo").status, 0)
+        more = "cleo 1,2,4,3\ndan 1,2,4,3\neve 1,2,4,3\n"
+        self.grow(self.VOTES + more, first=2, earlier="0001-votes", rest=more)
+
+    def test_the_run_that_added_more_of_it_was_killed(self) -> None:
+        self.write("votes", self.VOTES)
+        self.added("votes")
+        self.added(given=self.LATER)
+        self.write("received/0003-votes.in-part", self.VOTES + "cleo 1,2,4,3\n")
+        self.write("received/0004-votes.lines", "cleo 1,2,4,3\n")
+        more = "cleo 1,2,4,3\ndan 1,2,4,3\n"
+        self.grow(self.VOTES + more, first=2, earlier="0001-votes", rest=more)
+
+    def test_a_whole_file_that_was_taken_back_came_not(self) -> None:
+        self.write("votes", self.VOTES)
+        self.added("votes")
+        self.assertEqual(self.election("undo").status, 0)
+        self.write("votes", self.VOTES + "cleo 1,2,4,3\n")
+        self.added("votes")
+        self.assertEqual(self.read("ballots").decode(), self.VOTES + "cleo 1,2,4,3\n")
+
+    def test_a_line_that_debvote_refused_stands_there_once_more_in_other_letters(self) -> None:
+        votes = "Zoe 1,2,4,3\n" + self.VOTES
+        self.write("votes", votes)
+        self.added("votes")
+        self.added(given=self.LATER)
+        more = "cleo 1,2,4,3\nzoe 1,2,4,3\n"
+        self.grow(votes + more, first=3, earlier="0001-votes", rest=more)
+
+    def test_a_line_that_debvote_refused_is_spelled_otherwise_now(self) -> None:
+        self.write("votes", " Zoe 1,2,4,3 \n" + self.VOTES)
+        self.added("votes")
+        self.added(given=self.LATER)
+        self.grow(f"zoe 1,2,4,3\n{self.VOTES}cleo 1,2,4,3\n", first=3, earlier="0001-votes", rest="cleo 1,2,4,3\n")
+        # of that file the first line has gone in as the first file had it
+        self.grow(f"zoe 1,2,4,3\n{self.VOTES}cleo 1,2,4,3\nDan 1,2,4,3\n", first=4, earlier="0003-votes.in-part", rest="dan 1,2,4,3\n")
+
+    def test_the_same_file_with_a_refused_line_that_is_spelled_otherwise(self) -> None:
+        self.write("votes", " Zoe 1,2,4,3 \n" + self.VOTES)
+        self.added("votes")
+        self.added(given=self.LATER)
+        self.write("votes", "zoe 1,2,4,3\n" + self.VOTES)
+        before = self.contents()
+        said = "votes: it was added before, with received/0001-votes, and now its lines would put back what these electors have sent since"
+        self.assert_refused_whole(self.election("add", "votes"), before, 9, said)
+
+    def test_of_several_the_one_with_most_lines_and_of_these_the_first(self) -> None:
+        self.write("votes", self.VOTES)
+        self.added("votes")
+        self.write("votes", self.VOTES.replace("\n", "\r\n") + "\ncleo 1,2,4,3\r\n")
+        self.added("--yes", "votes")
+        self.write("more", self.VOTES + "cleo 1,2,4,3\n")
+        self.added("--even-so", "more")
+        self.write("received/0009-votes", self.VOTES + "cleo 1,2,4,3\nhal 1,2,4,3\n")
+        self.grow(f"{self.VOTES}cleo 1,2,4,3\ndan 1,2,4,3\neve 1,2,4,3\n", first=3, earlier="0002-votes.in-part", rest="dan 1,2,4,3\neve 1,2,4,3\n")
+
+
 class Changed(AddTest):
     def test_each_change_is_told(self) -> None:
         came = b"\xef\xbb\xbfada 1,2,4,3\r\n Ben\t 2, 1 ,4,3 \r\n\r\ncleo 1,2,4,3\rdan  1,2,4,3"

@@ -97,6 +97,33 @@ class Rows(FormTest):
         self.assertIn("line 6, `eve 1,2,3,4`, is not among what came", output)
         self.assertNotIn("is not among the ballots", output)
 
+    def test_a_form_that_has_grown_after_a_run_that_was_killed(self) -> None:
+        first = "n,a,b,c,d\nada,1,2,3,4\nben,2,1,3,4\n"
+        self.assertEqual(self.add(first, "n", "a,b,c,d").status, 0)
+        self.assertEqual(self.election("add", given="ada 4,3,2,1\n").status, 0)
+        self.write("received/0009-form.csv", first + "cleo,1,2,3,4\n")
+        grown = first + "cleo,1,2,3,4\ndan,1,2,3,4\n"
+        ended = self.add(grown, "n", "a,b,c,d")
+        self.assert_fault(ended, 9, "form.csv: its first 2 lines came before, in this order, with received/0001-form.csv; ")
+        self.assertEqual(self.add(grown, "n", "a,b,c,d", "--yes").status, 0)
+        self.assertEqual(self.read("ballots"), b"ada 1,2,3,4\nben 2,1,3,4\nada 4,3,2,1\ncleo 1,2,3,4\ndan 1,2,3,4\n")
+
+    def test_a_form_that_comes_again_and_its_empty_cells_are_read_otherwise(self) -> None:
+        self.assertEqual(self.election("call", "--form").status, 0)
+        first = "n,a,b,c,d\nada,1,2,3,4\nben,2,1,3,4\nfay,1,,2,3\n"
+        self.assertEqual(self.add(first, "n", "a,b,c,d", "--blank-is-unranked").status, 0)
+        self.assertEqual(self.election("add", given="ada 4,3,2,1\n").status, 0)
+        before = self.read("ballots")
+        words = "form.csv: it was added before, with received/0001-form.csv"
+        self.assert_fault(self.add(first, "n", "a,b,c,d"), 9, words)
+        words = "form.csv: its first 3 lines came before, in this order, with received/0001-form.csv; "
+        self.assert_fault(self.add(first + "dan,1,2,3,4\n", "n", "a,b,c,d"), 9, words)
+        # and the other way round
+        self.assertEqual(self.add(first, "n", "a,b,c,d", "--even-so").status, 0)
+        self.assertEqual(self.election("add", given="ada 4,3,1,2\n").status, 0)
+        self.assert_fault(self.add(first + "dan,1,2,3,4\n", "n", "a,b,c,d", "--blank-is-unranked"), 9, words)
+        self.assertTrue(self.read("ballots").startswith(before))
+
     def test_an_empty_name_does_not_take_its_name_from_a_rank(self) -> None:
         output = self.add("n,a,b,c,d\n,ada 1,2,3,4\n", "n", "a,b,c,d").output
         self.assertIn("1 bad shape   ada 1,2,3,4: column 1: space\n", output)

@@ -20,6 +20,7 @@ from debvote_tools.election.stops import (
     CameBefore,
     doubles_words,
     first_lines_before,
+    lines_there,
     stop_at_added_before,
     stop_at_no_ballot,
     stop_at_too_much,
@@ -179,7 +180,8 @@ def read_lines(election: Election, counted: PollAndBallots, adding: Adding) -> l
         demand_a_line(file_lines, adding)
     if adding.even_so:
         return whole_files
-    return [without_first_lines(election, counted, file_lines, reader) for file_lines in whole_files]
+    there = lines_there(counted)
+    return [without_first_lines(election, file_lines, reader, there) for file_lines in whole_files]
 
 
 def columns_in(election: Election, counted: PollAndBallots, table: Table | None) -> Columns | None:
@@ -197,10 +199,12 @@ def demand_a_line(file_lines: FileLines, adding: Adding) -> None:
         raise Fault(file_lines.lines_input.name, what, "write a ballot a line into it", Status.DOUBT, "nothing was added")
 
 
-def without_first_lines(election: Election, counted: PollAndBallots, whole_file: FileLines, reader: LineReader) -> FileLines:
-    """The lines of a file but for the first ones that came before. `reader` has read it, and reads the earlier files, too."""
+def without_first_lines(election: Election, whole_file: FileLines, reader: LineReader, there: set[bytes]) -> FileLines:
+    """The lines of a file but for the first ones that came before. `reader` has read it, and reads the earlier files, too; `there` has the
+    lines that are among the ballots.
+    """
     lines_input, lines = whole_file.lines_input, whole_file.lines
-    came_before = first_lines_before(election, counted, lines_input, lines, reader)
+    came_before = first_lines_before(election, lines_input, lines, reader, there)
     if came_before is None:
         return whole_file
     filled_places = [place for place, line in enumerate(lines) if not line.is_empty]

@@ -4,6 +4,7 @@ lines were, a line that is too long, and a file that takes a great part of the r
 
 import csv
 import dataclasses
+import itertools
 import pathlib
 import re
 
@@ -16,7 +17,7 @@ from debvote_tools.election.inputs import LinesInput
 from debvote_tools.election.election_files import PollAndBallots
 from debvote_tools.faults import Fault, Status
 from debvote_tools.files import BALLOTS_LIMIT, LINES_LIMIT
-from debvote_tools.lines import BLANKS, MARK, PART, Line, ballot_file, lines_in
+from debvote_tools.lines import BLANKS, MARK, PART, Line, ballot_file, ballot_lines, changed, lines_in
 from debvote_tools.members import COLUMNS
 from debvote_tools.signs import shown_line
 
@@ -33,6 +34,10 @@ UNSEEN = b" \t\r\n:.*\"'`"
 
 # so many lines that are no ballots are told
 MOST = 10
+
+# a line that the changes which are allowed leave as it is, and a hyphen in place of a rank
+RIGHT = re.compile(rb"[a-z0-9.-]+ (?:-|\d{1,2})(?:,(?:-|\d{1,2}))*")
+HYPHEN = re.compile(rb"(?<=[ ,])-(?=,|\Z)")
 
 
 @dataclasses.dataclass(frozen=True)
@@ -106,11 +111,11 @@ def have_cells(lines: list[str], delimiter: str) -> bool:
 # ---------------------------------------------------------------- a file that was added before
 def stop_at_added_before(election: Election, counted: PollAndBallots, batch_files: list[BatchFile], *, is_table: bool) -> None:
     """Stops at a file that was added before: what its electors have sent since would be replaced by it."""
-    lines_there = set((counted.ballots_bytes or b"").split(b"\n"))
+    there = lines_there(counted)
     for batch_file in batch_files:
         # what was kept, and then cut off, is not among the ballots
-        is_there = all(line.as_entered in lines_there for line in batch_file.lines)
-        earlier_path = earlier_file(election.received_folder, batch_file, is_table=is_table) if is_there else None
+        are_there = all(is_there(line.came, there) for line in batch_file.lines)
+        earlier_path = earlier_file(election.received_folder, batch_file, is_table=is_table) if are_there else None
         if earlier_path is not None:
             words = f"it was added before, with {earlier_path}{envelope_words(counted, batch_file)}"
             why = "and now its lines would put back what these electors have sent since"
@@ -149,7 +154,7 @@ def envelope_words(counted: PollAndBallots, batch_file: BatchFile) -> str:
 # ---------------------------------------------------------------- a file whose first lines were added before
 @dataclasses.dataclass(frozen=True)
 class CameBefore:
-    """That the first lines of a file came before: so many, with an earlier file."""
+    """That the first lines of a file came before: so many, empty ones not counted, with an earlier file."""
 
     line_count: int
     earlier_path: pathlib.Path
@@ -162,22 +167,25 @@ class CameBefore:
 
 
 def first_lines_before(
-    election: Election, counted: PollAndBallots, lines_input: LinesInput, lines: list[Line], reader: LineReader
+    election: Election, lines_input: LinesInput, lines: list[Line], reader: LineReader, there: set[bytes]
 ) -> CameBefore | None:
-    """The longest beginning of a file that came before as a file of its own, where the lines of it are among the ballots, and others
-    stand behind it.
+    """The longest beginning of a file that came before as a file of its own, where its lines are all among the ballots (`lines_there`),
+    and others stand behind it. An earlier file of which some were cut off or taken back is left out, and a shorter one may be found.
 
     `reader` is the one that has read these lines: it reads the earlier files, too, so that both are compared line by line.
     """
-    beginning = beginning_of(lines_input.data)
-    changed_lines = [line.changed for line in lines if not line.is_empty]
-    if not election.received_folder.is_dir() or not changed_lines:
+    filled = [line for line in lines if not line.is_empty]
+    count_there = sum(1 for _ in itertools.takewhile(lambda line: is_there(line, there), filled))
+    most = min(count_there, len(filled) - 1)
+    if most < 1 or not election.received_folder.is_dir():
         return None
-    lines_there = set((counted.ballots_bytes or b"").split(b"\n"))
-    longest = None
-    for path in sorted(path for path in election.received_folder.iterdir() if path.is_file()):
+    beginning, changed_lines = beginning_of(lines_input.data), [line.changed for line in filled]
+    longest: CameBefore | None = None
+    for path in largest_first(election.received_folder):
         earlier_bytes = path.read_bytes()
-        if beginning_of(earlier_bytes) != beginning:
+        least = 1 if longest is None else longest.line_count
+        # a file that has fewer line ends than that is not read line by line
+        if beginning_of(earlier_bytes) != beginning or earlier_bytes.count(b"\n") + earlier_bytes.count(b"\r") + 1 < least:
             continue
         try:
             earlier_lines = [line.changed for line in reader.lines_in(earlier_bytes, lines_input.name) if not line.is_empty]
@@ -185,14 +193,36 @@ def first_lines_before(
             # it is no table with these columns
             continue
         line_count = len(earlier_lines)
-        is_longer = longest is None or line_count > longest.line_count
-        if 0 < line_count < len(changed_lines) and is_longer and changed_lines[:line_count] == earlier_lines:
-            longest = CameBefore(line_count, path)
-    bare_by_changed = {line.changed: line.bare for line in lines}
-    is_there = longest is not None and all(
-        changed in lines_there or bare_by_changed[changed] in lines_there for changed in changed_lines[: longest.line_count]
-    )
-    return longest if is_there else None
+        if least <= line_count <= most and changed_lines[:line_count] == earlier_lines:
+            longest = earlier_of(longest, CameBefore(line_count, path))
+    return longest
+
+
+def largest_first(received_folder: pathlib.Path) -> list[pathlib.Path]:
+    """The files that were received: the longest beginning of a file is most often found first."""
+    paths = [path for path in received_folder.iterdir() if path.is_file()]
+    return sorted(paths, key=lambda path: path.stat().st_size, reverse=True)
+
+
+def earlier_of(longest: CameBefore | None, other: CameBefore) -> CameBefore:
+    """The other one where it has more lines; of as many lines the one with the earlier file."""
+    if longest is None or (-other.line_count, other.earlier_path) < (-longest.line_count, longest.earlier_path):
+        return other
+    return longest
+
+
+def lines_there(counted: PollAndBallots) -> set[bytes]:
+    """All by which a line is known among the ballots: each of these as it stands, and after the changes that are allowed, for one that
+    debvote refused has gone in as it came; and without its hyphens, for which a table may have empty cells.
+    """
+    as_they_stand = set(ballot_lines(counted.ballots_bytes or b""))
+    changed_lines = {changed(line) for line in as_they_stand if not RIGHT.fullmatch(line)}
+    return as_they_stand | changed_lines | {HYPHEN.sub(b"", line) for line in as_they_stand}
+
+
+def is_there(line: Line, there: set[bytes]) -> bool:
+    """Whether a line that came is among the ballots, of which `there` has what `lines_there` says."""
+    return line.changed in there or line.bare in there
 
 
 def beginning_of(data: bytes) -> bytes:
