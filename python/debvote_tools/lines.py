@@ -65,15 +65,23 @@ CAPITALS = re.compile(rb"[A-Z]")
 
 @dataclasses.dataclass(frozen=True)
 class Line:
-    """A line that came, at the place that `where` names, such as `more.txt:3`."""
+    """A line that came: what it came in, and its place there with the sign that stands between both, as `more.txt` and `:3`, or
+    `form.csv` and `: row 3`. A line of a letter came in the letter, `inbox.mbox, message 3`, and no place is told of it.
+    """
 
-    where: str
+    source: str
+    place: str
     # as it came: that of a file with its mark and its carriage return, that of a row with the line feeds in its cells
     whole: bytes
     # without them, as it goes in where debvote refuses it
     bare: bytes
     # after all changes that are allowed
     changed: bytes
+
+    @property
+    def where(self) -> str:
+        """Both, as it is told."""
+        return f"{self.source}{self.place}"
 
     @property
     def is_empty(self) -> bool:
@@ -104,7 +112,7 @@ def lines_in(data: bytes, name: str, first: int = 1) -> list[Line]:
         line = part["line"]
         whole = line + (b"\r" if part["end"].startswith(b"\r") else b"")
         bare = line.removeprefix(MARK) if number == 1 else line
-        lines.append(Line(f"{name}:{number}", whole, bare, changed(bare)))
+        lines.append(Line(name, f":{number}", whole, bare, changed(bare)))
         number += 1
     return lines
 

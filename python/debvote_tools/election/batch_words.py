@@ -33,10 +33,10 @@ def report(election: Election, batch: Batch, *, is_entered: bool = True) -> Iter
 
 def frame_words(batch_lines: list[BatchLine]) -> Iterator[str]:
     """The marks and the line ends of Windows that were taken off, told once a file."""
-    by_file: dict[str, list[Line]] = {}
+    by_source: dict[str, list[Line]] = {}
     for batch_line in batch_lines:
-        by_file.setdefault(batch_line.came.where.rpartition(":")[0], []).append(batch_line.came)
-    for name, lines in by_file.items():
+        by_source.setdefault(batch_line.came.source, []).append(batch_line.came)
+    for name, lines in by_source.items():
         return_count = sum(line.had_return for line in lines)
         if any(line.had_mark for line in lines):
             yield f"{name}: it begins with a mark that Windows writes (byte-order mark); it was taken off"

@@ -65,8 +65,9 @@ def lines_of_form(data: bytes, file_name: str, columns: Columns) -> list[Line]:
     places = places_of(head_row, file_name, columns)
     lines = []
     for number, row in enumerate(rows[head_number:], start=head_number + 1):
-        demand_width(row, head_row, f"{file_name}: row {number}")
-        lines.append(line_of(row, places, f"{file_name}: row {number}", is_blank_unranked=columns.is_blank_unranked))
+        place = f": row {number}"
+        demand_width(row, head_row, f"{file_name}{place}")
+        lines.append(line_of(row, places, file_name, place, is_blank_unranked=columns.is_blank_unranked))
     return lines
 
 
@@ -137,14 +138,16 @@ def demand_width(row: list[str], head_row: list[str], where: str) -> None:
         )
 
 
-def line_of(row: list[str], places: list[int], where: str, *, is_blank_unranked: bool = False) -> Line:
-    """The line of a row. What may be changed is changed in each cell by itself, so that none becomes a part of another."""
-    elector, *ranks = [(row[place] if place < len(row) else "").encode("utf-8", "backslashreplace") for place in places]
+def line_of(row: list[str], cells: list[int], file_name: str, place: str, *, is_blank_unranked: bool = False) -> Line:
+    """The line of a row; `cells` has the places of the name and of each rank in it. What may be changed is changed in each cell by itself,
+    so that none becomes a part of another.
+    """
+    elector, *ranks = [(row[cell] if cell < len(row) else "").encode("utf-8", "backslashreplace") for cell in cells]
     if not any(cell.strip() for cell in row):
-        return Line(where, b"", b"", b"")
+        return Line(file_name, place, b"", b"", b"")
     whole = elector + b" " + b",".join(ranks)
     bare = re.sub(rb"[\r\n]+", b" ", whole)
     elector, *ranks = [re.sub(rb"[\r\n]+", b" ", cell).strip(BLANKS) for cell in (elector, *ranks)]
     if is_blank_unranked and elector:
         ranks = [cell or UNRANKED.encode() for cell in ranks]
-    return Line(where, whole, bare, elector.lower() + b" " + b",".join(ranks))
+    return Line(file_name, place, whole, bare, elector.lower() + b" " + b",".join(ranks))

@@ -277,7 +277,7 @@ def doubles_words(batch_file: BatchFile) -> list[str]:
             by_elector.setdefault(line.as_entered.partition(b" ")[0], []).append(line)
     return [
         f"Note: {batch_file.name} has {len(lines)} ballots of {elector.decode('ascii')} "
-        f"({', '.join(line.came.where.rpartition(':')[2].strip() for line in lines[:5])}{', ..' if lines[5:] else ''}); "
+        f"({', '.join(line.came.place.lstrip(': ') for line in lines[:5])}{', ..' if lines[5:] else ''}); "
         "the last one counts."
         for elector, lines in by_elector.items()
         if len(lines) > 1

@@ -169,9 +169,9 @@ def show(election: Election, number: int) -> int:
         kept = of_number(election, store.state_of(election, counted), number)
         letter = read(election, kept)
     lines = shown_lines(letter)
-    own_by_line = are_own_lines(letter) if letter.trouble is None else are_own(lines)
+    own_by_place = are_own_lines(letter) if letter.trouble is None else are_own(lines)
     tell(head(kept), f"Subject: {kept.subject}")
-    for line_number, (line, is_own) in enumerate(zip(lines, own_by_line), start=1):
+    for line_number, (line, is_own) in enumerate(zip(lines, own_by_place), start=1):
         tell(f"{line_number:4} {' ' if is_own else '|'} {line}")
     if letter.attachments:
         tell(f"Attachments, which are not read: {', '.join(letter.attachments)}")
@@ -288,7 +288,7 @@ def enter_late(election: Election) -> int:
 def enter_all(election: Election, counted: PollAndBallots, kept_letters: list[store.KeptLetter]) -> None:
     """Enters the ballots of letters of which each has one. The caller holds the lock alone."""
     ballots = [(kept.ballot or "").encode("ascii") for kept in kept_letters]
-    lines = [Line(f"letter {kept.number}", ballot, ballot, ballot) for kept, ballot in zip(kept_letters, ballots)]
+    lines = [Line(f"letter {kept.number}", "", ballot, ballot, ballot) for kept, ballot in zip(kept_letters, ballots)]
     batch = batch_or_keep(election, counted, lines, lambda: keep_late(election, kept_letters, lines, None))
     with whole_act(election):
         record = keep_late(election, kept_letters, lines, batch)
@@ -315,7 +315,7 @@ def line_of(election: Election, counted: PollAndBallots, kept: store.KeptLetter,
         raise Fault(where, "there is no such line", cure, Status.BAD_WORDS, "nothing was changed")
     texts = [lines[line_number - 1], *filter(None, [letter.paragraphs.get(line_number - 1)])]
     bare_lines = [text.encode("utf-8", "replace").strip()[:LONGEST_LINE] for text in texts]
-    tried = [Line(where, bare, bare, changed(bare.removeprefix(b">"))) for bare in bare_lines]
+    tried = [Line(where, "", bare, bare, changed(bare.removeprefix(b">"))) for bare in bare_lines]
     batch = batch_of(election, counted, tried)
     valid = next((line.came for line in batch.lines if line.finding is None), None)
     if valid is None:

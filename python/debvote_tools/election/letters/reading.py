@@ -52,8 +52,9 @@ class Candidate:
     bare: bytes
     changed: bytes
 
-    def line(self, where: str) -> Line:
-        return Line(where, self.bare, self.bare, self.changed)
+    def line(self, letter_where: str) -> Line:
+        """The same as a line that came in the letter which is named so."""
+        return Line(letter_where, "", self.bare, self.bare, self.changed)
 
 
 @dataclasses.dataclass(frozen=True)
@@ -118,7 +119,7 @@ def candidates_in(lines: Sequence[str], paragraphs: dict[int, str]) -> list[Cand
 
 def replies_to(election: Election, poll_bytes: bytes, changed_lines: Iterable[bytes]) -> dict[bytes, str]:
     """What debvote replies to lines, each asked about once, many in one run; the last envelope is left out, so that no line is late."""
-    replies_by_line: dict[bytes, str] = {}
+    replies_by_text: dict[bytes, str] = {}
     lines = list(dict.fromkeys(changed_lines))
     with in_memory(poll_file.without_key(poll_bytes, poll_file.LAST_ENVELOPE)) as poll_path:
         for start in range(0, len(lines), AT_ONCE):
@@ -127,20 +128,20 @@ def replies_to(election: Election, poll_bytes: bytes, changed_lines: Iterable[by
             replies = replies_in(answer.text)
             if len(replies) != len(part):
                 raise refusal(election, answer)
-            replies_by_line |= dict(zip(part, replies))
-    return replies_by_line
+            replies_by_text |= dict(zip(part, replies))
+    return replies_by_text
 
 
 def findings_of(election: Election, poll_bytes: bytes, changed_lines: Iterable[bytes]) -> dict[bytes, Finding]:
     """Why debvote refuses lines that are no ballots, each by its text."""
     lines = list(dict.fromkeys(changed_lines))
-    findings_by_line: dict[bytes, Finding] = {}
+    findings_by_text: dict[bytes, Finding] = {}
     with in_memory(poll_file.without_key(poll_bytes, poll_file.LAST_ENVELOPE)) as poll_path:
         # of many refused lines only the first get names that are near
         for start in range(0, len(lines), AT_ONCE):
             part = lines[start : start + AT_ONCE]
-            findings_by_line |= {part[place]: finding for place, finding in findings_by_place(election, poll_path, part).items()}
-    return findings_by_line
+            findings_by_text |= {part[place]: finding for place, finding in findings_by_place(election, poll_path, part).items()}
+    return findings_by_text
 
 
 # ---------------------------------------------------------------- letters
@@ -156,11 +157,11 @@ def readings_of(election: Election, poll_bytes: bytes, letters: list[Letter]) ->
     without_near: list[Reading] = []
     near_by_letter: list[list[NearCandidate]] = []
     for letter, candidates, html_candidates in zip(letters, candidates_by_letter, html_by_letter):
-        own_by_line = are_own_lines(letter)
-        reading = reading_of(letter, candidates, html_candidates, own_by_line, replies)
+        own_by_place = are_own_lines(letter)
+        reading = reading_of(letter, candidates, html_candidates, own_by_place, replies)
         without_near.append(reading)
         near_candidates = [
-            nearness_of(candidate, replies[candidate.changed], own_by_line[candidate.number - 1], roll, option_count)
+            nearness_of(candidate, replies[candidate.changed], own_by_place[candidate.number - 1], roll, option_count)
             for candidate in ([] if reading.has_one_alone else candidates)
         ]
         near_by_letter.append([one for one in near_candidates if one.is_near or one.within is not None][:MOST_NEAR])
@@ -177,18 +178,18 @@ def reading_of(
     letter: Letter,
     candidates: list[Candidate],
     html_candidates: list[Candidate],
-    own_by_line: list[bool],
+    own_by_place: list[bool],
     replies: dict[bytes, str],
 ) -> Reading:
     """What a letter says, but for the lines that come near to a ballot."""
-    taken = [one for one in candidates if own_by_line[one.number - 1] and replies[one.changed] in TAKEN]
+    taken = [one for one in candidates if own_by_place[one.number - 1] and replies[one.changed] in TAKEN]
     ballots = one_a_meaning(one for one in taken if is_signed(letter, one))
     meanings = {ballot.changed for ballot in ballots}
     unsigned = one_a_meaning(one for one in taken if not is_signed(letter, one) and one.changed not in meanings)
     reading = Reading(letter, ballots, [], unsigned, html_ballots_in(letter, html_candidates, replies))
     if not reading.has_one_alone:
         return reading
-    return dataclasses.replace(reading, other_words=other_words_in(letter, own_by_line, ballots[0]))
+    return dataclasses.replace(reading, other_words=other_words_in(letter, own_by_place, ballots[0]))
 
 
 def are_own_lines(letter: Letter) -> list[bool]:
@@ -200,12 +201,12 @@ def are_own_lines(letter: Letter) -> list[bool]:
     return [is_own for first, end in itertools.pairwise(bounds) for is_own in are_own(letter.lines[first:end])]
 
 
-def other_words_in(letter: Letter, own_by_line: list[bool], ballot: Candidate) -> list[str]:
+def other_words_in(letter: Letter, own_by_place: list[bool], ballot: Candidate) -> list[str]:
     """The lines with words that are the elector's own now, and neither the ballot nor a part of it where it is wrapped."""
     ballot_text = ballot.bare.decode("utf-8")
     own_lines = [
         letter.lines[place]
-        for place, is_own in enumerate(own_by_line)
+        for place, is_own in enumerate(own_by_place)
         if is_own and (letter.signed_lines is None or place in letter.signed_lines)
     ]
     lines = [line for line in own_lines if re.search(r"\w", line) and line.strip() not in ballot_text]
@@ -214,11 +215,11 @@ def other_words_in(letter: Letter, own_by_line: list[bool], ballot: Candidate) -
 
 def html_ballots_in(letter: Letter, html_candidates: list[Candidate], replies: dict[bytes, str]) -> list[bytes]:
     """The ballots of the HTML of a letter."""
-    own_by_line = are_own(letter.html_lines) if html_candidates else []
+    own_by_place = are_own(letter.html_lines) if html_candidates else []
     return [
         candidate.changed
         for candidate in html_candidates
-        if own_by_line[candidate.number - 1] and replies[candidate.changed] in TAKEN
+        if own_by_place[candidate.number - 1] and replies[candidate.changed] in TAKEN
     ]
 
 
