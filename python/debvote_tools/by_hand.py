@@ -108,9 +108,8 @@ def changes_in(folder: pathlib.Path, acts: Sequence[Entry], ballots_bytes: bytes
     edit_place = first_edit(acts_in_time, unedited_sums)
     if edit_place is not None:
         return changes_before_close(folder, acts, edit_place, lines, late_lines)
-    # the close, and what was done behind it; while the election is open this begins with an act that is no close
-    acts_from_close = acts[len(acts_in_time) - 1 :]
-    if is_edited_since(acts_from_close, ballots_bytes):
+    is_closed = bool(acts_in_time) and acts_in_time[-1].act == "close"
+    if is_closed and is_edited_since(acts[len(acts_in_time) - 1 :], ballots_bytes):
         # without its copy nobody knows which lines were in time at the close; that is told where they are compared
         is_known = (folder / BALLOTS_COPY).is_file() or acts_in_time[-1].sums.ballots in unedited_sums
         return changes_after_close(folder, acts, lines, late_lines) if is_known else NOTHING
@@ -134,9 +133,9 @@ def changes_before_close(
     came_lines = lines_that_came(folder, acts)
     missing = missing_of(came_lines, lines + late_lines)
     added = not_come(came_lines, lines)
-    unedited_acts = len(acts_in_time) if edit_place is None else edit_place
-    is_as_entered = stand_as_entered(acts_in_time, unedited_acts, lines, {one.number for one in added})
-    if is_as_entered and all(entry.lines_sum is not None for entry in journal.entered_and_not_undone(acts_in_time)):
+    unedited_count = len(acts_in_time) if edit_place is None else edit_place
+    is_as_entered = stand_as_entered(acts_in_time, unedited_count, lines, {one.number for one in added})
+    if is_as_entered and all(entry.lines_sum is not None for entry in journal.entered_and_not_taken_back(acts_in_time)):
         # an `add` that was killed before its act began has kept what came, and so has the one that was run again
         lines_there = set(lines)
         missing = [came_line for came_line in missing if came_line.changed not in lines_there and came_line.bare not in lines_there]
@@ -193,28 +192,26 @@ def first_edit(acts: Sequence[Entry], sums_now: set[str]) -> int | None:
 
 
 def is_edited_since(acts: Sequence[Entry], ballots_bytes: bytes) -> bool:
-    """Whether somebody has edited the ballots since the first of these acts, which is a close; not where it is none."""
-    if not acts or acts[0].act != "close":
-        return False
+    """Whether somebody has edited the ballots since the first of these acts, which is the close."""
     is_noted = bool(edits_noted(acts[1:], acts[0].sums.ballots))
     return is_noted or acts[-1].sums.ballots not in sums_noted_of(ballots_bytes)
 
 
 def lines_that_came(folder: pathlib.Path, acts: Sequence[Entry]) -> list[ReceivedLine]:
-    """The lines that came but for those that acts have taken back; of equal ones these are the last."""
+    """The lines that came but for those that acts have taken back: where a line came several times, the last ones are taken for these."""
     taken_back = collections.Counter(lines_taken_back(folder, acts))
-    kept = [came_line for came_line in reversed(lines_received(folder)) if not is_taken(taken_back, came_line)]
+    kept = [came_line for came_line in reversed(lines_received(folder)) if not take_from(taken_back, came_line)]
     return kept[::-1]
 
 
 def missing_of(came_lines: list[ReceivedLine], lines: list[bytes]) -> list[ReceivedLine]:
     """Those that came and are not among these lines; a line that came twice has to stand there twice."""
     there = collections.Counter(lines)
-    return [came_line for came_line in came_lines if not is_taken(there, came_line)]
+    return [came_line for came_line in came_lines if not take_from(there, came_line)]
 
 
-def is_taken(left: collections.Counter[bytes], came_line: ReceivedLine) -> bool:
-    """Whether a line that came is among those that are left, and takes it away."""
+def take_from(left: collections.Counter[bytes], came_line: ReceivedLine) -> bool:
+    """Takes a line that came away from those that are left, once; returns whether it was among them."""
     text = next((text for text in (came_line.changed, came_line.bare) if left[text] > 0), None)
     if text is not None:
         left[text] -= 1
@@ -227,20 +224,20 @@ def not_come(came_lines: list[ReceivedLine], lines: list[bytes]) -> list[Numbere
     return [numbered_line for numbered_line in beyond(lines, may_stand_there) if BALLOT.fullmatch(numbered_line.line)]
 
 
-def stand_as_entered(acts: Sequence[Entry], unedited_acts: int, lines: list[bytes], left_out: set[int]) -> bool:
+def stand_as_entered(acts: Sequence[Entry], unedited_count: int, lines: list[bytes], left_out: set[int]) -> bool:
     """Whether the lines, but for those with these numbers, are the ones that the acts have entered, in their order.
 
     Where an act has no sum of its own lines, as those of earlier versions, they have to begin with what stood there before the first
     edit, behind so many acts.
     """
     own_lines = [line for number, line in enumerate(lines, start=1) if number not in left_out]
-    entering = journal.entered_and_not_undone(acts)
+    entering = journal.entered_and_not_taken_back(acts)
     # lines that were there before the first act, or before a journal that was lost, may be left out or not
     count_before = entering[0].first_envelope() - 1 if entering else 0
     starts = {0, max(0, count_before), max(0, count_before - sum(number <= count_before for number in left_out))}
     if not any(follow(entering, own_lines[start:]) for start in starts):
         return False
-    last_before_edit = next(reversed(journal.entered_and_not_undone(acts[:unedited_acts])), None)
+    last_before_edit = next(reversed(journal.entered_and_not_taken_back(acts[:unedited_count])), None)
     if last_before_edit is None or all(entry.lines_sum is not None for entry in entering):
         return True
     return sum_of(ballot_file(own_lines[: last_before_edit.last_envelope()])) == last_before_edit.sums.ballots

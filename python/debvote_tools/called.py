@@ -28,7 +28,7 @@ MADE, TAKEN_BACK, LATER = "call", "taken-back", "extend"
 # end. The first two change no file, so one that is not ended yet is done too
 LINE = re.compile(
     rb"(?m)^([^\t\n]{20})\t(%b|%b|%b)\t[^\t\n]+\t(-|[0-9a-f]{64})\t(?:-|[0-9a-f]{64})(\n(?![^\t\n]{20}\t%b\t)|\Z)"
-    % (MADE.encode(), TAKEN_BACK.encode(), LATER.encode(), journal.UNDONE.encode())
+    % (MADE.encode(), TAKEN_BACK.encode(), LATER.encode(), journal.CUT_OFF.encode())
 )
 
 

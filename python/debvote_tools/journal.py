@@ -5,6 +5,25 @@
 Its parts have a tab between them, and `-` stands for what there is not. Behind the envelopes, and a space, stands the
 detail that an act has, as `13-15 0004`. An act that enters lines has the sum of these lines as a sixth part.
 
+Each act, and the module that does it, from the folder to the close. The modules of commands lie in `election/commands`, the others in
+`election`:
+
+    new                          new.py: the folder was made; its detail is the language
+    roll, codes                  roll.py and codes.py: the poll has got its roll; codes were made for a secret vote
+    ended                        call.py: the last line of the poll had no line feed, and was ended
+    announce, extend             call.py: the poll has got deadline and address, or after the call a later time
+    keyring, keys, no-keyring    letters/keyring.py: letters have to be signed, by these keys of these members; or need not
+    form                         call_extras.py: the call says that an empty cell of a web form is a hyphen
+    call, taken-back             call.py and taking_back.py: the call was made, or taken back
+    add                          adding_lines.py and letters/adding.py: lines were entered, of files and of letters
+    cast, enter                  desk.py and held.py: lines were entered
+    letters                      letters/adding.py: letters came, and no ballot of them was entered
+    set-aside, again, receipts   held.py and letters.py: of letters that came
+    undo                         undo.py: the lines of the last act that entered some were taken back
+    end, close                   close.py: the last line of the ballots was ended; the poll has got its last envelope
+    found, lost                  recovery.py: files were edited by hand; the journal was lost
+    undone                       recovery.py, call.py: the act before was cut off, and not done
+
 A line is written before the act is done, and gets its line feed after that. So where a run is killed between the two, the next act
 finds a line that is not ended: either the files have its sums, and it is ended, or the act was not done, and this is noted.
 """
@@ -25,7 +44,7 @@ ENTERING = ("add", "cast", "enter")
 UNDO = "undo"
 
 # the act by which the next run notes that the one before was cut off before it was done
-UNDONE = "undone"
+CUT_OFF = "undone"
 
 # what an act notes first that finds the files otherwise than the one before has left them: somebody has edited them
 FOUND = "found"
@@ -148,7 +167,7 @@ def done(entries: list[Entry]) -> list[Entry]:
     """The acts that were done: those that were cut off, and the notes of that, are left out."""
     acts: list[Entry] = []
     for entry in entries:
-        if entry.act == UNDONE:
+        if entry.act == CUT_OFF:
             del acts[-1:]
         else:
             acts.append(entry)
@@ -160,7 +179,7 @@ def last(entries: list[Entry], act: str) -> Entry | None:
     return next((entry for entry in reversed(done(entries)) if entry.act == act), None)
 
 
-def entered_and_not_undone(acts: Sequence[Entry]) -> list[Entry]:
+def entered_and_not_taken_back(acts: Sequence[Entry]) -> list[Entry]:
     """Of the acts that were done those that entered lines which no later act has taken back, first to last."""
     entering: list[Entry] = []
     for entry in acts:
@@ -192,9 +211,9 @@ def end(file: pathlib.Path) -> None:
     append_whole(file, b"\n")
 
 
-def end_undone(file: pathlib.Path, sums: Sums) -> None:
-    """Notes that the act that was begun was not done."""
-    append_whole(file, b"\n" + line_now(UNDONE, NONE, sums) + b"\n")
+def end_cut_off(file: pathlib.Path, sums: Sums) -> None:
+    """Notes that the act that was begun was cut off, and not done."""
+    append_whole(file, b"\n" + line_now(CUT_OFF, NONE, sums) + b"\n")
 
 
 def line_now(act: str, envelopes: str, sums: Sums, lines_sum: str | None = None, detail: str = "") -> bytes:

@@ -12,7 +12,7 @@ sys.path.insert(0, str(support.ROOT / "python"))
 from debvote_tools import journal  # noqa: E402
 from debvote_tools.election.folder import Election  # noqa: E402
 from debvote_tools.files import append_whole, in_memory, sum_of, write_new, write_whole  # noqa: E402
-from debvote_tools.journal import FOUND, NONE, UNDONE, Entry, Sums  # noqa: E402
+from debvote_tools.journal import CUT_OFF, FOUND, NONE, Entry, Sums  # noqa: E402
 
 A, B, C = (Sums("a" * 64, letter * 64) for letter in "abc")
 
@@ -48,23 +48,23 @@ class Entries(support.ElectionTest):
         self.assertIsNone(journal.begun(self.file))
         journal.note(self.file, "add", "1", A)
         self.assertIsNone(journal.begun(self.file))
-        for end in (journal.end, lambda file: journal.end_undone(file, A)):
+        for end in (journal.end, lambda file: journal.end_cut_off(file, A)):
             journal.begin(self.file, "add", "2", Sums(A.poll, NONE))
             self.assertEqual((journal.begun(self.file).envelopes, len(journal.done(journal.entries_in(self.file)))), ("2", 1))
             end(self.file)
             self.assertIsNone(journal.begun(self.file))
             acts = journal.entries_in(self.file)
-            self.assertEqual(len(journal.done(acts)), 1 if acts[-1].act == UNDONE else 2)
-            journal.note(self.file, UNDONE, NONE, A)
+            self.assertEqual(len(journal.done(acts)), 1 if acts[-1].act == CUT_OFF else 2)
+            journal.note(self.file, CUT_OFF, NONE, A)
 
     def test_acts_that_were_not_done(self) -> None:
-        acts = [entry("add", A), entry("add", B), entry(UNDONE, A), entry("close", C)]
+        acts = [entry("add", A), entry("add", B), entry(CUT_OFF, A), entry("close", C)]
         self.assertEqual(journal.done(acts), [acts[0], acts[3]])
         self.assertEqual(journal.last(acts, "add"), acts[0])
         self.assertIsNone(journal.last(acts[:3], "close"))
 
     def test_the_last_acts_however_many_were_not_done(self) -> None:
-        acts = [entry("add", A), entry("add", B), *[entry("add", C), entry(UNDONE, B)] * 100]
+        acts = [entry("add", A), entry("add", B), *[entry("add", C), entry(CUT_OFF, B)] * 100]
         self.file.write_text("".join(act.line() for act in acts))
         self.assertEqual(journal.done(journal.last_entries(self.file))[-1], acts[1])
         many = [entry("add", A)] * 500 + [entry("add", B)]
@@ -181,7 +181,7 @@ class Folder(support.ElectionTest):
             self.assertEqual((files.ballots_bytes, self.election_of.edited_paths(files)), (None, []))
         with self.election_of.changing() as files:
             self.assertEqual(self.election_of.cut_off.act, "add")
-        self.assertEqual(self.acts(), ["add", UNDONE])
+        self.assertEqual(self.acts(), ["add", CUT_OFF])
 
     def test_an_act_that_was_done_and_not_ended(self) -> None:
         self.write("ballots", "a\n")

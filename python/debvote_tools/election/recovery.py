@@ -7,7 +7,7 @@ the line feed behind the line of its act. Where it is killed, the next run that 
 2. what came without an act, where the kill came before the line of the journal: it is kept, and counts as not come, unless it is
    added anew (`by_hand`, `letters.store`);
 3. a line of the journal without its line feed: where the files have the sums of this line, the act was done, and `recover` ends the
-   line; else it was not, and `recover` notes that (`journal.UNDONE`);
+   line; else it was not, and `recover` notes that (`journal.CUT_OFF`);
 4. files beside no journal, where somebody took it away: it is begun before the first file that is kept beside it, so that this is
    seen, and told (`lost`).
 
@@ -41,10 +41,10 @@ class Recovery(ElectionFiles):
         for folder in (self.received_folder, self.backup_folder, self.private_folder):
             take_away_temporaries(folder)
         begun = journal.begun(self.journal_path)
-        is_undone = begun is not None and begun.sums != counted.sums
-        self.cut_off = begun if is_undone else None
-        if is_undone:
-            journal.end_undone(self.journal_path, counted.sums)
+        is_cut_off = begun is not None and begun.sums != counted.sums
+        self.cut_off = begun if is_cut_off else None
+        if is_cut_off:
+            journal.end_cut_off(self.journal_path, counted.sums)
         elif begun is not None:
             journal.end(self.journal_path)
 

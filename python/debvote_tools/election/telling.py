@@ -1,4 +1,4 @@
-"""What the commands that enter lines tell: how many, what was edited by hand, and what a killed run has left undone."""
+"""What the commands that enter lines tell: how many, what was edited by hand, and what a killed run has not done."""
 
 import contextlib
 
@@ -56,12 +56,12 @@ def tell_edits(election: Election, counted: PollAndBallots) -> None:
 
     The caller holds the lock alone by `changing`, which has found out what was not done (`cut_off`).
     """
-    undone = election.cut_off
-    if undone is not None:
-        envelopes_word = "envelopes" if "-" in undone.envelopes else "envelope"
-        what_words = f"{envelopes_word} {undone.envelopes}, " if undone.act in journal.ENTERING else ""
+    cut_off = election.cut_off
+    if cut_off is not None:
+        envelopes_word = "envelopes" if "-" in cut_off.envelopes else "envelope"
+        what_words = f"{envelopes_word} {cut_off.envelopes}, " if cut_off.act in journal.ENTERING else ""
         where_kept = f"; what came is kept in {election.received_folder}" if what_words else ""
-        tell(f"Note: the last act ({undone.act}, {what_words}{time_of(undone)}) was cut off, and is not done{where_kept}.")
+        tell(f"Note: the last act ({cut_off.act}, {what_words}{time_of(cut_off)}) was cut off, and is not done{where_kept}.")
     for file in election.edited_paths(counted):
         acts = election.last_acts()
         how_words = f": {what_differs(counted.ballots_bytes or b'', acts)}" if file == election.ballots_path else ""

@@ -324,15 +324,15 @@ def make(
     except BaseException:
         if made.exists():
             shutil.rmtree(made, ignore_errors=True)
-            note_undone(election, counted, count)
+            note_cut_off(election, counted, count)
         raise
 
 
-def note_undone(election: Election, counted: PollAndBallots, count: int) -> None:
+def note_cut_off(election: Election, counted: PollAndBallots, count: int) -> None:
     """Notes that the call was not done, where it stands in the journal: there were so many acts before it."""
     with contextlib.suppress(OSError):
         if len(journal.done(election.entries())) > count:
-            journal.note(election.journal_path, journal.UNDONE, journal.NONE, counted.sums)
+            journal.note(election.journal_path, journal.CUT_OFF, journal.NONE, counted.sums)
 
 
 def copy_called_poll(election: Election, counted: PollAndBallots) -> None:

@@ -3,7 +3,7 @@
 import argparse
 import dataclasses
 
-from debvote_tools import journal
+from debvote_tools import journal, received
 from debvote_tools.arguments import arguments_of
 from debvote_tools.ballots import ranks_in_words
 from debvote_tools.console import YES_OR_NO, is_terminal, is_yes, tell
@@ -18,7 +18,6 @@ from debvote_tools.files import in_memory, uninterrupted, write_new
 from debvote_tools.journal import Entry
 from debvote_tools.lines import ballot_file, ballot_lines
 from debvote_tools.program import standing_in
-from debvote_tools.received import TAKEN_BACK
 
 HELP = "Take back the last act that entered ballots; once more, and the one before"
 
@@ -124,8 +123,8 @@ def take_back(election: Election, counted: PollAndBallots, entry: Entry, *, is_t
     )
     with uninterrupted():
         election.begin_journal()
-        file = write_new(election.received_folder, f"{entry.act}{TAKEN_BACK}", ballot_file(change.lines_back))
-        file_begin = file.name.removesuffix(TAKEN_BACK)
+        file = write_new(election.received_folder, f"{entry.act}{received.TAKEN_BACK}", ballot_file(change.lines_back))
+        file_begin = file.name.removesuffix(received.TAKEN_BACK)
         election.act(journal.UNDO, counted, entry.envelopes, new_ballots=change.ballots_left, detail=file_begin)
         tell(f"Took back {change.what}; they are kept in {file}.", *told, *receipts_then(change))
 
@@ -181,7 +180,7 @@ def demand_open(election: Election) -> None:
 def last_entering_act(election: Election, counted: PollAndBallots) -> Entry:
     """The last act that entered lines which were not taken back. Stops where there is none, or where the lines are not as it left them."""
     acts = journal.acts_done(election.journal_path, counted.sums)
-    entering = journal.entered_and_not_undone(acts)
+    entering = journal.entered_and_not_taken_back(acts)
     if not entering:
         raise Fault(
             "undo", "nothing was entered that could be taken back", election.command("status"), Status.DOUBT, "nothing was changed"

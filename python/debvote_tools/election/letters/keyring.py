@@ -24,7 +24,7 @@ from debvote_tools.poll_file import as_announced, roll_of
 NAME = "keyring.gpg"
 
 # the acts by which a keyring is given, which keys are whose, and that letters need no signature after all
-GIVEN, WHOSE, NONE = "keyring", "keys", "no-keyring"
+GIVEN, WHOSE, NOT_DEMANDED = "keyring", "keys", "no-keyring"
 
 # in bytes; the keys of ten thousand members are shorter
 LIMIT = 134_217_728
@@ -73,7 +73,7 @@ def is_demanded(election: Election) -> bool:
 def last_given(election: Election) -> journal.Entry | None:
     """The last act that gave a keyring, or said that none is needed."""
     acts_done = journal.done(election.entries())
-    return next((entry for entry in reversed(acts_done) if entry.act in (GIVEN, NONE)), None)
+    return next((entry for entry in reversed(acts_done) if entry.act in (GIVEN, NOT_DEMANDED)), None)
 
 
 def demanded(election: Election) -> Demanded | None:
@@ -81,7 +81,7 @@ def demanded(election: Election) -> Demanded | None:
     given_entry = last_given(election)
     file = file_of(election)
     again = f"to take it as it is, give it anew: {election.command('call', '--keyring', str(file))}"
-    if given_entry is None or given_entry.act == NONE:
+    if given_entry is None or given_entry.act == NOT_DEMANDED:
         if file.exists():
             cure = f"take it away, or have letters signed: {election.command('call', '--keyring', str(file))}"
             raise Fault(file, "it is there, and the journal has no act that gave it", cure, Status.DOUBT, "nothing was changed")
@@ -229,7 +229,7 @@ def take_away(election: Election, counted: PollAndBallots) -> None:
     demand_may_change(election, is_wanted=False)
     file = file_of(election)
     with uninterrupted():
-        election.act(NONE, counted)
+        election.act(NOT_DEMANDED, counted)
         if file.exists():
             election.back_up(file)
             file.unlink()

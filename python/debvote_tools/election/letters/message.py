@@ -105,7 +105,8 @@ class Letter:
     why_not_own: str | None
     # where letters have to be signed, `signed.py` reads the lines, paragraphs and attachments anew, part by part, and adds the places of
     # the lines that are signed, what was signed, or why there is not one signature; `verifying.py` asks gpgv, and adds the good
-    # signature, or why it is none
+    # signature, or why it is none: so `why_unsigned` is also said of one that is signed badly. Without places no line has to be signed,
+    # and of an empty range none is
     signed_lines: range | None = None
     signed: Signed | None = None
     why_unsigned: str | None = None
