@@ -36,10 +36,10 @@ class Letter:
     # the time of the close, as the journal has it
     time: str
     number: int
-    # the sums of the poll without and with the line of the close, and that of the ballots
-    announced: str
-    poll: str
-    ballots: str
+    # the sums of the poll without the line of the close, as a call has it, and with it, and that of the ballots
+    called_sum: str
+    poll_sum: str
+    ballots_sum: str
     is_called: bool
 
     def text(self, language: Language) -> str:
@@ -62,11 +62,11 @@ class Letter:
             wrapped(say("The vote was closed at {time}, by the clock of the secretary's computer.", time=self.time))
             + wrapped(in_time),
             wrapped(say("The poll, with its line {line}, has this sum (SHA-256):", line=f"last_envelope = {self.number}")),
-            copied(self.poll),
+            copied(self.poll_sum),
             wrapped(say(without)),
-            copied(self.announced),
+            copied(self.called_sum),
             wrapped(ballots),
-            copied(self.ballots),
+            copied(self.ballots_sum),
             wrapped(say(KEEP)),
             copied("sha256sum poll.toml") + copied(closed.LINES_IN_TIME.format(number=self.number)),
         ]
@@ -88,7 +88,7 @@ def demand_free(election: Election) -> None:
 def write(election: Election, counted: PollAndBallots, close: Entry, title: str) -> None:
     """Writes the letter of an open vote that was closed with these files."""
     number = closed.number_of(close) or 0
-    ballots = sum_of(b"") if close.sums.ballots == NONE else close.sums.ballots
-    announced = sum_of(poll_file.as_announced(counted.poll_bytes))
-    letter = Letter(title, time_of(close), number, announced, close.sums.poll, ballots, election.called_poll_path.exists())
+    ballots_sum = sum_of(b"") if close.sums.ballots == NONE else close.sums.ballots
+    called_sum = sum_of(poll_file.as_announced(counted.poll_bytes))
+    letter = Letter(title, time_of(close), number, called_sum, close.sums.poll, ballots_sum, election.called_poll_path.exists())
     write_whole(election.closing_letter_path, letter.text(election.language()).encode())

@@ -19,7 +19,7 @@ from debvote_tools.poll_file import REQUIRED, as_announced
 from debvote_tools.program import Debvote, Findings, Totals, findings_in
 from debvote_tools.publish.folder_debvote import FolderDebvote
 from debvote_tools.publish.names import BALLOTS, POLL
-from debvote_tools.publish.poll_sums import announced_sum, folders_of
+from debvote_tools.publish.poll_sums import called_sum_beside, folders_of
 from debvote_tools.sentences import sentence
 from debvote_tools.sheet import Sheet
 
@@ -57,7 +57,8 @@ def stop(found: list[Doubt]) -> Fault:
 def found_in(debvote: FolderDebvote, poll_path: str, ballots_path: str, sheet: Sheet) -> list[Doubt]:
     """All doubts about a poll in order and its ballots, which have this sheet.
 
-    The files lie in the folder, and are called as they were given.
+    Their bytes are those in the folder of `debvote`. The two paths are those that were given: the files are called so in what is told,
+    and beside the given poll its election and its call are looked for.
     """
     findings = findings_in(debvote.explain())
     return [
@@ -222,9 +223,9 @@ def about_call(folder: pathlib.Path, poll_path: str, poll_bytes: bytes) -> list[
     call = called.call_of(folder)
     if call is None:
         return []
-    announced = announced_sum(poll_path)
-    found = [] if announced is not None else [no_folder(folder, call)]
-    is_untold = announced in (None, sum_of(as_announced(poll_bytes))) or (
+    called_sum = called_sum_beside(poll_path)
+    found = [] if called_sum is not None else [no_folder(folder, call)]
+    is_untold = called_sum in (None, sum_of(as_announced(poll_bytes))) or (
         call.poll_bytes is not None and call.has_other_time(poll_bytes)
     )
     if not call.is_of(poll_bytes) and is_untold:

@@ -230,9 +230,11 @@ def check(published: Published, files: list[NamedFile]) -> str:
 def enough(published: Published) -> list[str]:
     """What an elector looks at who does not count again."""
     is_secret, say = published.further.is_secret, published.say
-    ballots, voted, find, again = (link_to(published.language, heading) for heading in (BALLOTS_HEADING, VOTED, FIND, COUNT_AGAIN))
-    own = say(OWN_IN_SECRET, find=find) if is_secret else say(OWN, ballots=ballots, voted=voted)
-    entries = [own, say(LETTER, sum=published.poll_sums.poll_sum), say(RESULT_LETTER), say(COUNT_HERE, again=again)]
+    to_ballots, to_voted, to_find, to_count_again = (
+        link_to(published.language, heading) for heading in (BALLOTS_HEADING, VOTED, FIND, COUNT_AGAIN)
+    )
+    own = say(OWN_IN_SECRET, find=to_find) if is_secret else say(OWN, ballots=to_ballots, voted=to_voted)
+    entries = [own, say(LETTER, sum=published.poll_sums.poll_sum), say(RESULT_LETTER), say(COUNT_HERE, again=to_count_again)]
     guide = say(HOW_TO_READ, guide=GUIDE_LINK)
     if not published.language.is_english:
         guide += f" {say(IN_ENGLISH)}"
@@ -248,7 +250,7 @@ def whole_commands(published: Published) -> list[Command]:
     ]
     if poll_sums.has_last_envelope:
         commands.append(Command(say(AS_IT_IS, number=poll_sums.last_envelope), WHOLE, f"{poll_sums.whole_sum}  {POLL}"))
-    if poll_sums.has_last_envelope or poll_sums.announced is not None:
+    if poll_sums.has_last_envelope or poll_sums.called_sum is not None:
         commands.append(
             Command(say(COMPARE_WHOLE_SUM if poll_sums.is_secret else COMPARE_SUM), poll_sums.command, poll_sums.answer)
         )

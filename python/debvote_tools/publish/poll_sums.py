@@ -22,16 +22,17 @@ WHOLE = "sha256sum poll.toml"
 
 @dataclasses.dataclass(frozen=True)
 class PollSums:
-    """The sum of the published poll as it was announced, and that of the file as it is; the last envelope; and what was announced.
+    """The sum of the published poll as it was announced, and that of the file as it is; the last envelope; and the sum that the call
+    announced.
 
     In a secret vote both sums are that of the file: it has no line that came later. The last envelope is none where the poll has
-    none, and the announced sum where there is no call beside the poll that was given.
+    none, and the sum of the call where there is no call beside the poll that was given.
     """
 
     poll_sum: str
     whole_sum: str
     last_envelope: int | None
-    announced: str | None
+    called_sum: str | None
     is_secret: bool
 
     @property
@@ -48,10 +49,10 @@ class PollSums:
         return f"{self.whole_sum}  poll.toml" if self.is_secret else f"{self.poll_sum}  -"
 
 
-def poll_sums_of(poll_bytes: bytes, last_envelope: int | None, announced: str | None, *, is_secret: bool = False) -> PollSums:
+def poll_sums_of(poll_bytes: bytes, last_envelope: int | None, called_sum: str | None, *, is_secret: bool = False) -> PollSums:
     """The sums of the published poll, and the one that the call announced."""
     whole = sum_of(poll_bytes)
-    return PollSums(whole if is_secret else sum_of(as_announced(poll_bytes)), whole, last_envelope, announced, is_secret)
+    return PollSums(whole if is_secret else sum_of(as_announced(poll_bytes)), whole, last_envelope, called_sum, is_secret)
 
 
 def folders_of(file: str) -> list[pathlib.Path]:
@@ -59,7 +60,7 @@ def folders_of(file: str) -> list[pathlib.Path]:
     return [pathlib.Path(file).parent, pathlib.Path(os.path.realpath(file)).parent]
 
 
-def announced_sum(poll_path: str) -> str | None:
+def called_sum_beside(poll_path: str) -> str | None:
     """The sum that the call for votes in the folder of the poll announced; none where there is no call."""
     for folder in folders_of(poll_path):
         try:
@@ -72,13 +73,13 @@ def announced_sum(poll_path: str) -> str | None:
     return None
 
 
-def about_announced(poll_path: str, sums: PollSums) -> list[Doubt]:
+def about_called_sum(poll_path: str, sums: PollSums) -> list[Doubt]:
     """That the poll is not the one that was called."""
-    if sums.announced in (None, sums.poll_sum):
+    if sums.called_sum in (None, sums.poll_sum):
         return []
-    then = f"the copy of the call has the sum {sums.announced}"
+    then = f"the copy of the call has the sum {sums.called_sum}"
     reason = f"it is not the poll that was called: {then}, and this one has the sum {sums.poll_sum}"
     said = sentence(
-        "The poll is not the one that was called: the secretary's copy of the call has the sum {sum}.", sum=sums.announced
+        "The poll is not the one that was called: the secretary's copy of the call has the sum {sum}.", sum=sums.called_sum
     )
     return [Doubt(poll_path, reason, "find out who changed it, and publish the poll that was called", said, said)]

@@ -28,7 +28,7 @@ from debvote_tools.publish.labels import GivenLabel, labels_in, labels_of, told
 from debvote_tools.publish.names import BALLOTS, POLL, SHEET
 from debvote_tools.publish.page import page_of
 from debvote_tools.publish.picture import picture_of
-from debvote_tools.publish.poll_sums import about_announced, announced_sum, folders_of, poll_sums_of
+from debvote_tools.publish.poll_sums import about_called_sum, called_sum_beside, folders_of, poll_sums_of
 from debvote_tools.publish.published import Further, NamedFile, Published, Times, WholeFile
 from debvote_tools.publish.texts import reason_in, text_in
 from debvote_tools.publish.parts.times import times_of
@@ -55,7 +55,7 @@ class Given:
     # why the doubts are none, in the words of the one who publishes
     because: str | None
     # the sum that the call for votes beside the poll announced
-    announced: str | None
+    called_sum: str | None
     # whose the casting vote was
     casting_vote: CastingVote
     language: Language
@@ -138,7 +138,7 @@ def given_in(arguments: Arguments) -> Given:
         who_file=arguments.who,
         who=who,
         because=because,
-        announced=announced_sum(arguments.poll_path),
+        called_sum=called_sum_beside(arguments.poll_path),
         casting_vote=vote,
         language=language_of(arguments.language),
         texts=texts,
@@ -165,7 +165,7 @@ def fill_open(folder: pathlib.Path, arguments: Arguments, given: Given, program_
     found_doubts = doubts.found_in(debvote, arguments.poll_path, arguments.ballots_path, sheet)
     found_doubts += about_casting_vote(arguments, given, sheet, poll_bytes)
     found_doubts += about_texts(arguments, given, sheet)
-    found_doubts += about_announced(arguments.poll_path, poll_sums_of(poll_bytes, sheet.last_envelope, given.announced))
+    found_doubts += about_called_sum(arguments.poll_path, poll_sums_of(poll_bytes, sheet.last_envelope, given.called_sum))
     stop_unless_even_so(found_doubts, arguments)
     times = times_of(doubts.election_folder_of(arguments.poll_path), poll_bytes, ballots_bytes, sheet.last_envelope)
     return Ended(write_result(debvote, answer.text, given, found_doubts, Further(), times), answer.status)
@@ -189,7 +189,9 @@ def fill_secret(
         hidden = under_aliases.hidden_of(codes_path, poll_bytes, standing_in(private_debvote.standing()))
         found_doubts += about_casting_vote(arguments, given, private_sheet, hidden.poll_bytes)
         found_doubts += about_texts(arguments, given, private_sheet)
-        found_doubts += about_announced(arguments.poll_path, poll_sums_of(hidden.poll_bytes, None, given.announced, is_secret=True))
+        found_doubts += about_called_sum(
+            arguments.poll_path, poll_sums_of(hidden.poll_bytes, None, given.called_sum, is_secret=True)
+        )
         found_doubts += filter(None, [copy_is_gone(codes_path, poll_bytes)])
         stop_unless_even_so(found_doubts, arguments)
         totals = findings_in(private_debvote.explain()).totals
@@ -295,7 +297,7 @@ def write_result(
         verified=verified.rstrip("\n"),
         version=version,
         doubts=found_doubts,
-        poll_sums=poll_sums_of(poll_bytes, sheet.last_envelope, given.announced, is_secret=further.is_secret),
+        poll_sums=poll_sums_of(poll_bytes, sheet.last_envelope, given.called_sum, is_secret=further.is_secret),
         labels=labels,
         about=given.about,
         further=further,

@@ -131,11 +131,11 @@ def demand_open(poll_path: str, ballots_path: str) -> None:
     for place in dict.fromkeys([*folders_of(poll_path), *folders_of(ballots_path)]):
         folder = secret_folder_of(place)
         if folder is not None:
-            codes = folder / secret.PRIVATE / secret.CODES
+            codes_path = folder / secret.PRIVATE / secret.CODES
             raise Fault(
                 poll_path,
                 "the vote in this folder is secret, and this would publish each name with its vote",
-                f"publish it with --secret {codes}",
+                f"publish it with --secret {codes_path}",
                 Status.DOUBT,
             )
 
@@ -160,17 +160,19 @@ def secret_folder_of(place: pathlib.Path) -> pathlib.Path | None:
 
 
 def demand_texts(
-    page_texts: dict[str, str], codes: pathlib.Path, poll_input: InputFile, ballots_input: InputFile, *, are_read: bool
+    page_texts: dict[str, str], codes_path: pathlib.Path, poll_input: InputFile, ballots_input: InputFile, *, are_read: bool
 ) -> None:
     """Stops where a text for the page, by its file, would tell what is private, or was not read."""
     if not page_texts:
         return
     folders = (
-        secret_folder_of(place) for file in (poll_input.file, ballots_input.file, str(codes.parent)) for place in folders_of(file)
+        secret_folder_of(place)
+        for file in (poll_input.file, ballots_input.file, str(codes_path.parent))
+        for place in folders_of(file)
     )
     election_folder = next(filter(None, folders), None)
     sums = untelling.private_sums(poll_input.data, ballots_input.data, election_folder)
-    holders, options = secret.holders_in(codes), poll_file.options_of(poll_input.data)
+    holders, options = secret.holders_in(codes_path), poll_file.options_of(poll_input.data)
     for file, text in page_texts.items():
         untelling.demand_no_private_file(file, election_folder)
         untelling.demand_untelling(file, text, holders, sums)
@@ -178,18 +180,18 @@ def demand_texts(
 
 
 # ---------------------------------------------------------------- the files under aliases
-def hidden_of(codes: pathlib.Path, poll_bytes: bytes, standing: dict[str, str]) -> Hidden:
+def hidden_of(codes_path: pathlib.Path, poll_bytes: bytes, standing: dict[str, str]) -> Hidden:
     """The vote under aliases. Stops where an elector has no code, or where the poll is not the one that was called."""
-    aliases = secret.aliases_of(codes, poll_file.roll_of(poll_bytes), secret.LOST)
+    aliases = secret.aliases_of(codes_path, poll_file.roll_of(poll_bytes), secret.LOST)
     alias_poll = secret.poll_of(poll_bytes, aliases)
-    secret.demand_called(codes, alias_poll, is_published=True)
+    secret.demand_called(codes_path, alias_poll, is_published=True)
     absent = sorted(alias for name, alias in aliases.items() if name not in standing)
     return Hidden(alias_poll, secret.ballots_of(standing, aliases), list(standing), absent)
 
 
-def demand_same(private_sheet: str, published_sheet: str) -> None:
+def demand_same(private_text: str, published_text: str) -> None:
     """Stops where the sheet under aliases is not the one of the private files: from the line `Voters:` on, and in its head."""
-    is_same = from_voters(private_sheet) == from_voters(published_sheet) and head_of(private_sheet) == head_of(published_sheet)
+    is_same = from_voters(private_text) == from_voters(published_text) and head_of(private_text) == head_of(published_text)
     if not is_same:
         words = "the sheet under aliases is not that of the votes as they came"
         raise Fault(None, words, KEEP_FILES, Status.DOUBT, "nothing was published")
@@ -213,9 +215,9 @@ def demand_all_count(sheet: Sheet) -> None:
         raise Fault(None, words, KEEP_FILES, Status.DOUBT, "nothing was published")
 
 
-def demand_no_code(folder: pathlib.Path, codes: pathlib.Path) -> None:
+def demand_no_code(folder: pathlib.Path, codes_path: pathlib.Path) -> None:
     """Stops where a code stands in a file of the folder: somebody may have given the file of codes for the page."""
-    known = {holder.code.encode() for holder in secret.holders_in(codes)}
+    known = {holder.code.encode() for holder in secret.holders_in(codes_path)}
     for file in sorted(folder.iterdir()):
         if known & set(re.findall(rb"(?<![0-9a-f])[0-9a-f]{32}(?![0-9a-f])", file.read_bytes())):
             words = f"{file.name} would have the code of an elector in it"

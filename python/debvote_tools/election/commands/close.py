@@ -79,9 +79,9 @@ def waiting_now(election: Election, counted: PollAndBallots) -> set[int]:
     return {letter.number for letter in store.state_of(election, counted).waiting if letter.why != BEHIND_DEADLINE}
 
 
-def demand_yes(election: Election, number: int) -> None:
+def demand_yes(election: Election, letter_count: int) -> None:
     """Asks whether to close although letters wait."""
-    words = f"{waiting_words(number)} until you have looked, and a ballot in one of them does not count"
+    words = f"{waiting_words(letter_count)} until you have looked, and a ballot in one of them does not count"
     if not is_terminal() or not is_yes(f"{words}. Close all the same?", YES_OR_NO):
         cure = f"look at them with {election.command('held')}, or close as it is: {election.command('close', '--yes')}"
         raise Fault(election.received_folder, words, cure, Status.DOUBT, "the election is not closed")
@@ -90,8 +90,7 @@ def demand_yes(election: Election, number: int) -> None:
 def tell_waiting(election: Election, counted: PollAndBallots, seen: set[int] | None) -> None:
     """Says how many letters wait; stops where more do than were asked about."""
     letters = store.state_of(election, counted).waiting
-    new = waiting_now(election, counted) - (seen if seen is not None else waiting_now(election, counted))
-    if new:
+    if seen is not None and waiting_now(election, counted) - seen:
         cure = f"look at them with {election.command('held')}, then close again"
         raise Fault(election.received_folder, "letters came meanwhile that wait", cure, Status.DOUBT, "the election is not closed")
     if letters:
@@ -231,7 +230,7 @@ def letter_words(election: Election) -> str:
     return f"Send {election.closing_letter_path}, which has these sums, to all electors before you count anything."
 
 
-def called_sum(election: Election) -> list[str]:
+def called_sum_words(election: Election) -> list[str]:
     """The sum of the poll under aliases that was called. What hinders to read it does not hinder the close."""
     gone = secret.copy_is_gone(election.codes_path, election.poll_path.read_bytes())
     if gone is not None:
@@ -250,7 +249,7 @@ def poll_sums(election: Election, after: PollAndBallots) -> list[str]:
     if not election.is_called():
         return [f"Sum of {election.poll_path}: {after.sums.poll}"]
     if election.is_secret():
-        return [*called_sum(election), f"Sum of {election.poll_path} as it is now: {after.sums.poll}"]
+        return [*called_sum_words(election), f"Sum of {election.poll_path} as it is now: {after.sums.poll}"]
     of_call = sum_of(poll_file.as_announced(after.poll_bytes))
     return [
         f"Without this line {election.poll_path} is the poll that was called, with the sum of the call: {of_call}",

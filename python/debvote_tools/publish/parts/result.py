@@ -139,7 +139,7 @@ def result(published: Published) -> str:
 def about(published: Published) -> list[str]:
     """The part with the text that was given, and with the sum of the poll that was called; none where there is neither."""
     blocks = [] if published.about is None else [in_their_words(published.language, paragraphs_of(published.about))]
-    if published.poll_sums.announced is not None:
+    if published.poll_sums.called_sum is not None:
         blocks.append(paragraph(announced(published)))
     return [part(published.language, "About this vote", *blocks)] if blocks else []
 
@@ -149,10 +149,10 @@ def announced(published: Published) -> str:
     sums, say = published.poll_sums, published.say
     copy = say(
         "The secretary's copy of the call has this sum (SHA-256) of the poll: <code>{sum}</code>.",
-        sum=sums.announced,
+        sum=sums.called_sum,
     )
     same = say("The poll below has another one.")
-    if sums.announced == sums.poll_sum:
+    if sums.called_sum == sums.poll_sum:
         same = say(HAS_IT_BUT_LAST if sums.has_last_envelope else HAS_IT)
     how = say("{part} has the command that compares them.", part=link_to(published.language, VERIFYING))
     return f"{copy} {same} {say(COMPARE_LETTER)} {how}"
