@@ -38,7 +38,7 @@ class Fault(Exception):
         self.status = status
         self.file, self.reason, self.cure, self.done = file, reason, cure, done
 
-    def where_done(self, done: str) -> "Fault":
+    def with_done(self, done: str) -> "Fault":
         """The same fault, where this was done, too."""
         return Fault(self.file, self.reason, self.cure, self.status, "; ".join(filter(None, [self.done, done])))
 
@@ -51,7 +51,7 @@ class Told(Fault):
         self.words = words
         self.status = status
 
-    def where_done(self, done: str) -> "Told":
+    def with_done(self, done: str) -> "Told":
         """The same: of what is told already, nothing more is said."""
         return self
 

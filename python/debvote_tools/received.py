@@ -3,7 +3,7 @@
     0001-monday.txt            a file, or what came at standard input or at a desk
     0002-form.csv              a table of a web form, and
     0003-form.csv.lines        the lines that its rows have made
-    0004-more.txt.in-part      a file of which the first lines came before, and
+    0004-more.txt.in-part      a file, not a table, of which the first lines came before, and
     0005-more.txt.lines        the lines behind them, which alone were entered
     0006-inbox.mbox.lines      the ballots of letters that came in inbox.mbox and went in at once
     0007-letter-7.lines        the ballot of letter 7, which had waited, and was entered by `held`

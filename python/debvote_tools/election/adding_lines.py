@@ -217,7 +217,7 @@ def filled_lines(lines_of_files: list[FileLines]) -> list[Line]:
 
 
 def files_of_batch(lines_of_files: list[FileLines], batch: Batch) -> list[BatchFile]:
-    """The lines of a batch by the files that they came in."""
+    """The lines of a batch by the files that they came in: they stand in the order of `filled_lines`."""
     left = iter(batch.lines)
     return [
         BatchFile(file_lines.lines_input.name, file_lines.lines_input.data, [next(left) for _ in file_lines.filled])
@@ -227,7 +227,9 @@ def files_of_batch(lines_of_files: list[FileLines], batch: Batch) -> list[BatchF
 
 # ---------------------------------------------------------------- what is kept in received/
 def keep_inputs(election: Election, lines_of_files: list[FileLines], adding: Adding) -> None:
-    """Keeps the files that came, as they came."""
+    """Keeps the files that came, as they came. The name of one that is entered in part says so, so that no line of it is taken to have come
+    twice; rows of a table have no shape of a ballot, and are never taken for lines that came.
+    """
     for file_lines in lines_of_files:
         ending = received.IN_PART if file_lines.came_before is not None and not adding.is_table else ""
         lines_input = file_lines.lines_input

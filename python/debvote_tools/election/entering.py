@@ -27,7 +27,7 @@ def batch_or_keep(election: Election, counted: PollAndBallots, lines: list[Line]
     except Fault as fault:
         with whole_act(election):
             keep_what_came()
-        raise fault.where_done(f"what came is kept in {election.received_folder}") from None
+        raise fault.with_done(f"what came is kept in {election.received_folder}") from None
 
 
 @contextlib.contextmanager

@@ -261,9 +261,11 @@ def tell_other_words(election: Election, plan: Plan, first_number: int) -> None:
         tell(f"Note: {letters_words}; {election.command('held', numbers[0])} shows {'it' if len(numbers) == 1 else 'the first'}.")
 
 
-def waiting_words(number: int) -> str:
+def waiting_words(letter_count: int) -> str:
     """How many letters wait."""
-    return "no letter waits" if not number else f"{count_of(number, 'letter')} {'waits' if number == 1 else 'wait'}"
+    return (
+        "no letter waits" if not letter_count else f"{count_of(letter_count, 'letter')} {'waits' if letter_count == 1 else 'wait'}"
+    )
 
 
 def what_next(election: Election, plan: Plan) -> str:
