@@ -12,6 +12,7 @@ import signal
 import sys
 import tomllib
 
+import killing
 import support
 from support import POLL
 
@@ -26,11 +27,11 @@ TIME = "2099-12-06 20:00 +01:00"
 ADDRESS = "secretary@example.org"
 COMPARE = "grep -vxE '(last_envelope = [0-9]+|extended_to = \"[0-9T:+ -]*\")\\s?' \\\n  poll.toml | sha256sum"
 
-# Stops a call at each of its steps in turn, each time in a copy of the election, until one comes to its end; a step is a call of
-# the system that changes a file or a folder. Then it calls once more. It forks, since a start of Python is slow.
+# Stops a call at each of its steps in turn, or at each third one, each time in a copy of the election, until one comes to its end; a
+# step is a call of the system that changes a file or a folder. Then it calls once more. It forks, since a start of Python is slow.
 STOPPED = """
 import os, pathlib, shutil, signal, sys
-root, how, template, out, *words = sys.argv[1:]
+root, how, first, each, template, out, *words = sys.argv[1:]
 sys.path.insert(0, root + "/python")
 from debvote_tools.election.command_line import main
 NAMES = ("rename", "mkdir", "write", "unlink", "rmdir")
@@ -57,7 +58,7 @@ def run(folder, faults, at):
             stop_at(at)
         os._exit(main(pathlib.Path(root) / "bin", words))
     return os.waitstatus_to_exitcode(os.waitpid(child, 0)[1])
-for at in range(1, 200):
+for at in range(int(first), 200, int(each)):
     here = pathlib.Path(out) / str(at)
     shutil.copytree(template, here / "again")
     status = run(here / "again", here / "faults", at)
@@ -472,9 +473,10 @@ class FailedTest(CallTest):
         else:
             self.write("poll.toml", POLL.rstrip("\n"))
         out = self.scratch / "steps"
-        ended = self.run_program(sys.executable, "-c", STOPPED, support.ROOT, how, self.folder, out, *words)
+        which = [how, killing.first_step(), killing.EACH]
+        ended = self.run_program(sys.executable, "-c", STOPPED, support.ROOT, *which, self.folder, out, *words)
         rows = [tuple(map(int, line.split(" "))) for line in ended.output.splitlines()]
-        self.assertGreater(len(rows), 8, ended)
+        self.assertGreater(len(rows), 8 // killing.EACH, ended)
         self.assertEqual((rows[-1][1], {row[2] for row in rows}), (0, {0}), ended)
         return [(status, (out / str(at) / "faults").read_text(), out / str(at)) for at, status, _ in rows[:-1]]
 

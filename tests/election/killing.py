@@ -1,7 +1,12 @@
-"""A run of debvote-election, or of another program, in a child that kills itself before its n-th step that changes something."""
+"""A run of debvote-election, or of another program, in a child that kills itself before its n-th step that changes something.
+
+DEBVOTE_KILLED_EACH says before which steps a run is killed: before each one if it is not given, and with 3 before each third one, from
+one of the first three on.
+"""
 
 import os
 import pathlib
+import random
 import signal
 import sys
 from collections.abc import Callable
@@ -20,9 +25,15 @@ from debvote_tools.election import command_line  # noqa: E402
 # what changes a file or a folder, or brings it to the disk; and beside them what tells something
 STEPS = ("open", "write", "fsync", "rename", "mkdir", "unlink", "ftruncate", "fchmod")
 
+EACH = int(os.environ.get("DEBVOTE_KILLED_EACH", "1"))
 
 # the modules of the commands are read here once, and not in each child
 command_line.parser()
+
+
+def first_step() -> int:
+    """The first step before which a run is killed; EACH after it comes the next."""
+    return random.randint(1, EACH)
 
 
 @dataclass(frozen=True)
