@@ -101,21 +101,22 @@ def changes_in(folder: pathlib.Path, acts: Sequence[Entry], ballots_bytes: bytes
     The acts are those that were done. Where the journal says that nobody has edited the ballots, and its acts make them what they
     are, nothing more is read.
     """
-    lines, late_lines = parted(folder, acts, ballots_bytes)
+    lines_in_time, late_lines = parted(folder, acts, ballots_bytes)
     acts_in_time = acts_until_close(acts)
-    # if nobody has edited the ballots since the last of these acts, it has one of these sums
-    unedited_sums = {sum_of(ballot_file(lines)), *sums_noted_of(ballots_bytes)}
+    # if nobody has edited the ballots since the last of these acts, its sum is that of the lines in time, each of them ended, also where
+    # an editor took the last line feed or late lines stand behind; or that of the file as it is
+    unedited_sums = {sum_of(ballot_file(lines_in_time)), *sums_noted_of(ballots_bytes)}
     edit_place = first_edit(acts_in_time, unedited_sums)
     if edit_place is not None:
-        return changes_before_close(folder, acts, edit_place, lines, late_lines)
+        return changes_before_close(folder, acts, edit_place, lines_in_time, late_lines)
     is_closed = bool(acts_in_time) and acts_in_time[-1].act == "close"
     if is_closed and is_edited_since(acts[len(acts_in_time) - 1 :], ballots_bytes):
         # without its copy nobody knows which lines were in time at the close; that is told where they are compared
         is_known = (folder / BALLOTS_COPY).is_file() or acts_in_time[-1].sums.ballots in unedited_sums
-        return changes_after_close(folder, acts, lines, late_lines) if is_known else NOTHING
-    if stand_as_entered(acts_in_time, len(acts_in_time), lines, set()):
+        return changes_after_close(folder, acts, lines_in_time, late_lines) if is_known else NOTHING
+    if stand_as_entered(acts_in_time, len(acts_in_time), lines_in_time, set()):
         return NOTHING
-    return changes_before_close(folder, acts, None, lines, late_lines)
+    return changes_before_close(folder, acts, None, lines_in_time, late_lines)
 
 
 def sums_noted_of(ballots_bytes: bytes) -> set[str]:
@@ -228,7 +229,7 @@ def stand_as_entered(acts: Sequence[Entry], unedited_count: int, lines: list[byt
     """Whether the lines, but for those with these numbers, are the ones that the acts have entered, in their order.
 
     Where an act has no sum of its own lines, as those of earlier versions, they have to begin with what stood there before the first
-    edit, behind so many acts.
+    edit: behind `unedited_count` acts.
     """
     own_lines = [line for number, line in enumerate(lines, start=1) if number not in left_out]
     entering = journal.entered_and_not_taken_back(acts)

@@ -89,7 +89,8 @@ class Line:
 
     @property
     def had_mark(self) -> bool:
-        """Whether it came with a mark, which was taken off. Where more than mark and carriage return was, neither is said of it."""
+        """Whether it came with a mark, which was taken off. Where more than mark and carriage return was taken off, neither is said of
+        it."""
         return not self.bare.startswith(MARK) and self.whole.removesuffix(b"\r") == MARK + self.bare
 
     @property

@@ -27,6 +27,8 @@ FOLDER = "received"
 # how the names end of lines that stand in no file as they went in, of a file that was entered in part, and of lines that were taken
 # back
 LINES, IN_PART, TAKEN_BACK = ".lines", ".in-part", ".taken-back"
+# a file of these is passed over where it is looked for what came, so no file of the user may be kept under such a name
+PASSED_OVER = (TAKEN_BACK, IN_PART)
 
 # what has the shape of a ballot: a row of a table has not
 BALLOT = re.compile(rb"[^\s,;]+ (?:-|\d{1,2})(?:,(?:-|\d{1,2}))*")
@@ -47,7 +49,7 @@ def lines_received(folder: pathlib.Path) -> list[ReceivedLine]:
     """The lines with the shape of a ballot that came for the election in this folder, in the order in which they came."""
     place = folder / FOLDER
     names = sorted(file.name for file in place.iterdir() if re.match(r"\d+-", file.name)) if place.is_dir() else []
-    names = [name for name in names if not name.endswith((TAKEN_BACK, IN_PART))]
+    names = [name for name in names if not name.endswith(PASSED_OVER)]
     received = []
     for name in names:
         if (place / name).is_file():

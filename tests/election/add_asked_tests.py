@@ -225,3 +225,43 @@ class TooMuch(AskedTest):
             ended, 3, "poll.toml: ", "; what came is kept in received: what is wrong with it says: debvote-election check\n"
         )
         self.assertEqual(self.read("received/0001-standard-input"), b"ben 1,2,4,3\n")
+
+
+class NamesOfOurs(AskedTest):
+    """Files of the user that are called as those of `received` are that are passed over."""
+
+    def test_they_are_known_as_what_came(self) -> None:
+        for number, name in enumerate(("monday.in-part", "monday.taken-back"), start=1):
+            self.write(name, f"ada 1,2,4,{number}\n")
+            self.added(name)
+            self.assertEqual(self.read(f"received/000{number}-{name}.txt"), f"ada 1,2,4,{number}\n".encode())
+        # what is put in by hand is no line that came
+        self.write("ballots", self.read("ballots") + b"ben 1,2,4,3\n")
+        output = self.election("close", "--early").faults
+        self.assertNotIn("taken out", output)
+        self.assertEqual(self.election("status").output.count("is not among what came"), 1)
+
+
+class BeforeTheHead(letters_support.LettersTest):
+    """A mark and line ends before the head of a message that is a file."""
+
+    def test_the_head_is_read(self) -> None:
+        whole = letters_support.letter("ada", f"ada {letters_support.RANKS}\n", head="Auto-Submitted: auto-replied\n")
+        for number, start in enumerate((b"\n", b"\r\n\n", b"\xef\xbb\xbf", b"\xef\xbb\xbf\n"), start=1):
+            self.write("letter.eml", start + whole.replace(b"<1.ada", b"<%d.ada" % (number + 1)))
+            ended = self.election("add", "letter.eml", "--yes")
+            self.assertEqual((ended.status, ended.faults, self.lines()), (0, "", []), ended)
+        self.assertEqual([why.partition(":")[0] for why in self.whys()], ["written by a program"] * 4)
+
+    def test_a_folder_too(self) -> None:
+        (self.folder / "letters-that-came").mkdir()
+        self.write("letters-that-came/1.eml", b"\n" + letters_support.letter("ben", "ben 1,2,3,4\n", sender="eve@club.example"))
+        self.assertEqual(self.election("add", "letters-that-came", "--yes").status, 0)
+        self.assertEqual((self.lines(), len(self.whys())), ([], 1))
+        self.assertIn("eve@club.example", self.whys()[0])
+
+    def test_a_letter_without_a_line_where_the_poll_has_no_roll(self) -> None:
+        self.write("poll.toml", support.POLL.split("roll = ")[0])
+        self.write("letter.eml", b"From: a@b.example\nSubject: x\n\n")
+        ended = self.election("add", "letter.eml", "--yes")
+        self.assertNotIn("Traceback", ended.faults)

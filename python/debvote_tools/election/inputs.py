@@ -8,6 +8,7 @@ import re
 import sys
 from typing import BinaryIO
 
+from debvote_tools import received
 from debvote_tools.console import tell
 from debvote_tools.election.folder import Election
 from debvote_tools.election.letters import sources
@@ -67,6 +68,8 @@ def input_in(name: str) -> LinesInput | LettersInput:
         return standard_input()
     # a number comes before it, and a name of a file has 255 bytes at most
     received_name = os.fsencode(pathlib.Path(name).name)[:150].decode("utf-8", "ignore") or "file"
+    if received_name.endswith(received.PASSED_OVER):
+        received_name += ".txt"
     try:
         if os.path.isdir(name):
             return LettersInput(name, received_name, *sources.letters_of_folder(name))

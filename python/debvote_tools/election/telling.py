@@ -23,7 +23,9 @@ def time_of(entry: Entry) -> str:
 
 
 def tell_if_early_or_late(election: Election, counted: PollAndBallots, what: str) -> None:
-    """Says where ballots come before the call for votes, after its time, or after the close, and what was taken away of the call and the journal; the words say what is done with them."""
+    """Says where ballots come before the call for votes, after its time, or after the close, and what was taken away of the
+    call and the journal; `what` says what is done with the ballots.
+    """
     close = election.close_entry()
     if close is not None:
         tell(f"Note: the election was closed at {time_of(close)}; {what} now is late.")

@@ -242,7 +242,7 @@ def enough(published: Published) -> list[str]:
 
 
 def whole_commands(published: Published) -> list[Command]:
-    """What shows that the files are those that were published, and the poll the one that was sums."""
+    """What shows that the files are those that were published, and the poll the one of which the call has the sum."""
     say, poll_sums = published.say, published.poll_sums
     commands = [
         Command(say(CAME_WHOLE), "sha256sum -c SHA256SUMS"),

@@ -105,8 +105,8 @@ class Letter:
     why_not_own: str | None
     # where letters have to be signed, `signed.py` reads the lines, paragraphs and attachments anew, part by part, and adds the places of
     # the lines that are signed, what was signed, or why there is not one signature; `verifying.py` asks gpgv, and adds the good
-    # signature, or why it is none: so `why_unsigned` is also said of one that is signed badly. Without places no line has to be signed,
-    # and of an empty range none is
+    # signature, or why it is none: so `why_unsigned` is also said of one that is signed badly. `None` says that no line has to be signed,
+    # and an empty range that none is
     signed_lines: range | None = None
     signed: Signed | None = None
     why_unsigned: str | None = None
@@ -136,8 +136,8 @@ class Letter:
 
 @dataclasses.dataclass(frozen=True)
 class LetterIdentity:
-    """By what a letter is known when it comes again: its Message-ID and the sum of its text; and all for which a letter waits that
-    may stand in the head of one letter and not of another with the same text. So nobody has a letter of another passed over by
+    """By what a letter is known when it comes again: its Message-ID and the sum of its text; and what else of it decides whether it waits,
+    and may be otherwise in a letter with the same ID and text. So nobody has a letter of another passed over by
     sending a copy that waits.
     """
 

@@ -151,9 +151,10 @@ def readings_of(election: Election, poll_bytes: bytes, letters: list[Letter]) ->
     """
     candidates_by_letter = [candidates_of(letter) if letter.trouble is None else [] for letter in letters]
     html_by_letter = [candidates_in(letter.html_lines, {}) if letter.trouble is None else [] for letter in letters]
-    asked = (candidate.changed for candidates in [*candidates_by_letter, *html_by_letter] for candidate in candidates)
+    asked = [candidate.changed for candidates in [*candidates_by_letter, *html_by_letter] for candidate in candidates]
     replies = replies_to(election, poll_bytes, asked)
-    roll, option_count = set(poll_file.roll_of(poll_bytes)), len(poll_file.options_of(poll_bytes))
+    # where there is no line to ask about, debvote has not looked at the poll
+    roll, option_count = (set(poll_file.roll_of(poll_bytes)), len(poll_file.options_of(poll_bytes))) if asked else (set(), 0)
     without_near: list[Reading] = []
     near_by_letter: list[list[NearCandidate]] = []
     for letter, candidates, html_candidates in zip(letters, candidates_by_letter, html_by_letter):

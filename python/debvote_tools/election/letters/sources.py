@@ -9,6 +9,7 @@ from typing import BinaryIO
 
 from debvote_tools.election.letters.message import LONGEST_HEAD, Raw
 from debvote_tools.faults import Fault, Status
+from debvote_tools.lines import MARK
 
 # in bytes; a mailbox of ten thousand letters is shorter
 LIMIT = 2_147_483_648
@@ -62,9 +63,15 @@ def is_mailbox(data: bytes) -> bool:
 
 def is_message(data: bytes) -> bool:
     """Whether a file begins with the head of a message."""
-    bare = data[:LONGEST_HEAD].removeprefix(b"\xef\xbb\xbf").lstrip(b"\r\n")
+    bare = data[before_head(data) : LONGEST_HEAD]
     head = re.split(rb"\r?\n\r?\n", bare, maxsplit=1)[0]
     return FIELD.match(bare) is not None and len({found[1].lower() for found in KNOWN.finditer(head)}) >= LEAST
+
+
+def before_head(data: bytes | mmap.mmap) -> int:
+    """How many bytes stand before the head of a message that is a file: a mark of UTF-8, and line ends."""
+    start = data[:LONGEST_HEAD]
+    return len(start) - len(start.removeprefix(MARK).lstrip(b"\r\n"))
 
 
 def demand_no_outlook(name: str, data: bytes) -> None:
@@ -89,7 +96,7 @@ def letters_in(name: str, data: bytes | mmap.mmap) -> list[Raw]:
     source = memoryview(data)
     lines_from = list(BETWEEN.finditer(data)) if data[:5] == b"From " else []
     if not lines_from:
-        return [Raw(name, source, 0, len(source))]
+        return [Raw(name, source, before_head(data), len(source))]
     ends = [line_from.start() for line_from in lines_from[1:]] + [len(source)]
     first_form = form_of(lines_from[0]["said"])
     return [
