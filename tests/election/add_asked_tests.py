@@ -125,7 +125,7 @@ class FromAPipe(AskedTest):
             box.write(self.mailbox)
             box.flush()
             with subprocess.Popen(["sh", "-c", f"cat {box.name} > {self.folder}/inbox"]):
-                output = self.added("--yes", "inbox", timeout=60)
+                output = self.added("--yes", "inbox", timeout=support.SECONDS)
         self.assert_both_are_in(output)
 
     def test_a_long_mailbox_from_a_pipe(self) -> None:
@@ -144,7 +144,7 @@ class FromAPipe(AskedTest):
     def test_lines_from_a_named_pipe(self) -> None:
         os.mkfifo(self.folder / "more")
         with subprocess.Popen(["sh", "-c", f"echo ada 1,2,4,3 > {self.folder}/more"]):
-            self.assertIn("Added 1 line (1 counted).\n", self.added("more", timeout=60))
+            self.assertIn("Added 1 line (1 counted).\n", self.added("more", timeout=support.SECONDS))
 
 
 class Look(AskedTest):

@@ -79,7 +79,7 @@ def try_stand_ins(expect, poll, ballots, room, scratch):
     while len(os.listdir(room)) < 3 and started.poll() is None:
         time.sleep(0.05)
     started.terminate()
-    status = started.wait(30)
+    status = started.wait(support.SECONDS)
     expect("a run that is asked to end", (status, sorted(os.listdir(room))), (128 + signal.SIGTERM, ["full", "result"]))
 
 
