@@ -1,6 +1,6 @@
 //! A whole sheet and the texts of `steps`, `standing` and `check`, each call with its memory refused in turn (tests/refused-memory).
 
-ghost use Rattle.vote_steps.specs.Casting.{HoldsLines};
+ghost use Rattle.vote_steps.specs.HeldLines.{HoldsLines};
 
 use crate::inputs::{BALLOTS, CYCLE, SHEET, assert_same, lines_of, poll_of};
 use std::alloc::{AllocError, Global};

@@ -6,7 +6,7 @@ use Rattle.vote_poll.specs.Readings.{reading, readings}
 use Rattle.vote_poll.specs.declared.Reading.{Reading}
 use Rattle.vote_poll.specs.declared.Reading.TheVariants.{Ballot, Bad}
 use Rattle.vote_steps.specs.Boxes.{BoxState}
-use Rattle.vote_steps.specs.Casting.{AreCastInOrder, HoldsLines}
+use Rattle.vote_steps.specs.HeldLines.{AreCastInOrder, HoldsLines}
 use Rattle.vote_steps.specs.History.{is_close, is_closed, is_late, reply_beside, reply_in_time, reply_to, standing}
 use Rattle.vote_steps.specs.declared.Received.{Received}
 use Rattle.vote_steps.specs.declared.Reply.TheVariants.{BoxClosed, Late}

@@ -9,7 +9,7 @@ use Rattle.vote_poll.specs.declared.Reading.{Reading}
 use Rattle.vote_poll.specs.declared.Reading.TheVariants.{Ballot, Bad}
 use Rattle.vote_steps.specs.History.{is_late, refused, valid}
 use Rattle.vote_steps.specs.Boxes.{BoxState}
-use Rattle.vote_steps.specs.Casting.{HasSizes}
+use Rattle.vote_steps.specs.HeldLines.{HasSizes}
 use Rattle.vote_steps.specs.Standing.{CountsLines}
 use Rattle.vote_sheet.specs.LastBallots.{readings_in_time, refused_count}
 use Rattle.vote_sheet.specs.Texts.{Text}

@@ -2,7 +2,7 @@
 
 ghost use Rattle.std.specs.Prelude.{◌≡◌, IfOk, OnOk, option_copied};
 ghost use Rattle.vote_poll_text.specs.Adding.{Adds};
-ghost use Rattle.vote_steps.specs.Casting.{HoldsLines};
+ghost use Rattle.vote_steps.specs.HeldLines.{HoldsLines};
 ghost use Rattle.vote_sheet.specs.LastBallots.{refused_count};
 ghost use Rattle.vote_ballot_findings.specs.Adding.{AreTotals, IsUnsaid};
 ghost use Rattle.vote_ballot_findings.specs.Explained.{FindingsAreDetermined, SaysAll};

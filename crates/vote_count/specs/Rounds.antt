@@ -33,7 +33,7 @@ final_set [] = []
 final_set (round ∷ []) = round.set
 final_set (round ∷ next ∷ rest) = final_set (next ∷ rest)
 
--- Why an option is dropped, if it is, by A.5.2 or A.5.3: for the quorum, where it fails both.
+-- Why an option is dropped, if it is: by A.5.2 if it misses the quorum, whether or not it has its majority, and else by A.5.3.
 abbrev pub HasCause : PollContent → Votes → ℕ → Option Cause → Type 0
 HasCause poll matrix o None = IsKept poll matrix o
 HasCause poll matrix o (Some Quorum) = (o < option_count poll) × ¬ MeetsQuorum poll (votes matrix o (option_count poll))

@@ -13,7 +13,7 @@ use Rattle.vote_desks_box.specs.Slips.{Rises}
 use Rattle.vote_desks_box.specs.Desks.{DeskState, IsLater, fresh_desk}
 use Rattle.vote_poll.specs.PollContent.{PollContent}
 use Rattle.vote_steps.specs.Boxes.{BoxState, box_of}
-use Rattle.vote_steps.specs.Casting.{HasSizes}
+use Rattle.vote_steps.specs.HeldLines.{HasSizes}
 use Rattle.vote_desks.specs.Work.{IsFresh, IsUnused, HasCastAll, tray_and_parts}
 use Rattle.vote_desks.specs.Back.{AreBackFrom, AreHandedIn}
 

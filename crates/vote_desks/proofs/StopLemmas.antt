@@ -5,7 +5,7 @@ use Rattle.std.proofs.lemmas.Bool.{cases_lt}
 use Rattle.std.proofs.lemmas.List.{get_or-map, length-map}
 use Rattle.vote_poll.specs.PollContent.{PollContent}
 use Rattle.vote_steps.specs.History.{is_cast}
-use Rattle.vote_steps.specs.Casting.{HasSizes}
+use Rattle.vote_steps.specs.HeldLines.{HasSizes}
 use Rattle.vote_desks_box.specs.Desks.{SealedState}
 use Rattle.vote_desks.specs.declared.fault.AuditFault.TheVariants.{SizeDiffers, CountDiffers, StepDiffers, SlipDiffers, ClosedEarly}
 use Rattle.vote_desks.specs.declared.fault.VoteFault.{VoteFault}

@@ -10,7 +10,7 @@ use Rattle.vote_steps.specs.declared.Step.{Step}
 use Rattle.vote_steps.specs.History.{is_cast, before_close}
 use Rattle.vote_steps.specs.Boxes.{BoxState}
 use Rattle.vote_steps.specs.Recasts.{HasOwnReading}
-use Rattle.vote_steps.specs.Casting.{HasSizes, HoldsLines}
+use Rattle.vote_steps.specs.HeldLines.{HasSizes, HoldsLines}
 use Rattle.vote_desks_box.specs.Slips.{slips_from}
 use Rattle.vote_desks_box.specs.Desks.{SealedState, sheet_at}
 

@@ -27,7 +27,7 @@ CanStopAudit (Enter desk fault) = ⊥
 CanStopAudit (Desk fault) = ⊥
 CanStopAudit (Audit fault) = (fault ≢ SizeDiffers) × (fault ≢ CountDiffers)
 
--- a fault of one desk is of one of so many, which are numbered from 1
+-- a fault that names a desk names one of so many, which are numbered from 1
 abbrev pub IsOfDesk : ℕ → VoteFault → Type 0
 IsOfDesk desks Memory = Unit {0}
 IsOfDesk desks Thread = Unit {0}

@@ -4,7 +4,7 @@ ghost use Rattle.std.specs.Thread.{IsSync};
 ghost use Rattle.vote_poll.specs.Readings.{readings};
 ghost use Rattle.vote_steps.specs.History.{is_cast, is_close, is_closed};
 ghost use Rattle.vote_steps.specs.Recasts.{HasOwnReading};
-ghost use Rattle.vote_steps.specs.Casting.{HasSizes};
+ghost use Rattle.vote_steps.specs.HeldLines.{HasSizes};
 ghost use Rattle.vote_desks_box.specs.Desks.{sheet_at, slips_on};
 ghost use Rattle.vote_desks.specs.Comparing.{HasEnvelope};
 ghost use Rattle.vote_desks.specs.Audit.{FindsFault, FindsReading, IsAudited};

@@ -1,11 +1,13 @@
 -- What is done for a task, once its files are read.
-use Rattle.std.proofs.Common.{◌≡◌, ℕ, Bor, IfSome, List, Option, inr, refl, subst, sym}
-use Rattle.vote_files.specs.Device.{IsWhole}
+use Rattle.std.proofs.Common.{◌≡◌, ◌∙◌, ℕ, ap, Bor, Err, IfSome, List, Option, Result, inr, refl, subst, sym}
+use Rattle.std.specs.Prelude.{IsErrOf}
+use Rattle.vote_files.specs.Device.{IsTooLong, IsWhole}
 use Rattle.vote_files.specs.declared.ReadFault.{ReadFault}
 use Rattle.vote_files.specs.declared.ReadFault.TheVariants as read
 use Rattle.vote_jobs.specs.Status.{unread}
 use Rattle.vote_jobs.specs.declared.InputFile.{InputFile}
 use Rattle.vote_jobs.specs.declared.Performed.{Performed}
+use Rattle.vote_jobs.specs.declared.RunFault.{RunFault}
 use Rattle.vote_job_words.specs.Order.{Task}
 use Rattle.vote_job_files.specs.Doing.{EndsTask, IsDone, IsTaskDone, Written}
 use Rattle.vote_job_files.specs.Jobs.{AreReadOf}
@@ -14,11 +16,18 @@ use Rattle.vote_job_files.specs.declared.inputs.Inputs.{Inputs}
 use Rattle.vote_work.specs.Asked.{DesksFit, ballot_file, poll_file, sheet_file, work_on}
 use Rattle.vote_work.specs.declared.Work.TheVariants as work
 
--- why a file was not read is of that file
-pub is_unread : (file : InputFile) (fault : ReadFault) → IsUnread file (unread file fault)
-is_unread file read.Device = refl
-is_unread file read.TooLong = refl
-is_unread file read.Memory = refl
+-- why a file was not read is of that file, and one is told as too long only if it is
+is_unread_for : (file : InputFile) (known : Option (List ℕ)) (limit : ℕ) (fault : ReadFault)
+    → (fault ≡ read.TooLong → IsTooLong known limit) → IsUnread file known limit (unread file fault)
+is_unread_for file known limit read.Device too_long = refl
+is_unread_for file known limit read.TooLong too_long = (refl, too_long refl)
+is_unread_for file known limit read.Memory too_long = refl
+
+pub is_unread : {A : Type 0} (file : InputFile) (known : Option (List ℕ)) (limit : ℕ) (result : Result A ReadFault) (told : RunFault)
+    → (IsErrOf result read.TooLong → IsTooLong known limit)
+    → (fault : ReadFault) × (result ≡ Err fault) × (told ≡ unread file fault) → IsUnread file known limit told
+is_unread file known limit result told too_long why =
+    subst (IsUnread file known limit) (sym why.2) (is_unread_for file known limit why.0 (λ same. too_long (why.1 ∙ ap Err same)))
 
 -- other files leave the number of desks
 pub desks_stay : (asked : Task) (poll ballots sheet : Bor (List ℕ)) → DesksFit asked → DesksFit (work_on asked poll ballots sheet)

@@ -15,6 +15,7 @@ use Rattle.vote_jobs.specs.declared.RunFault.{RunFault}
 use Rattle.vote_job_files.specs.Jobs.{AreFilesOf, IsJobOf}
 use Rattle.vote_job_files.specs.Unread.{IsOneUnread, IsUnread}
 use Rattle.vote_job_files.specs.declared.inputs.Inputs.{Inputs}
+use Rattle.vote_job_files.specs.declared.inputs.TheConstants.{JOINED_LIMIT}
 
 -- what the output holds before and after a run, if it tells its bytes; and whether it has passed on all of it then
 pub record Written : Type 0 where
@@ -41,13 +42,13 @@ IsTaskDone asked inputs written performed = (job : Job) × IsJobOf asked inputs 
 -- a file that the task names was not read; or its job is done on the bytes that are told of their names
 abbrev pub EndsTask : (List ℕ → Option (List ℕ)) → Task → Written → Performed → Type 0
 EndsTask file_bytes asked written performed =
-    StopsUnread (IsOneUnread asked) written performed
+    StopsUnread (IsOneUnread file_bytes asked) written performed
     ⊎ ((poll ballots sheet : Bor (List ℕ)) × AreFilesOf file_bytes asked poll.now ballots.now sheet.now
     × IsDone (work_on asked poll ballots sheet) written performed)
 
--- standard input was not read; or the replies are written to the ballots of the joined input that is told of it
+-- standard input was not read; or what `steps` writes for the poll and the ballots that are joined in it is written
 abbrev pub EndsJoined : Option (List ℕ) → Written → Performed → Type 0
 EndsJoined standard_bytes written performed =
-    StopsUnread (IsUnread file.Ballots) written performed
+    StopsUnread (IsUnread file.Ballots standard_bytes JOINED_LIMIT) written performed
     ⊎ ((input : List ℕ) × (poll ballots : Bor (List ℕ)) × IsWhole standard_bytes input × AreParts input poll.now ballots.now
     × IsDone (work.List poll ballots listing.Steps) written performed)

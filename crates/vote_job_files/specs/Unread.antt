@@ -1,18 +1,25 @@
 -- Which fault a file of a task gives that was not read.
-use Rattle.std.specs.Prelude.{◌≡◌, ◌⊎◌, IsSome}
+use Rattle.std.specs.Prelude.{◌≡◌, ◌⊎◌, ℕ, IsSomeAnd, List, Option}
+use Rattle.vote_files.specs.Device.{IsTooLong}
 use Rattle.vote_job_words.specs.Order.{Task}
 use Rattle.vote_jobs.specs.declared.InputFile.{InputFile}
 use Rattle.vote_jobs.specs.declared.InputFile.TheVariants as file
+use Rattle.vote_jobs.specs.declared.InputFault.TheVariants as input
 use Rattle.vote_jobs.specs.declared.RunFault.{RunFault}
 use Rattle.vote_jobs.specs.declared.RunFault.TheVariants as run
-use Rattle.vote_work.specs.Asked.{ballot_file, sheet_file}
+use Rattle.vote_work.specs.Asked.{ballot_file, poll_file, sheet_file}
+use Rattle.vote_job_files.specs.declared.inputs.TheConstants.{BALLOTS_LIMIT, POLL_LIMIT, SHEET_LIMIT}
 
--- this file was not read, or there was no memory for it
-abbrev pub IsUnread : InputFile → RunFault → Type 0
-IsUnread unread (run.Input input fault) = input ≡ unread
-IsUnread unread fault = fault ≡ run.Memory
+-- this file, of which these bytes are told, was not read: it has more than the limit, if they are told; or reading it failed, as it may
+-- at any time; or there was no memory for it
+abbrev pub IsUnread : InputFile → Option (List ℕ) → ℕ → RunFault → Type 0
+IsUnread unread known limit (run.Input other input.TooLong) = (other ≡ unread) × IsTooLong known limit
+IsUnread unread known limit (run.Input other input.Unreadable) = other ≡ unread
+IsUnread unread known limit fault = fault ≡ run.Memory
 
 -- one of the files that the task names
-abbrev pub IsOneUnread : Task → RunFault → Type 0
-IsOneUnread asked fault =
-    IsUnread file.Poll fault ⊎ (IsSome (ballot_file asked) × IsUnread file.Ballots fault) ⊎ (IsSome (sheet_file asked) × IsUnread file.Sheet fault)
+abbrev pub IsOneUnread : (List ℕ → Option (List ℕ)) → Task → RunFault → Type 0
+IsOneUnread file_bytes asked fault =
+    IsUnread file.Poll (file_bytes (poll_file asked).now) POLL_LIMIT fault
+    ⊎ IsSomeAnd (ballot_file asked) (λ name. IsUnread file.Ballots (file_bytes name.now) BALLOTS_LIMIT fault)
+    ⊎ IsSomeAnd (sheet_file asked) (λ name. IsUnread file.Sheet (file_bytes name.now) SHEET_LIMIT fault)

@@ -1,6 +1,6 @@
 //! The inputs of the program, read whole up to their limits.
 
-ghost use Rattle.std.specs.Prelude.{◌≡◌, ◌≤◌, [], Ok, Err, IfErr, IfOk, IfSome, IsSome, vec_len};
+ghost use Rattle.std.specs.Prelude.{◌≡◌, ◌≤◌, [], Ok, Err, IfErr, IfOk, IfSome, IsSome, IsSomeAnd, vec_len};
 ghost use Rattle.vote_files.specs.Device.{IsWhole};
 ghost use Rattle.vote_files.specs.declared.ReadFault.{ReadFault};
 ghost use Rattle.vote_jobs.specs.Status.{unread};
@@ -26,11 +26,9 @@ pub(crate) const BALLOTS_LIMIT: usize = 33_554_432;
 pub(crate) const JOINED_LIMIT: usize = 34_603_011;
 
 /// What was read of this file, or why it was not.
-#[tactic(auto, using(crate::proofs::OnFiles::is_unread))]
 fn of_file(file: InputFile, read: Result<Vec<u8>, ReadFault>) -> Result<Vec<u8>, RunFault>
     ensures bytes { IfOk result (λ bytes. read ≡ Ok bytes) }
     ensures told { IfErr result (λ told. (fault : ReadFault) × (read ≡ Err fault) × (told ≡ unread file fault)) }
-    ensures unread { IfErr result (IsUnread file) }
 {
     match read {
         Ok(bytes) => Ok(bytes),
@@ -39,10 +37,11 @@ fn of_file(file: InputFile, read: Result<Vec<u8>, ReadFault>) -> Result<Vec<u8>,
 }
 
 /// All bytes of a task's poll file.
+#[tactic(auto, using(crate::proofs::OnFiles::is_unread))]
 fn read_poll<S: Sources>(sources: &S, alloc: Global, task: &Task<'_>) -> Result<Vec<u8>, RunFault>
     ensures whole { IfOk result (λ bytes. IsWhole (S.file_bytes sources.now (poll_file task.now).now) bytes.items) }
     ensures within { IfOk result (λ bytes. vec_len bytes ≤ POLL_LIMIT) }
-    ensures fault { IfErr result (IsUnread InputFile.Poll) }
+    ensures fault { IfErr result (IsUnread InputFile.Poll (S.file_bytes sources.now (poll_file task.now).now) POLL_LIMIT) }
 {
     of_file(
         InputFile::Poll,
@@ -51,6 +50,7 @@ fn read_poll<S: Sources>(sources: &S, alloc: Global, task: &Task<'_>) -> Result<
 }
 
 /// All bytes of a task's ballot file, or none if it names none.
+#[tactic(auto, using(crate::proofs::OnFiles::is_unread))]
 fn read_ballots<S: Sources>(
     sources: &S,
     alloc: Global,
@@ -59,7 +59,7 @@ fn read_ballots<S: Sources>(
     ensures whole { IfOk result (λ bytes. IfSome (ballot_file task.now) (λ name. IsWhole (S.file_bytes sources.now name.now) bytes.items)) }
     ensures within { IfOk result (λ bytes. vec_len bytes ≤ BALLOTS_LIMIT) }
     ensures unnamed { ¬ IsSome (ballot_file task.now) → IfOk result (λ bytes. bytes.items ≡ []) }
-    ensures fault { IfErr result (λ fault. IsSome (ballot_file task.now) × IsUnread InputFile.Ballots fault) }
+    ensures fault { IfErr result (λ fault. IsSomeAnd (ballot_file task.now) (λ name. IsUnread InputFile.Ballots (S.file_bytes sources.now name.now) BALLOTS_LIMIT fault)) }
 {
     match task.ballots() {
         Some(name) => of_file(
@@ -71,11 +71,12 @@ fn read_ballots<S: Sources>(
 }
 
 /// All bytes of the published sheet that a task compares, or none if it compares none.
+#[tactic(auto, using(crate::proofs::OnFiles::is_unread))]
 fn read_sheet<S: Sources>(sources: &S, alloc: Global, task: &Task<'_>) -> Result<Vec<u8>, RunFault>
     ensures whole { IfOk result (λ bytes. IfSome (sheet_file task.now) (λ name. IsWhole (S.file_bytes sources.now name.now) bytes.items)) }
     ensures within { IfOk result (λ bytes. vec_len bytes ≤ SHEET_LIMIT) }
     ensures unnamed { ¬ IsSome (sheet_file task.now) → IfOk result (λ bytes. bytes.items ≡ []) }
-    ensures fault { IfErr result (λ fault. IsSome (sheet_file task.now) × IsUnread InputFile.Sheet fault) }
+    ensures fault { IfErr result (λ fault. IsSomeAnd (sheet_file task.now) (λ name. IsUnread InputFile.Sheet (S.file_bytes sources.now name.now) SHEET_LIMIT fault)) }
 {
     match task.sheet() {
         Some(name) => of_file(
@@ -106,7 +107,7 @@ pub fn read_inputs<S: Sources>(
     ensures sheet { IfOk result (λ inputs. vec_len inputs.sheet ≤ SHEET_LIMIT) }
     ensures no_ballots { ¬ IsSome (ballot_file task.now) → IfOk result (λ inputs. inputs.ballots.items ≡ []) }
     ensures no_sheet { ¬ IsSome (sheet_file task.now) → IfOk result (λ inputs. inputs.sheet.items ≡ []) }
-    ensures fault { IfErr result (IsOneUnread task.now) }
+    ensures fault { IfErr result (IsOneUnread (S.file_bytes sources.now) task.now) }
 {
     let poll = match read_poll(sources, alloc, task) {
         Ok(poll) => poll,
@@ -128,10 +129,11 @@ pub fn read_inputs<S: Sources>(
 }
 
 /// All bytes of standard input, a joined input. One that can't be read is as a ballot file that can't be.
+#[tactic(auto, using(crate::proofs::OnFiles::is_unread))]
 pub fn read_joined<S: Sources>(sources: &S, alloc: Global) -> Result<Vec<u8>, RunFault>
     ensures whole { IfOk result (λ bytes. IsWhole (S.standard_bytes sources.now) bytes.items) }
     ensures within { IfOk result (λ bytes. vec_len bytes ≤ JOINED_LIMIT) }
-    ensures fault { IfErr result (IsUnread InputFile.Ballots) }
+    ensures fault { IfErr result (IsUnread InputFile.Ballots (S.standard_bytes sources.now) JOINED_LIMIT) }
 {
     of_file(
         InputFile::Ballots,

@@ -107,7 +107,7 @@ IsFaultOfKind k NotUtf8 = ⊥
 IsFaultOfKind k Memory = k ≡ kind.OutOfMemory
 
 -- words are no task for this reason: help only if they ask for it; a refusal only if `clap` finds a fault in them, or no task has the
--- values that it finds; they are all UTF-8
+-- values that it finds; never that they are not UTF-8
 abbrev pub IsNoTask : Kinds → Option (Text × List Row) → OrderFault → Type 0
 IsNoTask kinds subcommand (Help text) = (k : ErrorKind) × AsksForHelp k × IsAmong k kinds
 IsNoTask kinds subcommand (Refused text) = ((k : ErrorKind) × IsRefusal k × IsAmong k kinds) ⊎ AsksForNone subcommand

@@ -2,7 +2,7 @@
 use Rattle.std.proofs.Common.{◌≡◌, List, subst, sym}
 use Rattle.vote_poll.specs.PollContent.{PollContent}
 use Rattle.vote_steps.specs.Boxes.{BoxState}
-use Rattle.vote_steps.specs.Casting.{HoldsLines}
+use Rattle.vote_steps.specs.HeldLines.{HoldsLines}
 use Rattle.vote_desks.specs.Audit.{IsAudited, IsAuditedFor}
 use Rattle.vote_desks_box.specs.Desks.{SealedState}
 use Rattle.vote_desks_box.specs.declared.Slip.{Slip}

@@ -34,7 +34,7 @@ Lists listed poll_text ballots = Runs (StopsAtPoll (poll_in poll_text) (λ poll.
 abbrev pub Checks : Text → Option Text → Option Text → Option RunFault → Type 0
 Checks poll_text = Runs (StopsAtPoll (poll_in poll_text) (λ poll. GoesThrough)) (IsCheck poll_text)
 
--- a run that comes to its end decides nothing
+-- a run that comes to its end ends as `Done`
 abbrev pub EndsDone : Result Ended RunFault → Type 0
 EndsDone result = IfOk result (λ end. end ≡ ended.Done)
 

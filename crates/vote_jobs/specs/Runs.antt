@@ -35,8 +35,8 @@ StopsAtPoll (Ok poll) Next stop = Next poll stop
 abbrev pub StopsAtLines : Text → (Option RunFault → Type 0) → Option RunFault → Type 0
 StopsAtLines ballots = StopsWhere (HasTooManyLines ballots) run.TooManyLines
 
--- a run is stopped by what is due or allowed, and by nothing else; but before it has written, want of memory may stop it in place of
--- that, and where nothing else has to stop it, its output may
+-- what may stop a run: want of memory at any time before it has written; its output, where it may also go through; and else only what
+-- is due or allowed
 abbrev pub Stops : (Option RunFault → Type 0) → Option RunFault → Type 0
 Stops MayStop (Some run.Memory) = Unit {0}
 Stops MayStop (Some run.Output) = MayStop None

@@ -1,6 +1,6 @@
 -- The exit status of a run, and the fault of a file that was not read.
 use Rattle.std.specs.Prelude.{ℕ, Result, Ok, Err}
-use Rattle.vote_poll_keys.specs.declared.fault.PollFault.TheVariants as poll
+use Rattle.vote_poll_keys.specs.declared.fault.PollFault.TheVariants as poll_fault
 use Rattle.vote_desks_box.specs.declared.DeskFault.TheVariants as desk
 use Rattle.vote_desks.specs.declared.VoteFault.TheVariants as vote
 use Rattle.vote_files.specs.declared.ReadFault.{ReadFault}
@@ -25,7 +25,7 @@ abbrev pub fault_status : RunFault → ℕ
 fault_status (run.Input file.Poll fault) = 3
 fault_status (run.Input file.Ballots fault) = 4
 fault_status (run.Input file.Sheet fault) = 10
-fault_status (run.Poll poll.Memory) = 5
+fault_status (run.Poll poll_fault.Memory) = 5
 fault_status (run.Poll fault) = 3
 fault_status run.NoSuchOption = 8
 fault_status run.TooManyLines = 4

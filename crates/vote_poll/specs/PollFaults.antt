@@ -32,7 +32,7 @@ of_title f = where_found f.title (λ title. fault_unless (is_title title) fault.
 unfoldable pub of_option_count : FoundKeys → List PollFault
 of_option_count f = where_found f.options (λ options. fault_unless (is_within 2 MAX_OPTIONS (length options + 1)) fault.OptionCount)
 
--- the default option is the last, where it is there
+-- options are numbered from 1, and the voters below from 0; the default option is the last, where it is there
 unfoldable pub of_option_names : FoundKeys → List PollFault
 of_option_names f = where_found (names_of_options f) (λ names. map (λ place. fault.OptionName (place + 1)) (bad_places is_option_name names))
 

@@ -12,7 +12,7 @@ use Rattle.vote_steps.specs.History.{refused, standing_votes, valid, voters}
 use Rattle.vote_steps.specs.Boxes.{BoxState}
 use Rattle.vote_steps.specs.Recasts.{last_ballot}
 use Rattle.vote_steps.specs.Standing.{CountsLines}
-use Rattle.vote_steps.specs.Casting.{HasSizes}
+use Rattle.vote_steps.specs.HeldLines.{HasSizes}
 use Rattle.vote_sheet.specs.LastBallots.{readings_in_time, refused_count, valid_count, voter_count, votes_for}
 
 -- those that pass a test and those that do not are all

@@ -10,7 +10,7 @@ use Rattle.vote_steps.specs.declared.Reply.TheVariants.{BoxClosed, Late, BadLine
 use Rattle.vote_steps.specs.declared.Step.{Step}
 use Rattle.vote_steps.specs.declared.Step.TheVariants.{Cast, Close}
 use Rattle.vote_steps.specs.Boxes.{BoxState}
-use Rattle.vote_steps.specs.Casting.{AreCastInOrder, HoldsLines}
+use Rattle.vote_steps.specs.HeldLines.{AreCastInOrder, HoldsLines}
 use Rattle.vote_sheet.specs.Texts.{Text, line}
 
 abbrev pub line_fault_words : LineFault → Text

@@ -47,7 +47,7 @@ common_bytes text other = 0
 abbrev pub common_lines : Text → Text → ℕ
 common_lines text other = feed_count (take (common_bytes text other) text)
 
--- The text is no sheet of the count, and of the sheets with each casting vote or none this one has the most first lines in common with it; of equals it is that of the earliest casting vote.
+-- Of the sheets with each casting vote or none this one has the most first lines in common with the text; of equals it is that of the earliest casting vote.
 pub record AgreesLongest (poll : PollContent) (IsSheetFor : Option ℕ → Text → Type 0) (text : Text) (casting : Option ℕ) (sheet : Text) : Type 0 where
   pub vote : IsCasting poll casting
   pub is_sheet : IsSheetFor casting sheet
@@ -120,7 +120,7 @@ pub record DifferFirstAfter (text sheet : Text) (before : ℕ) : Type 0 where
 abbrev pub NamesTheFirstLine : Type 0
 NamesTheFirstLine = (text sheet : Text) → text ≢ sheet → DifferFirstAfter text sheet (common_lines text sheet)
 
--- the words say so, and if it is none of the sheets, how the text differs from the one that agrees longest with it
+-- the words that are printed for this; if the text is none of the sheets, they say how it differs from the one that agrees longest with it
 abbrev pub AreVerificationWords : PollContent → List Text → Text → Verification → Text → Type 0
 AreVerificationWords poll lines text Matches words = words ≡ verified_text poll.options None
 AreVerificationWords poll lines text (MatchesCasting o) words = words ≡ verified_text poll.options (Some o)

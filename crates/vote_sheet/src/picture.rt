@@ -8,7 +8,7 @@ ghost use Rattle.vote_poll.specs.declared.TheConstants.{MAX_OPTIONS};
 ghost use Rattle.vote_poll.specs.PollContent.{option_count};
 ghost use Rattle.vote_count.specs.Sets.{has_pair};
 ghost use Rattle.vote_count.specs.Rounds.{cause_of, final_set};
-ghost use Rattle.vote_steps.specs.Casting.{HoldsLines};
+ghost use Rattle.vote_steps.specs.HeldLines.{HoldsLines};
 ghost use Rattle.vote_sheet.specs.Counted.{as_sheet};
 ghost use Rattle.vote_sheet.specs.Sheet.{line, when};
 ghost use Rattle.vote_sheet.specs.Picture.{PrintsPicture, cause_label, decided_style, dropped_style, edge_line, edge_lines, edges_by, graph_head, node_of, node_lines, picture_text, quoted, removal_text, removing_round};

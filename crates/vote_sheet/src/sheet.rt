@@ -4,7 +4,7 @@ ghost use Rattle.std.specs.Prelude.{◌≡◌, IfOk, IfSome};
 ghost use Rattle.vote_poll_text.specs.Adding.{Adds};
 ghost use Rattle.vote_poll.specs.Options.{IsOption};
 ghost use Rattle.vote_poll.specs.PollContent.{option_count};
-ghost use Rattle.vote_steps.specs.Casting.{HoldsLines};
+ghost use Rattle.vote_steps.specs.HeldLines.{HoldsLines};
 ghost use Rattle.vote_sheet.specs.Counted.{FinalSetIsKept, IsCountOf, WinnerIsOption, shared_text, whole_text};
 ghost use Rattle.vote_sheet.specs.SheetOf.{PrintsSheet, SheetIsUnique};
 

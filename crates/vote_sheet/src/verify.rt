@@ -3,7 +3,7 @@
 ghost use Rattle.std.specs.Prelude.{◌≡◌, ◌<◌, ◌≤◌, IfOk, OnOk, length, option_map, slice_get, string_bytes};
 ghost use Rattle.vote_poll_text.specs.Adding.{Adds};
 ghost use Rattle.vote_poll_text.specs.Lines.{lines_of};
-ghost use Rattle.vote_steps.specs.Casting.{HoldsLines};
+ghost use Rattle.vote_steps.specs.HeldLines.{HoldsLines};
 ghost use Rattle.vote_sheet.specs.Counted.{AddsLastLine, FinalSetIsKept, IsLastLine, IsWhole};
 ghost use Rattle.vote_sheet.specs.Verify.{IsCasting, IsComparedWith, IsFound, IsVerification, SaysInWords, common_bytes, common_lines, difference_text, matching, shown_line, verified_text};
 

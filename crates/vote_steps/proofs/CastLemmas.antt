@@ -18,7 +18,7 @@ use Rattle.vote_steps.specs.History.{before_close, is_closed, is_used, reply_to}
 use Rattle.vote_steps.specs.Boxes.{BoxState, IsLegal}
 use Rattle.vote_steps.specs.Recasts.{HasOwnReading}
 use Rattle.vote_steps.proofs.HistoryLemmas.{before_close-append_open, is_closed-append, is_used-cast}
-use Rattle.vote_steps.specs.Casting.{AreCastInOrder, HasSizes, HoldsLines, OrderLeavesNoChoice}
+use Rattle.vote_steps.specs.HeldLines.{AreCastInOrder, HasSizes, HoldsLines, OrderLeavesNoChoice}
 use Rattle.vote_steps.proofs.LineLemmas.{take_next}
 use Rattle.vote_steps.proofs.StandingLemmas.{as_long}
 

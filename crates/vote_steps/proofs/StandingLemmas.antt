@@ -8,7 +8,7 @@ use Rattle.vote_steps.specs.declared.step.Step.TheVariants.{Close}
 use Rattle.vote_steps.specs.History.{is_used, before_close}
 use Rattle.vote_steps.specs.Boxes.{BoxState}
 use Rattle.vote_steps.specs.Recasts.{HasOwnReading, CastsLines}
-use Rattle.vote_steps.specs.Casting.{HoldsLines}
+use Rattle.vote_steps.specs.HeldLines.{HoldsLines}
 use Rattle.vote_steps.specs.Standing.{LastLinesStand}
 use Rattle.vote_steps.proofs.HistoryLemmas.{casts_before, is_used-close}
 use Rattle.vote_steps.proofs.LegalLemmas.{each_stamp_is_used_lem}

@@ -5,7 +5,7 @@ pub mod Boxes
 pub mod Totals
 pub mod Recasts
 pub mod Laws
-pub mod Casting
+pub mod HeldLines
 pub mod Standing
 -- what types stand for, and what private functions say of their parts
 pub mod KeptReadings

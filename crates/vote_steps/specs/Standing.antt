@@ -8,7 +8,7 @@ use Rattle.vote_count.specs.Ballots.{entry_prefers}
 use Rattle.vote_steps.specs.History.{standing_ranks, standing_votes, valid, refused, voters}
 use Rattle.vote_steps.specs.Boxes.{BoxState}
 use Rattle.vote_steps.specs.Recasts.{last_ballot}
-use Rattle.vote_steps.specs.Casting.{HoldsLines}
+use Rattle.vote_steps.specs.HeldLines.{HoldsLines}
 
 -- of each voter the ranks of the last line stand that reads as a ballot and is not late
 abbrev pub LastLinesStand : Type 0

@@ -4,7 +4,7 @@ ghost use Rattle.std.specs.Prelude.{◌≡◌, ◌≤◌, false, IfOk};
 ghost use Rattle.vote_poll.specs.Readings.{ReadingFits, readings};
 ghost use Rattle.vote_steps.specs.History.{is_used};
 ghost use Rattle.vote_steps.specs.Boxes.{after_cast};
-ghost use Rattle.vote_steps.specs.Casting.{AreCastInOrder, HoldsLines};
+ghost use Rattle.vote_steps.specs.HeldLines.{AreCastInOrder, HoldsLines};
 
 use crate::ballot_box::BallotBox;
 use std::alloc::{AllocError, Global};

@@ -1,7 +1,7 @@
 //! What the definitions on histories mean: each law is the contract of a function that does nothing.
 ghost use Rattle.vote_steps.specs.Recasts.{OrderDoesNotMatter, TheGreatestStands, EachCastIsCounted};
 ghost use Rattle.vote_steps.specs.Laws.{CastsAreAtDesks, RepliesAsInTheExamples, StampsAreDistinct, EachStampIsUsed, ClosesOnce, HasRoomForAll, VotesAreRecounted};
-ghost use Rattle.vote_steps.specs.Casting.{OrderLeavesNoChoice};
+ghost use Rattle.vote_steps.specs.HeldLines.{OrderLeavesNoChoice};
 ghost use Rattle.vote_steps.specs.Standing.{LastLinesStand, LinesAreCounted};
 
 /// Of each voter the ballot with the greatest stamp stands, of those that came before the close and are not late.

@@ -5,7 +5,7 @@ use Rattle.vote_desks.specs.declared.fault.AuditFault.TheVariants.{CountDiffers,
 use Rattle.vote_steps.specs.declared.Step.{Step}
 use Rattle.vote_steps.specs.declared.Step.TheVariants.{Close}
 use Rattle.vote_steps.specs.History.{before_close}
-use Rattle.vote_steps.specs.Casting.{HoldsLines}
+use Rattle.vote_steps.specs.HeldLines.{HoldsLines}
 use Rattle.vote_desks.specs.Audit.{HasOwnReadings, DiffersFirst, SheetDiffers, HasSlips, IsAudited}
 use Rattle.vote_desks.specs.Comparing.{HasDesk, HasEnvelope}
 use Rattle.vote_steps.proofs.HistoryLemmas.{casts_before}

@@ -14,7 +14,7 @@ use Rattle.vote_steps.specs.Recasts.{HasOwnReading}
 abbrev pub HasSizes : PollContent → List (List ℕ) → BoxState → Type 0
 HasSizes poll lines b = (b.options ≡ option_count poll) × (b.electors ≡ elector_count poll) × (b.limit ≡ length lines) × (b.last_in_time ≡ last_in_time poll)
 
--- Each line is cast exactly once: there are as many casts as lines, each with a stamp of its own from 1 to their number.
+-- Each line is cast exactly once, as these say together: there are as many casts as lines, each with its own stamp from 1 to their number.
 pub record HoldsLines (poll : PollContent) (lines : List (List ℕ)) (b : BoxState) : Type 0 where
   -- the box has the poll's sizes and last envelope, and a stamp for each line
   pub sizes : HasSizes poll lines b
