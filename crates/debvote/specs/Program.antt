@@ -12,14 +12,13 @@ use Rattle.vote_job_files.specs.WordStatus.{order_status}
 abbrev pub AreNotGiven : OrderFault → Type 0
 AreNotGiven fault = (fault ≡ NotUtf8) ⊎ (fault ≡ Memory)
 
--- this is answered to these words, or without any to a joined input, where files, standard input and standard output tell no bytes
+-- this is answered, for some output, to these words, or without any to a joined input, where files and standard input tell no bytes
 abbrev pub Answers : List (Bor (List ℕ)) → ℕ → Type 0
 Answers words answered =
     (written : Written) × (length words ≡ 0 → AnswersJoined None written answered)
     × (0 < length words → AnswersWorded (λ name. None) (texts_of words) written answered)
 
--- this is answered to the words of a run, the first of which is the program's name: those after it are answered, or there is no
--- memory for them
+-- this is answered to the words of a run behind the first, the program's name, or there is no memory for them
 abbrev pub AnswersRun : List (List ℕ) → ℕ → Type 0
 AnswersRun given answered =
     ((words : List (Bor (List ℕ))) × (texts_of words ≡ drop 1 given) × Answers words answered) ⊎ (answered ≡ order_status Memory)

@@ -52,7 +52,7 @@ fn run_metered<R: Files + Input + Print + Eprint + AllocGlobal + Threads + Wait 
     ensures { Answers words.now result }
 {
     let mut sink = WriterSink::new(io::writer(rt), Meter::<L>::new(blank));
-    answer(rt, &SystemSources::new(rt), words, at_terminal, &mut sink)
+    answer(rt, &SystemSources(rt), words, at_terminal, &mut sink)
 }
 
 /// The words after the program's name.

@@ -11,12 +11,17 @@ ghost use Rattle.vote_steps.specs.Desks.{AreDesks};
 use crate::inputs::{BALLOTS, CYCLE, SHEET, assert_same, lines_of, poll_of};
 use std::alloc::{AllocError, Global};
 use std::io::{self, ErrorKind, Write};
+use std::marker::Brand;
 use std::process::Abort;
 use std::sync::Wait;
+use std::sync::ledger::{Blank, Ledger};
 use std::test::Fail;
 use std::thread::Threads;
 use vote_desks::{Gate, NoGate, Slip, VoteFault, take_votes};
-use vote_jobs::{Ended, Job, RunFault, perform_on, sheet, split_joined, status};
+use vote_files::{Meter, WriterSink};
+use vote_jobs::{
+    Ended, Job, RunFault, perform_on, print_steps, run, sheet, split_joined, status, steps_joined,
+};
 use vote_poll::{Lines, Poll};
 use vote_work::{Listing, Purpose, Work};
 
@@ -134,6 +139,48 @@ fn any_write_of_a_sheet_may_fail(rt: HostRuntime) -> Result<(), Fail> {
         let found = written_of_cycle(&rt, rt.alloc(), 1, limit, true)?;
         assert_same(&rt, found, (true, limit, (0, false), output));
     }
+    Ok(())
+}
+
+/// The replies to the ballots of the cycle, and then those to the joined input.
+const REPLIES: &[u8] =
+    b"1 counted\n2 counted\n3 counted\n4 counted\n5 counted\n6 counted\n7 counted\n8 counted\n9 counted\n1 counted\n2 counted\n3 replaced\n";
+
+/// Makes the calls that only callers of the library make, one after another on one paper with room: how the count ends, whether both
+/// listings are written, and whether all their texts are.
+fn calls_metered<R: Threads + Wait + Sync, L: Ledger>(
+    rt: &R,
+    alloc: Global,
+    blank: Blank,
+) -> Result<(Result<Ended, RunFault>, bool, bool), AllocError>
+    requires name { blank.name ≡ L.name }
+    requires parts { blank.parts ≡ L.parts }
+    requires two { blank.parts ≡ 2 }
+{
+    let mut sink = WriterSink::new(endless(alloc)?, Meter::<L>::new(blank));
+    let counted = run(
+        rt,
+        alloc,
+        CYCLE.as_bytes(),
+        BALLOTS.as_bytes(),
+        2,
+        None,
+        &NoGate,
+        &mut sink,
+    );
+    let end = counted.end;
+    let listed = print_steps(alloc, CYCLE.as_bytes(), BALLOTS.as_bytes(), &mut sink).is_ok();
+    let joined = steps_joined(alloc, JOINED, &mut sink).is_ok();
+    let paper = sink.into_writer();
+    let is_text = paper.written.as_slice().strip_prefix(SHEET.as_bytes()) == Some(REPLIES);
+    drop(paper);
+    Ok((end, listed && joined, is_text))
+}
+
+#[test]
+fn calls_of_the_library_write_what_jobs_do(rt: HostRuntime) -> Result<(), Fail> {
+    let found = calls_metered::<HostRuntime, Brand>(&rt, rt.alloc(), Blank::new(2))?;
+    assert_same(&rt, found, (WON, true, true));
     Ok(())
 }
 

@@ -1,10 +1,10 @@
 -- What the refusals tell of a file, one after another.
-use Rattle.std.proofs.Common.{◌≡◌, ◌||◌, ◌&&◌, ◌++◌, ◌∙◌, ℕ, List, [], ◌∷◌, refl, ap, ap₂, sym, not, Bool, true, false, Option}
+use Rattle.std.proofs.Common.{◌≡◌, ◌||◌, ◌++◌, ◌∙◌, ℕ, List, [], ◌∷◌, refl, ap, sym, Bool, true, false, Option}
 use Rattle.std.specs.List.{list_any}
 use Rattle.vote_poll.specs.PollContent.{PollContent}
 use Rattle.vote_sheet.specs.Texts.{Text}
 use Rattle.vote_ballot_findings.specs.Adding.{AddsSigns, AreSigns, advice_of}
-use Rattle.vote_ballot_findings.specs.FileSigns.{advice_text, example_text, has_return, is_bad_row, is_bad_shape, is_marked_shape, is_of_old_mac, lacks_return, returns_within, unended_line}
+use Rattle.vote_ballot_findings.specs.FileSigns.{advice_text, has_return, is_bad_row, is_bad_shape, is_marked_shape, is_of_old_mac, lacks_return, returns_within, unended_line}
 use Rattle.vote_ballot_findings.specs.Refusals.{Refusal}
 use Rattle.vote_ballot_findings.specs.declared.file_signs.FileSigns.{FileSigns}
 

@@ -33,15 +33,7 @@ pub trait Sources {
 /// The files and the standard input of the system. They tell no bytes: that a name opens its file, and which bytes come from it,
 /// no contract of std says.
 #[derive(Clone, Copy)]
-pub struct SystemSources<'r, R> {
-    rt: &'r R,
-}
-
-impl<'r, R> SystemSources<'r, R> {
-    pub fn new(rt: &'r R) -> Self {
-        SystemSources { rt }
-    }
-}
+pub struct SystemSources<'r, R>(pub &'r R);
 
 impl<'r, R: Files + Input> Sources for SystemSources<'r, R> {
     ghost file_bytes = { λ _ _. None };
@@ -49,13 +41,13 @@ impl<'r, R: Files + Input> Sources for SystemSources<'r, R> {
     ghost standard_bytes = { λ _. None };
 
     fn read_file(&self, alloc: Global, name: &str, limit: usize) -> Result<Vec<u8>, ReadFault> {
-        match File::open(self.rt, name) {
+        match File::open(self.0, name) {
             Ok(file) => read_all(alloc, file, limit),
             Err(_) => Err(ReadFault::Device),
         }
     }
 
     fn read_standard_input(&self, alloc: Global, limit: usize) -> Result<Vec<u8>, ReadFault> {
-        read_all(alloc, self.rt.reader(), limit)
+        read_all(alloc, self.0.reader(), limit)
     }
 }

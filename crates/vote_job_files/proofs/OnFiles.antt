@@ -1,7 +1,7 @@
 -- What is done for a task, once its files are read.
 use Rattle.std.proofs.Common.{◌≡◌, ◌∙◌, ℕ, ap, Bor, Err, IfSome, List, Option, Result, inr, refl, subst, sym}
 use Rattle.std.specs.Prelude.{IsErrOf}
-use Rattle.vote_files.specs.Device.{IsTooLong, IsWhole}
+use Rattle.vote_files.specs.Device.{IsTooLong}
 use Rattle.vote_files.specs.declared.ReadFault.{ReadFault}
 use Rattle.vote_files.specs.declared.ReadFault.TheVariants as read
 use Rattle.vote_jobs.specs.Status.{unread}
@@ -10,9 +10,10 @@ use Rattle.vote_jobs.specs.declared.Performed.{Performed}
 use Rattle.vote_jobs.specs.declared.RunFault.{RunFault}
 use Rattle.vote_job_words.specs.Order.{Task}
 use Rattle.vote_job_files.specs.Doing.{EndsTask, IsDone, IsTaskDone, Written}
-use Rattle.vote_job_files.specs.Jobs.{AreReadOf}
+use Rattle.vote_job_files.specs.Jobs.{AreReadOf, IsReadWithin}
 use Rattle.vote_job_files.specs.Unread.{IsUnread}
 use Rattle.vote_job_files.specs.declared.inputs.Inputs.{Inputs}
+use Rattle.vote_job_files.specs.declared.inputs.TheConstants.{BALLOTS_LIMIT, POLL_LIMIT, SHEET_LIMIT}
 use Rattle.vote_work.specs.Asked.{DesksFit, ballot_file, poll_file, sheet_file, work_on}
 use Rattle.vote_work.specs.declared.Work.TheVariants as work
 
@@ -46,9 +47,9 @@ done_on_its_files file_bytes asked inputs written performed files done =
       job_is.1,
       job_is.2,
       record {
-        poll_is = subst (λ text. IsWhole (file_bytes (poll_file asked).now) text) (sym job_is.3) files.poll_is;
-        ballots_are = subst (λ text. IfSome (ballot_file asked) (λ name. IsWhole (file_bytes name.now) text)) (sym job_is.4) files.ballots_are;
-        sheet_is = subst (λ text. IfSome (sheet_file asked) (λ name. IsWhole (file_bytes name.now) text)) (sym job_is.5) files.sheet_is;
+        poll_is = subst (λ text. IsReadWithin POLL_LIMIT (file_bytes (poll_file asked).now) text) (sym job_is.3) files.poll_is;
+        ballots_are = subst (λ text. IfSome (ballot_file asked) (λ name. IsReadWithin BALLOTS_LIMIT (file_bytes name.now) text)) (sym job_is.4) files.ballots_are;
+        sheet_is = subst (λ text. IfSome (sheet_file asked) (λ name. IsReadWithin SHEET_LIMIT (file_bytes name.now) text)) (sym job_is.5) files.sheet_is;
       },
       subst (λ job. IsDone job written performed) job_is.6 done.2,
     )

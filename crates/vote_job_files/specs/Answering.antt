@@ -5,7 +5,7 @@ use Rattle.vote_files.specs.Device.{AppendsPrefix}
 use Rattle.vote_job_words.specs.Words.{AreNoTask, AskFor}
 use Rattle.vote_job_words.specs.Order.{Task}
 use Rattle.vote_job_words.specs.declared.OrderFault.{OrderFault}
-use Rattle.vote_job_words.specs.declared.OrderFault.TheVariants.{Help, Refused, NotUtf8, Memory}
+use Rattle.vote_job_words.specs.declared.OrderFault.TheVariants.{Help}
 use Rattle.vote_jobs.specs.Status.{status}
 use Rattle.vote_jobs.specs.declared.Performed.{Performed}
 use Rattle.vote_jobs.specs.declared.RunFault.TheVariants as run

@@ -2,7 +2,6 @@
 use Rattle.std.specs.Prelude.{◌≡◌, ◌⊎◌, ℕ, Bool, true, false, List, Option, Err, OnOk}
 use Rattle.std.proofs.Common.{Bor}
 use Rattle.std.specs.Io.KnownBytes.{Keeps}
-use Rattle.vote_files.specs.Device.{IsWhole}
 use Rattle.vote_work.specs.Asked.{work_on}
 use Rattle.vote_work.specs.declared.Listing.TheVariants as listing
 use Rattle.vote_work.specs.declared.Work.TheVariants as work
@@ -12,7 +11,7 @@ use Rattle.vote_jobs.specs.Performing.{Job, Performs}
 use Rattle.vote_jobs.specs.declared.InputFile.TheVariants as file
 use Rattle.vote_jobs.specs.declared.Performed.{Performed}
 use Rattle.vote_jobs.specs.declared.RunFault.{RunFault}
-use Rattle.vote_job_files.specs.Jobs.{AreFilesOf, IsJobOf}
+use Rattle.vote_job_files.specs.Jobs.{AreFilesOf, IsJobOf, IsReadWithin}
 use Rattle.vote_job_files.specs.Unread.{IsOneUnread, IsUnread}
 use Rattle.vote_job_files.specs.declared.inputs.Inputs.{Inputs}
 use Rattle.vote_job_files.specs.declared.inputs.TheConstants.{JOINED_LIMIT}
@@ -23,7 +22,7 @@ pub record Written : Type 0 where
   pub new : Option (List ℕ)
   pub flushed : Bool
 
--- the same of a sink before and after a call
+-- what a sink holds before and after a call
 abbrev pub written_by : {S : Type 0} → (S → Option (List ℕ)) → (S → Bool) → S → S → Written
 written_by contents flushed old new = record { old = contents old; new = contents new; flushed = flushed new }
 
@@ -50,5 +49,5 @@ EndsTask file_bytes asked written performed =
 abbrev pub EndsJoined : Option (List ℕ) → Written → Performed → Type 0
 EndsJoined standard_bytes written performed =
     StopsUnread (IsUnread file.Ballots standard_bytes JOINED_LIMIT) written performed
-    ⊎ ((input : List ℕ) × (poll ballots : Bor (List ℕ)) × IsWhole standard_bytes input × AreParts input poll.now ballots.now
+    ⊎ ((input : List ℕ) × (poll ballots : Bor (List ℕ)) × IsReadWithin JOINED_LIMIT standard_bytes input × AreParts input poll.now ballots.now
     × IsDone (work.List poll ballots listing.Steps) written performed)

@@ -29,7 +29,7 @@ use Rattle.vote_work.specs.declared.Purpose.TheVariants as purpose
 use Rattle.vote_jobs.specs.declared.fault.RunFault.{RunFault}
 use Rattle.vote_jobs.specs.declared.fault.RunFault.TheVariants as run
 
--- the option that a casting vote names, if there is a casting vote and an option of this name
+-- the option that a casting vote names, if there is one; a name of no option stops the count (NamesNoOption)
 abbrev pub casting_option : PollContent → Option Text → Option ℕ
 casting_option poll None = None
 casting_option poll (Some name) = option_map (λ place. place + 1) (place_of name poll.options)

@@ -35,8 +35,7 @@ StopsAtPoll (Ok poll) Next stop = Next poll stop
 abbrev pub StopsAtLines : Text → (Option RunFault → Type 0) → Option RunFault → Type 0
 StopsAtLines ballots = StopsWhere (HasTooManyLines ballots) run.TooManyLines
 
--- what may stop a run: want of memory at any time before it has written; its output, where it may also go through; and else only what
--- is due or allowed
+-- what may stop a run: want of memory; a failed output, where it may also go through; and else only what is due or allowed
 abbrev pub Stops : (Option RunFault → Type 0) → Option RunFault → Type 0
 Stops MayStop (Some run.Memory) = Unit {0}
 Stops MayStop (Some run.Output) = MayStop None

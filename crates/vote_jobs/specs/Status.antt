@@ -20,7 +20,7 @@ unread file read.TooLong = run.Input file input.TooLong
 unread file read.Memory = run.Memory
 
 -- ---- statuses
--- that of a run that did not come to its end; want of memory has its own, also where the fault of a poll or of votes says it
+-- the status of a run that did not come to its end; want of memory has its own, also in faults of polls and votes that no run returns
 abbrev pub fault_status : RunFault → ℕ
 fault_status (run.Input file.Poll fault) = 3
 fault_status (run.Input file.Ballots fault) = 4
@@ -36,7 +36,7 @@ fault_status (run.Vote fault) = 6
 fault_status run.Memory = 5
 fault_status run.Output = 7
 
--- that of a run, by how it ended
+-- the exit status of a run, by how it ended
 abbrev pub status : Result Ended RunFault → ℕ
 status (Ok (ended.Decided option)) = 0
 status (Ok ended.Done) = 0

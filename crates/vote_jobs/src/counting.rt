@@ -131,6 +131,8 @@ pub fn count_for<G: Gate + Sync, W: Sink, R: Threads + Wait + Sync>(
 
 /// Takes the votes of a ballot file at so many desks, each in a thread of its own, and writes the sheet of the audited box,
 /// with the option that the casting vote names. Nothing is written before the sheet is whole.
+///
+/// For callers of the library; the program calls `perform`.
 pub fn run<G: Gate + Sync, W: Sink, R: Threads + Wait + Sync>(
     rt: &R,
     alloc: Global,

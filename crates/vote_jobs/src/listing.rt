@@ -91,6 +91,8 @@ pub fn print_listing<W: Sink>(
 }
 
 /// Writes the reply of the ballot box to each line.
+///
+/// For callers of the library; the program calls `perform`.
 pub fn print_steps<W: Sink>(
     alloc: Global,
     poll_text: &[u8],
@@ -105,6 +107,8 @@ pub fn print_steps<W: Sink>(
 }
 
 /// `print_steps` for a poll and its ballots in one input, as [`split_joined`] parts it.
+///
+/// For callers of the library; the program calls `perform`.
 pub fn steps_joined<W: Sink>(alloc: Global, input: &[u8], sink: &mut W) -> Result<(), RunFault>
     ensures lists { let parts = joined_parts input.now in Lists Steps parts.0 parts.1 (W.contents sink.old) (W.contents sink.new) (result_err result) }
     ensures output { IsErrOf result RunFault.Output ↔ (W.faults sink.old < W.faults sink.new) }

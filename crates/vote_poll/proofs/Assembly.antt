@@ -13,7 +13,7 @@ use Rattle.toml.specs.Data.{Members}
 use Rattle.vote_poll.specs.Names.{first_bad}
 use Rattle.vote_poll_text.specs.Names.{is_within, is_voter_name, is_option_name, is_title}
 use Rattle.vote_poll.specs.PollContent.{IsPoll, PollContent}
-use Rattle.vote_poll_keys.specs.KeyFaults.{FoundKeys, fault_unless, found_in, is_right, names_of_options, of_keys}
+use Rattle.vote_poll_keys.specs.KeyFaults.{FoundKeys, fault_unless, is_right, names_of_options, of_keys}
 use Rattle.vote_poll.specs.PollFaults.{IsJudged, bad_places, of_contents, of_last_envelope, of_option_count, of_option_names, of_quorum, of_ratios, of_roll_size, of_title, of_voter_names, of_wording, where_found}
 use Rattle.vote_poll.specs.PollFile.{poll_of}
 use Rattle.vote_poll.specs.PollValues.{is_integer_within, last_envelope_in, number_within, quorum_in}

@@ -1,7 +1,7 @@
 //! Where an option stands whose rank a ballot line spells, by two look-ups in place of tests: which
 //! way a test of a rank's length goes is a coin toss, and a processor that guesses wrong loses the
 //! time of several ranks.
-ghost use Rattle.std.specs.Prelude.{◌≡◌, [], ◌∷◌, if◌then◌else◌, ◌==◌, IfSome, Some, option_map};
+ghost use Rattle.std.specs.Prelude.{◌≡◌, if◌then◌else◌, ◌==◌, IfSome, Some, option_map};
 ghost use Rattle.std.specs.Str.{byte};
 ghost use Rattle.vote_poll.specs.Parsing.{kind_of};
 ghost use Rattle.vote_poll.specs.Readings.{rank_in};

@@ -4,7 +4,7 @@ use Rattle.std.specs.List.{list_all}
 use Rattle.std.specs.Str.{byte}
 use Rattle.vote_poll_text.specs.declared.TheConstants.{MAX_VOTER_NAME, MAX_TITLE, MAX_OPTION_NAME}
 
--- the byte is one from low to high
+-- the number is one from low to high
 abbrev pub is_within : ℕ → ℕ → ℕ → Bool
 is_within low high b = nat_le low b && nat_le b high
 

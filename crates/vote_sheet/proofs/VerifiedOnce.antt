@@ -1,5 +1,5 @@
 -- Poll, lines and text leave no choice in what `verify` says, nor in its words.
-use Rattle.std.proofs.Common.{◌≡◌, ℕ, ◌<◌, ◌⊎◌, List, Option, None, Some, inl, inr, refl, sym, ap, ap₂, ◌∙◌, subst, arith}
+use Rattle.std.proofs.Common.{◌≡◌, ℕ, ◌<◌, ◌⊎◌, List, Option, None, Some, inl, inr, refl, sym, ap, ◌∙◌, subst, arith}
 use Rattle.std.proofs.lemmas.Bool.{cases_lt}
 use Rattle.vote_poll.specs.PollContent.{PollContent}
 use Rattle.vote_sheet.specs.SheetOf.{IsSheet, SheetIsUnique}

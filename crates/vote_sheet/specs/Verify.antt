@@ -10,7 +10,7 @@ use Rattle.vote_sheet.specs.Counted.{IsLastLine}
 use Rattle.vote_sheet.specs.Sheet.{name_of}
 use Rattle.vote_sheet.specs.SheetOf.{IsSheet}
 use Rattle.vote_sheet.specs.Texts.{Text, line}
-use Rattle.vote_sheet.specs.declared.TheConstants.{MAX_SHOWN}
+use Rattle.vote_sheet.specs.declared.TheConstants.{MAX_SHOWN_OF_LINE}
 use Rattle.vote_sheet.specs.declared.sheet.Count.{Count}
 use Rattle.vote_sheet.specs.declared.verify.Found.{Found}
 use Rattle.vote_sheet.specs.declared.verify.Found.TheVariants.{Closest, Same}
@@ -88,7 +88,7 @@ verified_text names (Some o) = line (codes "verified, casting vote " ∷ decimal
 -- the first bytes of a line, or that the text has ended
 abbrev pub shown_line : Option Text → Text
 shown_line None = codes "(end)"
-shown_line (Some text) = shown MAX_SHOWN text
+shown_line (Some text) = shown MAX_SHOWN_OF_LINE text
 
 -- the first line, from 1, in which the text differs from the sheet, and this line of both; a last line without its line feed is another line
 unfoldable pub difference_text : Text → Text → Text

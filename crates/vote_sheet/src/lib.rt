@@ -34,4 +34,4 @@ pub use steps::{check_text, reply_words, steps_are_determined, steps_text};
 pub use verify::{Verification, verify_sheet};
 
 /// The most bytes of a line that [`verify_sheet`] shows.
-pub const MAX_SHOWN: usize = 120;
+pub const MAX_SHOWN_OF_LINE: usize = 120;

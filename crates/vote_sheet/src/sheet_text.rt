@@ -6,7 +6,6 @@ ghost use Rattle.vote_poll.specs.Options.{IsOption};
 ghost use Rattle.vote_poll.specs.declared.TheConstants.{MAX_OPTIONS};
 ghost use Rattle.vote_poll.specs.PollContent.{option_count};
 ghost use Rattle.vote_count.specs.Sets.{has, has_pair};
-ghost use Rattle.vote_count.specs.Rounds.{cause_of};
 ghost use Rattle.vote_sheet.specs.Counted.{WinnerIsOption, head_of, totals_of};
 ghost use Rattle.vote_sheet.specs.Sheet.{casting_note, cause_name, causes_text, counted_text, decision_text, default_text, defeat_lines, defeat_text, defeats_text, defeats_by, drop_line, drops_of, each, ending, tie_text, winner_text, dropped_line, dropped_text, last_text, name_of, numbers, option_text, options_text, round_text, rounds_from, row_text, table_head_text, table_text, votes_text, when, wording_text};
 

@@ -7,7 +7,7 @@ ghost use Rattle.vote_steps.specs.HeldLines.{HoldsLines};
 ghost use Rattle.vote_sheet.specs.Counted.{AddsLastLine, FinalSetIsKept, IsLastLine, IsWhole};
 ghost use Rattle.vote_sheet.specs.Verify.{IsCasting, IsComparedWith, IsFound, IsVerification, SaysInWords, common_bytes, common_lines, difference_text, matching, shown_line, verified_text};
 
-use crate::MAX_SHOWN;
+use crate::MAX_SHOWN_OF_LINE;
 use crate::sheet::{Count, count_of_box, push_shared, sheet_is_unique};
 use crate::sheet_text::{option_name, push_decision};
 use std::alloc::{AllocError, Global};
@@ -69,7 +69,7 @@ fn push_shown_line(words: &mut String, text: &[u8], place: usize) -> Result<(), 
     ensures { Adds result words.old (shown_line (slice_get (lines_of text.now) place)) words.new }
 {
     match line_at(text, place) {
-        Some(line) => push_shown(words, line, MAX_SHOWN),
+        Some(line) => push_shown(words, line, MAX_SHOWN_OF_LINE),
         None => words.push_str("(end)"),
     }
 }

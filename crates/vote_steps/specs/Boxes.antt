@@ -11,7 +11,7 @@ use Rattle.vote_steps.specs.declared.step.Step.TheVariants.{Cast, Close}
 use Rattle.vote_steps.specs.declared.TheConstants.{MAX_DESKS}
 use Rattle.vote_steps.specs.History.{is_cast, is_closed, is_used, is_valid, refused, reply_to, standing_votes, valid, voters}
 
--- its options with the default, its electors, the greatest of its stamps and the greatest that is not late, and its steps, oldest first
+-- its options with the default, its electors, the greatest stamp that it takes, the greatest that is not late, and its steps, oldest first
 pub record BoxState : Type 0 where
   pub options : ℕ
   pub electors : ℕ

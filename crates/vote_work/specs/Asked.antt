@@ -1,5 +1,5 @@
 -- What is asked for, on files of which names or bytes are known.
-use Rattle.std.specs.Prelude.{◌≤◌, ℕ, Option, Some, None, option_map}
+use Rattle.std.specs.Prelude.{◌≤◌, Option, Some, None, option_map}
 use Rattle.vote_work.specs.declared.TheConstants.{MAX_DESKS}
 use Rattle.vote_work.specs.declared.asked.Purpose.{Purpose}
 use Rattle.vote_work.specs.declared.asked.Purpose.TheVariants as purpose

@@ -1,4 +1,4 @@
-use Rattle.std.proofs.Common.{refl, ap, ◌∙◌, arith}
+use Rattle.std.proofs.Common.{ap, ◌∙◌, arith}
 use Rattle.vote_steps.specs.declared.Totals.{Totals}
 use Rattle.vote_sheet.proofs.Holding.{refused_are, valid_are, voters_are, votes_are}
 use Rattle.vote_sheet.proofs.sheet.count_of_box.Goals as goal

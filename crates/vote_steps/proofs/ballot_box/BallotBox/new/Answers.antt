@@ -1,4 +1,4 @@
-use Rattle.std.proofs.Common.{◌≡◌, ℕ, ◌*◌, Bool, false, cond, List, Option, Some, None, get_or, refl, ap, ◌∙◌, sym, subst, replicate, arith, rules}
+use Rattle.std.proofs.Common.{◌≡◌, ℕ, ◌*◌, Bool, false, cond, List, Option, Some, None, get_or, refl, ap, ◌∙◌, sym, subst, replicate, arith}
 use Rattle.std.specs.Prelude.{is_some}
 use Rattle.std.specs.List.{count_by}
 use Rattle.std.proofs.lemmas.List.Folds.{sum_by-replicate}
