@@ -2,8 +2,8 @@
 //! Vote Counting.
 //!
 //! A [`Matrix`] has V(A,B), the number of voters who prefer option A to option B, for each two
-//! options of a poll. Ballots are added to it, taken out of it or exchanged one at a time, and [`recount`]
-//! makes it from a list of them.
+//! options of a poll. Ballots are added to it or taken out of it one at a time, and [`recount`] makes it
+//! from a list of them. In a [`RunningMatrix`] one ballot is also exchanged for another.
 //!
 //! [`outcome`] counts a matrix by the rules of a poll. It drops the options that miss the quorum
 //! or their majority ([`quorum_votes`], [`meets_quorum`], [`meets_majority`],
