@@ -19,3 +19,4 @@ mod RunningLemmas
 pub mod Determined
 mod Filled
 pub mod Examples
+pub mod Left

@@ -45,7 +45,7 @@ has_next s i = at_option-in s (suc i) false (omega arith) ∙ ap (λ k. get_or s
 pub pair_next : (rows : List (List Bool)) (i o : ℕ) → has_pair rows (suc i) o ≡ has (get_or rows i []) o
 pair_next rows i o = has_pair-in rows (suc i) o (omega arith) ∙ ap (λ k. has (get_or rows k []) o) (omega arith)
 
-size_at : (s : List Bool) (o : ℕ) → In s o → 1 ≤ size s
+pub size_at : (s : List Bool) (o : ℕ) → In s o → 1 ≤ size s
 size_at s o h = elim (cases_lt 0 o) [
   | inl some ↦ omega (arith, sum_by_at one false refl s (o - 1), ap one (sym (at_option-in s o false some) ∙ h))
   | inr none ↦ absurd (true≢false (sym h ∙ at_option-none s o false (omega arith)))

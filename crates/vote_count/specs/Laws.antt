@@ -9,7 +9,7 @@ use Rattle.vote_count.specs.declared.rounds.Round.{Round}
 use Rattle.vote_count.specs.Ballots.{entry_prefers}
 use Rattle.vote_count.specs.declared.rounds.Decision.{Decision}
 use Rattle.vote_count.specs.declared.rounds.Decision.TheVariants.{Winner}
-use Rattle.vote_count.specs.Rounds.{AreRounds, AreSameRounds, IsDecision, IsOutcome, VerdictState, cause_of, final_set}
+use Rattle.vote_count.specs.Rounds.{AreRounds, AreSameRounds, IsByCasting, IsDecision, IsOutcome, VerdictState, cause_of, final_set}
 use Rattle.vote_count.specs.Rules.{IsKept, PairwiseDefeats, TransitivelyDefeats, IsWeaker}
 use Rattle.vote_count.specs.Sets.{In, IsAlone, Pairs, size}
 use Rattle.vote_count.specs.Votes.{Votes, votes}
@@ -35,6 +35,22 @@ abbrev pub DecisionsAreDetermined : Type 0
 DecisionsAreDetermined =
     (set other : List Bool) (casting : Option ℕ) (first second : Decision) → ((o : ℕ) → In set o ↔ In other o) →
     IsDecision set casting first → IsDecision other casting second → (size set ≡ size other) × (first ≡ second)
+
+-- A count always leaves an option: the final set is not empty.
+abbrev pub FinalSetIsNotEmpty : Type 0
+FinalSetIsNotEmpty =
+    (poll : PollContent) (matrix : Votes) (rounds : List Round) →
+    let kept = IsKept poll matrix in
+    AreRounds kept matrix (PairwiseDefeats kept matrix) rounds → (o : ℕ) × In (final_set rounds) o
+
+-- So one option is left, and wins; or two or more are left, and the casting vote decides, or there is a tie.
+abbrev pub OneOrSeveralAreLeft : Type 0
+OneOrSeveralAreLeft =
+    (poll : PollContent) (matrix : Votes) (rounds : List Round) (casting : Option ℕ) (decision : Decision) →
+    let kept = IsKept poll matrix in
+    let set = final_set rounds in
+    AreRounds kept matrix (PairwiseDefeats kept matrix) rounds → IsDecision set casting decision →
+    ((o : ℕ) × IsAlone set o × (decision ≡ Winner o)) ⊎ ((2 ≤ size set) × IsByCasting set casting decision)
 
 -- A winner is one of the options of the set, whether it is alone there or the casting vote chose it.
 abbrev pub WinnersAreInTheSet : Type 0

@@ -77,7 +77,7 @@ pub record IsOutcome (poll : PollContent) (matrix : Votes) (outcome : VerdictSta
   pub defeats : (a b : ℕ) → Pairs outcome.defeats a b ↔ PairwiseDefeats (IsKept poll matrix) matrix a b
   pub rounds : AreRounds (IsKept poll matrix) matrix (PairwiseDefeats (IsKept poll matrix) matrix) outcome.rounds
 
--- An option that is alone in the set wins; where none is, the casting vote decides.
+-- An option that is alone in the set wins; where none is, the casting vote decides. No final set is empty, by the law `Laws.FinalSetIsNotEmpty`.
 -- A.5.8: "If there is only one such option, it is the winner."
 pub record IsDecision (set : List Bool) (casting : Option ℕ) (decision : Decision) : Type 0 where
   pub alone : (o : ℕ) → IsAlone set o → decision ≡ Winner o

@@ -1,5 +1,5 @@
 //! Laws of the count. Each function does nothing: its contract is the law, and that is proved.
-ghost use Rattle.vote_count.specs.Laws.{BallotsAreAnonymous, CondorcetWinnersWin, FinalSetIsInSmithSet, FinalSetIsSchulze, RaisedWinnersWin, RaisedBallotsRaise, FinalSetIsCloneproof, ClonesOnBallotsAreClones, CloneSetsAreIndependent, CloneSetsOnBallotsAreCloneSets, FinalSetIsPareto, OutcomesAreDetermined, DecisionsAreDetermined, WeakerDefeatsAsInTheExamples, WinnersAreInTheSet};
+ghost use Rattle.vote_count.specs.Laws.{BallotsAreAnonymous, CondorcetWinnersWin, FinalSetIsInSmithSet, FinalSetIsSchulze, RaisedWinnersWin, RaisedBallotsRaise, FinalSetIsCloneproof, ClonesOnBallotsAreClones, CloneSetsAreIndependent, CloneSetsOnBallotsAreCloneSets, FinalSetIsPareto, OutcomesAreDetermined, DecisionsAreDetermined, FinalSetIsNotEmpty, OneOrSeveralAreLeft, WeakerDefeatsAsInTheExamples, WinnersAreInTheSet};
 ghost use Rattle.vote_count.specs.Rounds.{RoundsAreDetermined};
 
 /// The rules leave no choice: two lists of rounds of the same poll and matrix are the same.
@@ -15,6 +15,16 @@ pub fn outcomes_are_determined()
 /// A decision depends on the options of the final set and on the casting vote alone, and these leave no choice in it.
 pub fn decisions_are_determined()
     ensures { DecisionsAreDetermined }
+{}
+
+/// A count always leaves an option: the final set is not empty.
+pub fn final_set_is_not_empty()
+    ensures { FinalSetIsNotEmpty }
+{}
+
+/// So one option is left, and wins; or two or more are left, and the casting vote decides, or there is a tie.
+pub fn one_or_several_are_left()
+    ensures { OneOrSeveralAreLeft }
 {}
 
 /// A winner is in the final set, whether it is alone there or the casting vote chose it.

@@ -2,8 +2,8 @@
 //! Vote Counting.
 //!
 //! A [`Matrix`] has V(A,B), the number of voters who prefer option A to option B, for each two
-//! options of a poll. Ballots are added to it, taken out of it or exchanged one at a time, and [`recount`]
-//! makes it from a list of them.
+//! options of a poll. Ballots are added to it or taken out of it one at a time, and [`recount`] makes it
+//! from a list of them. In a [`RunningMatrix`] one ballot is also exchanged for another.
 //!
 //! [`outcome`] counts a matrix by the rules of a poll. It drops the options that miss the quorum
 //! or their majority ([`quorum_votes`], [`meets_quorum`], [`meets_majority`],
@@ -25,8 +25,9 @@
 //! [`raised_ballots_raise`], [`final_set_is_cloneproof`], [`clones_on_ballots_are_clones`],
 //! [`clone_sets_are_independent`], [`clone_sets_on_ballots_are_clone_sets`],
 //! [`final_set_is_pareto`]; and that the rules leave no choice: [`rounds_are_determined`],
-//! [`outcomes_are_determined`], [`decisions_are_determined`]. A winner is
-//! in the final set: [`winners_are_in_the_set`].
+//! [`outcomes_are_determined`], [`decisions_are_determined`]. A count always leaves an option, or
+//! several: [`final_set_is_not_empty`], [`one_or_several_are_left`]. A winner is in the final set:
+//! [`winners_are_in_the_set`].
 //!
 //! A set of options is a word of bits, and a list of defeats has one such word for each option.
 //! Only `outcome` takes memory, for its rounds. No round takes more steps than the third power of
@@ -44,9 +45,9 @@ mod tally;
 pub use laws::{
     ballots_are_anonymous, clone_sets_are_independent, clone_sets_on_ballots_are_clone_sets,
     clones_on_ballots_are_clones, condorcet_winners_win, decisions_are_determined,
-    final_set_is_cloneproof, final_set_is_in_smith_set, final_set_is_pareto, final_set_is_schulze,
-    outcomes_are_determined, raised_ballots_raise, raised_winners_win, rounds_are_determined,
-    winners_are_in_the_set,
+    final_set_is_cloneproof, final_set_is_in_smith_set, final_set_is_not_empty,
+    final_set_is_pareto, final_set_is_schulze, one_or_several_are_left, outcomes_are_determined,
+    raised_ballots_raise, raised_winners_win, rounds_are_determined, winners_are_in_the_set,
 };
 pub use options::{OptionSet, Word};
 pub use pairs::{Chains, Defeats, reach};

@@ -1,5 +1,5 @@
 //! Sets of pairs of options: defeats, and transitive defeats.
-ghost use Rattle.std.specs.Prelude.{◌≡◌, ℕ, ◌-◌, ◌≤◌, ◌⊎◌, ◌↔◌, ◌&&◌, not, false, length, IsTrue};
+ghost use Rattle.std.specs.Prelude.{◌≡◌, ℕ, ◌-◌, ◌≤◌, ◌⊎◌, ◌↔◌, false, IsTrue};
 ghost use Rattle.std.specs.Int.{bit_at};
 ghost use Rattle.vote_poll.specs.Options.{IsOption};
 ghost use Rattle.vote_count.specs.Rules.{PairwiseDefeats, TransitivelyDefeats, Within};

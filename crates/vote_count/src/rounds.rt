@@ -1,10 +1,10 @@
 //! The rounds of the count, and the decision.
-ghost use Rattle.std.specs.Prelude.{◌≡◌, ℕ, ◌<◌, ◌≤◌, ◌↔◌, ◌⊎◌, IsTrue, IfOk, None, Some};
+ghost use Rattle.std.specs.Prelude.{◌≡◌, ℕ, ◌≤◌, IfOk};
 ghost use Rattle.vote_poll.specs.Options.{IsOption};
 ghost use Rattle.vote_poll.specs.PollContent.{option_count};
 ghost use Rattle.vote_count.specs.Rounds.{AreRounds, HasCause, IsDecision, IsOutcome, IsFinalSetKept, IsDefaultFinalAlone, IsDefaultAlone, cause_of, final_set};
-ghost use Rattle.vote_count.specs.Rules.{IsKept, IsQuorum};
-ghost use Rattle.vote_count.specs.Sets.{In, Pairs, IsAlone};
+ghost use Rattle.vote_count.specs.Rules.{IsQuorum};
+ghost use Rattle.vote_count.specs.Sets.{In, Pairs};
 
 use crate::rules::{has_quorum, kept_with};
 use crate::{Defeats, Matrix, OptionSet, meets_majority, quorum_votes, reach, schwartz, weakest};
@@ -50,7 +50,7 @@ pub struct Verdict {
 }
 
 impl Model for Verdict {
-    ghost use Rattle.std.specs.Prelude.{ℕ, ◌<◌, length};
+    ghost use Rattle.std.specs.Prelude.{◌<◌, length};
     ghost use Rattle.vote_count.specs.Rounds.{VerdictState};
 
     ghost Value = { VerdictState };

@@ -1,11 +1,10 @@
 //! The rules of the count.
-ghost use Rattle.std.specs.Prelude.{◌≡◌, ◌≢◌, ℕ, ◌^◌, ◌≤◌, ◌<◌, ◌↔◌, ◌⊎◌, IsTrue, IfSome};
+ghost use Rattle.std.specs.Prelude.{◌≡◌, ℕ, ◌≤◌, ◌<◌, ◌↔◌, ◌⊎◌, IsTrue, IfSome};
 ghost use Rattle.vote_poll.specs.Options.{IsOption};
 ghost use Rattle.vote_poll.specs.PollContent.{option_count};
 ghost use Rattle.vote_count.specs.Rules.{MeetsQuorum, IsQuorum, MeetsMajority, IsKept, IsAhead, AreAhead, InSchwartzSet, IsWeaker, AreWeakest, votes_for};
 ghost use Rattle.vote_count.specs.Weakest.{IsWeakerOf, IsOneWeakest, IsNoStronger, AreOptions, AreBetween};
 ghost use Rattle.vote_count.specs.Sets.{In, Pairs};
-ghost use Rattle.vote_count.specs.Votes.{votes};
 
 use crate::{Chains, Defeats, Matrix, OptionSet};
 use vote_poll::{MAX_OPTIONS, Poll, Wording};

@@ -1,6 +1,6 @@
 //! The matrix of votes.
 ghost use Rattle.std.specs.Prelude.{◌≡◌, ℕ, ◌-◌, ◌^◌, ◌<◌, ◌≤◌, length, All};
-ghost use Rattle.vote_count.specs.Ballots.{IsBallotOf, HasNoVotes, HasRoomFor, HasCounted, CountsOneMore, CountsOneLess, CountsInstead, CountsAll};
+ghost use Rattle.vote_count.specs.Ballots.{IsBallotOf, HasNoVotes, HasRoomFor, HasCounted, CountsOneMore, CountsOneLess, CountsAll};
 ghost use Rattle.vote_count.specs.Rows.{key_at, IsRaised};
 ghost use Rattle.vote_poll.specs.Options.{IsOption};
 ghost use Rattle.vote_count.specs.Votes.{votes, AreRows};
@@ -97,20 +97,6 @@ impl Matrix {
         for option in 0..options as usize {
             lower(&mut self.counts[option], keys[option], keys, options);
         }
-    }
-
-    /// Counts a ballot in the place of one that was counted. For callers of the library; the program exchanges ballots in a
-    /// `RunningMatrix`.
-    pub fn exchange(&mut self, before: &Ranks, after: &Ranks)
-        requires options_before { length before.now ≡ self.old.options }
-        requires options_after { length after.now ≡ self.old.options }
-        requires counted { HasCounted self.old before.now }
-        requires room { HasRoomFor self.old after.now }
-        ensures options { self.new.options ≡ self.old.options }
-        ensures votes { CountsInstead self.old self.new before.now after.now }
-    {
-        self.take_out(before);
-        self.add(after);
     }
 }
 

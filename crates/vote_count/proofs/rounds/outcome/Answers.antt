@@ -1,18 +1,19 @@
-use Rattle.std.proofs.Common.{◌≢◌, ℕ, ◌-◌, length, ◌<◌, ◌≤◌, inl, inr, refl, sym, ◌∙◌, subst, arith}
+use Rattle.std.proofs.Common.{◌≢◌, ℕ, ◌-◌, length, ◌<◌, ◌≤◌, inl, inr, sym, ◌∙◌, subst, arith}
 use Rattle.std.proofs.lemmas.Grind.{common_steps, elements, moves, pieces}
-use Rattle.std.proofs.lemmas.Bool.{cases_Bool, cases_eq, both_ways}
+use Rattle.std.proofs.lemmas.Bool.{cases_eq}
 use Rattle.std.specs.Prelude.{◌↔◌, Option, None}
 use Rattle.std.proofs.lemmas.List.{length-replicate, length-set}
 use Rattle.vote_poll.specs.declared.TheConstants.{MAX_OPTIONS}
 use Rattle.vote_count.specs.declared.rounds.Cause.{Cause}
 use Rattle.vote_poll.specs.PollContent.{option_count}
-use Rattle.vote_count.specs.Sets.{In, Pairs, has, has_pair}
+use Rattle.vote_count.specs.Sets.{In, Pairs}
 use Rattle.vote_count.specs.Rules.{IsKept, PairwiseDefeats}
 use Rattle.vote_count.specs.Rounds.{AreRounds, HasCause}
 use Rattle.vote_count.specs.Votes.{votes}
 use Rattle.vote_poll.proofs.OptionLaws.{at_option-replicate, at_option-set, at_option-set_other}
 use Rattle.vote_count.proofs.RoundLemmas.{final_kept, rounds_same, rounds_kept}
-use Rattle.vote_count.proofs.LawLemmas.{some_final, default_law, default_alone_law}
+use Rattle.vote_count.proofs.Left.{some_left}
+use Rattle.vote_count.proofs.LawLemmas.{default_law, default_alone_law}
 use Rattle.vote_count.proofs.rounds.outcome.Goals as goal
 
 pub loop-option-init : goal.loop-option-init
@@ -66,24 +67,8 @@ returns-clause-outcome c = record {
 pub returns-clause-kept : goal.returns-clause-kept
 returns-clause-kept c = final_kept (IsKept c.args.poll.now c.args.matrix.now) c.args.matrix.now (PairwiseDefeats (IsKept c.args.poll.now c.args.matrix.now) c.args.matrix.now) c.in_ok-rounds.rounds.items (are_rounds c)
 
--- an option that stands is one of the poll's
-is_option : (c : goal.In_ok-rounds) (o : ℕ) → In c.kept_with-standing.result o → (1 ≤ o) × (o ≤ option_count c.args.poll.now)
-is_option c o h =
-    elim ((c.kept_with-standing.ensures.kept o).0 h) [
-      | inl default ↦ (omega (arith, default, c.options-option-end.ensures.at_least), omega (arith, default))
-      | inr other ↦ (other.0, omega (arith, other.1))
-    ]
-
 pub returns-clause-some : goal.returns-clause-some
-returns-clause-some c =
-    let standing = In c.kept_with-standing.result in
-    some_final standing c.args.matrix.now
-    (λ o. elim (cases_Bool (has c.kept_with-standing.result o)) [ inl kept ↦ inl kept | inr dropped ↦ inr (λ kept. both_ways _ dropped kept) ])
-    (option_count c.args.poll.now) (is_option c)
-    (option_count c.args.poll.now, (c.kept_with-standing.ensures.kept (option_count c.args.poll.now)).1 (inl refl))
-    c.in_ok-rounds.rounds.items (has_pair c.of-defeats.result)
-    (λ a b p. is_option c a ((c.of-defeats.ensures a b).0 p).0)
-    c.in_ok-rounds.ensures
+returns-clause-some c = some_left c.args.poll.now c.args.matrix.now c.in_ok-rounds.rounds.items (are_rounds c)
 
 -- a kept option has more votes than the default
 more : (c : goal.In_ok-rounds) (o : ℕ) → IsKept c.args.poll.now c.args.matrix.now o → o ≢ option_count c.args.poll.now →
