@@ -5,6 +5,7 @@
 //! whole right answer, and says `refused` where the call answered its want of memory or of a thread, with nothing written. So
 //! whoever runs it with one growth or one start refused after another sees whether any other answer comes.
 
+ghost use Rattle.std.specs.Prelude.{◌≡◌};
 ghost use Rattle.vote_work.specs.Asked.{DesksFit};
 ghost use Rattle.vote_steps.specs.Desks.{AreDesks};
 
