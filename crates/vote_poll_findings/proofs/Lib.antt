@@ -2,5 +2,6 @@ mod EditLaws
 mod FindingLaws
 mod OneKeyLine
 mod AddedLines
+mod NumberLaws
 mod PathLaws
 mod UnreadLaws

@@ -5,3 +5,4 @@ pub mod Syntax
 pub mod Findings
 -- what types stand for, and what private functions say of their parts
 pub mod UnreadView
+pub mod Hints

@@ -1,7 +1,8 @@
-//! What was found where a poll file has a fault, in words. No contract says what a hint says; whoever adds one to a line takes
-//! care that it does not break the line.
+//! What was found where a poll file has a fault, in words. The contracts leave open which hint a fault has; whoever adds one to a
+//! line takes care that it does not break the line.
 ghost use Rattle.std.specs.Prelude.{◌≡◌};
 ghost use Rattle.vote_poll_text.specs.Adding.{Adds};
+ghost use Rattle.vote_poll_findings.specs.Hints.{character_number};
 ghost use Rattle.vote_poll_findings.specs.UnreadKeys.{above_words, closing, inside_words, line_words, opening};
 ghost use Rattle.vote_poll_findings.specs.UnreadView.{line_of};
 
@@ -13,8 +14,8 @@ use toml::Value;
 use vote_poll::{MAX_ELECTORS, MAX_OPTIONS, MAX_QUORUM_MULTIPLE, MAX_RATIO, parse_ratio};
 use vote_poll_keys::{FoundKeys, PollFault, PollKey};
 use vote_poll_text::{
-    MAX_LINES, MAX_OPTION_NAME, MAX_TITLE, MAX_VOTER_NAME, hex_digit, is_option_name, is_printable,
-    is_title, is_voter_byte, is_voter_name, letter_place, push_letter, push_shown,
+    MAX_LINES, MAX_OPTION_NAME, MAX_TITLE, MAX_VOTER_NAME, is_option_name, is_printable, is_title,
+    is_voter_byte, is_voter_name, letter_place, push_letter, push_shown,
 };
 
 /// What is said behind a position of the roll.
@@ -77,17 +78,12 @@ fn bad_character(named: Named, name: &str) -> Option<char> {
 }
 
 /// Adds the number of a character, as `U+4E2D`.
-fn push_number(words: &mut String, character: char) -> Result<(), AllocError> {
-    words.push_str("U+")?;
+#[tactic(auto, using(crate::proofs::NumberLaws::padded_to_four), unfolding(crate::specs::Hints::character_number))]
+fn push_number(words: &mut String, character: char) -> Result<(), AllocError>
+    ensures { Adds result words.old (character_number character) words.new }
+{
     let number = character as u32;
-    if number > 0xFFFF {
-        words.push(hex_digit((number >> 20 & 15) as u8) as char)?;
-        words.push(hex_digit((number >> 16 & 15) as u8) as char)?;
-    }
-    words.push(hex_digit((number >> 12 & 15) as u8) as char)?;
-    words.push(hex_digit((number >> 8 & 15) as u8) as char)?;
-    words.push(hex_digit((number >> 4 & 15) as u8) as char)?;
-    words.push(hex_digit((number & 15) as u8) as char)
+    write!(words, "U+{number:04X}")
 }
 
 /// Adds that a name has a character outside ASCII, by its name if it is a letter with a mark.
@@ -114,7 +110,6 @@ fn push_bad_character(words: &mut String, named: Named, bad: char) -> Result<(),
         });
     }
     let byte = bad as u8;
-    let (high, low) = (hex_digit(byte / 16) as char, hex_digit(byte % 16) as char);
     match byte {
         b' ' => words.push_str(" has a space"),
         b'\t' => words.push_str(" has a tab"),
@@ -123,7 +118,7 @@ fn push_bad_character(words: &mut String, named: Named, bad: char) -> Result<(),
         b',' => words.push_str(" has a comma"),
         b'A'..=b'Z' => words.push_str(" has a capital letter"),
         0x21..=0x7E => write!(words, " has the character {bad}"),
-        _ => write!(words, " has the byte 0x{high}{low}"),
+        _ => write!(words, " has the byte 0x{byte:02X}"),
     }
 }
 
