@@ -5,7 +5,7 @@ use Rattle.vote_poll.specs.declared.wording.Wording.{Wording}
 use Rattle.vote_poll.specs.declared.wording.Wording.TheVariants.{AtLeast, MoreThan}
 use Rattle.vote_count.specs.Votes.{Votes, votes}
 
--- `n` votes are at least the quorum R of A.5.2, k times half of the square root of the electors: both sides are doubled and squared, so nothing is rounded.
+-- `n` votes are at least the quorum R of A.5.2: so many times Q as the poll says, Q being half of the square root of the electors. Both sides are doubled and squared, so nothing is rounded.
 -- 4.2.7: "Q is half of the square root of the number of current Developers." "Q and K need not be integers and are not rounded."
 abbrev pub MeetsQuorum : PollContent → ℕ → Type 0
 MeetsQuorum poll n = poll.quorum_multiple ^ 2 * elector_count poll ≤ (2 * n) ^ 2

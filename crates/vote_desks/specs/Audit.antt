@@ -14,7 +14,7 @@ use Rattle.vote_steps.specs.HeldLines.{HasSizes, HoldsLines}
 use Rattle.vote_desks_box.specs.Slips.{slips_from}
 use Rattle.vote_desks_box.specs.Desks.{SealedState, sheet_at}
 
--- the sheet of each desk is the slips of its casts
+-- the sheet of each desk is the slips of its casts, so a desk without a sheet has cast nothing
 abbrev pub HasSlips : List Step → List (List Slip) → Type 0
 HasSlips steps sheets = (desk : ℕ) → 1 ≤ desk → desk ≤ MAX_DESKS → sheet_at sheets desk ≡ slips_from 1 steps desk
 

@@ -76,7 +76,7 @@ pub record IsCountedIn (inputs : Inputs) (sealed : SealedState) : Type 0 where
   pub desks : length sealed.sheets ≡ inputs.desks
   pub rising : All Rises sealed.sheets
 
--- what is told of a count that is made for this, of the poll, the lines and the option of the casting vote
+-- what is told of a count for this purpose, of the poll, the lines and the option of the casting vote
 abbrev pub IsMade : Purpose (Bor Text) → PollContent → List Text → Option ℕ → Told → Type 0
 IsMade purpose.Picture poll lines casting told =
     (decision : Decision) × IsPictureAndDecision poll lines casting told.text decision × (told.end ≡ ended_by_decision decision)
@@ -86,7 +86,7 @@ IsMade (purpose.Verification sheet) poll lines casting told =
     (verification : Verification) × IsVerification poll lines sheet.now verification
     × AreVerificationWords poll lines sheet.now verification told.text × (told.end ≡ ended_by_verification verification)
 
--- what is told of a count that is made for this, of the bytes of both files
+-- what is told of a count for this purpose, of the bytes of both files
 abbrev pub IsCountFor : Purpose (Bor Text) → Inputs → Told → Type 0
 IsCountFor made_for inputs told =
     (poll : PollContent) × (poll_in inputs.poll ≡ Ok poll) × IsMade made_for poll (lines_of inputs.ballots) (casting_option poll inputs.casting) told

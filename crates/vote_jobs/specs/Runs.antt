@@ -35,7 +35,7 @@ StopsAtPoll (Ok poll) Next stop = Next poll stop
 abbrev pub StopsAtLines : Text → (Option RunFault → Type 0) → Option RunFault → Type 0
 StopsAtLines ballots = StopsWhere (HasTooManyLines ballots) run.TooManyLines
 
--- what may stop a run: want of memory; a failed output, where it may also go through; and else only what is due or allowed
+-- what may stop a run: want of memory always; its output, where the run may also come to its end; and else only what is due or allowed
 abbrev pub Stops : (Option RunFault → Type 0) → Option RunFault → Type 0
 Stops MayStop (Some run.Memory) = Unit {0}
 Stops MayStop (Some run.Output) = MayStop None
@@ -53,7 +53,7 @@ pub record Runs (MayStop : Option RunFault → Type 0) (IsMeant : Text → Type 
   pub stops : Stops MayStop stop
   pub writes : Writes IsMeant old new stop
 
--- one that is meant is told: its text is written, and a run that comes to its end ends by it
+-- some text and end are meant together: this is the text, and a run that comes to its end ends so
 abbrev pub Tells : (Told → Type 0) → Result Ended RunFault → Text → Type 0
 Tells IsMeant result text = (told : Told) × IsMeant told × (text ≡ told.text) × IfOk result (λ end. end ≡ told.end)
 

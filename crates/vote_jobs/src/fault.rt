@@ -23,7 +23,7 @@ pub enum Ended {
     Done,
     /// All that is wrong with a poll was written, and it is refused.
     PollRefused,
-    /// All that is wrong was written, and the poll is in order.
+    /// What is wrong with ballots, or with keys that are not read, was written; the poll is in order.
     Found,
     /// A published sheet differs from the count, and where was written.
     Differs,

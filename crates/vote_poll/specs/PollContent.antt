@@ -32,7 +32,7 @@ elector_count poll = length poll.roll
 abbrev pub ratio_of : PollContent → ℕ → ℕ
 ratio_of poll option = at_option poll.ratios option 0
 
--- the poll's last envelope; a poll without one has no late line, since no file that is counted has more than `MAX_LINES` lines
+-- the greatest number that is in time: the poll's last envelope, or else `MAX_LINES`, the most lines of a file that is counted
 abbrev pub last_in_time : PollContent → ℕ
 last_in_time poll = unwrap_or poll.last_envelope MAX_LINES
 

@@ -92,12 +92,12 @@ shown_line (Some text) = shown MAX_SHOWN_OF_LINE text
 
 -- the first line, from 1, in which the text differs from the sheet, and this line of both; a last line without its line feed is another line
 unfoldable pub difference_text : Text → Text → Text
-difference_text text sheet =
-    let before = common_lines text sheet in
+difference_text published counted =
+    let before = common_lines published counted in
     concat (
     line (codes "differs at line " ∷ decimal (before + 1) ∷ [])
-    ∷ line (codes "sheet: " ∷ shown_line (slice_get (lines_of text) before) ∷ [])
-    ∷ line (codes "count: " ∷ shown_line (slice_get (lines_of sheet) before) ∷ [])
+    ∷ line (codes "sheet: " ∷ shown_line (slice_get (lines_of published) before) ∷ [])
+    ∷ line (codes "count: " ∷ shown_line (slice_get (lines_of counted) before) ∷ [])
     ∷ [])
 
 -- the first line of a text, with its line feed if it has one

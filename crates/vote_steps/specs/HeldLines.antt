@@ -18,7 +18,7 @@ HasSizes poll lines b = (b.options ≡ option_count poll) × (b.electors ≡ ele
 pub record HoldsLines (poll : PollContent) (lines : List (List ℕ)) (b : BoxState) : Type 0 where
   -- the box has the poll's sizes and last envelope, and a stamp for each line
   pub sizes : HasSizes poll lines b
-  -- before the first close are as many steps as lines
+  -- before the first close are as many steps as lines, all of them casts
   pub casts : length (before_close b.steps) ≡ length lines
   -- each step may follow those before it
   pub legal : IsLegal b

@@ -42,7 +42,7 @@ pub enum Step {
 /// A ballot as it came.
 #[derive(Clone, Copy)]
 pub struct Received {
-    /// The rank that it gives each option, or none. It stands in front as the sort keys do in `Ranks`.
+    /// The rank that it gives each option, or none.
     pub ranks: Ranks,
     /// The stamp of its envelope, from 1.
     pub stamp: u32,
