@@ -1,13 +1,13 @@
 -- What a pass has once it has taken one more place.
-use Rattle.std.proofs.Common.{◌≡◌, ℕ, ◌+◌, ◌<◌, ◌≤◌, List, [], ◌∷◌, ◌++◌, length, get_or, sym, ap, ◌∙◌, subst, ⊎_elim, arith}
+use Rattle.std.proofs.Common.{◌≡◌, ℕ, ◌+◌, ◌-◌, ◌<◌, ◌≤◌, List, [], ◌∷◌, ◌++◌, length, get_or, sym, ap, ◌∙◌, subst, ⊎_elim, arith}
 use Rattle.std.specs.List.{All}
 use Rattle.std.specs.List.Sorted.{IsStrictlyIncreasing}
 use Rattle.std.proofs.lemmas.Bool.{cases_lt}
 use Rattle.std.proofs.Math.Seq.{get_or-append_seam}
-use Rattle.std.proofs.lemmas.List.{get_or_append_left, length_push, map_push}
+use Rattle.std.proofs.lemmas.List.{get_or_append_left, get_or_push, length_push, map_push}
 use Rattle.std.proofs.lemmas.List.Elements.{All-push}
 use Rattle.vote_tray.specs.Passes.{PassState, with_place}
-use Rattle.vote_desks.specs.Work.{IsRising, stamps_taken}
+use Rattle.vote_desks.specs.Work.{IsRising, last_stamp, stamps_taken}
 
 increasing_push : (xs : List ℕ) (y : ℕ) → IsStrictlyIncreasing xs → All (λ x. x < y) xs → IsStrictlyIncreasing (xs ++ y ∷ [])
 increasing_push xs y up below = λ k lt.
@@ -32,3 +32,9 @@ rising_with pass place h seen inside =
       few = (let len = ap length more ∙ length_push (stamps_taken pass) (place + 1) in omega arith);
       within = omega arith;
     }
+
+pub last_with : (pass : PassState) (place : ℕ) → last_stamp (with_place pass place) ≡ place + 1
+last_with pass place =
+    let before = stamps_taken pass in
+    let more : stamps_taken (with_place pass place) ≡ before ++ (place + 1) ∷ [] = map_push (λ p. p + 1) pass.places place in
+    ap (λ xs. get_or xs (length xs - 1) 0) more ∙ get_or_push before (place + 1) 0 (length (before ++ (place + 1) ∷ []) - 1) (let len = length_push before (place + 1) in omega arith)

@@ -1,11 +1,12 @@
 -- What a worker is given, and what it gives back.
-use Rattle.std.specs.Prelude.{◌≡◌, ℕ, ◌+◌, ◌-◌, ◌*◌, ◌≤◌, List, [], ◌++◌, map, length, All}
+use Rattle.std.specs.Prelude.{◌≡◌, ℕ, ◌+◌, ◌-◌, ◌*◌, ◌/◌, ◌≤◌, min, Bool, if◌then◌else◌, List, [], ◌++◌, map, length, slice_index_or, All}
 use Rattle.std.specs.List.{range_with_len}
 use Rattle.std.specs.List.Sorted.{IsStrictlyIncreasing}
 use Rattle.vote_tray.specs.Passes.{TrayId, PassState, new_pass}
 use Rattle.vote_steps.specs.declared.TheConstants.{MAX_DESKS}
 use Rattle.vote_desks_box.specs.Slips.{Rises, stamps_of}
 use Rattle.vote_desks_box.specs.Desks.{DeskState}
+use Rattle.vote_desks.specs.declared.batch.TheConstants.{BATCH, LEFT_FOR_EACH}
 
 -- a desk with room for as many slips as there are lines, and no slip yet
 pub record IsFresh (lines : ℕ) (desk : DeskState) : Type 0 where
@@ -50,14 +51,18 @@ pub record IsRising (pass : PassState) : Type 0 where
   pub few : length (stamps_taken pass) ≤ pass.seen
   pub within : pass.seen ≤ pass.tray.size
 
--- the pass took no envelope with a greater stamp
-abbrev pub HasTakenUpTo : PassState → ℕ → Type 0
-HasTakenUpTo pass last = All (λ stamp. stamp ≤ last) (stamps_taken pass)
+-- the stamp of the last envelope that the pass took, or 0
+abbrev pub last_stamp : PassState → ℕ
+last_stamp pass = slice_index_or (stamps_taken pass) (length (stamps_taken pass) - 1) 0
+
+-- how many lines come behind the last one that the pass took
+abbrev pub left_behind : PassState → ℕ
+left_behind pass = pass.tray.size - last_stamp pass
+
+-- how many envelopes a worker takes at once if so many lines are left: one if its gate may wait; else one, and one more for each LEFT_FOR_EACH of them, but at most BATCH
+abbrev pub batch_length : Bool → ℕ → ℕ
+batch_length may_wait left = if may_wait then 1 else min BATCH (left / LEFT_FOR_EACH + 1)
 
 -- a batch for each desk is at most half of what is left, but for an envelope each
 abbrev pub IsShareOf : ℕ → ℕ → Type 0
 IsShareOf left batch = 2 * (MAX_DESKS * (batch - 1)) ≤ left
-
--- a batch is a share of so many lines, and of those behind each envelope that the pass took
-abbrev pub LeavesShares : ℕ → PassState → ℕ → Type 0
-LeavesShares lines pass batch = IsShareOf lines batch × All (λ stamp. IsShareOf (lines - stamp) batch) (stamps_taken pass)

@@ -1,11 +1,13 @@
 //! Batches of envelopes, which a worker takes at once.
-ghost use Rattle.std.specs.Prelude.{◌≡◌, ◌+◌, ◌-◌, ◌<◌, ◌≤◌, ◌^◌, ◌++◌, All, IsTrue, length, take, slice_index};
+ghost use Rattle.std.specs.Prelude.{◌≡◌, ◌+◌, ◌-◌, ◌<◌, ◌≤◌, ◌++◌, All, IsTrue, length, take, slice_index};
 ghost use Rattle.vote_poll.specs.PollContent.{elector_count, option_count};
 ghost use Rattle.vote_poll.specs.Readings.{ReadingFits};
-ghost use Rattle.vote_desks.specs.Work.{HasTakenUpTo, IsRising, IsShareOf, IsStampOf, LeavesShares, stamps_taken};
+ghost use Rattle.vote_desks.specs.Work.{IsRising, IsShareOf, IsStampOf, batch_length, last_stamp, left_behind, stamps_taken};
 
+use crate::work::{Gate, Workplace};
+use vote_desks_box::Tally;
 use vote_poll::{Lines, Poll, Reading, read_line};
-use vote_tray::{Pass, Tray};
+use vote_tray::Pass;
 
 /// The most envelopes of a batch. A desk that waits for its turn sleeps, and to wake it takes about
 /// as long as some hundred casts. So a batch takes longer than that.
@@ -18,7 +20,8 @@ const LEFT_FOR_EACH: usize = 16;
 /// How many envelopes a worker takes at once if this many are left. It is one if its gate may wait
 /// for another desk. Towards the end batches get shorter, so that no desk has many to cast while
 /// others have none.
-pub(crate) fn batch_length(may_wait: bool, left: usize) -> usize
+fn batch_length(may_wait: bool, left: usize) -> usize
+    ensures length { result ≡ batch_length may_wait left }
     ensures range { (1 ≤ result) × (result ≤ BATCH) }
     ensures one { IsTrue may_wait → result ≡ 1 }
     ensures share { IsShareOf left result }
@@ -32,35 +35,31 @@ pub(crate) fn batch_length(may_wait: bool, left: usize) -> usize
     }
 }
 
-/// How many envelopes a worker takes next, if its pass took none behind the one with this stamp.
-pub(crate) fn next_length(may_wait: bool, lines: usize, pass: &Pass, last: usize) -> usize
-    requires { HasTakenUpTo pass.now last }
-    ensures range { (1 ≤ result) × (result ≤ BATCH) }
-    ensures one { IsTrue may_wait → result ≡ 1 }
-    ensures share { LeavesShares lines pass.now result }
-{
-    let _ = pass;
-    batch_length(may_wait, lines.saturating_sub(last))
-}
-
-/// Takes the places of the next envelopes, and notes their stamps. There are fewer than wanted only
-/// if no place is left.
-pub(crate) fn take_batch(tray: &Tray, pass: &mut Pass, most: usize, stamps: &mut [u32]) -> usize
-    requires tray { (pass.old.tray ≡ tray.now) × (tray.now.size < 2 ^ 32) }
-    requires most { (1 ≤ most) × (most ≤ length stamps.old) }
-    requires share { LeavesShares tray.now.size pass.old most }
+/// Takes the places of the next envelopes, and notes their stamps, if `left` lines come behind the
+/// last one that the pass took. There are fewer than in a batch only if no place is left.
+pub(crate) fn take_batch<VL: Tally, RL: Tally, G: Gate>(
+    workplace: &Workplace<'_, '_, VL, RL, G>,
+    pass: &mut Pass,
+    left: usize,
+    stamps: &mut [u32],
+) -> usize
+    requires tray { pass.old.tray ≡ workplace.now.tray.now }
+    requires left { left ≡ left_behind pass.old }
     requires rising { IsRising pass.old }
+    requires room { BATCH ≤ length stamps.old }
     ensures kept { (pass.new.tray ≡ pass.old.tray) × (pass.new.parts ≡ pass.old.parts) }
     ensures rising { IsRising pass.new }
-    ensures room { (result ≤ most) × (length stamps.new ≡ length stamps.old) }
+    ensures room { (result ≤ BATCH) × (length stamps.new ≡ length stamps.old) }
+    ensures most { result ≤ batch_length workplace.now.may_wait left }
+    ensures fewer { result < batch_length workplace.now.may_wait left → pass.new.seen ≡ pass.new.tray.size }
     ensures taken { stamps_taken pass.new ≡ stamps_taken pass.old ++ take result stamps.new }
-    ensures stamps { All (IsStampOf tray.now.size) (take result stamps.new) }
-    ensures behind { 0 < result → HasTakenUpTo pass.new (slice_index stamps.new (result - 1)) }
+    ensures stamps { All (IsStampOf (length workplace.now.lines.now)) (take result stamps.new) }
+    ensures last { 0 < result → slice_index stamps.new (result - 1) ≡ last_stamp pass.new }
     ensures further { pass.old.seen + result ≤ pass.new.seen }
-    ensures none { result ≡ 0 → pass.new.seen ≡ tray.now.size }
 {
+    let most = batch_length(workplace.may_wait, left);
     for count in 0..most {
-        let Some(place) = tray.take(pass) else {
+        let Some(place) = workplace.tray.take(pass) else {
             return count;
         };
         stamps[count] = place as u32 + 1;

@@ -8,7 +8,7 @@ ghost use Rattle.vote_desks.specs.Workers.{AreBarredBy, desks_promised, numbers_
 ghost use Rattle.vote_desks.specs.Stops.{IsBarredBy, IsRefusedAsUsed};
 ghost use Rattle.vote_desks.specs.Faults.{IsStartFault};
 
-use crate::batch::{BATCH, next_length, read_batch, take_batch};
+use crate::batch::{BATCH, read_batch, take_batch};
 use crate::fault::VoteFault;
 use crate::worked::{Stop, WorkerResult};
 use std::alloc::Global;
@@ -52,7 +52,7 @@ pub trait Gate {
 /// tray, whose places are the lines from 0, and the turn, a `Mutex<()>` that a desk holds for a
 /// batch, so that the others wait once.
 #[derive(Drop)]
-pub(crate) struct Workplace<'h, 't, VL: Tally, RL: Tally, G> {
+pub(crate) struct Workplace<'h, 't, VL: Tally, RL: Tally, G: Gate> {
     pub poll: &'h Poll,
     pub lines: &'h Lines<'t>,
     pub shared: &'h SharedBox<VL, RL>,
@@ -60,6 +60,7 @@ pub(crate) struct Workplace<'h, 't, VL: Tally, RL: Tally, G> {
     pub may_wait: bool,
     pub tray: &'h Tray,
     pub turn: &'h Mutex<()>,
+    ghost waits: { IsTrue G.waits → IsTrue may_wait },
     ghost stamps: { length lines.now < 2 ^ 32 },
     ghost opened: { shared.now.opened ≡ box_of poll.now (length lines.now) [] },
     ghost places: { tray.now.size ≡ length lines.now },
@@ -101,6 +102,7 @@ fn cast_each<VL: Tally, RL: Tally, G: Gate, R: Wait>(
     ensures barred { IsBarredBy G.bars desk.old.number result }
     ensures refused { IsRefusedAsUsed result }
 {
+    // Only the contract reads the turn. The caller holds it until the last cast.
     let _ = turn;
     for place in 0..stamps.len() {
         let stamp = stamps[place];
@@ -169,10 +171,9 @@ fn cast_batches<VL: Tally, RL: Tally, G: Gate, R: Wait>(
     let lines = workplace.lines.len();
     let mut stamps = [0; BATCH];
     let mut readings = [Reading::Bad(LineFault::Shape); BATCH];
-    let mut last = 0;
+    let mut left = lines;
     loop {
-        let most = next_length(workplace.may_wait, lines, pass, last);
-        let count = take_batch(workplace.tray, pass, most, &mut stamps);
+        let count = take_batch(workplace, pass, left, &mut stamps);
         if count == 0 {
             return None;
         }
@@ -182,7 +183,7 @@ fn cast_batches<VL: Tally, RL: Tally, G: Gate, R: Wait>(
         if stopped.is_some() {
             return stopped;
         }
-        last = stamps[count - 1] as usize;
+        left = lines - stamps[count - 1] as usize;
     }
 }
 

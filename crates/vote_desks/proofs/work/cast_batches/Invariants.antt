@@ -3,7 +3,7 @@ use Rattle.std.specs.List.{All}
 use Rattle.vote_desks.specs.declared.batch.TheConstants.{BATCH}
 use Rattle.vote_desks_box.specs.Slips.{stamps_of}
 use Rattle.vote_desks_box.specs.Desks.{FitsBox}
-use Rattle.vote_desks.specs.Work.{HasTakenUpTo, IsRising, stamps_taken}
+use Rattle.vote_desks.specs.Work.{IsRising, left_behind, stamps_taken}
 use Rattle.vote_desks.proofs.work.cast_batches.Given as goal
 
 abbrev pub invariant-loop-stamps : goal.invariant-loop-stamps
@@ -15,7 +15,7 @@ invariant-loop-stamps g l = record {
   parts : l.pass.parts ≡ l.initial.pass.parts;
   cast : stamps_of l.desk.slips ≡ stamps_taken l.pass;
   rising : IsRising l.pass;
-  behind : HasTakenUpTo l.pass l.last;
+  left : l.left ≡ left_behind l.pass;
   stamps : length l.stamps ≡ BATCH;
   readings : length l.readings ≡ BATCH;
   fit : All (FitsBox l.workplace.shared.now.opened) l.readings;
