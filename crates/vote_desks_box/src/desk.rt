@@ -60,6 +60,9 @@ impl<VL: Tally, RL: Tally> Model for Held<VL, RL> {
 
 impl<VL: Tally, RL: Tally> Held<VL, RL> {
     /// The box.
+    ///
+    /// For readers of contracts: it says what the books are. Nobody can call it, since no call hands
+    /// out a `Held`.
     pub fn ballot_box(&self) -> &BallotBox
         ensures box_is { result.now ≡ self.now.ballot_box }
         ensures valid { self.now.valid_book ≡ valid result.now.last_in_time result.now.steps }
