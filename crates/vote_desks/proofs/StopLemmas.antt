@@ -5,7 +5,9 @@ use Rattle.std.proofs.lemmas.Bool.{cases_lt}
 use Rattle.std.proofs.lemmas.List.{get_or-map, length-map}
 use Rattle.vote_poll.specs.PollContent.{PollContent}
 use Rattle.vote_steps.specs.History.{is_cast}
+use Rattle.vote_steps.specs.Boxes.{IsLegal}
 use Rattle.vote_steps.specs.HeldLines.{HasSizes}
+use Rattle.vote_desks_box.specs.declared.Slip.{Slip}
 use Rattle.vote_desks_box.specs.Desks.{SealedState}
 use Rattle.vote_desks.specs.declared.fault.AuditFault.TheVariants.{SizeDiffers, CountDiffers, StepDiffers, SlipDiffers, ClosedEarly}
 use Rattle.vote_desks.specs.declared.fault.VoteFault.{VoteFault}
@@ -14,7 +16,7 @@ use Rattle.vote_desks.specs.declared.worked.Stop.{Stop}
 use Rattle.vote_desks.specs.declared.worked.Stop.TheVariants.{Barred, Refused}
 use Rattle.vote_desks_box.specs.declared.EnterFault.{EnterFault}
 use Rattle.vote_desks_box.specs.declared.EnterFault.TheVariants.{StampUsed}
-use Rattle.vote_desks.specs.Faults.{CanStopAudit, CanStopVotes, IsOfDesk, IsAuditFaultOf}
+use Rattle.vote_desks.specs.Faults.{CanStopAudit, CanStopCasts, CanStopVotes, IsOfDesk, IsAuditFaultOf, IsFoundIn}
 use Rattle.vote_desks.specs.Stops.{IsBarredBy, stop_fault, IsLeastStop}
 use Rattle.vote_desks_box.proofs.Ranges.{at_range}
 
@@ -47,7 +49,7 @@ least_stop {W} desk stopped all k w stop fault numbers inside here stops is befo
 
 -- a desk stopped by the gate, or by a cast of a stamp that was used
 pub can_stop : (bars : ℕ → Bool) (desk : ℕ) (stop : Stop) → (stop ≡ Barred → IsTrue (bars desk)) → ((fault : EnterFault) → stop ≡ Refused fault → fault ≡ StampUsed)
-    → CanStopVotes bars (stop_fault desk stop)
+    → CanStopCasts bars (stop_fault desk stop)
 can_stop bars desk Barred barred used = barred refl
 can_stop bars desk (Refused fault) barred used = used fault refl
 
@@ -91,3 +93,22 @@ audit_of_desk desks poll lines s (Gate desk) found = absurd found
 audit_of_desk desks poll lines s (Enter desk fault) found = absurd found
 audit_of_desk desks poll lines s (Desk fault) found = tt
 audit_of_desk desks poll lines s (Audit fault) found = tt
+
+-- what an audit finds in a legal box is found there
+pub found_in : (Are : List (List Slip) → Type 0) (poll : PollContent) (lines : List (List ℕ)) (s : SealedState) (fault : VoteFault)
+    → Are s.sheets → IsLegal s.ballot_box → IsAuditFaultOf poll lines s fault → IsFoundIn Are poll lines fault
+found_in Are poll lines s Memory are legal found = tt
+found_in Are poll lines s Thread are legal found = tt
+found_in Are poll lines s (Gate desk) are legal found = tt
+found_in Are poll lines s (Enter desk fault) are legal found = tt
+found_in Are poll lines s (Desk fault) are legal found = tt
+found_in Are poll lines s (Audit fault) are legal found = (s, are, legal, found)
+
+pub found_in_such : (Are Such : List (List Slip) → Type 0) (poll : PollContent) (lines : List (List ℕ)) (fault : VoteFault)
+    → ((sheets : List (List Slip)) → Are sheets → Such sheets) → IsFoundIn Are poll lines fault → IsFoundIn Such poll lines fault
+found_in_such Are Such poll lines Memory weaker found = tt
+found_in_such Are Such poll lines Thread weaker found = tt
+found_in_such Are Such poll lines (Gate desk) weaker found = tt
+found_in_such Are Such poll lines (Enter desk fault) weaker found = tt
+found_in_such Are Such poll lines (Desk fault) weaker found = tt
+found_in_such Are Such poll lines (Audit fault) weaker found = (found.0, weaker found.0.sheets found.1, found.2, found.3)

@@ -1,6 +1,8 @@
 -- Which faults can come where.
 use Rattle.std.specs.Prelude.{◌≡◌, ◌≢◌, ◌≤◌, ◌⊎◌, ℕ, Bool, List, IsTrue}
 use Rattle.vote_poll.specs.PollContent.{PollContent}
+use Rattle.vote_steps.specs.Boxes.{IsLegal}
+use Rattle.vote_desks_box.specs.declared.Slip.{Slip}
 use Rattle.vote_desks_box.specs.Desks.{SealedState}
 use Rattle.vote_desks_box.specs.declared.EnterFault.TheVariants.{StampUsed}
 use Rattle.vote_desks.specs.declared.fault.AuditFault.TheVariants.{SizeDiffers, CountDiffers}
@@ -17,6 +19,11 @@ CanStopVotes bars (Gate desk) = IsTrue (bars desk)
 CanStopVotes bars (Enter desk fault) = fault ≡ StampUsed
 CanStopVotes bars (Desk fault) = ⊥
 CanStopVotes bars (Audit fault) = (fault ≢ SizeDiffers) × (fault ≢ CountDiffers)
+
+-- while the desks cast: the same, but nothing that an audit finds
+abbrev pub CanStopCasts : (ℕ → Bool) → VoteFault → Type 0
+CanStopCasts bars (Audit fault) = ⊥
+CanStopCasts bars other = CanStopVotes bars other
 
 -- once the desks have cast all lines: no memory to gather them, or what the audit finds, as above
 abbrev pub CanStopAudit : VoteFault → Type 0
@@ -48,3 +55,8 @@ IsAuditFaultOf poll lines s (Gate desk) = ⊥
 IsAuditFaultOf poll lines s (Enter desk fault) = ⊥
 IsAuditFaultOf poll lines s (Desk fault) = ⊥
 IsAuditFaultOf poll lines s (Audit fault) = IsFaultOf poll lines s.ballot_box s.sheets fault
+
+-- if it is an audit's, the audit finds it in a legal box with sheets of this kind
+abbrev pub IsFoundIn : (List (List Slip) → Type 0) → PollContent → List (List ℕ) → VoteFault → Type 0
+IsFoundIn Are poll lines (Audit fault) = (s : SealedState) × Are s.sheets × IsLegal s.ballot_box × IsFaultOf poll lines s.ballot_box s.sheets fault
+IsFoundIn Are poll lines other = Unit {0}

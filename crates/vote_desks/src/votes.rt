@@ -10,11 +10,11 @@ ghost use Rattle.std.specs.List.{range_with_len};
 ghost use Rattle.vote_steps.specs.Boxes.{box_of};
 ghost use Rattle.vote_steps.specs.Desks.{AreDesks};
 ghost use Rattle.vote_desks_box.specs.Slips.{Rises};
-ghost use Rattle.vote_desks_box.specs.Desks.{fresh_desks};
+ghost use Rattle.vote_desks_box.specs.Desks.{AreSlipsInOrder, fresh_desks};
 ghost use Rattle.vote_desks.specs.Audit.{IsAuditedFor};
 ghost use Rattle.vote_desks.specs.Back.{AreAllHandedIn, AreBackFrom, casts_at};
 ghost use Rattle.vote_desks.specs.Stops.{stop_fault, IsLeastStop, StopsWorkers};
-ghost use Rattle.vote_desks.specs.Faults.{CanStopAudit, CanStopVotes, IsOfDesk, IsAuditFaultOf};
+ghost use Rattle.vote_desks.specs.Faults.{CanStopAudit, CanStopCasts, CanStopVotes, IsOfDesk, IsAuditFaultOf, IsFoundIn};
 ghost use Rattle.vote_desks.specs.Work.{new_passes, tray_and_parts};
 ghost use Rattle.vote_desks.specs.Workers.{AreBarredBy, numbers_back, numbers_of, pairs_back, parts_back, stops_back};
 
@@ -47,7 +47,7 @@ fn first_stop<VL: Tally, RL: Tally, G: Gate>(all: &[WorkerResult<VL, RL>]) -> Op
     requires numbers { numbers_back all.now ≡ range_with_len 1 (length all.now) }
     requires barred { AreBarredBy G.bars all.now }
     ensures some { IfSome result (IsLeastStop (stops_back all.now)) }
-    ensures can { IfSome result (CanStopVotes G.bars) }
+    ensures can { IfSome result (CanStopCasts G.bars) }
     ensures desk { IfSome result (IsOfDesk (length all.now)) }
     ensures none { IsNone result → All (λ worked. worked.stopped ≡ None) all.now }
 {
@@ -97,7 +97,7 @@ fn take_back<VL: Tally, RL: Tally, G: Gate>(
     requires barred { AreBarredBy G.bars all.items }
     ensures handed { IfOk result (λ handed. AreAllHandedIn tray.now handed.0.items handed.1) }
     ensures stops { IfErr result (StopsWorkers (stops_back all.items)) }
-    ensures fault { IfErr result (CanStopVotes G.bars) }
+    ensures fault { IfErr result (CanStopCasts G.bars) }
     ensures desk { IfErr result (IsOfDesk tray.now.passes) }
 {
     if let Some(fault) = first_stop::<VL, RL, G>(&all) {
@@ -126,7 +126,7 @@ fn cast_all<
     requires desks { desks.items ≡ fresh_desks (length workplace.now.lines.now) (vec_len desks) }
     requires passes { passes.items ≡ new_passes workplace.now.tray.now }
     ensures handed { IfOk result (λ all. AreAllHandedIn workplace.now.tray.now all.0.items all.1) }
-    ensures fault { IfErr result (CanStopVotes G.bars) }
+    ensures fault { IfErr result (CanStopCasts G.bars) }
     ensures desk { IfErr result (IsOfDesk workplace.now.tray.now.passes) }
 {
     let all = work_all(rt, alloc, workplace, desks, passes)?;
@@ -154,7 +154,7 @@ fn cast_lines<
     ensures numbers { IfOk result (λ back. numbers_of back.items ≡ range_with_len 1 (vec_len opened)) }
     ensures rising { IfOk result (λ back. All (λ desk. Rises desk.slips) back.items) }
     ensures cast { IfOk result (λ back. casts_at back.items ≡ length lines.now) }
-    ensures fault { IfErr result (CanStopVotes G.bars) }
+    ensures fault { IfErr result (CanStopCasts G.bars) }
     ensures desk { IfErr result (IsOfDesk (vec_len opened)) }
 {
     let desks = opened.len() as u8;
@@ -216,6 +216,7 @@ fn gather_and_audit<VL: Tally, RL: Tally, R: Threads + Sync>(
     ensures desks { IfOk result (λ audited. length audited.sheets ≡ shared.desks) }
     ensures rising { IfOk result (λ audited. All Rises audited.sheets) }
     ensures fault { IfErr result CanStopAudit }
+    ensures found { IfErr result (IsFoundIn (AreSlipsInOrder desks) poll.now lines.now) }
     ensures desk { IfErr result (IsOfDesk shared.desks) }
 {
     let sealed = match gather(alloc, shared, desks) {
@@ -257,6 +258,7 @@ fn serve<
     ensures desks { IfOk result (λ audited. length audited.sheets ≡ desks) }
     ensures rising { IfOk result (λ audited. All Rises audited.sheets) }
     ensures fault { IfErr result (CanStopVotes G.bars) }
+    ensures found { IfErr result (IsFoundIn (All Rises) poll.now lines.now) }
     ensures desk { IfErr result (IsOfDesk desks) }
 {
     let limit = lines.len() as u32;
@@ -272,7 +274,8 @@ fn serve<
 /// Takes the votes of all lines at desks 1 to `desks`.
 ///
 /// If it returns Ok, the box is audited for the poll and its lines, there is a sheet for each desk, and the stamps of each sheet
-/// rise. An error is one of those that may stop votes with this gate, and if it names a desk, one of these desks.
+/// rise. An error is one of those that may stop votes with this gate, and if it names a desk, one of these desks. If it is an
+/// audit's, there is a legal box whose sheets rise, and in which the audit finds it.
 pub fn take_votes<G: Gate + Sync, R: Threads + Wait + Sync>(
     rt: &R,
     alloc: Global,
@@ -286,6 +289,7 @@ pub fn take_votes<G: Gate + Sync, R: Threads + Wait + Sync>(
     ensures desks { IfOk result (λ audited. length audited.sheets ≡ desks) }
     ensures rising { IfOk result (λ audited. All Rises audited.sheets) }
     ensures fault { IfErr result (CanStopVotes G.bars) }
+    ensures found { IfErr result (IsFoundIn (All Rises) poll.now lines.now) }
     ensures desk { IfErr result (IsOfDesk desks) }
 {
     serve::<Brand, Brand, G, R>(

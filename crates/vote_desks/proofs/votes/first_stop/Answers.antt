@@ -1,5 +1,5 @@
 use Rattle.std.proofs.Common.{Some, length, ap, ◌∙◌, subst, sym, arith}
-use Rattle.vote_desks.specs.Faults.{CanStopVotes, IsOfDesk}
+use Rattle.vote_desks.specs.Faults.{CanStopCasts, IsOfDesk}
 use Rattle.vote_desks.specs.Stops.{IsBarredBy, stop_fault}
 use Rattle.vote_desks_box.proofs.Ranges.{at_range}
 use Rattle.vote_desks.proofs.StopLemmas.{least_stop, can_stop, of_desk}
@@ -16,7 +16,7 @@ returns-in-Some-clause-can g c =
     let k = c.loop-worked.worked-index in
     let barred = subst (λ w. IsBarredBy bars w.desk.number w.stopped) (sym c.worked-item.is) (c.requires.barred k c.worked-item.result (omega arith)) in
     let rightly = subst (λ n. IsBarredBy bars n c.worked-item.result.stopped) (sym c.number.ensures) barred in
-    subst (CanStopVotes bars) (sym c.stop_fault.ensures)
+    subst (CanStopCasts bars) (sym c.stop_fault.ensures)
     (can_stop bars c.number.result c.in-Some.stop (λ e. rightly (c.in-Some.is ∙ ap Some e)) (λ fault e. c.worked-item.result.refused fault (c.in-Some.is ∙ ap Some e)))
 
 pub returns-in-Some-clause-desk : goal.returns-in-Some-clause-desk

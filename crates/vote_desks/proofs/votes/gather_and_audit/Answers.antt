@@ -2,9 +2,9 @@ use Rattle.std.proofs.Common.{◌≡◌, length, refl, sym, subst, arith}
 use Rattle.std.specs.List.{All}
 use Rattle.std.proofs.lemmas.Result.{IfOk-weaker, IfErr-weaker}
 use Rattle.vote_desks_box.specs.Slips.{Rises}
-use Rattle.vote_desks_box.specs.Desks.{SealedState}
+use Rattle.vote_desks_box.specs.Desks.{AreSlipsInOrder, SealedState}
 use Rattle.vote_desks.proofs.BackLemmas.{gathered_count, gathered_rise, has_sizes}
-use Rattle.vote_desks.proofs.StopLemmas.{can_stop_audit, audit_of_desk}
+use Rattle.vote_desks.proofs.StopLemmas.{can_stop_audit, audit_of_desk, found_in}
 use Rattle.vote_desks.proofs.votes.gather_and_audit.Goals as goal
 
 pub returns-clause-desks : goal.returns-clause-desks
@@ -27,3 +27,8 @@ returns-clause-fault g c =
 pub returns-clause-desk : goal.returns-clause-desk
 returns-clause-desk g c =
     IfErr-weaker c.audit_votes.result _ _ (audit_of_desk c.args.shared.desks c.args.poll.now c.args.lines.now c.in-Ok.sealed) c.audit_votes.ensures.fault
+
+pub returns-clause-found : goal.returns-clause-found
+returns-clause-found g c =
+    IfErr-weaker c.audit_votes.result _ _ (λ fault. found_in (AreSlipsInOrder c.args.desks) c.args.poll.now c.args.lines.now c.in-Ok.sealed fault c.in-Ok.ensures.sheets c.in-Ok.ensures.legal)
+    c.audit_votes.ensures.fault

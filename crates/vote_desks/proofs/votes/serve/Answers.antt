@@ -1,8 +1,11 @@
 use Rattle.std.proofs.Common.{◌≡◌, IfOk, IfErr, length, ap, subst}
-use Rattle.vote_desks_box.specs.Desks.{SharedState}
+use Rattle.std.specs.List.{All}
+use Rattle.vote_desks_box.specs.Slips.{Rises}
+use Rattle.vote_desks_box.specs.Desks.{AreSlipsInOrder, SharedState}
 use Rattle.vote_desks.specs.Faults.{IsOfDesk}
 use Rattle.std.proofs.lemmas.Result.{IfErr-weaker}
-use Rattle.vote_desks.proofs.StopLemmas.{stops_votes}
+use Rattle.vote_desks.proofs.BackLemmas.{gathered_rise}
+use Rattle.vote_desks.proofs.StopLemmas.{found_in_such, stops_votes}
 use Rattle.vote_desks.proofs.votes.serve.Goals as goal
 
 pub returns-clause-desks : goal.returns-clause-desks
@@ -17,3 +20,10 @@ returns-clause-desk g c =
 
 pub returns-clause-fault : goal.returns-clause-fault
 returns-clause-fault g c = IfErr-weaker c.gather_and_audit.result _ _ (stops_votes g.G.Gate.bars) c.gather_and_audit.ensures.fault
+
+pub returns-clause-found : goal.returns-clause-found
+returns-clause-found g c =
+    let back = c.in_ok-back.back in
+    IfErr-weaker c.gather_and_audit.result _ _
+    (λ fault. found_in_such (AreSlipsInOrder back) (All Rises) c.args.poll.now c.args.lines.now fault (λ sheets are. gathered_rise back.items sheets are c.in_ok-back.ensures.rising))
+    c.gather_and_audit.ensures.found
