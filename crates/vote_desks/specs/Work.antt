@@ -1,8 +1,11 @@
 -- What a worker is given, and what it gives back.
-use Rattle.std.specs.Prelude.{◌≡◌, ℕ, ◌+◌, ◌-◌, ◌*◌, ◌/◌, ◌≤◌, min, Bool, if◌then◌else◌, List, [], ◌++◌, map, length, slice_index_or, All}
+use Rattle.std.specs.Prelude.{◌≡◌, ℕ, ◌+◌, ◌-◌, ◌*◌, ◌/◌, ◌<◌, ◌≤◌, min, Bool, if◌then◌else◌, List, [], ◌++◌, map, length, slice_get, slice_index, slice_index_or, All}
 use Rattle.std.specs.List.{range_with_len}
 use Rattle.std.specs.List.Sorted.{IsStrictlyIncreasing}
 use Rattle.vote_tray.specs.Passes.{TrayId, PassState, new_pass}
+use Rattle.vote_poll.specs.PollContent.{PollContent}
+use Rattle.vote_poll.specs.declared.Reading.{Reading}
+use Rattle.vote_poll.specs.Readings.{readings}
 use Rattle.vote_steps.specs.declared.TheConstants.{MAX_DESKS}
 use Rattle.vote_desks_box.specs.Slips.{Rises, stamps_of}
 use Rattle.vote_desks_box.specs.Desks.{DeskState}
@@ -39,6 +42,10 @@ tray_and_parts pass = (pass.tray, pass.parts)
 -- the stamp of one of so many lines, which are numbered from 1
 abbrev pub IsStampOf : ℕ → ℕ → Type 0
 IsStampOf lines stamp = (1 ≤ stamp) × (stamp ≤ lines)
+
+-- at the place of each of these stamps stands what the poll reads in its line
+abbrev pub AreReadAt : PollContent → List (List ℕ) → List ℕ → List Reading → Type 0
+AreReadAt poll lines stamps read = (place : ℕ) → place < length stamps → slice_get read place ≡ slice_get (readings poll lines) (slice_index stamps place - 1)
 
 -- the envelopes of the places that a pass took, in the order in which it took them
 abbrev pub stamps_taken : PassState → List ℕ

@@ -2,7 +2,7 @@
 ghost use Rattle.std.specs.Prelude.{◌≡◌, ◌+◌, ◌-◌, ◌<◌, ◌≤◌, ◌++◌, All, IsTrue, length, take, slice_index};
 ghost use Rattle.vote_poll.specs.PollContent.{elector_count, option_count};
 ghost use Rattle.vote_poll.specs.Readings.{ReadingFits};
-ghost use Rattle.vote_desks.specs.Work.{IsRising, IsShareOf, IsStampOf, batch_length, last_stamp, left_behind, stamps_taken};
+ghost use Rattle.vote_desks.specs.Work.{AreReadAt, IsRising, IsShareOf, IsStampOf, batch_length, last_stamp, left_behind, stamps_taken};
 
 use crate::work::{Gate, Workplace};
 use vote_desks_box::Tally;
@@ -74,6 +74,7 @@ pub(crate) fn read_batch(poll: &Poll, lines: &Lines<'_>, stamps: &[u32], reading
     requires fit { All (ReadingFits (option_count poll.now) (elector_count poll.now)) readings.old }
     ensures room { length readings.new ≡ length readings.old }
     ensures fit { All (ReadingFits (option_count poll.now) (elector_count poll.now)) readings.new }
+    ensures read { AreReadAt poll.now lines.now stamps.now readings.new }
 {
     for place in 0..stamps.len() {
         readings[place] = read_line(poll, lines.line(stamps[place] as usize - 1));

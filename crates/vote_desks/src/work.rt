@@ -3,7 +3,7 @@ ghost use Rattle.std.specs.Prelude.{◌≡◌, ℕ, Bool, true, false, ◌+◌, 
 ghost use Rattle.std.specs.List.{AllByRecursion};
 ghost use Rattle.vote_steps.specs.Boxes.{box_of};
 ghost use Rattle.vote_desks_box.specs.Desks.{FitsBox};
-ghost use Rattle.vote_desks.specs.Work.{HasCast, HasCastAll, IsFresh, IsStampOf, IsUnused, tray_and_parts};
+ghost use Rattle.vote_desks.specs.Work.{AreReadAt, HasCast, HasCastAll, IsFresh, IsStampOf, IsUnused, tray_and_parts};
 ghost use Rattle.vote_desks.specs.Workers.{AreBarredBy, desks_promised, numbers_back, numbers_of, parts_back, parts_promised, passes_promised};
 ghost use Rattle.vote_desks.specs.Stops.{IsBarredBy, IsRefusedAsUsed};
 ghost use Rattle.vote_desks.specs.Faults.{IsStartFault};
@@ -95,10 +95,12 @@ fn cast_each<VL: Tally, RL: Tally, G: Gate, R: Wait>(
     requires stamps { All (IsStampOf (length workplace.now.lines.now)) stamps.now }
     requires turn { 1 < length stamps.now → IsSome turn.now }
     requires each { length stamps.now ≤ length readings.now }
+    requires read { AreReadAt workplace.now.poll.now workplace.now.lines.now stamps.now readings.now }
     requires readings { All (FitsBox workplace.now.shared.now.opened) readings.now }
     requires room { length desk.old.slips + length stamps.now ≤ desk.old.limit }
     ensures same { (desk.new.number ≡ desk.old.number) × (desk.new.limit ≡ desk.old.limit) }
     ensures cast { IsNone result → HasCast desk.old stamps.now desk.new }
+    ensures empty { length stamps.now ≡ 0 → IsNone result }
     ensures barred { IsBarredBy G.bars desk.old.number result }
     ensures refused { IsRefusedAsUsed result }
 {
@@ -134,10 +136,12 @@ fn cast_batch<VL: Tally, RL: Tally, G: Gate, R: Wait>(
     requires stamps { All (IsStampOf (length workplace.now.lines.now)) stamps.now }
     requires alone { IsTrue workplace.now.may_wait → length stamps.now ≤ 1 }
     requires each { length stamps.now ≤ length readings.now }
+    requires read { AreReadAt workplace.now.poll.now workplace.now.lines.now stamps.now readings.now }
     requires readings { All (FitsBox workplace.now.shared.now.opened) readings.now }
     requires room { length desk.old.slips + length stamps.now ≤ desk.old.limit }
     ensures same { (desk.new.number ≡ desk.old.number) × (desk.new.limit ≡ desk.old.limit) }
     ensures cast { IsNone result → HasCast desk.old stamps.now desk.new }
+    ensures empty { length stamps.now ≡ 0 → IsNone result }
     ensures barred { IsBarredBy G.bars desk.old.number result }
     ensures refused { IsRefusedAsUsed result }
 {
