@@ -115,7 +115,12 @@ struct Turnstile {
 
 /// Whether a count rose so far while it was read at most 1,000,000,000 times.
 fn reaches(count: &AtomicU64, least: u64) -> bool {
-    for turn in 0..1_000_000_000u32 {
+    reaches_by(count, least, 1_000_000_000)
+}
+
+/// Whether a count rose so far while it was read at most so many times.
+fn reaches_by(count: &AtomicU64, least: u64, times: u32) -> bool {
+    for turn in 0..times {
         if count.load(SeqCst) >= least {
             return true;
         }
@@ -290,6 +295,45 @@ fn envelopes_are_taken_one_by_one_where_a_gate_waits(rt: HostRuntime) -> Result<
 #[test]
 fn a_gate_is_told_of_each_envelope_of_a_batch(rt: HostRuntime) -> Result<(), Fail> {
     let _ = last_of_many(&rt, rt.alloc(), Passes::AllBut(0))?;
+    Ok(())
+}
+
+/// A gate that does not wait for another desk. At the first envelope it looks for some tenths of a second whether it is asked for
+/// another one meanwhile.
+#[derive(Drop)]
+struct Lookout {
+    asked: AtomicU64,
+    meanwhile: AtomicU64,
+}
+
+impl Gate for Lookout {
+    fn before(&self, _desk: u8, _stamp: u32) -> bool {
+        if self.asked.fetch_add(1, SeqCst) == 0 && reaches_by(&self.asked, 2, 50_000_000) {
+            self.meanwhile.store(1, SeqCst);
+        }
+        true
+    }
+
+    fn after(&self, _desk: u8, _slip: &Slip) {}
+
+    fn may_wait(&self) -> bool {
+        false
+    }
+}
+
+/// A desk that has its turn holds it until its batch is cast. If desks took envelopes one by one, or each batch had a turn of its
+/// own, the other desk would ask meanwhile.
+#[test]
+fn no_desk_casts_amid_the_batch_of_another(rt: HostRuntime) -> Result<(), Fail> {
+    let lines = many_ballots(rt.alloc())?;
+    let gate = Lookout {
+        asked: AtomicU64::new(0),
+        meanwhile: AtomicU64::new(0),
+    };
+    let fault = taken(&rt, rt.alloc(), lines.as_str(), 2, &gate).err();
+    drop(lines);
+    assert_same(&rt, (fault, gate.meanwhile.load(SeqCst)), (None, 0));
+    drop(gate);
     Ok(())
 }
 

@@ -16,7 +16,7 @@
 //! stamp. So by `laws::last_lines_stand` the last line of each voter that is a ballot and is not
 //! late stands, whatever the order in which the desks came. A line is late if its number is above
 //! the poll's last envelope, whenever it was cast. A gate is told as what stopped the votes only at
-//! a desk that it may stop.
+//! a desk that it may stop, and an audit only with a fault that it finds in a legal box.
 //!
 //! **What is not promised.** That two threads run at the same time, that a waiting call gets on,
 //! any fairness among desks, which desk casts which line, or in what order. That a call succeeds if
