@@ -1,14 +1,15 @@
-#!/usr/bin/env python3
+#!/usr/bin/python3
 """Times what is made around the program, debvote-election and debvote-publish, on large elections.
 
     bench/around.py [--program PROGRAM]
 
 PROGRAM is the built debvote. Each line below has the seconds of processor that a command took, with those of the programs that it
-started, and the most that it may take; beyond it the script fails. The bounds are far above what a quiet machine needs: they
-find work that grows with the square of the election.
+started, and the most that it may take on a quiet machine; beyond it the script fails.
 """
 
 import argparse
+import contextlib
+import json
 import os
 import pathlib
 import random
@@ -16,6 +17,7 @@ import resource
 import subprocess
 import sys
 import tempfile
+import tomllib
 from collections.abc import Iterator
 
 import elections
@@ -26,6 +28,8 @@ ELECTION, PUBLISH = ROOT / "bin" / "debvote-election", ROOT / "bin" / "debvote-p
 
 # the large election of the other benchmark
 OPTIONS, LINES = 16, 100_000
+# this many of them are cast at a desk, one after the other
+DESK_BALLOTS = 10
 
 # the largest page of debvote-publish: so many options with the longest names
 MOST_OPTIONS, MOST_ELECTORS = 32, 10_000
@@ -35,42 +39,63 @@ MOST_OPTIONS, MOST_ELECTORS = 32, 10_000
 LETTERS = 10_000
 
 
-def command(words: list[object], folder: pathlib.Path, path: str, statuses: tuple[int, ...] = (0,)) -> float:
+@contextlib.contextmanager
+def before(clock: pathlib.Path) -> Iterator[None]:
+    """Commands find the time of this file: letters of the past are no older than the call."""
+    os.environ |= {"PYTHONPATH": str(ROOT / "tests" / "clock"), "DEBVOTE_CLOCK": str(clock)}
+    try:
+        yield
+    finally:
+        del os.environ["PYTHONPATH"], os.environ["DEBVOTE_CLOCK"]
+
+
+def command(
+    words: list[object], folder: pathlib.Path, path: str, statuses: tuple[int, ...] = (0,), given: str | None = None
+) -> float:
     """Runs a command in a folder, which must end with one of these statuses, and returns its seconds of processor."""
     before = resource.getrusage(resource.RUSAGE_CHILDREN)
     where = {**os.environ, "PATH": path, "PYTHONDONTWRITEBYTECODE": "1"}
-    ended = subprocess.run([sys.executable, *map(str, words)], cwd=folder, env=where, stdin=subprocess.DEVNULL, capture_output=True)
+    given_bytes = b"" if given is None else given.encode()
+    ended = subprocess.run([sys.executable, *map(str, words)], cwd=folder, env=where, input=given_bytes, capture_output=True)
     if ended.returncode not in statuses:
         sys.exit(f"{words}: status {ended.returncode}: {ended.stderr.decode(errors='replace')[:600]}")
     after = resource.getrusage(resource.RUSAGE_CHILDREN)
     return after.ru_utime + after.ru_stime - before.ru_utime - before.ru_stime
 
 
+def new_election(room: pathlib.Path, poll: str, members: str, path: str) -> None:
+    """A called election in a folder."""
+    command([ELECTION, "new", room], room.parent, path)
+    (room / "poll.toml").write_text(poll)
+    (room / "members.csv").write_text(members)
+    command([ELECTION, "roll"], room, path)
+    command([ELECTION, "call", "--to", "vote@club.example"], room, path)
+
+
 def large_election(folder: pathlib.Path, path: str) -> Iterator[tuple[str, float, float]]:
     """What is done, its seconds and the most of them, in an election of 10,000 electors and 100,000 lines."""
-    poll, ballots = map(pathlib.Path, elections.write(str(folder), OPTIONS, LINES))
-    room = folder / "held"
-    room.mkdir()
-    poll.rename(room / "poll.toml")
-    for name, words, most in [
-        ("add, 100,000 lines", ["add", "--even-so", ballots], 30),
-        ("status", ["status"], 4),
-        ("close", ["close"], 5),
-        ("publish", ["publish"], 20),
-    ]:
+    written, ballots = map(pathlib.Path, elections.write(str(folder), OPTIONS, LINES - DESK_BALLOTS))
+    poll = tomllib.loads(written.read_text())
+    names, room = poll.pop("roll"), folder / "held"
+    lines = "".join(f"{key} = {json.dumps(value)}\n" for key, value in poll.items())
+    new_election(room, lines, "name,who,mail\n" + "".join(f"{name},{name},{name}@club.example\n" for name in names), path)
+    yield "add, 100,000 lines", command([ELECTION, "add", "--yes", "--force", ballots], room, path), 5
+    ranks = ",".join(str(option + 1) for option in range(OPTIONS))
+    (room / "desk").write_text("".join(f"{name} {ranks}\n" for name in names[:DESK_BALLOTS]))
+    desk = sum(command([ELECTION, "desk"], room, path, given=f"{name} {ranks}\n") for name in names[:DESK_BALLOTS])
+    yield "a desk with one ballot", desk / DESK_BALLOTS, 0.5
+    for name, words, most in [("status", ["status"], 0.5), ("close", ["close"], 1), ("publish", ["publish"], 3)]:
         # 1: a tie
         yield name, command([ELECTION, *words], room, path, (0, 1)), most
 
 
 def large_roll(folder: pathlib.Path, path: str) -> Iterator[tuple[str, float, float]]:
-    """The same for a roll of 10,000 members of seven names, whose names in the vote are made."""
+    """The same for a list of 10,000 members whose names in the vote are made."""
     room = folder / "members"
-    room.mkdir()
-    (room / "poll.toml").write_text('title = "T"\noptions = ["A"]\nratios = [1]\ndefault = "N"\nquorum = 1\nroll = ["x"]\n')
-    rows = "".join(f',"Ann ""A"" Lee, no. {number % 7}",\n' for number in range(10_000))
-    (room / "members.csv").write_text("name,who,mail\n" + rows)
-    # 9: it has made the names, and asks that they are looked at
-    yield "roll, names for 10,000", command([ELECTION, "roll"], room, path, (9,)), 5
+    command([ELECTION, "new", room], folder, path)
+    rows = "".join(f'"Ann ""A"" Lee, no. {number}",\n' for number in range(10_000))
+    (room / "members.csv").write_text("who,mail\n" + rows)
+    yield "roll, names for 10,000", command([ELECTION, "roll"], room, path), 5
 
 
 def largest_page(folder: pathlib.Path, path: str) -> Iterator[tuple[str, float, float]]:
@@ -98,7 +123,10 @@ def letter_of(number: int, name: str, text: str) -> str:
     quoted = [f"a line of the call, number {line}, as long as the lines of calls are" for line in range(40)]
     plain = "".join(f"> {line}\n" for line in quoted)
     marked = "".join(f'<div style="font-size:10pt">{line}</div>\n' for line in quoted)
-    parts = {"plain": f"Hello\n\n{text}\n\nOn Mon, 23 Nov 2026, Vote wrote:\n{plain}", "html": f"<p>{text}</p><blockquote>{marked}</blockquote>"}
+    parts = {
+        "plain": f"Hello\n\n{text}\n\nOn Mon, 23 Nov 2026, Vote wrote:\n{plain}",
+        "html": f"<p>{text}</p><blockquote>{marked}</blockquote>",
+    }
     body = "".join(f"--b\nContent-Type: text/{kind}; charset=utf-8\n\n{part}\n" for kind, part in parts.items())
     kind = 'Content-Type: multipart/alternative; boundary="b"'
     return f"From {name}@club.example Mon Nov 23 10:00:00 2026\n{head}{kind}\n\n{body}--b--\n\n"
@@ -107,22 +135,22 @@ def letter_of(number: int, name: str, text: str) -> str:
 def many_letters(folder: pathlib.Path, path: str) -> Iterator[tuple[str, float, float]]:
     """The same for letters of 10,000 electors, of which a tenth waits."""
     room = folder / "letters"
-    room.mkdir()
     names = [f"elector-{number}" for number in range(LETTERS)]
-    roll = ", ".join(f'"{name}"' for name in names)
-    poll = f'title = "T"\noptions = ["A", "B", "C"]\nratios = [1, 1, 1]\ndefault = "N"\nquorum = 1\nroll = [{roll}]\n'
-    (room / "poll.toml").write_text(poll)
-    (room / "members.csv").write_text("name,who,mail\n" + "".join(f"{name},{name},{name}@club.example\n" for name in names))
+    poll = 'title = "T"\noptions = ["A", "B", "C"]\nratios = [1, 1, 1]\ndefault = "N"\nquorum = 1\n'
+    members = "name,who,mail\n" + "".join(f"{name},{name},{name}@club.example\n" for name in names)
+    clock = folder / "clock"
+    clock.write_text("2026-11-20T09:00:00+00:00")
+    with before(clock):
+        new_election(room, poll, members, path)
     texts = (f"{name} {'1,2,3,4' if number % 10 else '1,2,3'}" for number, name in enumerate(names))
     (room / "inbox").write_text("".join(letter_of(number, name, text) for number, (name, text) in enumerate(zip(names, texts))))
-    command([ELECTION, "call", "--to", "vote@club.example"], room, path)
     for name, words, most in [
-        ("add, 10,000 letters", ["add", "--yes", "inbox"], 60),
-        ("add, all of them again", ["add", "--yes", "inbox"], 60),
-        ("held, of 1,000", ["held"], 3),
-        ("letters, 10,000 receipts", ["letters", "receipts"], 60),
-        ("letters, 1,000 reminders", ["letters", "reminders"], 10),
-        ("undo, 9,000 lines", ["undo"], 3),
+        ("add, 10,000 letters", ["add", "--yes", "inbox"], 30),
+        ("add, all of them again", ["add", "--yes", "inbox"], 30),
+        ("held, of 1,000", ["held"], 5),
+        ("letters, 10,000 receipts", ["letters", "receipts"], 30),
+        ("letters, 1,000 reminders", ["letters", "reminders"], 30),
+        ("undo, 9,000 lines", ["undo", "--yes"], 5),
     ]:
         yield name, command([ELECTION, *words], room, path), most
 
@@ -136,6 +164,7 @@ def main() -> int:
     path = os.pathsep.join([str(program.parent), os.environ["PATH"]])
     failed = 0
     with tempfile.TemporaryDirectory(prefix="debvote-around-") as name:
+        os.environ["XDG_STATE_HOME"] = str(pathlib.Path(name, "state"))
         for part in (large_election, large_roll, largest_page, many_letters):
             for what, seconds, most in part(pathlib.Path(name), path):
                 is_good = seconds <= most

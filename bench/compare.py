@@ -1,4 +1,4 @@
-#!/usr/bin/env python3
+#!/usr/bin/python3
 """Times debvote beside the plain counter of this project (plain.rs), and beside another debvote.
 
     compare.py PROGRAM [--before PROGRAM] [--rounds R] [--same S] [--at-most-.. X ..]

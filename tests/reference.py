@@ -1,4 +1,4 @@
-#!/usr/bin/env python3
+#!/usr/bin/python3
 """The count of debvote a second time, written from docs/DEFINITIONS.md and docs/FORMATS.md alone.
 
 It is made to be read, not to be fast. Each function says what it stands for: 4.2 and A.5.1 to A.5.8 are sections of the

@@ -51,8 +51,9 @@ def ranks_in_words(ranks: str, names: Sequence[str], language: Language = ENGLIS
 
 def step_in_words(step: list[int], names: Sequence[str], language: Language) -> str:
     """The options that have one rank."""
-    options = named(step, names, language)
-    return language.say("{options} equally", options=options) if step[1:] else options
+    if len(step) == 1:
+        return names[step[0] - 1]
+    return language.say("{options} equally", options=named(step, names, language))
 
 
 def named(options: list[int], names: Sequence[str], language: Language) -> str:

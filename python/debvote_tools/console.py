@@ -1,6 +1,6 @@
 """What both programs say and ask: the one place that writes to standard output and standard error, and that reads an answer.
 
-No text that is told has a sign that steers a terminal (`signs.written`), but for what debvote wrote, which has none.
+No text that is told has a sign that steers a terminal (`terminal_text.written`), but for what debvote wrote, which has none.
 """
 
 import io
@@ -9,7 +9,7 @@ import sys
 from typing import TextIO
 
 from debvote_tools.faults import Fault, Status
-from debvote_tools.signs import written
+from debvote_tools.terminal_text import written
 
 
 # what is said where a question is answered otherwise

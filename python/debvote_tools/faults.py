@@ -1,9 +1,7 @@
-"""How a run ends: the exit statuses, the fault that ends one, and the doubt at which one stops."""
+"""How a run ends: the exit statuses, and the fault that ends one."""
 
-import dataclasses
 import enum
-
-from debvote_tools.sentences import Sentence, sentence
+from collections.abc import Sequence
 
 
 class Status(enum.IntEnum):
@@ -43,6 +41,23 @@ class Fault(Exception):
         return Fault(self.file, self.reason, self.cure, self.status, "; ".join(filter(None, [self.done, done])))
 
 
+class Several(Fault):
+    """Several faults that stop one act, so that they are put right at once. The exit status is the first one's."""
+
+    def __init__(self, faults: Sequence[Fault]) -> None:
+        Exception.__init__(self, faults)
+        self.faults = tuple(faults)
+        self.status, self.words = faults[0].status, None
+
+
+def stop_at(faults: Sequence[Fault]) -> None:
+    """Stops if there are faults; all of them are said."""
+    if len(faults) == 1:
+        raise faults[0]
+    if faults:
+        raise Several(faults)
+
+
 class Told(Fault):
     """What ends the run where the lines are told already, by debvote or as doubts, or where debvote says them itself."""
 
@@ -60,23 +75,3 @@ def other_format(what: str) -> Fault:
     """The fault of what debvote writes, where it can't be read by its format."""
     cure = "install debvote and these programs from one package"
     return Fault(None, f"{what} has another format", cure, Status.BAD_SHEET)
-
-
-# what the page of a secret vote says of a doubt that would tell a name, a line or a number of a line
-UNNAMED = sentence("There is a doubt about the files of this vote; what it is would tell more than a secret vote may.")
-
-
-@dataclasses.dataclass(frozen=True)
-class Doubt:
-    """A reason to stop: file, reason and cure for the one who publishes, and a sentence for the readers of the page."""
-
-    file: str
-    reason: str
-    cure: str
-    sentence: Sentence
-    # the sentence on the page of a secret vote; it is the general one unless the doubt names nobody
-    in_secret: Sentence = UNNAMED
-
-    def told(self) -> str:
-        """The doubt for the one who publishes."""
-        return f"{self.file}: {self.reason}; {self.cure}"

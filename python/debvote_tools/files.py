@@ -1,14 +1,11 @@
 """Files that are written whole or not at all, and the lock of a folder."""
 
 import contextlib
-import errno
 import fcntl
 import hashlib
 import os
 import pathlib
-import re
 import signal
-import stat
 import tempfile
 from collections.abc import Iterable, Iterator
 
@@ -34,7 +31,7 @@ class Written(OSError):
     """A file is written, and its name may not be on the disk yet."""
 
 
-def sum_of(data: bytes) -> str:
+def sha256_of(data: bytes) -> str:
     """The SHA-256 of some bytes, as `sha256sum` writes it."""
     return hashlib.sha256(data).hexdigest()
 
@@ -87,28 +84,6 @@ def temporary_folder(place: pathlib.Path) -> pathlib.Path:
     return pathlib.Path(tempfile.mkdtemp(prefix=TEMPORARY, dir=place))
 
 
-def take_away_temporaries(folder: pathlib.Path, names: tuple[str, ...] = ()) -> None:
-    """Removes the temporaries that runs that were killed have left in a folder, and no other file.
-
-    One that is a folder may have files of these names. The caller holds the lock alone, so that no run is at work on one.
-    """
-    for left in folder.glob(f"{TEMPORARY}*"):
-        mode = left.lstat().st_mode
-        if stat.S_ISREG(mode):
-            left.unlink()
-        elif stat.S_ISDIR(mode) and names:
-            take_away_temporaries(left)
-            take_away_folder(left, names)
-
-
-def take_away_folder(folder: pathlib.Path, names: tuple[str, ...]) -> None:
-    """Removes the files of these names, and their folder where nothing else is in it."""
-    with contextlib.suppress(OSError):
-        for name in names:
-            (folder / name).unlink(missing_ok=True)
-        folder.rmdir()
-
-
 def write_public(file: pathlib.Path, data: bytes) -> None:
     """Writes a new file that everybody may read, whatever the umask, and brings it to the disk. Raises OSError."""
     with open(file, "xb") as target:
@@ -125,56 +100,23 @@ def umask() -> int:
     return mask
 
 
-def append_whole(file: pathlib.Path, data: bytes, has_lines: bool = False) -> None:
-    """Appends to a file, all or nothing, and brings it to the disk. Of a file that has lines, a last one that was cut off is
-    taken away first. Raises OSError, and then nothing was appended.
-    """
-    handle = os.open(file, os.O_RDWR | os.O_CREAT | os.O_APPEND | os.O_CLOEXEC, 0o644)
-    try:
-        size = end_of_lines(handle) if has_lines else os.fstat(handle).st_size
-        os.ftruncate(handle, size)
-        try:
-            written = os.write(handle, data)
-            if written < len(data):
-                raise OSError(errno.ENOSPC, os.strerror(errno.ENOSPC))
-            os.fsync(handle)
-        except OSError:
-            os.ftruncate(handle, size)
-            raise
-    except OSError as error:
-        error.filename = str(file)
-        raise
-    finally:
-        os.close(handle)
-
-
-def end_of_lines(handle: int) -> int:
-    """The place behind the last line feed of a file."""
-    place = os.fstat(handle).st_size
-    while place > 0:
-        start = max(0, place - 4096)
-        feed = os.pread(handle, place - start, start).rfind(b"\n")
-        if feed >= 0:
-            return start + feed + 1
-        place = start
-    return 0
-
-
-def write_new(folder: pathlib.Path, name: str, data: bytes, mode: int = 0o644) -> pathlib.Path:
-    """Writes a file into a folder of numbered files, as `0007-poll.toml`, whole; the folder is made where it is not there."""
-    folder.mkdir(exist_ok=True)
-    numbers = [int(number[1]) for file in folder.iterdir() if (number := re.match(r"(\d+)-", file.name))]
-    file = folder / f"{max(numbers, default=0) + 1:04}-{name}"
-    write_whole(file, data, mode)
-    return file
-
-
 @contextlib.contextmanager
 def locked(file: pathlib.Path, is_shared: bool = False) -> Iterator[None]:
     """Holds the lock of a file, alone or with other readers, and waits for it. The lock of a process that is killed is free."""
     handle = os.open(file, os.O_RDWR | os.O_CREAT | os.O_CLOEXEC, 0o644)
     try:
         fcntl.flock(handle, fcntl.LOCK_SH if is_shared else fcntl.LOCK_EX)
+        yield
+    finally:
+        os.close(handle)
+
+
+@contextlib.contextmanager
+def locked_folder(folder: pathlib.Path) -> Iterator[None]:
+    """Holds the lock of a folder alone. Raises BlockingIOError if another process has it."""
+    handle = os.open(folder, os.O_RDONLY | os.O_DIRECTORY | os.O_CLOEXEC)
+    try:
+        fcntl.flock(handle, fcntl.LOCK_EX | fcntl.LOCK_NB)
         yield
     finally:
         os.close(handle)

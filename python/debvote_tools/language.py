@@ -11,7 +11,6 @@ import io
 import json
 from collections.abc import Callable, Iterable, Mapping
 
-from debvote_tools import po
 from debvote_tools.sentences import Sentence
 
 # each by the code that the pages have for it, with its name in English
@@ -45,15 +44,14 @@ class Language:
 
     def of(self, said: Sentence) -> str:
         """A sentence that was made elsewhere."""
-        places = {name: self.at_place(value) for name, value in said.places}
+        places = dict(said.places)
         if said.many is None:
             return self.say(said.text, **places)
         return self.catalog.ngettext(said.text, said.many, said.number).format(**places)
 
-    def at_place(self, value: object) -> object:
-        if isinstance(value, tuple):
-            return "; ".join(str(self.at_place(one)) for one in value)
-        return self.of(value) if isinstance(value, Sentence) else value
+    def in_a_row(self, said: Iterable[str]) -> str:
+        """Sentences one after another, with semicolons."""
+        return self.between("{before}; {after}").join(said)
 
     def joined(self, entries: Iterable[str]) -> str:
         """The entries as they stand in a sentence; there is at least one."""
@@ -86,4 +84,14 @@ def language_of(code: str) -> Language:
     made = folder.joinpath(f"{code}.mo")
     if made.is_file():
         return Language(code, gettext.GNUTranslations(io.BytesIO(made.read_bytes())))
-    return Language(code, po.catalog_of(folder.joinpath(f"{code}.po").read_text(encoding="utf-8")))
+    return Language(code, catalog_of(folder.joinpath(f"{code}.po").read_bytes()))
+
+
+def catalog_of(po: bytes) -> gettext.GNUTranslations:
+    """The translations of a `.po` file, which a checkout has; the package has them compiled. Babel is read only here: it takes a while."""
+    from babel.messages import mofile, pofile
+
+    compiled = io.BytesIO()
+    mofile.write_mo(compiled, pofile.read_po(io.BytesIO(po)))
+    compiled.seek(0)
+    return gettext.GNUTranslations(compiled)

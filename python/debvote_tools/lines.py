@@ -1,10 +1,10 @@
 """The lines that come, and what may be changed of one before it is entered.
 
-Changed is what can mean one thing only: the byte-order mark at the start, carriage returns at line ends, spaces and tabs at either
-end, around commas and between name and ranks, capital letters of the name; and what mail programs and word processors put there:
-quotation marks around the line, asterisks for bold letters, a full stop at its end, semicolons for commas, a colon behind the name,
-no-break spaces, and a dash for a hyphen. Of the cells of a web form `forms.py` changes less: blanks at either end of each, line feeds
-within it, capital letters of the name and, where the call says so, an empty cell to a hyphen. Nothing else is changed, and nothing is
+A change is made only if the line can mean one thing: the byte-order mark at the start, carriage returns at line ends, spaces and tabs at
+either end, around commas and between name and ranks, capital letters of the name; and what mail programs and word processors put there:
+quotation marks around the line, asterisks for bold letters, a full stop at its end, semicolons for commas, a colon after the name,
+no-break spaces, and a dash in place of a hyphen. Of the cells of a table `csv_ballots.py` changes less: blanks at either end of each, line
+feeds within it, capital letters of the name and, if the call says so, an empty cell to a hyphen. Nothing else is changed, and nothing is
 guessed: no rank, no name, no order.
 """
 
@@ -23,9 +23,15 @@ PART = re.compile(rb"(?P<line>[^\r\n]*)(?P<end>\r\n|\n|\r|\Z)")
 # in bytes; a longer line is no ballot, and nothing of it is repaired
 LONGEST = 1_000
 
+# a line in which there is nothing to repair
+PLAIN = re.compile(rb"[a-z0-9.-]+ (?:-|[1-9][0-9]?)(?:,(?:-|[1-9][0-9]?))*")
+
+# what can be a name on a roll, at the start of a line
+NAME = re.compile(rb"[a-z0-9.-]+")
+
 NO_BREAK = "\u00a0\u202f"
 DASHES = "\u2010\u2011\u2012\u2013\u2014\u2212"
-# what stands before a line and behind it
+# pairs of quotation marks: the one before a line, and the one after it
 QUOTES = (
     *(chr(34) * 2, chr(39) * 2, "``"),
     *(
@@ -45,42 +51,40 @@ BOLD = re.compile(r"(?:^|(?<=[ ,;:]))(\*{1,3})(?=[^ *])([^*]*)(?<=[^ *])\1(?=[ ,
 COLON = re.compile(r"([A-Za-z0-9.-]+) *: *(?=[\d%s-])" % DASHES)
 FULL_STOP = re.compile(r"(?<=[\d%s-]) *\.$" % (DASHES + "".join(pair[1] for pair in QUOTES)))
 
-# what is taken out, by its name
-SIGNS = {
+# the characters that are removed or replaced, by what they are called
+REPAIRED = {
     "byte-order mark": (MARK,),
     "carriage return": (b"\r",),
     "line feeds": (b"\n",),
     "tabs": (b"\t",),
     "spaces": (b" ",),
-    "no-break spaces": tuple(sign.encode() for sign in NO_BREAK),
-    "quotation marks": tuple(sign.encode() for sign in sorted(set("".join(QUOTES)))),
+    "no-break spaces": tuple(character.encode() for character in NO_BREAK),
+    "quotation marks": tuple(character.encode() for character in sorted(set("".join(QUOTES)))),
     "asterisks": (b"*",),
     "full stop": (b".",),
     "semicolons": (b";",),
     "colon": (b":",),
-    "dashes": tuple(sign.encode() for sign in DASHES),
+    "dashes": tuple(character.encode() for character in DASHES),
 }
 CAPITALS = re.compile(rb"[A-Z]")
 
 
-@dataclasses.dataclass(frozen=True)
+@dataclasses.dataclass(frozen=True, slots=True)
 class Line:
-    """A line that came: what it came in, and its place there with the sign that stands between both, as `more.txt` and `:3`, or
-    `form.csv` and `: row 3`. A line of a letter came in the letter, `inbox.mbox, message 3`, and no place is told of it.
-    """
+    """A line that came. `source` names the file, as `more.txt`, and `place` the line in it, as `:3`, or of a table as `: row 3`."""
 
     source: str
     place: str
-    # as it came: that of a file with its mark and its carriage return, that of a row with the line feeds in its cells
+    # as it came: that of a file with its byte-order mark and its carriage return, that of a row with the line feeds in its cells
     whole: bytes
-    # without them, as it goes in where debvote refuses it
+    # without them: so it is entered if debvote refuses it
     bare: bytes
     # after all changes that are allowed
     changed: bytes
 
     @property
     def where(self) -> str:
-        """Both, as it is told."""
+        """File and place, as messages name them."""
         return f"{self.source}{self.place}"
 
     @property
@@ -89,23 +93,22 @@ class Line:
 
     @property
     def had_mark(self) -> bool:
-        """Whether it came with a mark, which was taken off. Where more than mark and carriage return was taken off, neither is said of
-        it."""
+        """Whether all that it lost is a byte-order mark, and perhaps a carriage return."""
         return not self.bare.startswith(MARK) and self.whole.removesuffix(b"\r") == MARK + self.bare
 
     @property
     def had_return(self) -> bool:
-        """Whether it came with a carriage return, which was taken off."""
+        """Whether all that it lost is a carriage return, and perhaps a byte-order mark."""
         return self.whole == self.bare + b"\r" or (self.had_mark and self.whole.endswith(b"\r"))
 
     @property
     def without_frame(self) -> bytes:
-        """The line as it came, but without such a mark and such a carriage return: these are told of the whole file."""
+        """The line as it came, without such a byte-order mark and carriage return: they are mentioned once for the whole file."""
         return self.bare if self.had_mark or self.had_return else self.whole
 
 
 def lines_in(data: bytes, name: str, first: int = 1) -> list[Line]:
-    """The lines of a file; `first` is the number of the first one. A byte-order mark is taken out where it is at line 1."""
+    """The lines of a file; `first` is the number of the first one. A byte-order mark is removed at the start of line 1."""
     lines, number = [], first
     for part in PART.finditer(data):
         if part.start() == len(data):
@@ -119,7 +122,7 @@ def lines_in(data: bytes, name: str, first: int = 1) -> list[Line]:
 
 
 def ballot_lines(ballots_bytes: bytes) -> list[bytes]:
-    """The lines of a ballot file; a last one that is not ended is one."""
+    """The lines of a ballot file; the last one may lack its line feed."""
     return ballots_bytes.removesuffix(b"\n").split(b"\n") if ballots_bytes else []
 
 
@@ -128,8 +131,16 @@ def ballot_file(lines: Iterable[bytes]) -> bytes:
     return b"".join(line + b"\n" for line in lines)
 
 
+def name_in(line: bytes) -> bytes:
+    """The name with which a line begins; empty if it begins with none."""
+    found = NAME.match(line)
+    return found[0] if found else b""
+
+
 def changed(line: bytes) -> bytes:
     """The line after the changes that are allowed."""
+    if PLAIN.fullmatch(line):
+        return line
     if len(line) > LONGEST or b"\r" in line or b"\n" in line:
         return spaced(line)
     try:
@@ -150,8 +161,8 @@ def spaced(line: bytes) -> bytes:
 
 def repaired(text: str) -> str:
     """A line without what mail programs and word processors put there."""
-    bare = text.translate({ord(sign): " " for sign in NO_BREAK}).strip(" \t")
-    # quotation marks may stand around a full stop, or before it
+    bare = text.translate({ord(character): " " for character in NO_BREAK}).strip(" \t")
+    # quotation marks may enclose a full stop, or precede it
     for _ in range(2):
         bare = FULL_STOP.sub("", unquoted(BOLD.sub(r"\2", bare)))
     bare = COLON.sub(r"\1 ", bare, count=1) if COLON.match(bare) else bare
@@ -163,14 +174,14 @@ def repaired(text: str) -> str:
 
 
 def unquoted(text: str) -> str:
-    """A line without the quotation marks that stand around the whole of it."""
-    is_quoted = len(text) > 2 and text[0] + text[-1] in QUOTES and not any(sign in text[1:-1] for sign in (text[0], text[-1]))
+    """A line without the quotation marks around the whole of it."""
+    is_quoted = len(text) > 2 and text[0] + text[-1] in QUOTES and not any(mark in text[1:-1] for mark in (text[0], text[-1]))
     return text[1:-1].strip(" \t") if is_quoted else text
 
 
 def differences(before: bytes, after: bytes) -> list[str]:
     """What was changed, by its names."""
-    names = [name for name, signs in SIGNS.items() if any(before.count(sign) > after.count(sign) for sign in signs)]
+    names = [name for name, parts in REPAIRED.items() if any(before.count(part) > after.count(part) for part in parts)]
     if before.count(b"-") < after.count(b"-") and "dashes" not in names:
         names.append("empty cells")
     if len(CAPITALS.findall(before)) > len(CAPITALS.findall(after)):

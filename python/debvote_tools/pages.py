@@ -6,6 +6,7 @@ What is given to these functions is HTML already: a name or a text goes through 
 import base64
 import hashlib
 import importlib.resources
+import json
 from collections.abc import Iterable, Mapping
 from html import escape
 from typing import NamedTuple
@@ -135,6 +136,7 @@ def command_block(language: Language, what: str, command: str, output: str | Non
     return f"<p>{what}</p>\n<pre><code>{escape(command)}</code></pre>\n{answer}"
 
 
-def words_of(language: Language, sentences: Mapping[str, str]) -> str:
-    """An attribute with the sentences of a script, by their names."""
-    return f'data-words="{escape(language.words(sentences))}"'
+def words_of(language: Language, sentences: Mapping[str, str], **said: str) -> str:
+    """An attribute with the sentences of a script by their names, and with words that are in the language already."""
+    words = {name: language.catalog.gettext(text) for name, text in sentences.items()} | said
+    return f'data-words="{escape(json.dumps(words, ensure_ascii=False))}"'

@@ -8,10 +8,7 @@ import dataclasses
 
 @dataclasses.dataclass(frozen=True)
 class Sentence:
-    """A sentence with what stands at its places; `many` is its form for a number that is not one.
-
-    What stands at a place may be a sentence itself, or some of them, which are listed with semicolons.
-    """
+    """A sentence with what stands at its places; `many` is its form for a number that is not one."""
 
     text: str
     many: str | None

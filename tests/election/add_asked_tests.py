@@ -1,160 +1,140 @@
-"""`add`: what it asks while others work on the election, what comes from a pipe, and what `--look` says of what would be done."""
+"""`add`: what others do meanwhile, what it asks at a terminal, what comes from a pipe, and what `--look` says of what would be done."""
 
 import os
 import subprocess
 import sys
-import tempfile
 
-import letters_support
 import support
+from called import LAKE, OTHER_RANKS, RANKS, CalledTest
 from terminal import Terminal
 
-MONDAY = "ada 1,2,4,3\nben 1,2,4,3\n"
-FRIDAY = MONDAY + "cleo 1,2,4,3\ndan 1,2,4,3\n"
-ASKED = "Add the lines behind them alone? [y/n] "
-BEFORE = "came before, in this order, with received/"
+MONDAY = f"ada {RANKS}\nben {RANKS}\n"
+ASKED = "Did this come before that close? [y/n] "
 
 
-class AskedTest(support.ElectionTest):
+class AfterReopen(CalledTest):
     def setUp(self) -> None:
         super().setUp()
-        # with it no note says that there was no call
-        (self.folder / "call").mkdir()
-
-    def added(self, *words: object, **how: object) -> str:
-        """What is told where it ends well."""
-        ended = self.election("add", *words, **how)
-        self.assertEqual((ended.status, ended.faults), (0, ""), ended)
-        return ended.output
-
-
-class WhileItAsks(AskedTest):
-    def setUp(self) -> None:
-        super().setUp()
+        self.act("close", {"lines": 0, "checksum": "", "early": False})
+        self.act("reopen", {"because": "a bag was forgotten"})
         self.write("monday", MONDAY)
-        self.added("monday")
-        self.write("friday", FRIDAY)
 
     def asked(self) -> Terminal:
-        terminal = Terminal(self, "add", "friday")
-        self.assertIn(f"friday: its first 2 lines {BEFORE}0001-monday. ", terminal.until(ASKED))
+        terminal = Terminal(self, "add", "monday")
+        self.assertRegex(terminal.until(ASKED), r"^The vote was closed at [-\d]+ [:\d]+ UTC and opened again\. Did")
         return terminal
 
-    def test_nothing_happens_meanwhile(self) -> None:
-        terminal = self.asked()
-        terminal.type("y\n")
+    def answer(self, terminal: Terminal, *keys: str) -> str:
+        """What is shown after these keys, up to an end with status 0."""
+        for key in keys:
+            terminal.type(key)
         output, status = terminal.end()
-        self.assertIn(
-            "friday: its first 2 lines came before, in this order, with received/0001-monday; 2 more lines are new\n", output
-        )
-        self.assertIn("Added 2 lines (2 counted).\n", output)
-        self.assertEqual((status, self.read("ballots").decode()), (0, FRIDAY))
+        self.assertEqual(status, 0, output)
+        return output
 
-    def test_more_of_the_file_is_entered_meanwhile(self) -> None:
+    def test_yes_and_no(self) -> None:
+        self.assertIn(f"1 counted  ada: {LAKE}\n", self.answer(self.asked(), "y\n"))
+        self.told("undo")
+        self.assertIn("3 late  ada: ", self.answer(self.asked(), "perhaps\n", "n\n"))
+        self.assertEqual((self.lines(), len(self.late_lines())), ([], 2))
+
+    def test_the_end_of_the_input_is_no_answer(self) -> None:
+        before = self.last_act()
         terminal = self.asked()
-        self.write("wednesday", MONDAY + "cleo 1,2,4,3\n")
-        self.added("--yes", "wednesday")
-        before = self.contents()
-        terminal.type("y\n")
+        terminal.type("\x04")
         output, status = terminal.end()
-        self.assertNotIn("Traceback", output)
-        words = (
-            "debvote-election: add: what would be added is not what was asked about: somebody has changed the election meanwhile; "
-        )
-        self.assertIn(f"{words}nothing was added: run the command again\n", output)
-        self.assertEqual((status, self.contents()), (9, before))
+        self.assertIn("nobody said whether it came before the close; nothing was added: ", output)
+        self.assertEqual((status, self.last_act()), (9, before))
 
-    def test_the_first_lines_are_taken_back_meanwhile(self) -> None:
+    def test_an_act_that_changes_nothing_of_it(self) -> None:
         terminal = self.asked()
-        self.assertEqual(self.election("undo").status, 0)
-        before = self.contents()
-        terminal.type("y\n")
-        output, status = terminal.end()
-        self.assertIn("is not what was asked about", output)
-        self.assertEqual((status, self.contents()), (9, before))
+        self.told("add", "--came-before-close", "yes", given=f"cleo {RANKS}\n")
+        output = self.answer(terminal, "y\n")
+        self.assertNotIn(ASKED, output)
+        self.assertIn("2 counted  ada: ", output)
+        self.assertEqual(self.lines(), [f"cleo {RANKS}", f"ada {RANKS}", f"ben {RANKS}"])
 
-    def test_an_edit_is_told_once(self) -> None:
-        self.write("ballots", self.read("ballots") + b"eve 1,2,4,3\n")
-        terminal = Terminal(self, "add", "friday")
-        output = terminal.until(ASKED)
-        terminal.type("y\n")
-        end, status = terminal.end()
-        self.assertEqual((output + end).count("Note: ballots was changed by hand since "), 1, output + end)
-        self.assertEqual(status, 0)
-
-    def test_an_edit_while_it_asks_is_told(self) -> None:
+    def test_lines_that_somebody_adds_meanwhile(self) -> None:
         terminal = self.asked()
-        self.write("ballots", self.read("ballots") + b"eve 1,2,4,3\n")
+        self.told("add", "--came-before-close", "yes", given=f"ada {RANKS}\n")
         terminal.type("y\n")
-        output, status = terminal.end()
-        self.assertIn("Note: ballots was changed by hand since ", output)
-        self.assertEqual(status, 0)
+        # another number of lines is asked about anew
+        terminal.until(ASKED)
+        output = self.answer(terminal, "n\n")
+        self.assertIn("monday: 1 line came before, and is passed over; 1 is new\n", output)
+        self.assertIn("2 late  ben: ", output)
+        self.assertEqual((self.lines(), self.late_lines()), ([f"ada {RANKS}"], [f"ben {RANKS}"]))
+
+    def test_a_close_meanwhile(self) -> None:
+        terminal = self.asked()
+        self.act("close", {"lines": 0, "checksum": "", "early": False})
+        self.assertIn("1 late  ada: ", self.answer(terminal, "y\n"))
+        self.assertEqual((self.lines(), len(self.late_lines())), ([], 2))
+
+    def test_what_came_at_the_terminal_itself(self) -> None:
+        terminal = Terminal(self, "add")
+        terminal.until("Type the ballots, a line each; Ctrl-D on an empty line ends them.\n")
+        terminal.type(f"ada {RANKS}\n\x04")
+        terminal.until(ASKED)
+        self.assertIn("1 counted  ada: ", self.answer(terminal, "y\n"))
 
 
-class FromAPipe(AskedTest):
+class AtOnce(CalledTest):
+    def test_two_copies_of_one_file(self) -> None:
+        """Whoever is second finds that its lines came before."""
+        self.write("many", "".join(f"ada {a},{b},1,2\n" for a in range(1, 20) for b in range(1, 20)))
+        words = [sys.executable, support.ELECTION, "add", "many"]
+        how = {"cwd": self.folder, "env": support.environment(), "stdout": subprocess.PIPE, "stderr": subprocess.PIPE, "text": True}
+        runs = [subprocess.Popen(words, **how) for _ in range(4)]
+        outputs = [run.communicate(timeout=support.SECONDS) for run in runs]
+        self.assertEqual([run.returncode for run in runs], [0] * 4, outputs)
+        self.assertEqual(len(self.lines()), 361)
+        self.assertEqual(sum("Added 361 lines" in output for output, _ in outputs), 1)
+        self.assertEqual(sum("Nothing is new." in output for output, _ in outputs), 3)
+
+    def test_each_gets_the_replies_to_its_own_lines(self) -> None:
+        words = [sys.executable, support.ELECTION, "add"]
+        pipes = {"stdin": subprocess.PIPE, "stdout": subprocess.PIPE, "stderr": subprocess.PIPE}
+        runs = {
+            name: subprocess.Popen(words, cwd=self.folder, env=support.environment(), text=True, **pipes) for name in self.names
+        }
+        for name, run in runs.items():
+            run.stdin.write(f"{name} {RANKS}\n{name} {OTHER_RANKS}\n")
+            run.stdin.close()
+            run.stdin = None
+        for name, run in runs.items():
+            output, faults = run.communicate(timeout=support.SECONDS)
+            self.assertEqual((run.returncode, faults), (0, ""))
+            first, second = (envelope.number for envelope in self.envelopes() if envelope.line.startswith(name.encode()))
+            self.assertIn(f"{first} counted  {name}: {LAKE}\n", output)
+            self.assertIn(f"\n{second} replaced  {name}: ", output)
+
+
+class FromAPipe(CalledTest):
     """What is read of a pipe is gone from it, so it is read once."""
-
-    def setUp(self) -> None:
-        super().setUp()
-        letters = [letters_support.letter(name, f"{name} 1,2,4,3\n") for name in ("ada", "ben")]
-        self.mailbox = letters_support.mailbox(*letters)
-
-    def kept(self) -> bytes:
-        """The letters that are kept, without the lines between them."""
-        (file,) = (self.folder / "received" / "letters").glob("*.mbox")
-        return file.read_bytes()
-
-    def assert_both_are_in(self, output: str) -> None:
-        self.assertIn("Added 2 lines (2 counted) from 2 letters; no letter waits.\n", output)
-        self.assertEqual(self.read("ballots").decode(), "ada 1,2,4,3\nben 1,2,4,3\n")
-        self.assertEqual(self.kept().count(b"Message-ID: "), 2)
-
-    def test_a_mailbox_from_a_process_substitution(self) -> None:
-        read_end, write_end = os.pipe()
-        with subprocess.Popen(["printf", "%s", self.mailbox.decode()], stdout=write_end):
-            os.close(write_end)
-            words = [sys.executable, support.ELECTION, "add", "--yes", f"/dev/fd/{read_end}"]
-            ended = self.run_program(*words, pass_fds=(read_end,))
-            os.close(read_end)
-        self.assertEqual((ended.status, ended.faults), (0, ""), ended)
-        self.assert_both_are_in(ended.output)
-
-    def test_a_mailbox_from_a_named_pipe(self) -> None:
-        os.mkfifo(self.folder / "inbox")
-        with tempfile.NamedTemporaryFile() as box:
-            box.write(self.mailbox)
-            box.flush()
-            with subprocess.Popen(["sh", "-c", f"cat {box.name} > {self.folder}/inbox"]):
-                output = self.added("--yes", "inbox", timeout=support.SECONDS)
-        self.assert_both_are_in(output)
-
-    def test_a_long_mailbox_from_a_pipe(self) -> None:
-        """It is longer than a file of ballots may be. The letters that make it so wait, since each is too long to be read."""
-        long = letters_support.letter("cleo", "cleo 1,2,4,3\n" + "so much to say\n" * 800_000)
-        self.mailbox += letters_support.mailbox(*[long.replace(b"<1.", b"<%d." % number) for number in (1, 2, 3)])
-        self.assertGreater(len(self.mailbox), 33_554_432)
-        self.write("box", self.mailbox)
-        with subprocess.Popen(["cat", self.folder / "box"], stdout=subprocess.PIPE) as cat:
-            ended = self.election("add", "--yes", "/dev/stdin", stdin=cat.stdout)
-        self.assertEqual((ended.status, ended.faults), (0, ""), ended.faults)
-        self.assertIn("Added 2 lines (2 counted) from 5 letters; 3 letters wait.\n", ended.output)
-        # and as a file on the disk
-        self.assertIn("5 letters came before, and are passed over.\n", self.added("--yes", "box"))
 
     def test_lines_from_a_named_pipe(self) -> None:
         os.mkfifo(self.folder / "more")
-        with subprocess.Popen(["sh", "-c", f"echo ada 1,2,4,3 > {self.folder}/more"]):
-            self.assertIn("Added 1 line (1 counted).\n", self.added("more", timeout=support.SECONDS))
+        with subprocess.Popen(["sh", "-c", f"echo ada {RANKS} > {self.folder}/more"]):
+            self.assertIn("Added 1 line (1 counted).\n", self.told("add", "more", timeout=support.SECONDS))
+
+    def test_lines_from_a_process_substitution(self) -> None:
+        read_end, write_end = os.pipe()
+        os.write(write_end, f"ada {RANKS}\n".encode())
+        os.close(write_end)
+        ended = self.run_program(sys.executable, support.ELECTION, "add", f"/dev/fd/{read_end}", pass_fds=(read_end,))
+        os.close(read_end)
+        self.assertEqual((ended.status, self.lines()), (0, [f"ada {RANKS}"]), ended)
 
 
-class Look(AskedTest):
+class Look(CalledTest):
     """`--look` says what the same command does without it, and nothing is kept."""
 
-    def assert_look_says_it(self, *words: str) -> None:
-        before = self.contents()
-        look = self.election("add", "--look", *words)
-        self.assertEqual(self.contents(), before)
-        ended = self.election("add", *words)
+    def assert_look_says_it(self, *words: str, given: str | None = None) -> None:
+        before = self.last_act()
+        look = self.election("add", "--look", *words, given=given)
+        self.assertEqual((self.last_act(), len(self.sources())), (before, len(self.sources())))
+        ended = self.election("add", *words, given=given)
         self.assertEqual((look.status, look.faults), (ended.status, ended.faults))
         if ended.status:
             return
@@ -163,105 +143,21 @@ class Look(AskedTest):
         added = next(line for line in ended.output.splitlines() if line.startswith("Added ")).removeprefix("Added ")
         self.assertIn(f"These would be {added} Nothing was changed.\n", look.output)
 
-    def test_even_so_where_first_lines_came_before(self) -> None:
-        self.write("monday", MONDAY)
-        self.added("monday")
-        self.write("friday", FRIDAY)
-        self.assert_look_says_it("--even-so", "friday")
-        self.assertEqual(self.read("ballots").decode(), MONDAY + FRIDAY)
+    def test_new_lines_and_those_that_came_before(self) -> None:
+        self.assert_look_says_it(given=MONDAY)
+        self.assert_look_says_it(given=f"ada {OTHER_RANKS}\n{MONDAY}cleo {RANKS}\nGsu 1,2\n")
+        self.told("strike", 1, "--because", "a test")
+        self.assert_look_says_it("--again", given=MONDAY)
 
-    def test_even_so_where_few_lines_are_ballots(self) -> None:
-        self.write("wrong", "Dear all,\nwe meet on Monday\nada 1,2,4,3\n")
+    def test_what_stops(self) -> None:
+        self.write("wrong", f"Dear all,\nwe meet on Monday\nada {RANKS}\n")
         self.assert_look_says_it("wrong")
-        self.assert_look_says_it("--even-so", "wrong")
+        self.assert_look_says_it("--force", "wrong")
 
-    def test_even_so_where_the_file_came_before(self) -> None:
-        self.write("monday", MONDAY)
-        self.assert_look_says_it("monday")
-        self.assert_look_says_it("monday")
-        self.assert_look_says_it("--even-so", "monday")
+    def test_after_the_close(self) -> None:
+        self.act("close", {"lines": 0, "checksum": "", "early": False})
+        self.assert_look_says_it(given=MONDAY)
 
-    def test_the_lines_behind_the_first_ones(self) -> None:
-        self.write("monday", MONDAY)
-        self.added("monday")
-        self.write("friday", FRIDAY)
-        self.assert_look_says_it("--yes", "friday")
-
-
-class TooMuch(AskedTest):
-    """What debvote refuses as a whole is kept, and so it is said; where nothing is kept, it is not."""
-
-    SAID = "ballots: nothing was added, for with it debvote says `ballots refused: too many lines`; it takes 100000 lines and 33554432 bytes at most"
-
-    def setUp(self) -> None:
-        super().setUp()
-        self.write("ballots", "ada 1,2,4,3\n" * 100_000)
-
-    def test_add_keeps_it(self) -> None:
-        ended = self.election("add", "--even-so", given="ben 1,2,4,3\n")
-        self.assert_fault(ended, 4, f"{self.SAID}; what came is kept in received: add less of it\n")
-        self.assertEqual(self.read("received/0001-standard-input"), b"ben 1,2,4,3\n")
-
-    def test_a_look_keeps_nothing(self) -> None:
-        before = self.contents()
-        ended = self.election("add", "--look", "--even-so", given="ben 1,2,4,3\n")
-        self.assert_fault(ended, 4, f"{self.SAID}: add less of it\n")
-        self.assertEqual(self.contents(), before)
-
-    def test_a_desk_that_shows_a_line_keeps_nothing(self) -> None:
-        before = self.contents()
-        desk = Terminal(self)
-        desk.until("Ballot: ")
-        desk.type("ben 1,2,4,3\n")
-        output, status = desk.end()
-        self.assertIn(f"{self.SAID}: add less of it\n", output)
-        self.assertEqual((status, self.contents()), (4, before))
-
-    def test_what_hinders_debvote_is_said_with_what_is_kept(self) -> None:
-        """Not the lines are refused, but the poll: what came is kept too, and the user is told."""
-        self.write("poll.toml", support.POLL.replace("quorum = 1", "quorum = 11"))
-        ended = self.election("add", given="ben 1,2,4,3\n")
-        self.assert_fault(
-            ended, 3, "poll.toml: ", "; what came is kept in received: what is wrong with it says: debvote-election check\n"
-        )
-        self.assertEqual(self.read("received/0001-standard-input"), b"ben 1,2,4,3\n")
-
-
-class NamesOfOurs(AskedTest):
-    """Files of the user that are called as those of `received` are that are passed over."""
-
-    def test_they_are_known_as_what_came(self) -> None:
-        for number, name in enumerate(("monday.in-part", "monday.taken-back"), start=1):
-            self.write(name, f"ada 1,2,4,{number}\n")
-            self.added(name)
-            self.assertEqual(self.read(f"received/000{number}-{name}.txt"), f"ada 1,2,4,{number}\n".encode())
-        # what is put in by hand is no line that came
-        self.write("ballots", self.read("ballots") + b"ben 1,2,4,3\n")
-        output = self.election("close", "--early").faults
-        self.assertNotIn("taken out", output)
-        self.assertEqual(self.election("status").output.count("is not among what came"), 1)
-
-
-class BeforeTheHead(letters_support.LettersTest):
-    """A mark and line ends before the head of a message that is a file."""
-
-    def test_the_head_is_read(self) -> None:
-        whole = letters_support.letter("ada", f"ada {letters_support.RANKS}\n", head="Auto-Submitted: auto-replied\n")
-        for number, start in enumerate((b"\n", b"\r\n\n", b"\xef\xbb\xbf", b"\xef\xbb\xbf\n"), start=1):
-            self.write("letter.eml", start + whole.replace(b"<1.ada", b"<%d.ada" % (number + 1)))
-            ended = self.election("add", "letter.eml", "--yes")
-            self.assertEqual((ended.status, ended.faults, self.lines()), (0, "", []), ended)
-        self.assertEqual([why.partition(":")[0] for why in self.whys()], ["written by a program"] * 4)
-
-    def test_a_folder_too(self) -> None:
-        (self.folder / "letters-that-came").mkdir()
-        self.write("letters-that-came/1.eml", b"\n" + letters_support.letter("ben", "ben 1,2,3,4\n", sender="eve@club.example"))
-        self.assertEqual(self.election("add", "letters-that-came", "--yes").status, 0)
-        self.assertEqual((self.lines(), len(self.whys())), ([], 1))
-        self.assertIn("eve@club.example", self.whys()[0])
-
-    def test_a_letter_without_a_line_where_the_poll_has_no_roll(self) -> None:
-        self.write("poll.toml", support.POLL.split("roll = ")[0])
-        self.write("letter.eml", b"From: a@b.example\nSubject: x\n\n")
-        ended = self.election("add", "letter.eml", "--yes")
-        self.assertNotIn("Traceback", ended.faults)
+    def test_a_refused_line_would_go_in_as_it_came(self) -> None:
+        output = self.told("add", "--look", given="Gsu 1,2,3,4\n")
+        self.assertIn("  it would go in as it came; written as `gsu 1,2,3,4` it is refused too: ", output)

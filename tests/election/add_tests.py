@@ -1,378 +1,242 @@
-"""`add`: what is printed, what is in the ballots, and that nothing is lost."""
+"""`add`: what is told, what is in the book, and that nothing is lost."""
 
-import fcntl
 import os
 import resource
+import shutil
 import signal
 import subprocess
 import sys
-import time
 
 import support
+from called import HALL, LAKE, OTHER_RANKS, RANKS, CalledTest
 
-sys.path.insert(0, str(support.ROOT / "python"))
-
-from debvote_tools import journal  # noqa: E402
-
-LAKE = "At the lake, then In the town hall, then Further discussion, then Sell the house and meet there"
-HALL = "In the town hall, then At the lake, then Further discussion, then Sell the house and meet there"
 RIGHT = (
     "A right line in this poll: ada 1,2,3,4 (an elector of the roll, a space, and 4 ranks with commas between, "
     "a rank or a hyphen for each option)"
 )
+NEXT = "Next: debvote-election status; add what comes with debvote-election add FILE, and when the vote is over: debvote-election close"
 
 
-class AddTest(support.ElectionTest):
-    def setUp(self) -> None:
-        super().setUp()
-        # with it no note says that there was no call
-        (self.folder / "call").mkdir()
-
-    def received(self) -> dict[str, bytes]:
-        """What was kept of what came."""
-        folder = self.folder / "received"
-        return {file.name: file.read_bytes() for file in sorted(folder.iterdir())} if folder.exists() else {}
-
-    def assert_refused_whole(self, ended: support.Ended, before: dict[str, bytes], status: int, *parts: str) -> None:
-        """One fault, and nothing has changed."""
-        self.assert_fault(ended, status, *parts)
-        self.assertEqual(self.contents(), before)
-
-
-class Good(AddTest):
+class Good(CalledTest):
     def test_envelope_reply_and_words(self) -> None:
         self.write("more.txt", "ada 1,2,4,3\nben 2,1,4,3\nada 2,1,4,3\n")
-        ended = self.election("add", "more.txt")
         self.assertEqual(
-            ended.output.splitlines(),
+            self.told("add", "more.txt").splitlines(),
             [
                 f"1 counted  ada: {LAKE}",
                 f"2 counted  ben: {HALL}",
                 f"3 replaced  ada: {HALL}",
                 "Note: more.txt has 2 ballots of ada (1, 3); the last one counts.",
                 "Added 3 lines (2 counted, 1 replaced).",
-                "Next: debvote-election status; add what comes with debvote-election add FILE, and when the vote is over: "
-                "debvote-election close",
+                NEXT,
             ],
         )
-        self.assertEqual((ended.status, ended.faults), (0, ""))
-        self.assertEqual(self.read("ballots"), self.read("more.txt"))
-        self.assertEqual(self.received(), {"0001-more.txt": self.read("more.txt")})
-        acts = journal.entries_in(self.folder / "journal")
-        self.assertEqual([(act.act, act.envelopes) for act in acts], [("add", "1-3")])
-        self.assertEqual(acts[0].sums, journal.Sums.of(self.read("poll.toml"), self.read("ballots")))
+        self.assertEqual(self.sources(), [("more.txt", self.read("more.txt"))])
+        self.assertEqual(self.acts(), [("add", {"files": ["more.txt"], "lines": 3, "passed_over": 0})])
+        [act] = self.book.acts()[self.first_act - 1 :]
+        for envelope, name, place in zip(self.envelopes(), ("ada", "ben", "ada"), (":1", ":2", ":3"), strict=True):
+            told = (envelope.act, envelope.elector, envelope.source, envelope.place, envelope.time, envelope.is_late)
+            self.assertEqual(told, (act.number, self.elector(name), 1, place, act.time, False))
 
     def test_several_files_and_standard_input(self) -> None:
         self.write("a", "ada 1,2,4,3\n")
         self.write("b", "ben 1,2,4,3")
-        ended = self.election("add", "a", "-", "b", given="cleo 1,2,4,3\n")
-        self.assertEqual(ended.status, 0)
-        self.assertEqual(self.read("ballots"), b"ada 1,2,4,3\ncleo 1,2,4,3\nben 1,2,4,3\n")
-        kept = {"0001-a": b"ada 1,2,4,3\n", "0002-standard-input": b"cleo 1,2,4,3\n", "0003-b": b"ben 1,2,4,3"}
-        self.assertEqual(self.received(), kept)
+        self.told("add", "a", "-", "b", given="cleo 1,2,4,3\n")
+        self.assertEqual(self.lines(), ["ada 1,2,4,3", "cleo 1,2,4,3", "ben 1,2,4,3"])
+        self.assertEqual(self.sources(), [("a", b"ada 1,2,4,3\n"), ("standard input", b"cleo 1,2,4,3\n"), ("b", b"ben 1,2,4,3")])
+        self.assertEqual([envelope.source for envelope in self.envelopes()], [1, 2, 3])
+        self.assertEqual([name for name, _ in self.acts()], ["add"])
+
+    def test_the_number_is_the_envelope_s_and_never_the_place(self) -> None:
+        self.told("add", given="ada 1,2,4,3\nben 1,2,4,3\n")
+        self.told("strike", 1, "--because", "a test")
+        self.told("undo")
+        output = self.told("add", given="\nada 2,1,4,3\n")
+        self.assertIn(f"\n3 counted  ada: {HALL}\n", output)
+        self.assertEqual(self.lines(), ["ada 2,1,4,3"])
 
     def test_equal_ranks_none_and_hyphens(self) -> None:
-        output = self.election("add", given="ada 1,1,-,2\nben -,-,-,-\n").output
-        self.assertIn(
-            "1 counted  ada: At the lake and In the town hall equally, then Further discussion; "
-            "not ranked, and so behind all others: Sell the house and meet there\n",
-            output,
-        )
+        output = self.told("add", given="ada 1,1,-,2\nben -,-,-,-\n")
+        words = "At the lake and In the town hall equally, then Further discussion; not ranked, and so behind all others: Sell the house"
+        self.assertIn(f"1 counted  ada: {words} and meet there\n", output)
         self.assertIn("2 counted  ben: no option is ranked, so nothing is preferred\n", output)
 
+    def test_whose_line_it_is(self) -> None:
+        """By the name with which the entered line begins, whatever debvote says of the line."""
+        came = {
+            "ada 1,2": "ada",
+            "ben": "ben",
+            "cleo,1,2,3,4": "cleo",
+            "Dan x": None,
+            "adam 1,2,3,4": None,
+            " eve 1,2": None,
+            "x": None,
+        }
+        self.told("add", "--force", given="\n".join(came))
+        electors = [None if name is None else self.elector(name) for name in came.values()]
+        self.assertEqual([envelope.elector for envelope in self.envelopes()], electors)
+
     def test_names_of_files(self) -> None:
-        for number, name in enumerate(("ä" * 127, "x" * 255, "-n", "a b\nc"), start=5):
+        names = ("ä" * 127, "x" * 255, "-n", "a b\nc")
+        for number, name in enumerate(names, start=5):
             self.write(name, f"ada 1,2,4,{number}\n")
-            self.assertEqual(self.election("add", "--", name).status, 0)
+            self.told("add", "--", name)
         os.rename(os.fsencode(self.write("odd", "ada 1,2,4,3\n")), os.fsencode(self.folder) + b"/\xff")
         words = [sys.executable, str(support.ELECTION), "add", b"\xff"]
         ended = subprocess.run(words, cwd=self.folder, env=support.environment(), capture_output=True)
         self.assertEqual((ended.returncode, ended.stderr), (0, b""))
-        self.assertEqual(list(self.received()), ["0001-" + "ä" * 75, "0002-" + "x" * 150, "0003--n", "0004-a b\nc", "0005-file"])
+        self.assertEqual([name for name, _ in self.sources()], [*names, "\\xff"])
+        self.assertEqual(self.acts()[-1][1]["files"], ["\\xff"])
 
     def test_from_another_folder(self) -> None:
         (self.scratch / "more").write_text("ada 1,2,4,3\n")
-        ended = self.election("--folder", "election", "add", "more", cwd=self.scratch)
-        self.assertIn("1 counted  ada: ", ended.output)
-        self.assertIn("Next: debvote-election --folder election status; ", ended.output)
-        self.assertEqual(self.read("ballots"), b"ada 1,2,4,3\n")
+        output = self.told("--folder", "election", "add", "more", cwd=self.scratch)
+        self.assertIn("1 counted  ada: ", output)
+        self.assertIn("Next: debvote-election status --folder election; ", output)
+        self.assertEqual(self.lines(), ["ada 1,2,4,3"])
 
     def test_ten_thousand_lines(self) -> None:
-        names = support.POLL.split('["ada')[1].split("]")[0].replace('", "', " ").strip('",').split()
-        lines = [f"{(['ada'] + names)[place % 9]}{'x' if place % 10 == 0 else ''} 1,2,4,3" for place in range(10_000)]
+        lines = [
+            f"{self.names[number % 9]}{'x' if number % 10 == 0 else ''} 1,2,{number // 99 % 99 + 1},{number % 99 + 1}"
+            for number in range(10_000)
+        ]
         self.write("many", "\n".join(lines) + "\n")
-        ended = self.election("add", "many")
-        told = [line for line in ended.output.splitlines() if line[0].isdigit()]
-        self.assertEqual(len(told), 10_000)
-        self.assertTrue(told[-1].startswith("10000 "))
-        self.assertEqual(self.read("ballots"), self.read("many"))
-
-    def test_before_the_call(self) -> None:
-        (self.folder / "call").rmdir()
-        note = "Note: the call for votes has not been made yet.\n"
-        ended = self.election("add", given="ada 1,2,4,3\n")
-        self.assertTrue(ended.output.startswith(f"{note}1 counted  ada: "), ended)
-        ended = self.election("desk", given="ben 1,2,4,3\n")
-        self.assertTrue(ended.output.startswith(f"{note}2 counted  ben: "), ended)
-        self.assertEqual(self.election("call").status, 0)
-        self.assertNotIn("Note: ", self.election("add", given="ada 2,1,4,3\n").output)
-        self.assertNotIn("Note: ", self.election("desk", given="ben 2,1,4,3\n").output)
-
-    def test_after_the_close(self) -> None:
-        self.assertEqual(self.election("close").status, 0)
-        output = self.election("add", given="ada 1,2,4,3\nben x\n").output
-        time_of_close = r"\d{4}-\d\d-\d\d \d\d:\d\d:\d\d UTC"
-        self.assertRegex(output, rf"^Note: the election was closed at {time_of_close}; what is added now is late\.\n")
-        self.assertIn(f"1 late  ada: {LAKE}\n", output)
-        self.assertIn('2 late  ben x: bad shape: column 5: "x" (a word stands where ranks belong)\n', output)
-        self.assertIn("2 lines came after the close, and late ones count for nothing.\n", output)
+        told = [line for line in self.told("add", "many").splitlines() if line[0].isdigit()]
+        self.assertEqual([int(line.split()[0]) for line in told], list(range(1, 10_001)))
+        self.assertEqual(self.lines(), lines)
 
 
-class NoBallots(AddTest):
-    def assert_stops(self, data: str | bytes, *parts: str, words: tuple[str, ...] = ()) -> None:
-        """It stops, and nothing has changed; `--even-so` adds each line."""
+class BeforeTheCall(CalledTest):
+    call_words = None
+
+    def test_it_is_refused(self) -> None:
+        self.assert_stops(
+            self.election("add", given="ada 1,2,4,3\n"), self.last_act(), 9, "the election is not called yet; nothing was changed: "
+        )
+
+
+class AfterTheEnd(CalledTest):
+    call_words = ("--until", "2099-12-04 18:00 +01:00")
+
+    def test_before_the_close_it_counts_and_is_told(self) -> None:
+        self.assertNotIn("Note", self.told("add", given="ada 1,2,4,3\n"))
+        # the book itself is told a later end
+        self.act("extend", {"until": "2020-12-04T18:00:00+01:00"})
+        output = self.told("add", given="ben 1,2,4,3\n")
+        self.assertIn(
+            "Note: one could vote until Friday, 4 December 2020, 18:00 (UTC+01:00), and that is over; what is added counts ", output
+        )
+        self.assertIn("2 counted  ben: ", output)
+        self.assertEqual(self.lines(), ["ada 1,2,4,3", "ben 1,2,4,3"])
+
+    def test_after_the_close_it_is_late(self) -> None:
+        self.told("add", given="ada 1,2,4,3\n")
+        self.act("close", {"lines": 1, "checksum": "", "early": False})
+        output = self.told("add", given="ada 2,1,4,3\nben x\n")
+        self.assertRegex(output, r"^Note: the vote was closed at \d{4}-\d\d-\d\d \d\d:\d\d:\d\d UTC; what is added now is late\.\n")
+        self.assertIn(f"2 late  ada: {HALL}\n", output)
+        hint = "a cross is a choice, and ranks are an order: ask the elector for a rank of each option"
+        self.assertIn(f'3 late  ben x: bad shape: column 5: "x"; {hint}\n', output)
+        self.assertIn(
+            "2 lines came after the close, and late ones count for nothing.\nAdded 2 lines (2 late).\nNext: debvote-election count\n",
+            output,
+        )
+        self.assertEqual((self.lines(), self.late_lines()), (["ada 1,2,4,3"], ["ada 2,1,4,3", "ben x"]))
+
+    def test_after_reopen_it_is_asked_and_kept(self) -> None:
+        self.act("close", {"lines": 0, "checksum": "", "early": False})
+        self.act("reopen", {"because": "a bag was forgotten"})
+        self.write("bag", "ada 1,2,4,3\n")
+        before = self.last_act()
+        said = " and opened again, and only what came before counts; nothing was added: say whether this came before that close: "
+        self.assert_stops(self.election("add", "bag"), before, 9, "--came-before-close: the vote was closed at ", said)
+        self.assertIn("1 counted  ada: ", self.told("add", "--came-before-close", "yes", "bag"))
+        self.assertIn("2 late  ben: ", self.told("add", "--came-before-close", "no", given="ben 1,2,4,3\n"))
+        self.assertEqual((self.lines(), self.late_lines()), (["ada 1,2,4,3"], ["ben 1,2,4,3"]))
+        self.assertEqual([detail["came_before_close"] for name, detail in self.acts() if name == "add"], [True, False])
+
+    def test_where_nobody_asks_for_an_answer(self) -> None:
+        ended = self.election("add", "--came-before-close", "yes", given="ada 1,2,4,3\n")
+        self.assert_stops(ended, self.last_act(), 2, "--came-before-close: the vote was never closed; nothing was added: ")
+
+
+class NoBallots(CalledTest):
+    def assert_stops_without_force(self, data: str | bytes, *parts: str, words: tuple[str, ...] = ()) -> None:
+        """It stops; `--force` adds each line."""
         self.write("wrong", data)
-        before = self.contents()
-        said = "none of the 2 lines as a ballot; nothing was added: "
         ended = self.election("add", *words, "wrong")
-        self.assert_refused_whole(ended, before, 9, said, *parts, ", or add it all the same with --even-so")
-        ended = self.election("add", *words, "--even-so", "wrong")
-        self.assertEqual((ended.status, ended.faults), (0, ""))
-        self.assertIn("Added 2 lines (2 bad ", ended.output)
-        self.assertEqual(len(self.read("ballots").splitlines()), 2)
+        said = "none of the 2 lines as a ballot; nothing was added: "
+        self.assert_stops(ended, self.last_act(), 9, said, *parts, ", or add it all the same with --force")
+        self.assertIn("Added 2 lines (2 bad ", self.told("add", *words, "--force", "wrong"))
+        self.assertEqual(len(self.lines()), 2)
+        self.told("undo")
 
-    def test_the_list_of_members(self) -> None:
-        self.assert_stops('\ufeff"Name";who;mail\r\nada;Ada;ada@club.example\r\n', "it looks like the list of members, so name ")
-
-    def test_a_table(self) -> None:
+    def test_by_what_it_looks_like(self) -> None:
+        self.assert_stops_without_force(
+            '\ufeff"Name";who;mail\r\nada;Ada;ada@club.example\r\n', "it looks like the list of members, so name "
+        )
         for sign in ",;\t":
             with self.subTest(sign=sign):
                 table = f"When{sign}Your name{sign}a\nMonday{sign}ada{sign}1\n"
-                words = "it looks like a table, which is added with --csv --name COLUMN --ranks COLUMN,COLUMN,.."
-                self.assert_stops(table, words)
-                (self.folder / "ballots").unlink()
-                (self.folder / "journal").unlink()
+                self.assert_stops_without_force(
+                    table, "it looks like a table, which is added with --csv --name COLUMN --ranks COLUMN,COLUMN,.."
+                )
+        self.assert_stops_without_force(
+            "Dear all,\nwe meet on Monday\n", "look at the file, whose first line is `Dear all,` (bad shape: "
+        )
+        words = "look at the file, whose first line is `ada 1,2` (bad rank count: 2 ranks, the poll has 4 options; 2 are missing: ask the elector)"
+        self.assert_stops_without_force("ada 1,2\nben 2,1\n", words)
+        table, columns = "n,a,b,c,d,e\nada,1,2,3,4,x\nben,1,2,3,4,x\n", ("--csv", "--name=n", "--ranks=e,a,b,c")
+        self.assert_stops_without_force(table, "look whether --name and --ranks name the right ", words=columns)
 
-    def test_another_file(self) -> None:
-        self.assert_stops("Dear all,\nwe meet on Monday\n", "look at the file, whose first line is `Dear all,` (bad shape: ")
-
-    def test_ballots_of_another_poll(self) -> None:
-        words = "look at the file, whose first line is `ada 1,2` (bad rank count: 2 ranks, the poll has 4 options)"
-        self.assert_stops("ada 1,2\nben 2,1\n", words)
-
-    def test_columns_that_are_not_the_right_ones(self) -> None:
-        table = "n,a,b,c,d,e\nada,1,2,3,4,x\nben,1,2,3,4,x\n"
-        words = ("--csv", "--name=n", "--ranks=e,a,b,c")
-        self.assert_stops(table, "look whether --name and --ranks name the right ", words=words)
-
-    def test_beside_a_good_file(self) -> None:
+    def test_all_that_stands_against_it_is_said_at_once(self) -> None:
         self.write("good", "ada 1,2,4,3\n")
         self.write("wrong", "x\ny\n")
-        before = self.contents()
-        self.assert_refused_whole(self.election("add", "good", "wrong"), before, 9, "wrong: debvote takes none of the 2 lines ")
+        self.write("letter", "ben 1,2,4,3\n" + "y" * 501 + "\n")
+        before = self.last_act()
+        ended = self.election("add", "good", "wrong", "letter")
+        faults = ended.faults.splitlines()
+        self.assertEqual((ended.status, len(faults), self.last_act()), (9, 2, before), ended)
+        self.assertIn("letter:2: the line has 501 bytes, and a ballot has a few dozen; nothing was added: ", faults[0])
+        self.assertIn("wrong: debvote takes none of the 2 lines as a ballot; nothing was added: ", faults[1])
+        self.told("add", "--force", "good", "wrong", "letter")
+        self.assertEqual(len(self.lines()), 5)
 
-    def test_one_line_alone_and_one_that_is_taken(self) -> None:
-        self.assertIn("1 bad shape  x: ", self.election("add", given="x\n\n").output)
-        self.assertIn("Added 2 lines (1 counted, 1 bad shape).\n", self.election("add", given="ada 1,2,4,3\nx\n").output)
-        self.election("close")
-        self.assertIn("Added 2 lines (2 late).\n", self.election("add", given="ben 1,2,4,3\nx\n").output)
+    def test_force_where_nothing_stops_is_no_fault_and_is_not_told(self) -> None:
+        output = self.told("add", "--force", given="ada 1,2,4,3\n")
+        self.assertEqual(output, f"1 counted  ada: {LAKE}\nAdded 1 line (1 counted).\n{NEXT}\n")
+        self.assertEqual(self.acts(), [("add", {"files": ["standard input"], "lines": 1, "passed_over": 0})])
 
-
-class FewBallots(AddTest):
     def test_fewer_than_half(self) -> None:
         self.write("monday", "Dear all,\nada 1,2,4,3\nGreetings\n")
-        before = self.contents()
+        before = self.last_act()
         ended = self.election("add", "monday")
         said = "monday: debvote takes 1 alone of the 3 lines as a ballot; nothing was added: look at the file, whose first line is `Dear "
-        self.assert_refused_whole(ended, before, 9, said, "--even-so")
+        self.assert_stops(ended, before, 9, said, "--force")
         self.assertIn("monday:1: no ballot: Dear all,: ", ended.output)
         self.assertIn("monday:3: no ballot: Greetings: ", ended.output)
         self.assertNotIn("monday:2: ", ended.output)
-        self.assertEqual(self.election("add", "--even-so", "monday").status, 0)
-        self.assertEqual(self.read("ballots"), self.read("monday"))
+        self.told("add", "--force", "monday")
+        self.assertEqual(self.lines(), ["Dear all,", "ada 1,2,4,3", "Greetings"])
 
-    def test_half_of_them(self) -> None:
-        self.assertEqual(self.election("add", given="ada 1,2,4,3\nx\n").status, 0)
+    def test_half_of_them_and_one_line_alone(self) -> None:
+        self.assertIn("Added 2 lines (1 counted, 1 bad shape).\n", self.told("add", given="ada 1,2,4,3\nx\n"))
+        self.assertIn("3 bad shape  y: ", self.told("add", given="y\n\n"))
 
-    def test_each_file_by_itself(self) -> None:
+    def test_each_file_and_all_of_them(self) -> None:
         self.write("good", "ada 1,2,4,3\nben 1,2,4,3\ncleo 1,2,4,3\n")
         self.write("bad", "dan 1,2,4,3\nx\ny\n")
-        before = self.contents()
-        self.assert_refused_whole(self.election("add", "good", "bad"), before, 9, "bad: debvote takes 1 alone of the 3 lines ")
-
-    def test_two_ballots_of_one_elector_are_told(self) -> None:
-        self.write("monday", "ada 1,2,4,3\nben 1,2,4,3\nAda 2,1,4,3\n\nada x\n")
-        ended = self.election("add", "monday")
-        self.assertIn("Note: monday has 2 ballots of ada (1, 3); the last one counts.\nAdded 4 lines", ended.output)
+        before = self.last_act()
+        self.assert_stops(self.election("add", "good", "bad"), before, 9, "bad: debvote takes 1 alone of the 3 lines ")
+        for name in ("one", "two"):
+            self.write(name, f"{name}\n")
+        self.assert_stops(self.election("add", "one", "two"), before, 9, "one: debvote takes none of the 2 lines ")
 
 
-class AddedBefore(AddTest):
-    MONDAY = "Ada 1,2,4,3\nben 1, 2,4,3\n"
-
-    def setUp(self) -> None:
-        super().setUp()
-        self.write("monday", self.MONDAY)
-        self.assertEqual(self.election("add", "monday").status, 0)
-        self.assertEqual(self.election("add", given="ada 2,1,4,3\n").status, 0)
-
-    def assert_stops(self, name: str, *parts: str, words: tuple[str, ...] = ()) -> None:
-        """It stops, and nothing has changed."""
-        before = self.contents()
-        said = "and now its lines would put back what these electors have sent since; nothing was added: leave it, or add it all "
-        ended = self.election("add", *words, name)
-        self.assert_refused_whole(ended, before, 9, f"{name}: it was added before, with ", said, *parts)
-
-    def test_the_same_file(self) -> None:
-        self.assert_stops("monday", "with received/0001-monday (envelopes 1-2), and ")
-        output = self.election("add", "--even-so", "monday").output
-        self.assertIn("4 replaced  ada: ", output)
-        self.assertEqual(self.read("ballots").count(b"\n"), 5)
-
-    def test_a_copy_with_other_line_ends(self) -> None:
-        self.write("copy", "\ufeff" + self.MONDAY.replace("\n", "\r\n") + "\r\n")
-        self.assert_stops("copy", "with received/0001-monday (envelopes 1-2), and ")
-
-    def test_a_part_of_it_in_another_order(self) -> None:
-        self.write("copy", "ben 1,2,4,3\nada 1,2,4,3\n")
-        self.assert_stops("copy", "with received/0001-monday, and ")
-
-    def test_a_letter_that_comes_again(self) -> None:
-        self.write("letter", "ada 2,1,4,3\n")
-        self.assert_stops("letter", "with received/0002-standard-input (envelope 3), and ")
-        self.write("letter", "ada 2, 1, 4, 3\r\n")
-        self.assert_stops("letter", "with received/0002-standard-input (envelope 3), and ")
-
-    def test_a_line_that_came_among_others_is_no_copy(self) -> None:
-        self.write("letter", "ada 1,2,4,3\n")
-        self.assertIn("4 replaced  ada: ", self.election("add", "letter").output)
-
-    def test_first_lines_that_came_before(self) -> None:
-        self.write("friday", self.MONDAY.lower() + "\ncleo 1,2,4,3\n")
-        before = self.contents()
-        ended = self.election("add", "friday")
-        said = "friday: its first 2 lines came before, in this order, with received/0001-monday; nothing was added: add the lines behind them"
-        self.assert_refused_whole(ended, before, 9, said, "--yes", "--even-so")
-        ended = self.election("add", "--look", "friday")
-        self.assertIn("friday: its first 2 lines came before, in this order, with received/0001-monday; 1 more line is new\n", ended.output)
-        self.assertEqual(self.contents(), before)
-        ended = self.election("add", "--yes", "friday")
-        self.assertEqual((ended.status, ended.faults), (0, ""))
-        self.assertEqual(self.read("ballots"), b"ada 1,2,4,3\nben 1,2,4,3\nada 2,1,4,3\ncleo 1,2,4,3\n")
-        kept = self.received()
-        self.assertEqual(kept["0003-friday.in-part"], self.read("friday"))
-        self.assertEqual(kept["0004-friday.lines"], b"cleo 1,2,4,3\n")
-        # what came twice, and went in once, is no line that somebody has taken out
-        self.write("ballots", self.read("ballots") + b"dan 1,2,4,3\n")
-        output = self.election("status").output
-        self.assertIn("line 5, `dan 1,2,4,3`, is not among what came", output)
-        self.assertNotIn("is not among the ballots", output)
-
-    def test_first_lines_that_came_before_all_the_same(self) -> None:
-        self.write("friday", self.MONDAY + "cleo 1,2,4,3\n")
-        self.assertEqual(self.election("add", "--even-so", "friday").status, 0)
-        self.assertEqual(len(self.read("ballots").splitlines()), 6)
-
-    def test_first_lines_in_another_order_are_none(self) -> None:
-        self.write("friday", "cleo 1,2,4,3\n" + self.MONDAY)
-        self.assertEqual(self.election("add", "friday").status, 0)
-
-    def test_a_form(self) -> None:
-        words = ("--csv", "--name=n", "--ranks=a,b,c,d")
-        self.write("form", "n,a,b,c,d\nada,1,2,3,4\n")
-        self.assertEqual(self.election("add", *words, "form").status, 0)
-        self.assert_stops("form", "with received/0003-form (envelope 4), and ", words=words)
-
-    def test_what_was_kept_and_not_added_can_be_added(self) -> None:
-        self.write("received/0003-more", "cleo 1,2,4,3\n")
-        self.write("more", "cleo 1,2,4,3\n")
-        self.assertIn("4 counted  cleo: ", self.election("add", "more").output)
-
-
-class Grown(AddTest):
-    """A file comes again with more lines at its end, and behind its first lines their electors have sent others."""
-
-    VOTES = "ada 1,2,4,3\nben 1,2,4,3\n"
-    LATER = "ada 2,1,4,3\n"
-
-    def added(self, *words: str, given: str | None = None) -> None:
-        ended = self.election("add", *words, given=given)
-        self.assertEqual((ended.status, ended.faults), (0, ""), ended)
-
-    def grow(self, data: str, *, first: int, earlier: str, rest: str) -> None:
-        """With these bytes it stops, and says how many first lines came before; with a yes the rest alone goes in."""
-        self.write("votes", data)
-        before = self.contents()
-        said = f"votes: its first {first} lines came before, in this order, with received/{earlier}; nothing was added: "
-        self.assert_refused_whole(self.election("add", "votes"), before, 9, said)
-        self.added("--yes", "votes")
-        self.assertEqual(self.read("ballots"), before["ballots"] + rest.encode())
-
-    def test_what_it_grew_by_first_was_taken_back(self) -> None:
-        self.write("votes", self.VOTES)
-        self.added("votes")
-        self.added(given=self.LATER)
-        self.grow(self.VOTES + "cleo 1,2,4,3\n", first=2, earlier="0001-votes", rest="cleo 1,2,4,3\n")
-        self.assertEqual(self.election("undo").status, 0)
-        more = "cleo 1,2,4,3\ndan 1,2,4,3\neve 1,2,4,3\n"
-        self.grow(self.VOTES + more, first=2, earlier="0001-votes", rest=more)
-
-    def test_the_run_that_added_more_of_it_was_killed(self) -> None:
-        self.write("votes", self.VOTES)
-        self.added("votes")
-        self.added(given=self.LATER)
-        self.write("received/0003-votes.in-part", self.VOTES + "cleo 1,2,4,3\n")
-        self.write("received/0004-votes.lines", "cleo 1,2,4,3\n")
-        more = "cleo 1,2,4,3\ndan 1,2,4,3\n"
-        self.grow(self.VOTES + more, first=2, earlier="0001-votes", rest=more)
-
-    def test_a_whole_file_that_was_taken_back_came_not(self) -> None:
-        self.write("votes", self.VOTES)
-        self.added("votes")
-        self.assertEqual(self.election("undo").status, 0)
-        self.write("votes", self.VOTES + "cleo 1,2,4,3\n")
-        self.added("votes")
-        self.assertEqual(self.read("ballots").decode(), self.VOTES + "cleo 1,2,4,3\n")
-
-    def test_a_line_that_debvote_refused_stands_there_once_more_in_other_letters(self) -> None:
-        votes = "Zoe 1,2,4,3\n" + self.VOTES
-        self.write("votes", votes)
-        self.added("votes")
-        self.added(given=self.LATER)
-        more = "cleo 1,2,4,3\nzoe 1,2,4,3\n"
-        self.grow(votes + more, first=3, earlier="0001-votes", rest=more)
-
-    def test_a_line_that_debvote_refused_is_spelled_otherwise_now(self) -> None:
-        self.write("votes", " Zoe 1,2,4,3 \n" + self.VOTES)
-        self.added("votes")
-        self.added(given=self.LATER)
-        self.grow(f"zoe 1,2,4,3\n{self.VOTES}cleo 1,2,4,3\n", first=3, earlier="0001-votes", rest="cleo 1,2,4,3\n")
-        # of that file the first line has gone in as the first file had it
-        self.grow(f"zoe 1,2,4,3\n{self.VOTES}cleo 1,2,4,3\nDan 1,2,4,3\n", first=4, earlier="0003-votes.in-part", rest="dan 1,2,4,3\n")
-
-    def test_the_same_file_with_a_refused_line_that_is_spelled_otherwise(self) -> None:
-        self.write("votes", " Zoe 1,2,4,3 \n" + self.VOTES)
-        self.added("votes")
-        self.added(given=self.LATER)
-        self.write("votes", "zoe 1,2,4,3\n" + self.VOTES)
-        before = self.contents()
-        said = "votes: it was added before, with received/0001-votes, and now its lines would put back what these electors have sent since"
-        self.assert_refused_whole(self.election("add", "votes"), before, 9, said)
-
-    def test_of_several_the_one_with_most_lines_and_of_these_the_first(self) -> None:
-        self.write("votes", self.VOTES)
-        self.added("votes")
-        self.write("votes", self.VOTES.replace("\n", "\r\n") + "\ncleo 1,2,4,3\r\n")
-        self.added("--yes", "votes")
-        self.write("more", self.VOTES + "cleo 1,2,4,3\n")
-        self.added("--even-so", "more")
-        self.write("received/0009-votes", self.VOTES + "cleo 1,2,4,3\nhal 1,2,4,3\n")
-        self.grow(f"{self.VOTES}cleo 1,2,4,3\ndan 1,2,4,3\neve 1,2,4,3\n", first=3, earlier="0002-votes.in-part", rest="dan 1,2,4,3\neve 1,2,4,3\n")
-
-
-class Changed(AddTest):
+class Changed(CalledTest):
     def test_each_change_is_told(self) -> None:
         came = b"\xef\xbb\xbfada 1,2,4,3\r\n Ben\t 2, 1 ,4,3 \r\n\r\ncleo 1,2,4,3\rdan  1,2,4,3"
-        output = self.election("add", given=came).output
+        output = self.told("add", given=came)
         self.assertEqual(
             [line for line in output.splitlines() if line.startswith("standard")],
             [
@@ -383,13 +247,13 @@ class Changed(AddTest):
                 "standard input:5: `dan  1,2,4,3` was changed to `dan 1,2,4,3` (spaces)",
             ],
         )
-        self.assertEqual(self.read("ballots"), b"ada 1,2,4,3\nben 2,1,4,3\ncleo 1,2,4,3\ndan 1,2,4,3\n")
-        self.assertEqual(self.received(), {"0001-standard-input": came})
+        self.assertEqual(self.lines(), ["ada 1,2,4,3", "ben 2,1,4,3", "cleo 1,2,4,3", "dan 1,2,4,3"])
+        self.assertEqual(self.sources(), [("standard input", came)])
 
     def test_line_ends_of_windows_are_told_once_a_file(self) -> None:
         self.write("monday", "ada 1,2,4,3\r\nben 1,2,4,3\r\ncleo 1,2,4,3\r\n")
         self.write("tuesday", "\ufeffdan 1,2,4,3\r\neve 1,2,4,3\n")
-        output = self.election("add", "monday", "tuesday").output
+        output = self.told("add", "monday", "tuesday")
         self.assertEqual(
             output.splitlines()[:4],
             [
@@ -403,55 +267,56 @@ class Changed(AddTest):
 
     def test_a_refused_line_goes_in_as_it_came(self) -> None:
         came = b"\xef\xbb\xbf Cleo 1,2,3 \r\nDan  1,2,4,3\r\nGsu 1,2,4,3\n"
-        output = self.election("add", "--even-so", given=came).output
+        output = self.told("add", "--force", given=came)
         self.assertIn(
-            "standard input: it begins with a mark that Windows writes (byte-order mark); it was taken off\n"
-            "standard input: 2 lines end as Windows ends them (carriage return); that was taken off\n"
-            "1 bad shape   Cleo 1,2,3 : column 1: space\n"
-            "  it went in as it came; written as `cleo 1,2,3` it is refused too: "
-            "bad rank count: 3 ranks, the poll has 4 options\n",
+            "1 bad shape   Cleo 1,2,3 : column 1: space; a ballot has a name, one space, and ranks with commas between\n"
+            "  it went in as it came; written as `cleo 1,2,3` it is refused too: bad rank count: 3 ranks, the poll has 4 options; ",
             output,
         )
         self.assertIn(
-            "3 bad shape  Gsu 1,2,4,3: column 1: capital letter\n"
+            "3 bad shape  Gsu 1,2,4,3: column 1: capital letter; a ballot has a name, one space, and ranks with commas between\n"
             "  it went in as it came; written as `gsu 1,2,4,3` it is refused too: bad not on roll: gsu is not on the roll\n",
             output,
         )
         self.assertIn(f"{RIGHT}\nAdded 3 lines (2 bad shape, 1 counted).\n", output)
-        self.assertEqual(self.read("ballots"), b" Cleo 1,2,3 \ndan 1,2,4,3\nGsu 1,2,4,3\n")
+        self.assertEqual(self.lines(), [" Cleo 1,2,3 ", "dan 1,2,4,3", "Gsu 1,2,4,3"])
 
     def test_lines_of_a_word_processor(self) -> None:
-        came = "“ada” 1,2,4,3\nben\u00a01,2,4,3\ncleo 1,2,–,3\nA>B>C\ndan 1.\neve 1.,2,3,4\n1,2,3,4\n"
-        output = self.election("add", "--even-so", given=came).output
+        came = "“ada” 1,2,4,3\nben\u00a01,2,4,3\ncleo 1,2,–,3\nA>B>C\ndan 1.\n1,2,3,4\n"
+        output = self.told("add", "--force", given=came)
         for told in (
-            '1 bad shape  “ada” 1,2,4,3: column 1: curly quote (it has quotation marks; a ballot has none)\n',
+            "1 bad shape  “ada” 1,2,4,3: column 1: curly quote; a line begins with the name\n",
             "standard input:2: `ben\\u00A01,2,4,3` was changed to `ben 1,2,4,3` (no-break spaces)\n2 counted  ben: ",
             "standard input:3: `cleo 1,2,–,3` was changed to `cleo 1,2,-,3` (dashes)\n3 counted  cleo: ",
-            "4 bad shape  A>B>C: column 1: capital letter "
-            "(it has the sign >; a ballot has numbers with commas between, a rank for each option)\n",
-            '5 bad shape  dan 1.: column 6: "."\n  it went in as it came; written as `dan 1` it is refused too: bad rank count: 1 ranks, the poll has 4 options\n',
-            '6 bad shape  eve 1.,2,3,4: column 6: "." (a rank is a number alone, without a point or a bracket behind it)\n',
-            "7 bad shape  1,2,3,4: column 2: comma (the name is missing before the ranks)\n",
+            '5 bad shape  dan 1.: column 6: "."; a ballot has a name, one space, and ranks with commas between\n'
+            "  it went in as it came; written as `dan 1` it is refused too: bad rank count: 1 ranks, ",
+            "6 bad shape  1,2,3,4: column 2: comma; the name is missing before the ranks: ask who sent it\n",
         ):
             self.assertIn(told, output)
         self.assertEqual(output.count("A right line in this poll"), 1)
-        self.assertEqual(self.read("ballots").decode(), came.replace("\u00a0", " ").replace("–", "-"))
+        self.assertEqual(self.lines(), came.replace("\u00a0", " ").replace("–", "-").splitlines())
 
     def test_bytes_that_are_no_text(self) -> None:
-        came = b"ad\xff 1,2\x1b[2J\n\x00\n"
-        output = self.election("add", "--even-so", given=came).output
-        self.assertIn("1 bad shape  ad\\xff 1,2\\u001B[2J: column 3: byte 0xFF\n", output)
+        output = self.told("add", "--force", given=b"ad\xff 1,2\x1b[2J\n\x00\n")
+        self.assertIn("1 bad shape  ad\\xff 1,2\\u001B[2J: column 3: byte 0xFF; a word where a rank belongs: ", output)
         self.assertNotIn("\x1b", output)
-        self.assertEqual(self.read("ballots"), came)
+        self.assertEqual([envelope.line for envelope in self.envelopes()], [b"ad\xff 1,2\x1b[2J", b"\x00"])
 
     def test_hints_do_not_run_out_and_are_not_hidden_by_the_close(self) -> None:
-        self.election("add", "--even-so", given="nobodynear 1,2,3,4\n" * 150)
-        self.election("close")
-        output = self.election("add", given="gsu 1,2,3,4\n").output
-        self.assertIn("151 late  gsu 1,2,3,4: bad not on roll: gsu is not on the roll\n", output)
+        self.told("add", "--force", given="nobodynear 1,2,3,4\n" * 150)
+        self.act("close", {"lines": 150, "checksum": "", "early": False})
+        self.assertIn("151 late  gsu 1,2,3,4: bad not on roll: gsu is not on the roll\n", self.told("add", given="gsu 1,2,3,4\n"))
 
 
-class RefusedWhole(AddTest):
+class OtherNames(CalledTest):
+    names = ["anna-meier", "anna-meier-2", "ben"]
+
+    def test_a_name_that_fits_as_well_is_told(self) -> None:
+        output = self.told("add", given="anna-maier 1,2,3,4\n")
+        self.assertRegex(output, r"did you mean anna-meier\b.*anna-meier-2")
+
+
+class RefusedWhole(CalledTest):
     def test_what_is_no_file_of_ballots(self) -> None:
         files = {
             "word.docx": (b"PK\x03\x04rest", 4, "word.docx: it is a ZIP, as word processors and spreadsheets save; nothing was "),
@@ -463,153 +328,234 @@ class RefusedWhole(AddTest):
             "blank.txt": (b"\n \r\n\t\n", 9, "it has empty lines alone; nothing was added: "),
             "other.toml": (support.POLL.encode(), 9, "other.toml: it reads as a poll, and not as ballots; nothing was added: "),
             "broken.toml": (b'title = "x\noptions = [', 9, "it reads as a poll, and not as ballots; "),
+            "letter.eml": (
+                b"From: ada@club.example\nSubject: my vote\n\nada 1,2,4,3\n",
+                2,
+                "letter.eml: it has letters, and other files have none; nothing was added: ",
+            ),
+            "inbox": (
+                b"From ada Mon Nov 2 10:00:00 2026\nFrom: a@b\nDate: x\n\nada 1,2,4,3\n",
+                2,
+                "inbox: it has letters, and other files have none; nothing was added: ",
+            ),
         }
         self.write("good", "ada 1,2,4,3\n")
-        for name, (data, _, _) in files.items():
-            self.write(name, data)
-        before = self.contents()
-        for name, (_, status, words) in files.items():
+        before = self.last_act()
+        for name, (data, status, words) in files.items():
             with self.subTest(name=name):
+                self.write(name, data)
                 # all files or none
-                self.assert_refused_whole(self.election("add", "good", name), before, status, words)
+                self.assert_stops(self.election("add", "good", name), before, status, words)
+        self.assert_stops(
+            self.election("add", "election.db"), before, 4, "election.db: it is the book of this election; nothing was added: "
+        )
+
+    def test_all_files_that_are_none_are_named_at_once(self) -> None:
+        self.write("a.pdf", b"%PDF-1.7\n")
+        self.write("b.txt", b"")
+        before = self.last_act()
+        ended = self.election("add", "a.pdf", "nowhere", "b.txt")
+        self.assertEqual([line.split(": ")[1] for line in ended.faults.splitlines()], ["a.pdf", "nowhere", "b.txt"])
+        self.assertEqual((ended.status, self.last_act()), (4, before))
 
     def test_what_can_not_be_read(self) -> None:
-        (self.folder / "folder").mkdir()
-        before = self.contents()
-        ended = self.election("add", "nowhere")
-        self.assert_refused_whole(ended, before, 4, "nowhere: No such file or directory; nothing was added: ")
-        self.assert_refused_whole(self.election("add", "folder"), before, 4, "folder: Is a directory; nothing was added: ")
-        self.assert_refused_whole(self.election("add", given=""), before, 9, "standard input: it is empty; ")
-
-    def test_without_permission(self) -> None:
-        before = self.contents()
-        secret = self.scratch / "secret"
-        secret.write_text("ada 1,2,4,3\n")
-        secret.chmod(0)
-        self.folder.chmod(0o777)
-        self.assert_refused_whole(self.without_rights("add", secret), before, 4, "secret: Permission denied; nothing was added: ")
-        secret.chmod(0o644)
-        (self.folder / ".lock").unlink(missing_ok=True)
-        self.close_folder()
-        self.assert_refused_whole(self.without_rights("add", secret), before, 7, ".lock: Permission denied; ")
-
-    def test_the_ballots_themselves(self) -> None:
-        self.election("add", given="ada 1,2,4,3\n")
-        before = self.contents()
-        words = "ballots: these are the ballots of this election, which are there already; nothing was added: "
-        self.assert_refused_whole(self.election("add", "ballots"), before, 9, words)
+        before = self.last_act()
+        self.assert_stops(self.election("add", "nowhere"), before, 4, "nowhere: No such file or directory; nothing was added: ")
+        self.assert_stops(self.election("add", given=""), before, 9, "standard input: it is empty; ")
+        closed = self.run_program("sh", "-c", 'exec "$0" "$1" add <&-', sys.executable, support.ELECTION)
+        self.assert_stops(closed, before, 4, "standard input: it is closed; nothing was added: ")
 
     def test_more_lines_than_debvote_takes(self) -> None:
-        self.write("ballots", "ada 1,2,4,3\n" * 99_999)
-        self.assertEqual(self.election("add", given="ben 1,2,4,3\n").status, 0)
-        before = self.read("ballots")
-        ended = self.election("add", given="cleo 1,2,4,3\n")
-        self.assert_fault(ended, 4, "ballots: nothing was added, ", "`ballots refused: too many lines`", "is kept in received")
-        self.assertEqual(self.read("ballots"), before)
-        self.assertEqual(self.received()["0002-standard-input"], b"cleo 1,2,4,3\n")
+        self.told("add", given="".join(f"ada {a},{b},1,2\n" for a in range(1, 100) for b in range(1, 100)) * 10)
+        room = 100_000 - len(self.lines())
+        self.told("add", given=f"ben {RANKS}\n" * room)
+        before = self.last_act()
+        said = "with it there would be 100001 lines and "
+        ended = self.election("add", given=f"cleo {RANKS}\n")
+        self.assert_stops(
+            ended, before, 4, said, "; nothing was added: debvote takes 100000 lines and 33554432 bytes at most: add less of it"
+        )
+        # what is struck takes no room, and what is late neither
+        self.told("strike", 1, "--because", "a test")
+        self.assertIn("100001 counted  cleo: ", self.told("add", given=f"cleo {RANKS}\n"))
+        self.act("close", {"lines": 100_000, "checksum": "", "early": False})
+        self.assertIn("100002 late  dan: ", self.told("add", given=f"dan {RANKS}\n"))
 
     def test_a_file_that_is_too_long(self) -> None:
         with open(self.folder / "long", "wb") as file:
             file.truncate(33_554_433)
         self.assert_fault(self.election("add", "long"), 4, "long: it is longer than 33554432 bytes, ", "add it in parts")
-        self.assertFalse((self.folder / "ballots").exists())
-
-    def test_a_poll_that_debvote_refuses(self) -> None:
-        self.write("poll.toml", support.POLL.replace("quorum = 1", "quorum = 11"))
-        before = self.contents()
-        del before["poll.toml"]
-        ended = self.election("add", given="ada 1,2,4,3\n")
-        self.assert_fault(ended, 3, "poll.toml: poll refused: quorum; ", "debvote-election check")
-        self.assertFalse((self.folder / "ballots").exists())
+        self.assertEqual(self.sources(), [])
 
     def test_words_that_do_not_go_together(self) -> None:
-        before = self.contents()
-        ended = self.election("add", "--csv", given="x")
-        self.assert_refused_whole(ended, before, 2, "--csv: it takes --name COLUMN and --ranks ")
-        ended = self.election("add", "--name", "x", given="x")
-        self.assert_refused_whole(ended, before, 2, "--name, --ranks: ", "write --csv with them")
-
-    def test_no_election_here(self) -> None:
-        ended = self.election("add", cwd=self.scratch, given="ada 1,2,4,3\n")
-        self.assert_fault(ended, 2, "there is no poll; ")
-
-    def test_standard_input_that_is_closed(self) -> None:
-        ended = self.run_program("sh", "-c", 'exec "$0" "$1" add <&-', sys.executable, support.ELECTION)
-        self.assert_fault(ended, 4, "standard input: it is closed; nothing was added: ")
+        before = self.last_act()
+        self.assert_stops(self.election("add", "--csv", given="x"), before, 2, "--csv: it takes --name COLUMN and --ranks ")
+        for words in (["--name", "x"], ["--ranks", "x"], ["--blank-is-unranked"], ["--oldest-first"], ["--newest-first"]):
+            ended = self.election("add", *words, given="x")
+            self.assert_stops(ended, before, 2, f"{words[0]}: it is about a table; nothing was added: write --csv with it")
 
 
-class Failing(AddTest):
-    def full(self, size: int) -> support.Ended:
-        """An add while no file may grow beyond so many bytes, as on a disk that is full."""
+class Signed(CalledTest):
+    def setUp(self) -> None:
+        super().setUp()
+        self.act("call", {"signed": True}, {"keyring": b"keys"})
+
+    def test_a_line_needs_force_and_a_reason(self) -> None:
+        self.write("more", f"ada {RANKS}\n")
+        before = self.last_act()
+        said = "more: letters have to be signed in this vote, and nothing says who has sent a line of a file; nothing was added: "
+        for words in ([], ["--force"], ["--because", "they brought it"], ["--force", "--because", " "]):
+            self.assert_stops(self.election("add", *words, "more"), before, 9, said, "--force --because TEXT")
+        self.assertIn("1 counted  ada: ", self.told("add", "--force", "--because", "they brought it", "more"))
+        detail = {"files": ["more"], "lines": 1, "passed_over": 0, "unsigned": True, "because": "they brought it"}
+        self.assertEqual(self.acts()[-1], ("add", detail))
+
+    def test_a_table_too_and_with_all_else_at_once(self) -> None:
+        self.write("form", "n,a,b,c,d\nada,x,2,3,4\nben,x,2,3,4\n")
+        ended = self.election("add", "--csv", "--name=n", "--ranks=a,b,c,d", "form")
+        faults = ended.faults.splitlines()
+        self.assertEqual((ended.status, len(faults)), (9, 2), ended)
+        self.assertIn("letters have to be signed", faults[0])
+        self.assertIn("debvote takes none of the 2 lines", faults[1])
+
+
+class CodesOnRoll(CalledTest):
+    """No code is told that was not typed."""
+
+    names = ["0a" * 16, "0b" * 16, "0c" * 16]
+
+    def setUp(self) -> None:
+        super().setUp()
+        self.act("extend", {"codes_on_roll": True})
+
+    def test_near_codes_and_right_lines(self) -> None:
+        near = "0a" * 15 + "0b"
+        output = self.told("add", given=f"{near} 1,2,3,4\n")
+        self.assertIn(f"{near} is not on the roll\nA right line in this poll: CODE 1,2,3,4 (a code of the roll, ", output)
+        for code in self.names:
+            self.assertNotIn(code, output)
+
+    def test_of_an_undo_and_a_strike_numbers_alone(self) -> None:
+        first, second, third = self.names
+        self.told("add", given=f"{first} {RANKS}\n{second} {RANKS}\n")
+        self.told("add", given=f"{first} {OTHER_RANKS}\n{third} {RANKS}\n")
+        output = self.told("undo")
+        self.assertIn("\n  1 elector: no ballot stands now; 1 elector: an earlier ballot\n", output)
+        output += self.told("strike", 2, "--because", "a test")
+        self.assertIn(f"Struck envelope 2: `CODE {RANKS}`, because: a test\nWhat stands now of that code: no ballot\n", output)
+        for code in self.names:
+            self.assertNotIn(code, output)
+        shown = self.told("show", first)
+        self.assertTrue(shown.startswith(f"{first}\n  envelope 1, "), shown)
+        self.assertNotIn("@", shown)
+        ended = self.election("show", first[:-1])
+        self.assert_fault(ended, 9, "show: no code on the roll is ", "type the code as it was handed out")
+        self.assertNotIn(first, ended.faults)
+
+
+class Tables(CalledTest):
+    WORDS = ("--csv", "--name=n", "--ranks=a,b,c,d")
+
+    def setUp(self) -> None:
+        super().setUp()
+        self.write("form", "n,a,b,c,d\nada,1,2,4,3\nben,1,2,4,3\nada,2,1,4,3\n")
+
+    def test_two_rows_of_one_elector_that_differ(self) -> None:
+        before = self.last_act()
+        said = "form: it has two ballots of ada that differ (row 2 and row 4), and the last one that is entered counts; nothing was added: "
+        for words in ([], ["--force"]):
+            self.assert_stops(
+                self.election("add", *self.WORDS, *words, "form"), before, 9, said, "--oldest-first or --newest-first"
+            )
+        self.assertIn(f"3 replaced  ada: {HALL}\n", self.told("add", *self.WORDS, "--oldest-first", "form"))
+        self.told("undo")
+        self.assertIn(f"6 replaced  ada: {LAKE}\n", self.told("add", *self.WORDS, "--newest-first", "form"))
+        self.assertEqual(self.lines(), ["ada 2,1,4,3", "ben 1,2,4,3", "ada 1,2,4,3"])
+        self.assertEqual([envelope.place for envelope in self.envelopes()[3:]], [": row 4", ": row 3", ": row 2"])
+
+    def test_equal_rows_and_refused_ones_have_no_order(self) -> None:
+        self.write("form", "n,a,b,c,d\nada,1,2,4,3\nada,1,2,4,3\nada,1,2,x,3\n")
+        self.assertIn("Added 3 lines (1 counted, 1 replaced, 1 bad shape).\n", self.told("add", *self.WORDS, "form"))
+
+    def test_a_form_that_is_exported_again_newest_first(self) -> None:
+        self.write("form", "n,a,b,c,d\nben,1,2,4,3\nada,1,2,4,3\n")
+        self.told("add", *self.WORDS, "--newest-first", "form")
+        self.write("form", "n,a,b,c,d\nada,2,1,4,3\nben,1,2,4,3\nada,1,2,4,3\n")
+        # the row that is new may be the older one
+        said = "form: it has two ballots of ada that differ (row 2 and row 4), and the last one that is entered counts; nothing was added: "
+        self.assert_stops(self.election("add", *self.WORDS, "form"), self.last_act(), 9, said, "--oldest-first or --newest-first")
+        output = self.told("add", *self.WORDS, "--newest-first", "form")
+        self.assertIn("form: 2 lines came before, and are passed over; 1 is new\n3 replaced  ada: ", output)
+        self.assertNotIn("--again", output)
+        self.assertEqual(self.lines()[-1], "ada 2,1,4,3")
+
+    def test_an_empty_cell_is_a_hyphen_if_the_call_says_so(self) -> None:
+        self.write("form", "n,a,b,c,d\nada,1,,,2\nben,1,2,3,4\n")
+        before = self.last_act()
+        said = "--blank-is-unranked: the call does not say that an empty cell is a hyphen, so an elector may have meant otherwise; nothing was "
+        self.assert_stops(self.election("add", *self.WORDS, "--blank-is-unranked", "form"), before, 9, said, "--force")
+        self.act("extend", {"form": True})
+        self.assertIn("(empty cells)\n1 counted  ada: ", self.told("add", *self.WORDS, "--blank-is-unranked", "form"))
+        self.assertEqual(self.lines(), ["ada 1,-,-,2", "ben 1,2,3,4"])
+
+    def test_a_table_without_a_head(self) -> None:
+        self.write("form", "ada,1,2,4,3\nben,1,2,4,3\n")
+        ended = self.election("add", "--csv", "--name=Ada", "--ranks=1,2,4,3", "form")
+        self.assert_stops(
+            ended, self.last_act(), 2, "--name: `Ada` is an elector, so the table seems to have no head line; nothing was added"
+        )
+
+    def test_heads_that_the_shell_has_cut(self) -> None:
+        ended = self.election("add", "--csv", "--name", "n", "--ranks", "The", "lake,b,c,d", "form")
+        self.assert_stops(ended, self.last_act(), 2, "--csv: there is no file lake,b,c,d; nothing was added: ")
+
+
+class Failing(CalledTest):
+    def test_a_full_disk(self) -> None:
+        self.told("add", given=f"ben {RANKS}\n")
+        before = self.last_act()
+        size = (self.folder / "election.db").stat().st_size
 
         def limit() -> None:
             signal.signal(signal.SIGXFSZ, signal.SIG_IGN)
             resource.setrlimit(resource.RLIMIT_FSIZE, (size, size))
 
-        return self.election("add", given="ada 1,2,4,3\n" * 10, preexec_fn=limit)
-
-    def test_a_full_disk(self) -> None:
-        self.write("ballots", "ben 1,2,4,3\n" * 100)
-        before = self.read("ballots")
-        ended = self.full(1210)
-        self.assert_fault(ended, 7, "ballots: File too large; it is as it was; put this right, ")
-        self.assertEqual((ended.output, self.read("ballots")), ("", before))
-        self.assertEqual([name for name in os.listdir(self.folder) if name.startswith(".b")], [])
-        acts = journal.done(journal.entries_in(self.folder / "journal"))
-        self.assertEqual([act.act for act in acts], [])
-        ended = self.election("add", given="ada 1,2,4,3\n")
-        self.assertIn("\n101 counted  ada: ", "\n" + ended.output)
-        self.assertEqual(self.read("ballots"), before + b"ada 1,2,4,3\n")
-
-    def test_no_room_for_what_came_nor_for_the_journal(self) -> None:
-        # there is room for the poll, which debvote is given as a file in memory
-        room = len(support.POLL) + 20
-
-        def limit() -> None:
-            resource.setrlimit(resource.RLIMIT_FSIZE, (room, room))
-
-        for name in ("ada", "ben"):
-            self.assertEqual(self.election("add", given=f"{name} 1,2,4,3\n").status, 0)
-        self.write("long", "cleo 1,2,4,3\n" * 40)
-        before = self.contents()
-        ended = self.election("add", "long", preexec_fn=limit)
-        self.assert_refused_whole(ended, before, 7, "received/0003-long: File too large; ")
-        ended = self.election("add", given="cleo 1,2,4,3\n", preexec_fn=limit)
-        kept = {"received/0003-standard-input": b"cleo 1,2,4,3\n"}
-        self.assert_refused_whole(ended, before | kept, 7, "journal: ")
-        self.assertIn("3 counted  cleo: ", self.election("add", given="cleo 1,2,4,3\n").output)
+        ended = self.election("add", given="".join(f"ada {number},2,3,4\n" for number in range(1, 100)) * 30, preexec_fn=limit)
+        self.assert_stops(ended, before, 7, "election.db: it can't be written (", "; nothing was changed: ")
+        self.assertEqual((ended.output, self.lines()), ("", [f"ben {RANKS}"]))
+        self.assertIn("2 counted  ada: ", self.told("add", given=f"ada {RANKS}\n"))
 
     def test_an_output_that_is_full(self) -> None:
-        words = [sys.executable, support.ELECTION, "add", "more"]
-        self.write("more", "ada 1,2,4,3\n")
+        self.write("more", f"ada {RANKS}\nben {RANKS}\n")
         with open("/dev/full", "w") as full:
             how = {"cwd": self.folder, "env": support.environment(), "stdout": full, "stderr": subprocess.PIPE}
-            ended = subprocess.run(words, text=True, **how)
+            ended = subprocess.run([sys.executable, support.ELECTION, "add", "more"], text=True, **how)
         self.assertEqual((ended.returncode, ended.stderr.count("\n")), (7, 1))
-        self.assertIn("the output failed; ballots has what was to be told (1) all the same: ask ", ended.stderr)
-        self.assertEqual(self.read("ballots"), b"ada 1,2,4,3\n")
+        self.assertIn(
+            "the output failed; all the same the lines were entered (envelopes 1-2): ask debvote-election status", ended.stderr
+        )
+        self.assertEqual(len(self.lines()), 2)
 
-    def test_an_interrupt_while_another_holds_the_folder(self) -> None:
-        self.write("more", "ada 1,2,4,3\n")
-        before = self.contents()
-        for number, status in ((signal.SIGINT, 130), (signal.SIGTERM, 143), (signal.SIGHUP, 129)):
-            with open(self.folder / ".lock", "w") as lock:
-                fcntl.flock(lock, fcntl.LOCK_EX)
-                words = [sys.executable, support.ELECTION, "add", "more"]
-                pipes = {"stdout": subprocess.PIPE, "stderr": subprocess.PIPE}
-                with subprocess.Popen(words, cwd=self.folder, env=support.environment(), text=True, **pipes) as run:
-                    self.wait_for_lock(run.pid)
-                    run.send_signal(number)
-                    output, faults = run.communicate(timeout=support.SECONDS)
-            self.assertEqual((run.returncode, output), (status, ""))
-            self.assertNotIn("Traceback", faults)
-        self.assertEqual(self.contents(), before)
+    def test_without_debvote_nothing_is_entered(self) -> None:
+        before = self.last_act()
+        (self.scratch / "empty").mkdir()
+        copy = self.scratch / "bin"
+        copy.mkdir()
+        shutil.copy(support.ELECTION, copy / "debvote-election")
+        (self.scratch / "python").symlink_to(support.ROOT / "python")
+        env = support.environment() | {"PATH": str(self.scratch / "empty")}
+        ended = self.run_program("/usr/bin/python3", copy / "debvote-election", "add", given=f"ada {RANKS}\n", env=env)
+        self.assertEqual(ended.status, 127, ended)
+        self.assertEqual(self.last_act(), before)
 
-    def wait_for_lock(self, process: int) -> None:
-        """Waits until the process waits for the lock."""
-        for _ in range(2000):
-            with open("/proc/locks") as locks:
-                if any("->" in line and f" {process} " in line for line in locks):
-                    return
-            time.sleep(0.01)
-        self.fail("it does not wait for the lock")
+    def test_replies_that_debvote_does_not_give(self) -> None:
+        """The lines are entered by then, and that is said."""
+        for number, (how, status) in enumerate({"exit 0": 10, "echo 'debvote: no memory' >&2; exit 7": 7}.items(), start=1):
+            program = self.write("debvote", f'#!/bin/sh\nif [ "$1" = steps ]; then {how}; fi\nexec {support.PROGRAM} "$@"\n')
+            program.chmod(0o755)
+            env = support.environment() | {"PATH": f"{self.folder}:{os.environ['PATH']}", "XDG_STATE_HOME": str(self.state)}
+            ended = self.election("add", given=f"ada {number},2,3,4\n", env=env)
+            if "counted" in ended.output:
+                self.skipTest("debvote lies beside the program, and that one is asked first")
+            self.assert_fault(ended, status, f"all the same the lines were entered (envelope {number})")
+            self.assertEqual(len(self.lines()), number)

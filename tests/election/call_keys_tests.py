@@ -3,11 +3,17 @@
 import unittest
 import urllib.parse
 
-import support
 from at_browser import BROWSER, Window
-from reader_tests import FOCUS
+from call_page_tests import POLL, CallFolder
 
 ADDRESS = "vote@club.example"
+
+# what has the focus: its kind and its name, whether it lies in the window, and how the focus is shown
+FOCUS = """(() => {
+  const node = document.activeElement, style = getComputedStyle(node), place = node.getBoundingClientRect();
+  return { name: node.id || node.textContent.trim(), kind: node.tagName, inWindow: place.top < innerHeight && place.bottom > 0,
+    ring: [style.outlineStyle, style.outlineWidth, style.outlineColor] };
+})()"""
 
 # what the page shows of the ballot
 SHOWN = """(() => { const text = (id) => document.getElementById(id).textContent; return { line: text("line"),
@@ -22,12 +28,10 @@ RING = ["solid", "3px"]
 
 
 @unittest.skipUnless(BROWSER, "chromium is not installed")
-class ByKeys(support.ElectionTest):
+class ByKeys(CallFolder):
     def page(self, **how: object) -> Window:
-        ended = self.election("call", "--to", ADDRESS)
-        self.assertEqual(ended.status, 0, ended)
         window = self.enterContext(Window(**{"width": 390, "height": 700, **how}))
-        window.open(self.folder / "call" / "index.html")
+        window.open(self.called("call", POLL, to=ADDRESS))
         return window
 
     def tab_to(self, window: Window, name: str, shift: bool = False) -> list[dict]:
@@ -51,7 +55,7 @@ class ByKeys(support.ElectionTest):
         shown = window.ask(SHOWN)
         self.assertEqual((shown["line"], shown["missing"]), ("eve 2,1,-,3", ""))
         self.assertEqual(shown["name"], "Capital letters of the name are made small.")
-        self.assertEqual(shown["words"][0], "You prefer 2 In the town hall to 1 At the lake.")
+        self.assertEqual(shown["words"][0], "You prefer Option 2: In the town hall to Option 1: At the lake.")
         self.tab_to(window, "copy")
         for key in ("Enter", " "):
             window.ask("getSelection().removeAllRanges()")

@@ -2,21 +2,28 @@
 
 import html
 import json
+import os
 import pathlib
 import random
 import re
 import shutil
 import subprocess
 import sys
+import tempfile
 import unittest
 import urllib.parse
 
-import support
-
-sys.path.insert(0, str(support.ROOT / "python"))
+ROOT = pathlib.Path(__file__).resolve().parents[2]
+sys.path.insert(0, str(ROOT / "python"))
 
 from debvote_tools.ballots import preferences  # noqa: E402
+from debvote_tools.call.data import CallData  # noqa: E402
+from debvote_tools.call.files import call_files  # noqa: E402
+from debvote_tools.language import ENGLISH  # noqa: E402
+from debvote_tools.sealed_poll import SealedPoll, with_roll  # noqa: E402
 
+PROGRAM = os.environ.get("DEBVOTE", ROOT / "crates" / "debvote" / "out" / "debvote")
+SCRIPT = ROOT / "python" / "debvote_tools" / "call" / "ballot.js"
 BROWSER = shutil.which("chromium") or shutil.which("chromium-browser")
 FLAGS = ["--headless", "--no-sandbox", "--disable-gpu", "--hide-scrollbars", "--allow-file-access-from-files", "--dump-dom"]
 FLAGS += ["--enable-logging=stderr", "--virtual-time-budget=60000"]
@@ -25,6 +32,18 @@ SIZES = (2, 3, 8, 31, 32)
 CHOICES = 40
 WIDTHS = (360, 1280)
 ADDRESS = "secretary+vote=2026@example.org"
+
+# a run that has not ended by then hangs
+SECONDS = 600
+
+POLL = SealedPoll(
+    title="Where we meet in spring",
+    options=("At the lake", "In the town hall", "Sell the house and meet there"),
+    ratios=(1, 1, 3),
+    default="Further discussion",
+    quorum=1,
+    roll=("ada", "ben", "cleo", "dan", "eve", "fay", "gus", "hal", "ida"),
+)
 
 HOSTILE_TITLE = '</title><script>document.title = "x"</script> & {title} "q" %s'
 HOSTILE = ["</script><b>x</b><script>", '" autofocus onfocus="x', "<!-- & &amp; -->", "\\u003c\\\\'`${x}", "2 B to 1 A. You prefer"]
@@ -92,11 +111,10 @@ def names_of(size: int) -> list[str]:
     return [*HOSTILE, *own[len(HOSTILE) :]][: size - 1] + ["None of the above"]
 
 
-def poll_of(names: list[str], title: str, electors: int, *more: str) -> str:
-    ratios = [1 + place % 10 for place in range(len(names) - 1)]
-    roll = [*(f"e{number:02}" for number in range(electors)), *more]
-    keys = {"title": title, "options": names[:-1], "ratios": ratios, "default": names[-1], "quorum": 3, "roll": roll}
-    return "".join(f"{key} = {json.dumps(value)}\n" for key, value in keys.items())
+def poll_of(names: list[str], title: str, electors: int, *more: str) -> SealedPoll:
+    ratios = tuple(1 + place % 10 for place in range(len(names) - 1))
+    roll = (*(f"e{number:02}" for number in range(electors)), *more)
+    return SealedPoll(title, tuple(names[:-1]), ratios, names[-1], 3, roll)
 
 
 def choices_of(size: int, chance: random.Random) -> list[dict]:
@@ -117,7 +135,7 @@ def browse(scratch: pathlib.Path, jobs: list[dict], scheme: int = 1) -> tuple[li
     driver = scratch / "driver.html"
     driver.write_text(DRIVER.replace("JSON_HERE", data), encoding="utf-8")
     words = [BROWSER, *FLAGS, f"--user-data-dir={scratch}/browser", f"--blink-settings=preferredColorScheme={scheme}", driver.as_uri()]
-    ended = subprocess.run(words, capture_output=True, timeout=support.SECONDS)
+    ended = subprocess.run(words, capture_output=True, timeout=SECONDS)
     console = "\n".join(line for line in ended.stderr.decode("utf-8", "replace").splitlines() if ":CONSOLE" in line)
     found = re.search(r'<pre id="out">(.+?)</pre>', ended.stdout.decode("utf-8", "replace"), re.DOTALL)
     if found is None:
@@ -146,25 +164,32 @@ def order_in(sentences: list[str]) -> tuple[list[list[int]], list[int]]:
     return steps, unranked
 
 
-@unittest.skipUnless(BROWSER, "chromium is not installed")
-class CallPageTest(support.ElectionTest):
-    """The page of polls of all sizes."""
+class CallFolder(unittest.TestCase):
+    """A test with a folder, in which calls are made."""
 
-    def called(self, name: str, poll: str, *words: str) -> pathlib.Path:
+    maxDiff = None
+
+    def setUp(self) -> None:
+        self.scratch = pathlib.Path(self.enterContext(tempfile.TemporaryDirectory(prefix="debvote-call-")))
+
+    def called(self, name: str, poll: SealedPoll, **how: object) -> pathlib.Path:
         """The page of the call for a poll."""
         folder = self.scratch / name
         folder.mkdir(exist_ok=True)
-        (folder / "poll.toml").write_text(poll)
-        ended = self.election("--folder", folder, "call", *words)
-        self.assertEqual((ended.status, ended.faults), (0, ""))
-        return folder / "call" / "index.html"
+        for file, data in call_files(CallData(**{"language": ENGLISH, "poll": poll, "quorum_votes": 1, **how})).items():
+            (folder / file).write_bytes(data)
+        return folder / "index.html"
+
+
+@unittest.skipUnless(BROWSER, "chromium is not installed")
+class CallPageTest(CallFolder):
+    """The page of polls of all sizes."""
 
     def test_each_line_is_read_as_what_was_chosen(self) -> None:
         chance = random.Random(2026)
-        jobs, polls = [], {}
+        jobs = []
         for size in SIZES:
-            polls[size] = poll_of(names_of(size), HOSTILE_TITLE, CHOICES)
-            page = self.called(str(size), polls[size], "--to", ADDRESS, "--until-words", "<b>soon</b> & \u05d0")
+            page = self.called(str(size), poll_of(names_of(size), HOSTILE_TITLE, CHOICES), to=ADDRESS)
             jobs.append({"page": page.as_uri(), "width": 360, "choices": choices_of(size, chance)})
         found, console = browse(self.scratch, jobs)
         self.assertEqual(console, "")
@@ -172,8 +197,9 @@ class CallPageTest(support.ElectionTest):
             with self.subTest(size=size):
                 self.check_page(page)
                 self.check_lines(self.scratch / str(size), job["choices"], page["results"])
+                mark = poll_of(names_of(size), HOSTILE_TITLE, CHOICES).mark
                 for choice, result in zip(job["choices"], page["results"], strict=True):
-                    self.check_result(names_of(size), choice, result)
+                    self.check_result(names_of(size), mark, choice, result)
                 self.check_copy(page)
 
     def check_page(self, page: dict) -> None:
@@ -186,20 +212,16 @@ class CallPageTest(support.ElectionTest):
     def check_lines(self, folder: pathlib.Path, choices: list[dict], results: list[dict]) -> None:
         """debvote takes all lines, and has the ranks that were chosen for each elector."""
         (folder / "lines").write_text("".join(result["line"] + "\n" for result in results))
-        files = ["--poll", folder / "poll.toml", "--ballots", folder / "lines"]
-        explained = self.debvote("explain", *files)
-        told = f"{CHOICES} lines: {CHOICES} valid, 0 refused, 0 of them late; {CHOICES} of {CHOICES} electors have a ballot\n"
-        # of the keys of the call a debvote may say that it does not read them
-        said = [line for line in explained.output.splitlines(keepends=True) if not line.startswith("poll: key ")]
-        self.assertEqual("".join(said), told)
+        words = [PROGRAM, "standing", "--poll", folder / "poll.toml", "--ballots", folder / "lines"]
+        ended = subprocess.run(words, capture_output=True, text=True, timeout=SECONDS)
         wanted = "".join(f"e{number:02} {','.join(choice['ranks'])}\n" for number, choice in enumerate(choices))
-        self.assertEqual(self.debvote("standing", *files).output, wanted)
+        self.assertEqual((ended.stdout, ended.stderr, ended.returncode), (wanted, "", 0))
 
-    def check_result(self, names: list[str], choice: dict, result: dict) -> None:
+    def check_result(self, names: list[str], mark: str, choice: dict, result: dict) -> None:
         """The words say the order that the ranks have, and the letter has the line."""
         said = preferences(",".join(choice["ranks"]))
         self.assertEqual(order_in(result["words"]), (said.steps, said.unranked))
-        shown = {str(number): f"{number} {name}" for number, name in enumerate(names, start=1)}
+        shown = {str(number): f"Option {number}: {name}" for number, name in enumerate(names, start=1)}
         self.assertEqual(result["names"], shown)
         self.assertEqual((result["missing"], result["ready"], result["invalid"]), ("", True, "false"))
         self.assertEqual(result["long"], len(result["line"]) > 72)
@@ -207,7 +229,7 @@ class CallPageTest(support.ElectionTest):
         self.assertEqual("left out" in result["said"], choice["name"].strip() != choice["name"])
         address, _, query = result["letter"].partition("?")
         self.assertEqual(address, "mailto:" + urllib.parse.quote(ADDRESS, safe="@"))
-        self.assertEqual(urllib.parse.parse_qs(query), {"subject": [f"Ballot: {HOSTILE_TITLE}"], "body": [result["line"] + "\r\n"]})
+        self.assertEqual(urllib.parse.parse_qs(query), {"subject": [f"Ballot: {HOSTILE_TITLE} [{mark}]"], "body": [result["line"] + "\r\n"]})
 
     def check_copy(self, page: dict) -> None:
         """The line is copied, or selected where the browser refuses."""
@@ -216,16 +238,6 @@ class CallPageTest(support.ElectionTest):
         self.assertEqual(page["copies"][1]["selected"], line)
         self.assertIn("The line is selected", page["copies"][1]["said"])
 
-    def test_a_letter_that_is_to_be_signed(self) -> None:
-        """The title stands below the ballot; the page of such a call has a mark for it."""
-        page = self.called("signed", support.POLL, "--to", ADDRESS)
-        page.write_text(page.read_text().replace(" data-title=", " data-signed data-title=", 1))
-        found, console = browse(self.scratch, [{"page": page.as_uri(), "width": 360, "choices": [{"name": "ada", "ranks": list("1234")}]}])
-        (result,) = found[0]["results"]
-        self.assertEqual((console, result["line"]), ("", "ada 1,2,3,4"))
-        query = urllib.parse.parse_qs(result["letter"].partition("?")[2])
-        self.assertEqual(query["body"], ["ada 1,2,3,4\r\nWhere we meet in spring\r\n"])
-
     def test_no_line_before_name_and_rank(self) -> None:
         odd = {"a b": "a space", "\u00e9va": "“\u00e9”", "x_y": "“_”", "\u212aate": "“\u212a”", "a,b": "“,”", "x" * 33: "33 characters"}
         odd |= {"": "", "   ": "Type your name"}
@@ -233,7 +245,7 @@ class CallPageTest(support.ElectionTest):
         # each after a good line, so that nothing of it stays
         choices = [job for name in odd for job in (good, {"name": name, "ranks": list("213-")})]
         choices += [{"name": "ada", "ranks": list("----")}]
-        page = self.called("odd", support.POLL, "--to", ADDRESS)
+        page = self.called("odd", POLL, to=ADDRESS)
         job = {"page": page.as_uri(), "width": 360, "choices": choices}
         found, console = browse(self.scratch, [job])
         results = found[0]["results"]
@@ -250,14 +262,14 @@ class CallPageTest(support.ElectionTest):
         self.assertEqual(results[-1]["words"], [])
 
     def test_what_a_browser_fills_in_again_is_read(self) -> None:
-        page = self.called("again", support.POLL)
+        page = self.called("again", POLL)
         choice = {"name": "ada", "ranks": list("1234"), "isFilled": True}
         (found,), console = browse(self.scratch, [{"page": page.as_uri(), "width": 360, "choices": [choice]}])
         self.assertEqual((console, found["results"][0]["line"]), ("", "ada 1,2,3,4"))
 
     def test_names_on_the_roll_are_offered_and_near_ones_asked_about(self) -> None:
         roll = ["zoe", "ada-angstrom", "ada.lovelace", "strasse", "oedipus", "-", "anna-1", "anna-2", "anna-3", "anna-4", "anna-5", "anna-6"]
-        missing = "{} is not on the roll of this poll; the names on the roll stand below."
+        missing = "{} is not on the roll of this poll; the names on the roll are below."
         odd = "The name has {}. Names on the roll have only small letters without accents, digits, points and hyphens."
         said = {
             "zoe": "", "-": "", "anna-6": "",
@@ -274,11 +286,10 @@ class CallPageTest(support.ElectionTest):
             "<b>": odd.format("“<”"),
         }  # fmt: skip
         on_roll = ["zoe", "-", "anna-6", "Ada.Lovelace"]
-        poll = support.POLL.split("roll = ")[0] + f"roll = {json.dumps(roll)}\n"
         choices = [{"name": name, "ranks": list("1234")} for name in said]
         jobs = [
-            {"page": self.called(name, poll, *words).as_uri(), "width": 360, "choices": choices}
-            for name, words in {"listed": (), "unlisted": ("--no-roll",)}.items()
+            {"page": self.called(name, poll).as_uri(), "width": 360, "choices": choices}
+            for name, poll in {"listed": with_roll(POLL, roll), "unlisted": with_roll(POLL, [f"x{n}" for n in range(2_001)])}.items()
         ]
         (listed, unlisted), console = browse(self.scratch, jobs)
         self.assertEqual((console, listed["offered"], unlisted["offered"]), ("", roll, []))
@@ -292,22 +303,18 @@ class CallPageTest(support.ElectionTest):
             self.assertEqual(bool(result["line"]), re.fullmatch("[A-Za-z0-9.-]+", name) is not None, name)
 
     def test_a_secret_vote_takes_no_code_for_a_name(self) -> None:
-        folder = self.scratch / "secret"
-        folder.mkdir()
-        (folder / "poll.toml").write_text(support.POLL)
-        self.assertEqual(self.election("--folder", folder, "codes").status, 0)
-        page = self.called("secret", (folder / "poll.toml").read_text())
+        page = self.called("secret", with_roll(POLL, [f"{number:x}" * 32 for number in range(9)]), is_secret=True)
         names = ["ada", "Ada ", "", "0123456789abcdef" * 2, "stranger", "0123 4567 89AB cdef " * 2]
         choices = [{"name": name, "ranks": list("1234")} for name in names]
         (found,), console = browse(self.scratch, [{"page": page.as_uri(), "width": 360, "choices": choices}])
         self.assertEqual((console, found["offered"], found["violations"], found["wide"]), ("", [], [], 360))
         lines = [result["line"] for result in found["results"]]
         self.assertEqual(lines, ["ada 1,2,3,4", "ada 1,2,3,4", "", "", "stranger 1,2,3,4", ""])
-        self.assertIn("Type your name as it stands on the slip with your code.", found["results"][2]["missing"])
+        self.assertIn("Type your name as it is on the slip with your code.", found["results"][2]["missing"])
         for place in (3, 5):
             self.assertIn("This looks like a code.", found["results"][place]["said"])
         # in an open vote such a name may stand on the roll
-        page = self.called("open", support.POLL.replace('"ada"', json.dumps(names[3])))
+        page = self.called("open", with_roll(POLL, [names[3], *POLL.roll[1:]]))
         (found,), _ = browse(self.scratch, [{"page": page.as_uri(), "width": 360, "choices": choices[3:4]}])
         self.assertEqual(found["results"][0]["line"], f"{names[3]} 1,2,3,4")
 
@@ -315,7 +322,7 @@ class CallPageTest(support.ElectionTest):
         ranks = ["21-3", "1111", "1---", "1-1-", "99--", "2112"]
         job = {"width": 360, "choices": [{"name": "ada", "ranks": list(given)} for given in ranks]}
         job["choices"][4]["ranks"] = ["4", "4", "1", "-"]
-        job["page"] = self.called("words", support.POLL).as_uri()
+        job["page"] = self.called("words", POLL).as_uri()
         words = [result["words"] for result in browse(self.scratch, [job])[0][0]["results"]]
         self.assertEqual(
             words,
@@ -342,7 +349,7 @@ class CallPageTest(support.ElectionTest):
         )
 
     def test_widths_and_colours(self) -> None:
-        pages = [self.called(str(size), poll_of(names_of(size), HOSTILE_TITLE, 9, "x" * 32), "--to", ADDRESS) for size in (4, 32)]
+        pages = [self.called(str(size), poll_of(names_of(size), HOSTILE_TITLE, 9, "x" * 32), to=ADDRESS) for size in (4, 32)]
         choices = [{"name": "x" * 32, "ranks": [str(32 if len(names) > 9 else 4)] * len(names)} for names in map(names_of, (4, 32))]
         jobs = [
             {"page": page.as_uri(), "width": width, "choices": [choice]}
@@ -356,69 +363,17 @@ class CallPageTest(support.ElectionTest):
         self.assertEqual((len(colours[0]), len(colours[1]), len(colours[0] | colours[1])), (1, 1, 2))
 
     def test_a_script_that_was_changed_does_not_run(self) -> None:
-        page = self.called("changed", support.POLL)
+        page = self.called("changed", POLL)
         page.write_text(page.read_text().replace('"use strict";', '"use strict"; '))
         found, console = browse(self.scratch, [{"page": page.as_uri(), "width": 360, "choices": []}])
         self.assertFalse(found[0]["shown"])
         self.assertIn("Content Security Policy", console)
 
 
-class CallPageTextTest(support.ElectionTest):
-    """The page without a browser."""
-
-    def page(self, *words: str) -> str:
-        ended = self.election("call", *words)
-        self.assertEqual(ended.status, 0, ended)
-        return self.read("call/index.html").decode()
-
-    def begin_anew(self, poll: str) -> None:
-        """An election with this poll and nothing else."""
-        shutil.rmtree(self.folder)
-        self.folder.mkdir()
-        self.write("poll.toml", poll)
-
-    @unittest.skipUnless(shutil.which("tidy"), "tidy is not installed")
-    def test_tidy(self) -> None:
-        polls = [support.POLL, *(poll_of(names_of(size), HOSTILE_TITLE, 9) for size in (2, 8, 32))]
-        for poll in polls:
-            for words in ([], ["--to", ADDRESS, "--until-words", "<i>", "--no-roll"]):
-                self.begin_anew(poll)
-                self.page(*words)
-                ended = self.run_program("tidy", "-q", "-e", "call/index.html")
-                self.assertEqual((ended.output, ended.faults, ended.status), ("", "", 0))
-
-    def test_the_names_on_the_roll(self) -> None:
-        page = self.page()
-        names = re.search(r'<details id="roll">\n<summary>The names on the roll</summary>\n<ul>\n(.*)</ul>\n</details>', page, re.DOTALL)
-        self.assertEqual(re.findall("<li>(.*?)</li>", names[1]), ["ada", "ben", "cleo", "dan", "eve", "fay", "gus", "hal", "ida"])
-        page = self.page("--no-roll")
-        for part in ("<details", "The names on the roll<", ">ada<", "The roll<"):
-            self.assertNotIn(part, page)
-
-    def test_the_names_on_a_long_roll(self) -> None:
-        for count, is_listed in {2_000: True, 2_001: False}.items():
-            self.begin_anew(poll_of(["A", "B"], "x", count))
-            page = self.page()
-            self.assertEqual(page.count("<li>e"), count if is_listed else 0)
-            elsewhere = 'The names on the roll stand in the file <a href="poll.toml">poll.toml</a>, which lies beside this page.'
-            self.assertEqual(elsewhere in page, not is_listed)
-
-    def test_policy(self) -> None:
-        page = self.page("--to", ADDRESS)
-        policy = re.search(r'<meta http-equiv="Content-Security-Policy" content="([^"]*)">', page)[1]
-        self.assertRegex(
-            policy,
-            r"^default-src 'none'; script-src 'sha256-[^' ]*'; style-src 'sha256-[^' ]*'; base-uri 'none'; form-action 'none'$",
-        )
-        self.assertEqual(page.count("<script"), 1)
-        self.assertNotRegex(page, r"https?://|@import|url\(| style=| on[a-z]+=")
-
-    def test_the_script_can_stand_in_a_page(self) -> None:
-        script = (support.ROOT / "python/debvote_tools/election/ballot.js").read_text()
-        self.assertNotRegex(script.lower(), r"</script|<!--|<script")
-        self.assertNotRegex(script, r"innerHTML|outerHTML|insertAdjacentHTML|document\.write|eval\(|fetch\(|XMLHttpRequest")
-
     @unittest.skipUnless(shutil.which("node"), "node is not installed")
     def test_the_script_is_in_order(self) -> None:
-        script = support.ROOT / "python/debvote_tools/election/ballot.js"
-        self.assertEqual(self.run_program("node", "--check", script).status, 0)
+        self.assertEqual(subprocess.run(["node", "--check", SCRIPT], timeout=SECONDS).returncode, 0)
+
+
+if __name__ == "__main__":
+    unittest.main()

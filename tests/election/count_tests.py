@@ -1,7 +1,9 @@
-"""`count`: the sheet, and what to do with it."""
+"""`count`: the sheet alone, and what to do with it; and an election of forty from the list of members to the page."""
 
-import subprocess
-import sys
+import hashlib
+import json
+import os
+import unittest
 
 import support
 
@@ -9,12 +11,22 @@ TIE = "ada 1,2,4,3\nben 2,1,4,3\ncleo 1,2,4,3\ndan 2,1,4,3\n"
 WON = TIE + "eve 1,2,4,3\n"
 
 
-class Count(support.ElectionTest):
-    def sheet(self, *words: str) -> str:
-        return self.debvote("count", "--poll", "poll.toml", "--ballots", "ballots", *words).output
+class CountTest(support.ElectionTest):
+    def add(self, text: str) -> None:
+        self.write("lines", text)
+        self.done("add", "--yes", "lines")
 
-    def assert_counted(self, ended: support.Ended, sheet: str, status: int, *parts: str) -> None:
-        """The sheet alone went to standard output, and the sentence on standard error has these parts."""
+    def sheet(self, *words: str) -> str:
+        """What debvote counts from the exported files."""
+        out = self.scratch / f"out{len(os.listdir(self.scratch))}"
+        self.done("export", out)
+        return self.debvote("count", "--poll", out / "poll.toml", "--ballots", out / "ballots.txt", *words).output
+
+
+class Count(CountTest):
+    def assert_counted(self, words: tuple[str, ...], status: int, *parts: str) -> None:
+        """The sheet alone goes to standard output, and the sentence on standard error has these parts."""
+        ended, sheet = self.election("count", *words), self.sheet(*words)
         self.assertNotEqual(sheet, "")
         self.assertEqual((ended.output, ended.status), (sheet, status))
         self.assertEqual(ended.faults.count("\n"), 1, ended.faults)
@@ -22,118 +34,81 @@ class Count(support.ElectionTest):
             self.assertIn(part, ended.faults)
 
     def test_an_option_that_has_won(self) -> None:
-        self.write("ballots", WON)
+        self.add(WON)
         before = self.contents()
-        self.assert_counted(
-            self.election("count"), self.sheet(), 0, "the vote is over debvote-election close, then debvote-election publish\n"
-        )
+        self.assert_counted((), 0, "this is no result yet: when the vote is over debvote-election close, then debvote-election publish")
         self.assertEqual(self.contents(), before)
+        self.done("close")
+        self.assert_counted((), 0, "Next: debvote-election publish")
 
-    def test_when_the_election_is_closed(self) -> None:
-        self.write("ballots", WON)
-        self.write("journal", "2026-11-25T18:00:00Z\tclose\t5\t-\t-\n")
-        self.assert_counted(self.election("count"), self.sheet(), 0, "Next: debvote-election publish\n")
-
-    def test_a_tie(self) -> None:
-        self.write("ballots", TIE)
+    def test_a_tie_and_the_casting_vote(self) -> None:
+        self.add(TIE)
+        self.done("close")
         said = "it is a tie between 'At the lake', 'In the town hall'; who has the casting vote chooses one of them: "
-        commands = "debvote-election publish --casting 'At the lake' or debvote-election publish --casting 'In the town hall'\n"
-        open_still = "Next: this is no result yet: when the vote is over debvote-election close, then "
-        self.assert_counted(self.election("count"), self.sheet(), 1, open_still + said + commands)
-        self.election("close")
-        self.assert_counted(self.election("count"), self.sheet(), 1, "Next: " + said + commands)
+        self.assert_counted((), 1, said, "publish --casting 'In the town hall' --cast-by WHO --cast-on DATE")
+        self.assert_counted(("--casting", "In the town hall"), 0, "publish --casting 'In the town hall'")
+        self.assert_counted(("--casting", "Further discussion"), 8, "'Further discussion' is not among them")
 
-    def test_the_casting_vote(self) -> None:
-        self.write("ballots", TIE)
-        casting = ["--casting", "In the town hall"]
-        said = "debvote-election publish --casting 'In the town hall'\n"
-        self.assert_counted(self.election("count", *casting), self.sheet(*casting), 0, said)
-        self.assertIn("Winner: 2 In the town hall by casting vote\n", self.sheet(*casting))
+    def test_no_such_option(self) -> None:
+        self.add(WON)
+        ended = self.election("count", "--casting", "Nowhere")
+        self.assert_fault(ended, 8, "no option has this name", "'At the lake'")
 
-    def test_a_casting_vote_for_an_option_that_is_not_left(self) -> None:
-        self.write("ballots", TIE)
-        casting = ["--casting", "Further discussion"]
-        said = "a tie between 'At the lake', 'In the town hall'; 'Further discussion' is not among them; who has the casting vote"
-        self.assert_counted(self.election("count", *casting), self.sheet(*casting), 8, said)
+    def test_struck_and_late_lines_do_not_count(self) -> None:
+        self.add(WON)
+        self.done("strike", "5", "--because", "it was taken down wrongly")
+        self.assertEqual(self.election("count").status, 1)
+        self.done("close")
+        self.add("fay 1,2,4,3\n")
+        self.assertEqual(self.election("count").status, 1)
 
-    def test_a_casting_vote_where_one_option_is_left(self) -> None:
-        self.write("ballots", WON)
-        casting = ["--casting", "In the town hall"]
-        ended = self.election("count", *casting)
-        self.assert_counted(ended, self.sheet(*casting), 0, "then debvote-election publish\n")
 
-    def test_a_name_that_is_no_option(self) -> None:
-        names = "'At the lake', 'In the town hall', 'Sell the house and meet there', 'Further discussion'"
-        for ballots in (TIE, WON):
-            self.write("ballots", ballots)
-            for name in ("at the lake", "2", "", "At the lake "):
-                ended = self.election("count", f"--casting={name}")
-                self.assert_fault(ended, 8, "no option has this name; give one of these, exactly as it stands here: ", names)
-                self.assertEqual(ended.output, "")
+class SecretCount(CountTest):
+    poll = support.POLL + "secret = true\n"
 
-    def test_a_name_that_begins_with_a_hyphen(self) -> None:
-        self.write("poll.toml", support.POLL.replace("In the town hall", "--folder=x"))
-        self.write("ballots", TIE)
-        ended = self.election("count", "--casting=--folder=x")
-        self.assert_counted(ended, self.sheet("--casting=--folder=x"), 0, "publish --casting=--folder=x\n")
-        self.assertIn("Winner: 2 --folder=x by casting vote\n", ended.output)
-        self.assert_fault(self.election("count", "--casting=-x"), 8, "--casting=-x: no option has this name", "--folder=x")
-
-    def test_names_that_a_shell_would_read(self) -> None:
-        self.write("poll.toml", support.POLL.replace("In the town hall", "It's $HOME; `x`"))
-        self.write("ballots", TIE)
+    def test_never_before_the_close(self) -> None:
+        self.add(WON)
         ended = self.election("count")
-        names = ended.faults.partition("a tie between ")[2].partition("; who has")[0].split(", ")
-        said = subprocess.run(["sh", "-c", f"printf %s {names[1]}"], capture_output=True, text=True).stdout
-        self.assertEqual(said, "It's $HOME; `x`")
+        self.assertEqual((ended.status, ended.output), (9, ""))
+        self.done("close")
+        self.assertEqual(self.election("count").status, 0)
 
-    def test_no_ballots_yet(self) -> None:
-        ended = self.election("count")
-        sheet = self.debvote("count", "--poll", "poll.toml", "--ballots", "/dev/null").output
-        self.assert_counted(ended, sheet, 0, "when the vote is over")
-        self.assertFalse((self.folder / "ballots").exists())
 
-    def test_a_poll_that_is_refused(self) -> None:
-        self.write("ballots", TIE)
-        for words in ([], ["--casting", "x"]):
-            self.write("poll.toml", support.POLL.replace("quorum = 1", "quorum = 11"))
-            ended = self.election("count", *words)
-            self.assert_fault(ended, 3, "poll.toml: poll refused: quorum; what is wrong with it says: debvote-election check")
-            self.assertEqual(ended.output, "")
+class OfForty(CountTest):
+    """An election of forty, by lines, a table and two desks."""
 
-    def test_ballots_that_are_refused(self) -> None:
-        self.write("ballots", "x\n" * 100_001)
-        ended = self.election("count")
-        self.assert_fault(ended, 4, "ballots: ballots refused: too many lines; it has at most 100000 lines")
-        self.write("journal", "2026-11-25T18:00:00Z\tadd\t1-3\t-\tsum\n")
-        (self.folder / "ballots").unlink()
-        self.assert_fault(self.election("count"), 4, "ballots: No such file or directory; what came is kept in received")
+    names = [f"m{number:02}" for number in range(1, 41)]
 
-    def test_an_output_that_is_full(self) -> None:
-        self.write("ballots", WON)
-        with open("/dev/full", "w") as full:
-            words = [sys.executable, support.ELECTION, "count"]
-            ended = subprocess.run(
-                words, cwd=self.folder, env=support.environment(), stdout=full, stderr=subprocess.PIPE, text=True
-            )
-        self.assertEqual((ended.returncode, ended.stderr.count("\n")), (7, 1))
-        self.assertIn("debvote-election: the output failed", ended.stderr)
+    def test_from_the_list_to_the_page(self) -> None:
+        ranks = ["1,2,3,4", "2,1,4,3", "1,-,2,3", "3,1,2,4"]
+        ballots = {name: ranks[index % 4] for index, name in enumerate(self.names)}
+        self.add("".join(f"{name.upper()}: {ballots[name]}.\n" for name in self.names[:15]))
+        cells = [ballots[name].replace(",", ";") for name in self.names[15:30]]
+        self.write("form.csv", "\n".join(["who;a;b;c;d", *(f"{name};{row}" for name, row in zip(self.names[15:30], cells)), ""]))
+        self.done("add", "--yes", "--csv", "--name", "who", "--ranks", "a,b,c,d", "form.csv")
+        for part in (self.names[30:35], self.names[35:38]):
+            self.done("desk", given="".join(f"{name} {ballots[name]}\n" for name in part))
+        self.done("desk", given="m01 2,1,3,4\n")
+        status = json.loads(self.done("status", "--json").output)
+        self.assertEqual((status["lines"], status["valid"], status["voters"], status["without_ballot"]), (39, 39, 38, ["m39", "m40"]))
+        self.done("close")
+        self.add("m39 1,2,3,4\n")
+        self.done("publish")
+        folder = self.folder / "result"
+        standing = dict(line.split() for line in (folder / "standing.txt").read_text().splitlines())
+        self.assertEqual(standing, {name: ballots[name] for name in self.names[:38]} | {"m01": "2,1,3,4"})
+        self.assertEqual((folder / "late.txt").read_text(), "m39 1,2,3,4\n")
+        self.assertEqual((folder / "sheet.txt").read_text(), self.election("count").output)
+        checksum = hashlib.sha256((folder / "ballots.txt").read_bytes()).hexdigest()
+        self.assertIn(checksum, (folder / "closed.txt").read_text())
+        self.assertIn(checksum, (folder / "letter.txt").read_text())
+        self.assertEqual((folder / "poll.toml").read_bytes(), self.read("call/poll.toml"))
+        log = self.done("log").output
+        before = {file.name: file.read_bytes() for file in folder.iterdir()}
+        self.done("publish")
+        self.assertEqual({file.name: file.read_bytes() for file in folder.iterdir()}, before)
+        self.assertEqual(self.done("log").output, log)
 
-    def test_wrong_words(self) -> None:
-        self.assertEqual(self.election("count", "--cast", "x").status, 2)
-        self.assertEqual(self.election("count", "x").status, 2)
-        ended = self.election("count", b"--casting=\xff".decode(errors="surrogateescape"))
-        self.assert_fault(ended, 2, "an argument is not UTF-8")
 
-    def test_what_has_changed_since_the_close_is_told(self) -> None:
-        self.write("ballots", WON)
-        self.election("close")
-        lines = len(WON.splitlines())
-        poll = self.read("poll.toml").decode()
-        self.write("poll.toml", poll.replace(f"last_envelope = {lines}\n", ""))
-        ended = self.election("count")
-        self.assertEqual((ended.output, ended.status), (self.sheet(), 0))
-        note, following = ended.faults.splitlines()
-        self.assertTrue(note.startswith("Note: poll.toml: "), note)
-        self.assertIn(f"last_envelope = {lines}", note)
-        self.assertTrue(following.startswith("Next: "), following)
+if __name__ == "__main__":
+    unittest.main()

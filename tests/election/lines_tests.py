@@ -1,15 +1,9 @@
 """The changes of a line that are allowed, and those that are not."""
 
-import sys
 import unittest
 
-import support
-
-sys.path.insert(0, str(support.ROOT / "python"))
-
-from debvote_tools.lines import changed, differences, lines_in  # noqa: E402
-from debvote_tools.shapes import plain_words  # noqa: E402
-from debvote_tools.signs import shown_line  # noqa: E402
+from debvote_tools.lines import changed, differences, lines_in, name_in
+from debvote_tools.terminal_text import shown_line
 
 
 class Changes(unittest.TestCase):
@@ -73,6 +67,17 @@ class Changes(unittest.TestCase):
         for came in (b"ada 1,2,3", b"a -", b"0.-z 99,-,1"):
             self.assertEqual((changed(came), differences(came, changed(came))), (came, []))
 
+    def test_the_name_with_which_a_line_begins(self) -> None:
+        for line, name in {
+            b"ada 1,2": b"ada",
+            b"ada-b.9,1": b"ada-b.9",
+            b"ada": b"ada",
+            b" ada 1": b"",
+            b"Ada 1": b"",
+            b"": b"",
+        }.items():
+            self.assertEqual(name_in(line), name)
+
     def test_a_long_line_of_blanks_takes_no_time(self) -> None:
         self.assertEqual(changed(b" " * 3_000_000), b"")
         self.assertEqual(changed(b"a" + b" \t" * 1_000_000 + b"1"), b"a 1")
@@ -105,7 +110,6 @@ class Ends(unittest.TestCase):
         (line,) = lines_in(mark + b"Ada;1\r\n", "f")
         self.assertEqual((line.whole, line.bare), (mark + b"Ada;1\r", b"Ada;1"))
 
-
     def test_what_is_told_of_the_whole_file(self) -> None:
         lines = lines_in(b"\xef\xbb\xbfAda 1\r\nben 2\r\ncleo  3\n", "f")
         self.assertEqual([(line.had_mark, line.had_return) for line in lines], [(True, True), (False, True), (False, False)])
@@ -119,60 +123,3 @@ class Shown(unittest.TestCase):
 
     def test_a_long_line_is_cut(self) -> None:
         self.assertEqual(shown_line(b"x" * 1000), "x" * 100 + "..")
-
-
-class PlainWords(unittest.TestCase):
-    """What is said of a line that debvote finds of bad shape."""
-
-    HYPHEN = "; who does not want to rank an option writes a hyphen"
-    POINT = "a rank is a number alone, without a point or a bracket behind it"
-    NUMBER = "a rank is a number from 1 to 99, without a zero before it"
-    WORD = "a word stands where ranks belong"
-    ONE_WORD = "it is one word; a ballot has a name, a space and the ranks"
-    SPACE = "the name has a space; on the roll no name has one"
-
-    def test_ranks_that_are_missing(self) -> None:
-        for line, which in {
-            "pam 1,2,,3": "the third rank is",
-            "ada 1,,2": "the second rank is",
-            "ada 1,2,": "the third rank is",
-            "ada ,-,": "the first and the third rank are",
-            "ada ,,": "the first, the second and the third rank are",
-            "ada " + "1," * 31: "the 32nd rank is",
-            "ada " + "1," * 10 + ",1": "the 11th rank is",
-        }.items():
-            self.assertEqual(plain_words(line.encode()), f"{which} missing{self.HYPHEN}")
-
-    def test_other_shapes(self) -> None:
-        for line, words in {
-            "ben bo 1,2,3": self.SPACE,
-            "Zoë Ångström 1,2,3": self.SPACE,
-            "ada bo 1,,2": self.SPACE,
-            "ada lake,hall": self.WORD,
-            "ada yes": self.WORD,
-            "A>B>C": "it has the sign >; a ballot has numbers with commas between, a rank for each option",
-            "dan 1.": self.POINT,
-            "dan 1),2": self.POINT,
-            "1,2,3": "the name is missing before the ranks",
-            " 1,,3": "the name is missing before the ranks",
-            "ada": self.ONE_WORD,
-            "ada 1 2 3": "spaces stand between the ranks; commas belong there",
-            "ada,1,2,3": "a comma stands behind the name; a space belongs there",
-            "ada 1;2": "it has a semicolon; between the ranks stand commas",
-            "“ada” 1,2": "it has quotation marks; a ballot has none",
-            "ada\u00a01,2": "it has a no-break space; a plain space belongs there",
-            "ada 1,–": "a long dash stands where a hyphen belongs",
-            "ada 0,1": self.NUMBER,
-            "ada 1,100": self.NUMBER,
-            "ada -1,2": self.NUMBER,
-        }.items():
-            self.assertEqual(plain_words(line.encode()), words, line)
-
-    def test_what_is_not_plain(self) -> None:
-        for line in ("", "1", "ada: 1,2", "ada 1,2 3", "zoë 1,2", "name,who,mail", "ada 1-2"):
-            self.assertIsNone(plain_words(line.encode()), line)
-        self.assertIsNone(plain_words(b"\xff 1"))
-
-    def test_a_long_line_takes_no_time(self) -> None:
-        for line in (b"a" * 3_000_000 + b" ", b"a " * 1_000_000, b"1," * 1_000_000):
-            self.assertEqual(plain_words(line), f"it has {len(line)} bytes, and no ballot has more than 200")

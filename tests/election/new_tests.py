@@ -1,127 +1,77 @@
-"""`new`: the folder of an election."""
+"""`new`: the folder, its files and modes, and what stops it."""
 
 import os
-import resource
+import shutil
 import subprocess
-import sys
-import tomllib
+import unittest
 
 import support
 
-sys.path.insert(0, str(support.ROOT / "python"))
-
-from debvote_tools import journal  # noqa: E402
-
 
 class New(support.ElectionTest):
-    def setUp(self) -> None:
-        super().setUp()
-        self.before = self.contents()
+    def begin(self) -> None:
+        """There is no election yet."""
+        self.folder.mkdir()
 
-    def test_it_makes_a_poll_to_fill_in_and_a_list_of_members(self) -> None:
-        ended = self.election("new", "spring")
-        self.assertEqual((ended.faults, ended.status), ("", 0))
-        self.assertIn("Made the folder spring with poll.toml and members.csv.\nNext: cd spring, ", ended.output)
-        self.assertEqual(self.read("spring/members.csv"), b"name,who,mail\n")
-        poll = self.read("spring/poll.toml").decode()
-        self.assertEqual(tomllib.loads(poll), {"title": "", "options": [], "ratios": [], "default": "", "roll": []})
-        for words in ("debvote-election roll", "debvote-election check", "begins with [", "\n# quorum = 1\n", "\n# wording = "):
-            self.assertIn(words, poll)
-        self.assertLess(max(map(len, poll.splitlines())), 111)
+    def test_folder(self) -> None:
+        ended = self.done("new", "spring")
+        folder = self.folder / "spring"
+        self.assertEqual(sorted(file.name for file in folder.iterdir()), ["election.db", "members.csv", "poll.toml"])
+        self.assertEqual(folder.stat().st_mode & 0o777, 0o700)
+        self.assertEqual({file.stat().st_mode & 0o777 for file in folder.iterdir()}, {0o600})
+        self.assertIn("Next: cd spring", ended.output)
+        self.done("log", "--check", cwd=folder)
 
-    def test_its_journal_has_the_act(self) -> None:
-        self.election("new", "spring")
-        (entry,) = journal.entries_in(self.folder / "spring" / "journal")
-        sums = journal.Sums.of(self.read("spring/poll.toml"), None)
-        self.assertEqual((entry.act, entry.envelopes, entry.sums), ("new", "-", sums))
+    def test_umask_and_empty_folder(self) -> None:
+        (self.folder / "spring").mkdir()
+        before = os.umask(0)
+        self.addCleanup(os.umask, before)
+        self.done("new", "spring")
+        self.assertEqual({file.stat().st_mode & 0o777 for file in (self.folder / "spring").iterdir()}, {0o600})
 
-    def test_check_says_what_is_missing_and_where_to_go_on(self) -> None:
-        self.election("new", "spring")
-        ended = self.election("--folder", "spring", "check")
-        said = [
-            "poll: key quorum: it is missing", "poll: title: it is empty",
-            "poll: number of options: only the default option; at least 2 options are needed",
-            "poll: name of option 1: it is empty", "poll: size of roll: no name, 1 is the least",
-        ]  # fmt: skip
-        self.assertEqual(ended.output.splitlines(), said)
-        steps = "fill in or put right with an editor: title, options, default, quorum"
-        self.assert_fault(
-            ended, 3, "spring/poll.toml: ", steps, "write the members into members.csv", "debvote-election --folder spring roll"
-        )
+    def test_language(self) -> None:
+        self.assertIn("will be in German", self.done("new", "--language", "de", "wahl").output)
+        (self.folder / "wahl" / "poll.toml").write_text(support.POLL.replace("At the lake", "Zum Bärensee"))
+        (self.folder / "wahl" / "members.csv").write_text("who,mail\nJürgen Groß,j@club.example\n")
+        self.assertIn("juergen-gross", self.done("roll", cwd=self.folder / "wahl").output)
+        self.assertIn("plain: Zum Baerensee", self.done("check", cwd=self.folder / "wahl").output)
 
-    def test_filled_in_as_its_comments_say_it_is_in_order(self) -> None:
-        self.election("new", "spring")
-        file = self.folder / "spring" / "poll.toml"
-        poll = file.read_text()
-        examples = [line.removeprefix("#     ") for line in poll.splitlines() if line.startswith("#     ") and " = " in line]
-        for line in [*examples, 'title = "Spring"', "quorum = 1"]:
-            key = line.split(" = ")[0]
-            old = "# quorum = 1" if key == "quorum" else next(old for old in poll.splitlines() if old.startswith(f"{key} = "))
-            self.assertEqual(poll.count(f"\n{old}\n"), 1)
-            poll = poll.replace(f"\n{old}\n", f"\n{line}\n")
-        file.write_text(poll)
-        (self.folder / "spring" / "members.csv").write_text("name,who,mail\nada,,\nben,,\n")
-        roll = self.election("roll", cwd=self.folder / "spring")
-        self.assertEqual((roll.faults, roll.status), ("", 0))
-        check = self.election("check", cwd=self.folder / "spring")
-        self.assertEqual((check.faults, check.status), ("", 0))
-        self.assertIn("poll ok: 4 options, 2 electors\n", check.output)
-
-    def test_an_empty_folder_is_taken(self) -> None:
-        (self.folder / "my spring").mkdir()
-        ended = self.election("new", "my spring")
-        self.assertEqual(ended.status, 0)
-        self.assertIn("Next: cd 'my spring', ", ended.output)
-        here = self.scratch / "here"
-        here.mkdir()
-        self.assertEqual(self.election("new", ".", cwd=here).status, 0)
-        self.assertEqual(sorted(os.listdir(here)), [".lock", "journal", "members.csv", "poll.toml"])
-
-    def test_a_folder_with_something_in_it_stays_as_it_is(self) -> None:
-        self.write("there", "x")
-        self.assert_fault(self.election("new", "."), 2, "it is an election already", "choose another name")
-        self.assert_fault(self.election("new", "there"), 2, "there: ", "it is no folder")
-        (self.folder / "poll.toml").unlink()
-        self.assert_fault(self.election("new", "."), 2, "it is not empty")
-        self.assertEqual(self.contents(), {"there": b"x"})
-
-    def test_a_second_new_stays_as_it_is(self) -> None:
-        self.election("new", "spring")
+    def test_nothing_is_overwritten(self) -> None:
+        self.done("new", "spring")
+        (self.folder / "full").mkdir()
+        (self.folder / "full" / "file").write_text("kept")
+        (self.folder / "file").write_text("kept")
+        (self.folder / "link").symlink_to("nowhere")
         before = self.contents()
-        self.assert_fault(self.election("new", "spring"), 2, "spring: ", "an election already")
+        for name, words in {"spring": "an election already", "full": "not empty", "file": "no folder", "link": "no folder"}.items():
+            with self.subTest(name):
+                self.assert_fault(self.election("new", name), 2, words, "nothing was changed")
+        self.assert_fault(self.election("new", "nowhere/else"), 2, "nowhere/else")
+        self.assert_fault(self.election("new", "--folder", "x", "y"), 2, "--folder")
         self.assertEqual(self.contents(), before)
 
-    def test_no_place_for_it(self) -> None:
-        self.assert_fault(self.election("new", "no/spring"), 2, "no/spring: No such file or directory; choose a place")
-        self.assert_fault(self.election("new", "poll.toml/spring"), 2, "poll.toml/spring: ")
-        self.assertEqual(self.contents(), self.before)
+    def test_unfinished_on_a_full_disk(self) -> None:
+        if shutil.which("strace") is None:
+            self.skipTest("strace is not installed")
+        for when in (1, 3, 5):
+            inject = f"inject=pwrite64:error=ENOSPC:when={when}+"
+            words = ["strace", "-o", "/dev/null", "-e", inject, "/usr/bin/python3", support.ELECTION, "new", "spring"]
+            env = support.environment() | {"XDG_STATE_HOME": str(self.state)}
+            ended = subprocess.run(words, cwd=self.folder, env=env, capture_output=True, text=True)
+            self.assertEqual(ended.returncode, 7, ended)
+            self.assertEqual(list(self.folder.iterdir()), [])
 
-    def test_no_permission(self) -> None:
-        self.close_folder()
-        ended = self.without_rights("new", "spring")
-        self.assert_fault(ended, 2, "spring: Permission denied; choose a place")
-        self.assertEqual(self.contents(), self.before)
+    def test_commands_before_the_call(self) -> None:
+        self.done("new", "spring")
+        folder = self.folder / "spring"
+        (folder / "lines").write_text("ada 1,2,3,4\n")
+        for words in (("add", "--yes", "lines"), ("desk",), ("close",), ("undo",), ("count",), ("publish",), ("export", "x")):
+            with self.subTest(words):
+                ended = self.election(*words, cwd=folder)
+                self.assertEqual(ended.status, 9, ended)
+                self.assertIn("not called yet", ended.faults)
+        self.assertIn("Call for votes: not made yet", self.done("status", cwd=folder).output)
 
-    def test_a_disk_that_is_full_leaves_nothing(self) -> None:
-        for size in (0, 5, 1000):
-            ended = self.election("new", "spring", preexec_fn=lambda: resource.setrlimit(resource.RLIMIT_FSIZE, (size, size)))
-            self.assert_fault(ended, 7, "spring/", "File too large")
-            self.assertFalse((self.folder / "spring").exists())
-        (self.folder / "spring").mkdir()
-        ended = self.election("new", "spring", preexec_fn=lambda: resource.setrlimit(resource.RLIMIT_FSIZE, (5, 5)))
-        self.assertEqual((ended.status, os.listdir(self.folder / "spring")), (7, []))
 
-    def test_an_output_that_is_full(self) -> None:
-        with open("/dev/full", "w") as full:
-            words = [sys.executable, support.ELECTION, "new", "spring"]
-            ended = subprocess.run(
-                words, cwd=self.folder, env=support.environment(), stdout=full, stderr=subprocess.PIPE, text=True
-            )
-        self.assertEqual((ended.returncode, ended.stderr.count("\n")), (7, 1))
-        self.assertIn("the output failed; what was told is done", ended.stderr)
-        self.assertEqual(sorted(os.listdir(self.folder / "spring")), [".lock", "journal", "members.csv", "poll.toml"])
-
-    def test_wrong_words(self) -> None:
-        self.assertEqual(self.election("new").status, 2)
-        self.assert_fault(self.election("--folder", "x", "new", "y"), 2, "leave --folder out")
-        self.assertEqual(self.contents(), self.before)
+if __name__ == "__main__":
+    unittest.main()

@@ -7,9 +7,13 @@ import subprocess
 import sys
 import tempfile
 import unittest
+from collections.abc import Sequence
 from dataclasses import dataclass
 
 import forks
+
+from debvote_tools.book.book import open_book
+from debvote_tools.book.machine_note import Note
 
 ROOT = pathlib.Path(__file__).resolve().parent.parent.parent
 PROGRAM = pathlib.Path(os.environ.get("DEBVOTE", ROOT / "crates" / "debvote" / "out" / "debvote"))
@@ -21,7 +25,7 @@ SECONDS = 600
 
 # what a run says where Graphviz is not installed
 HAS_PICTURES = shutil.which("dot") is not None
-NO_PICTURE = "debvote-publish: no picture: Graphviz (its program dot) is not installed\n"
+NO_PICTURE = "Note: no picture: Graphviz (its program dot) is not installed\n"
 
 # four options and nine electors, of whom nobody has voted
 POLL = """title = "Where we meet in spring"
@@ -29,8 +33,13 @@ options = ["At the lake", "In the town hall", "Sell the house and meet there"]
 ratios = [1, 1, 3]
 default = "Further discussion"
 quorum = 1
-roll = ["ada", "ben", "cleo", "dan", "eve", "fay", "gus", "hal", "ida"]
 """
+NAMES = ["ada", "ben", "cleo", "dan", "eve", "fay", "gus", "hal", "ida"]
+
+
+def members_of(names: Sequence[str]) -> str:
+    """A list of members in which each has the address of their name."""
+    return "who,mail\n" + "".join(f"{name.title()},{name}@club.example\n" for name in names)
 
 
 @dataclass(frozen=True)
@@ -59,19 +68,71 @@ def clock_of(file: pathlib.Path) -> dict[str, str]:
     return {"PYTHONPATH": str(ROOT / "tests" / "clock"), "DEBVOTE_CLOCK": str(file)}
 
 
+# elections as they begin, by what they begin with: each is made once a process
+TEMPLATES: dict[object, pathlib.Path] = {}
+
+
+def note_book(folder: pathlib.Path, state: pathlib.Path) -> None:
+    """This machine knows the book of a copied election."""
+    book = open_book(folder / "election.db")
+    last = book.last_act()
+    before = os.environ.get("XDG_STATE_HOME")
+    os.environ["XDG_STATE_HOME"] = str(state)
+    try:
+        book.note().write(Note(last.number, last.digest))
+    finally:
+        os.environ.pop("XDG_STATE_HOME")
+        if before is not None:
+            os.environ["XDG_STATE_HOME"] = before
+    book.connection.close()
+
+
 class ElectionTest(unittest.TestCase):
-    """A test with a folder of its own, in which an election lies with the poll above and no ballots."""
+    """A test with a folder of its own, in which an election is called, with the poll above and no ballots."""
 
     poll = POLL
+    names = NAMES
+    # the words of `new` and of the call; without the latter the election is not called
+    new_words: Sequence[str] = ()
+    call_words: Sequence[str] | None = ("--to", "vote@club.example")
     maxDiff = None
 
     def setUp(self) -> None:
         self.scratch = pathlib.Path(tempfile.mkdtemp(prefix="debvote-election-"))
         self.addCleanup(shutil.rmtree, self.scratch, ignore_errors=True)
+        self.state = self.scratch / "state"
         self.clock: dict[str, str] = {}
         self.folder = self.scratch / "election"
-        self.folder.mkdir()
-        (self.folder / "poll.toml").write_text(self.poll)
+        self.begin()
+
+    def begin(self) -> None:
+        """Makes the election, up to its call."""
+        key = (self.poll, tuple(self.names), tuple(self.new_words), self.call_words)
+        if key not in TEMPLATES:
+            TEMPLATES[key] = self.made()
+            type(self).addClassCleanup(shutil.rmtree, TEMPLATES[key].parent, ignore_errors=True)
+            type(self).addClassCleanup(TEMPLATES.pop, key)
+        shutil.copytree(TEMPLATES[key], self.folder)
+        note_book(self.folder, self.state)
+
+    def made(self) -> pathlib.Path:
+        """An election as it begins, which the tests of this process copy."""
+        place = pathlib.Path(tempfile.mkdtemp(prefix="debvote-template-"))
+        self.done("new", *self.new_words, str(place / "election"), cwd=place)
+        (place / "election" / "poll.toml").write_text(self.poll)
+        (place / "election" / "members.csv").write_text(members_of(self.names))
+        self.done("roll", cwd=place / "election")
+        if self.call_words is not None:
+            if "secret = true" in self.poll:
+                self.done("codes", cwd=place / "election")
+            self.done("call", *self.call_words, cwd=place / "election")
+        return place / "election"
+
+    def done(self, *words: object, **how: object) -> Ended:
+        """Runs debvote-election, which has to do what it is asked for."""
+        ended = self.election(*words, **how)
+        self.assertEqual(ended.status, 0, ended)
+        return ended
 
     def run_program(self, *words: object, given: bytes | str | None = None, **how: object) -> Ended:
         """Runs a program with these words in the folder of the election, with these bytes as its standard input.
@@ -80,7 +141,8 @@ class ElectionTest(unittest.TestCase):
         """
         data = given.encode() if isinstance(given, str) else given
         where = {"stdin": subprocess.DEVNULL} if data is None else {"input": data}
-        settings = {"cwd": self.folder, "env": environment() | self.clock, "timeout": SECONDS, **where, **how}
+        env = environment() | self.clock | {"XDG_STATE_HOME": str(self.state)}
+        settings = {"cwd": self.folder, "env": env, "timeout": SECONDS, **where, **how}
         ended = forks.run([str(word) for word in words], capture_output=True, **settings)
         faults = ended.stderr.decode("utf-8", "replace")
         faults = faults if HAS_PICTURES else faults.replace(NO_PICTURE, "")
@@ -128,8 +190,8 @@ class ElectionTest(unittest.TestCase):
         return (self.folder / name).read_bytes()
 
     def contents(self) -> dict[str, bytes]:
-        """All files of the folder, by their names, but for the lock: to see that a refused run has changed nothing."""
-        files = (file for file in self.folder.rglob("*") if file.is_file() and file.name != ".lock")
+        """All files of the folder, by their names: to see that a refused run has changed nothing."""
+        files = (file for file in self.folder.rglob("*") if file.is_file())
         return {str(file.relative_to(self.folder)): file.read_bytes() for file in files}
 
     def assert_fault(self, ended: Ended, status: int, *parts: str) -> None:

@@ -1,8 +1,10 @@
 """A program at a terminal of its own, whose keys a test types."""
 
+import contextlib
 import os
 import pty
 import select
+import signal
 import sys
 import time
 
@@ -18,7 +20,16 @@ class Terminal:
         if self.process == 0:
             os.chdir(test.folder)
             program = [sys.executable, str(support.ELECTION), *(words or ("desk",))]
-            os.execve(sys.executable, program, support.environment())
+            os.execve(sys.executable, program, support.environment() | test.clock | {"XDG_STATE_HOME": str(test.state)})
+        # a test that fails leaves no program at work
+        test.addCleanup(self.kill)
+
+    def kill(self) -> None:
+        """Ends the program, if it has not ended."""
+        with contextlib.suppress(ChildProcessError):
+            if os.waitpid(self.process, os.WNOHANG) == (0, 0):
+                os.kill(self.process, signal.SIGKILL)
+                os.waitpid(self.process, 0)
 
     def until(self, words: str) -> str:
         """What the terminal shows up to these words, from where the last call ended."""

@@ -2,6 +2,7 @@
 
 import json
 import pathlib
+import re
 import sys
 import unittest
 import urllib.parse
@@ -12,12 +13,12 @@ from support import ELECTORS
 
 sys.path.insert(0, str(support.ROOT / "python"))
 
-from debvote_tools.election.call_page import SENTENCES as CALL_SENTENCES  # noqa: E402
+from debvote_tools.call.page import SENTENCES as CALL_SENTENCES  # noqa: E402
 from debvote_tools.language import language_of  # noqa: E402
 from debvote_tools.publish.parts.count_again import SENTENCES as COUNT_SENTENCES  # noqa: E402
-from debvote_tools.publish.under_aliases import SENTENCES as FIND_SENTENCES  # noqa: E402
+from debvote_tools.publish.parts.find import OPEN_SENTENCES, SECRET_SENTENCES, SENTENCES as FIND_SENTENCES  # noqa: E402
 
-WIDTHS = (360, 1280)
+WIDTHS = (390, 1280)
 
 # what the page of a call shows once a name is typed and ranks are chosen
 CHOOSE = """((name, ranks) => {
@@ -45,28 +46,24 @@ def said(language: str, sentences: dict[str, str], key: str, /, **places: object
 class InBrowser(support.LanguageTest):
     """The pages of a language, of an open and of a secret vote."""
 
-    def held_both(self, language: str) -> dict[str, pathlib.Path]:
-        return {name: self.held(name, language, is_secret=name == "secret") for name in ("open", "secret")}
-
     def check_language(self, language: str) -> None:
-        places = self.held_both(language)
-        pages = [places["open"] / "call", places["open"] / "result", places["secret"] / "call", places["secret"] / "result"]
-        files = [*(folder / "index.html" for folder in pages), places["secret"] / "private" / "slips.html"]
+        places = {name: self.held(name, language, is_secret=name == "secret") for name in ("open", "secret")}
+        files = [place / page / "index.html" for place in places.values() for page in ("call", "result")]
         for width in WIDTHS:
-            for is_dark in (False, True):
-                with at_browser.Window(width, 800, is_dark=is_dark) as window:
-                    for file in files:
-                        window.open(file)
-                        # what may be wider scrolls by itself; what is closed is opened
-                        window.ask("document.querySelectorAll('details').forEach((node) => { node.open = true; })")
-                        with self.subTest(language=language, page=str(file.relative_to(self.scratch)), width=width):
-                            self.assertEqual(window.ask("document.documentElement.scrollWidth"), width)
-                            self.assertEqual(window.ask("document.documentElement.lang"), language)
-        with at_browser.Window(390, 800) as window:
+            with at_browser.Window(width, 800) as window:
+                for file in [*files, places["secret"] / "private" / "slips.html"]:
+                    window.open(file)
+                    # what may be wider scrolls by itself; what is closed is opened
+                    window.ask("document.querySelectorAll('details').forEach((node) => { node.open = true; })")
+                    with self.subTest(language=language, page=str(file.relative_to(self.scratch)), width=width):
+                        self.assertEqual(window.ask("document.documentElement.scrollWidth"), width)
+                        self.assertEqual(window.ask("document.documentElement.lang"), language)
+        with at_browser.Window(WIDTHS[0], 800) as window:
             self.check_call(window, language, places["open"])
-            self.check_count(window, language, places["open"] / "result")
-            self.check_count(window, language, places["secret"] / "result")
-            self.check_find(window, language, places["secret"])
+            for place in places.values():
+                self.check_count(window, language, place / "result")
+            self.check_find(window, language, places["open"])
+            self.check_find_in_secret(window, language, places["secret"])
 
     def check_call(self, window: at_browser.Window, language: str, place: pathlib.Path) -> None:
         window.open(place / "call" / "index.html")
@@ -89,13 +86,16 @@ class InBrowser(support.LanguageTest):
             sentence("unranked", options="{3}"),
         ]
         self.assertEqual(found["words"], wanted)
-        subject = urllib.parse.parse_qs(found["letter"].partition("?")[2])["subject"]
-        self.assertEqual(subject, [sentence("subject", title="Where we meet in spring")])
+        (subject,) = urllib.parse.parse_qs(found["letter"].partition("?")[2])["subject"]
+        title = sentence("subject", title="Where we meet in spring")
+        self.assertRegex(subject, f"^{re.escape(title)} \\[[0-9a-f]{{16}}\\]$")
         found = choose("e0", ["-", "1", "-", "-"])
         near = {"names": ", ".join(ELECTORS[:4]), "last": ELECTORS[4]}
         self.assertEqual(found["said"], f"{sentence('not_on_roll', name='e0')} {sentence('did_you_mean_one_of', **near)}")
         self.assertEqual(found["missing"], sentence("name_missing"))
-        self.assertEqual(found["words"], [sentence("prefer_to_all", upper="{2}"), sentence("unranked_options", options=both(1, 3, 4))])
+        self.assertEqual(
+            found["words"], [sentence("prefer_to_all", upper="{2}"), sentence("unranked_options", options=both(1, 3, 4))]
+        )
         self.assertEqual(choose("x_y", list("1234"))["said"], sentence("has_sign", sign="_"))
         self.assertEqual(choose("x y", list("1234"))["said"], sentence("has_space"))
         self.assertEqual(choose("x" * 33, list("1234"))["said"], sentence("too_long", number=33, most=32))
@@ -103,9 +103,7 @@ class InBrowser(support.LanguageTest):
         choose("e01", list("1234"))
         window.ask("document.getElementById('copy').click()")
         window.until("document.getElementById('copied').textContent !== ''")
-        self.assertIn(
-            window.ask("document.getElementById('copied').textContent"), (sentence("copied"), sentence("selected"))
-        )
+        self.assertIn(window.ask("document.getElementById('copied').textContent"), (sentence("copied"), sentence("selected")))
 
     def check_count(self, window: at_browser.Window, language: str, folder: pathlib.Path) -> None:
         window.open(folder / "index.html")
@@ -125,26 +123,40 @@ class InBrowser(support.LanguageTest):
         window.until(f"document.getElementById('Again-answer').textContent.includes({json.dumps(other)})")
 
     def check_find(self, window: at_browser.Window, language: str, place: pathlib.Path) -> None:
-        rows = [line.split(",") for line in (place / "private" / "codes.csv").read_text().splitlines()[1:]]
-        codes = {row[0]: row[3] for row in rows}
-        aliases = {row[0]: row[4] for row in rows}
+        def sentence(key: str, /, **places: object) -> str:
+            return said(language, FIND_SENTENCES | OPEN_SENTENCES, key, **places)
+
         window.open(place / "result" / "index.html")
+        found = self.found(window, "Person 02")
+        self.assertEqual((found[0], "e02 2,1,4,3" in found[1]), (sentence("counts", name="e02"), True))
+        self.assertEqual(self.found(window, "e05"), [sentence("no_ballot", name="e05")])
+        self.assertEqual(self.found(window, "nobody"), [sentence("no_elector", name="nobody")])
+        self.assertEqual(self.found(window, ""), [sentence("type_name")])
 
-        def ask(name: str, code: str) -> list[str]:
-            window.ask(
-                f"document.getElementById('name').value = {json.dumps(name)}; document.getElementById('code').value = {json.dumps(code)};"
-                "document.getElementById('answer').replaceChildren(); document.getElementById('show').click();"
-            )
-            window.until("document.getElementById('answer').textContent !== ''")
-            return window.ask("[...document.querySelectorAll('#answer p')].map((row) => row.textContent)")
+    def check_find_in_secret(self, window: at_browser.Window, language: str, place: pathlib.Path) -> None:
+        def sentence(key: str, /, **places: object) -> str:
+            return said(language, FIND_SENTENCES | SECRET_SENTENCES, key, **places)
 
-        found = ask("e02", codes["e02"])
-        self.assertEqual(found[0], said(language, FIND_SENTENCES, "counts", name="e02"))
-        self.assertIn(f"{aliases['e02']} 2,1,4,3", found[1])
-        self.assertEqual(ask("e12", codes["e12"]), [said(language, FIND_SENTENCES, "no_ballot", alias=aliases["e12"])])
-        self.assertEqual(ask("e02", "1234"), [said(language, FIND_SENTENCES, "type_code")])
-        self.assertEqual(ask("", codes["e02"]), [said(language, FIND_SENTENCES, "type_name")])
-        self.assertEqual(len(ask("e02", codes["e01"])), 1)
+        rows = [line.split(",") for line in (place / "private" / "codes.csv").read_text().splitlines()[1:]]
+        codes, aliases = {row[0]: row[3] for row in rows}, {row[0]: row[4] for row in rows}
+        window.open(place / "result" / "index.html")
+        found = self.found(window, "e02", codes["e02"])
+        self.assertEqual((found[0], f"{aliases['e02']} 2,1,4,3" in found[1]), (sentence("counts", name="e02"), True))
+        self.assertEqual(self.found(window, "e05", codes["e05"]), [sentence("no_ballot", alias=aliases["e05"])])
+        self.assertEqual(self.found(window, "e02", "1234"), [sentence("type_code")])
+        self.assertEqual(self.found(window, "", codes["e02"]), [sentence("type_name")])
+        self.assertEqual(len(self.found(window, "e02", codes["e01"])), 1)
+
+    def found(self, window: at_browser.Window, name: str, code: str | None = None) -> list[str]:
+        """What the page of a result says once a name is typed, and a code."""
+        typed = "" if code is None else f"document.getElementById('code').value = {json.dumps(code)};"
+        window.ask(
+            f"document.getElementById('name').value = {json.dumps(name)}; {typed}"
+            "document.getElementById('answer').replaceChildren(); document.getElementById('show').click();"
+        )
+        window.until("document.getElementById('answer').textContent !== ''")
+        answers: list[str] = window.ask("[...document.querySelectorAll('#answer p')].map((row) => row.textContent)")
+        return answers
 
 
 class German(InBrowser):

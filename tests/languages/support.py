@@ -1,5 +1,6 @@
 """What the tests of languages share: elections that are held in a language, and a language in which each word of ours is marked."""
 
+import email.utils
 import os
 import pathlib
 import re
@@ -10,10 +11,10 @@ import unittest
 
 import forks
 import sentences
+from babel.messages import mofile, pofile
 
 ROOT = pathlib.Path(__file__).resolve().parents[2]
-PROGRAM = ROOT / "crates" / "debvote" / "out" / "debvote"
-PROGRAMS = ("debvote-election", "debvote-publish")
+PROGRAM = pathlib.Path(os.environ.get("DEBVOTE", ROOT / "crates" / "debvote" / "out" / "debvote"))
 LANGUAGES = ("de", "es", "fr")
 
 # a run that has not ended by then hangs: far more than any takes beside other work
@@ -25,7 +26,6 @@ options = ["At the lake", "In the town hall", "Sell the house and look for anoth
 ratios = [1, 1, 3]
 default = "Further discussion"
 quorum = 1
-roll = []
 """
 ELECTORS = [f"e{number:02}" for number in range(1, 13)]
 BALLOTS = """e01 1,2,3,4
@@ -40,10 +40,14 @@ e01 2,1,3,4
 zz 1,2
 e08 -,-,-,1
 """
+# letters of electors: one goes in, the others wait
+LETTERS = {"e09": "e09 1,2,3,4", "e10": "I vote for the lake", "e11": "e10 1,2,3,4\ne10 2,1,3,4", "e12": "e12 1,2,3"}
+AT, TO = "https://example.org/", "vote@example.org"
+FIRST_END, END, REASON = "2031-12-01 18:00", "2031-12-03 18:00:30", "Nobody has answered"
 
-# each word of ours stands between these signs in the language of `marked_tree`
-BEGIN, END = "\u27e6", "\u27e7"
-MARKED = re.compile(f"{BEGIN}[^{BEGIN}{END}]*{END}")
+# each word of ours stands between these characters in the language of `marked_tree`
+BEGIN, END_MARK = "\u27e6", "\u27e7"
+MARKED = re.compile(f"{BEGIN}[^{BEGIN}{END_MARK}]*{END_MARK}")
 
 
 def demand_program() -> None:
@@ -55,13 +59,13 @@ def demand_program() -> None:
 def marked(text: str) -> str:
     """A sentence in which all is marked but its places and its tags."""
     parts = re.split(r"(\{\w+\}|<[^>]*>)", text)
-    return "".join(part if place % 2 or not part else f"{BEGIN}{part}{END}" for place, part in enumerate(parts))
+    return "".join(part if place % 2 or not part else f"{BEGIN}{part}{END_MARK}" for place, part in enumerate(parts))
 
 
 def marked_tree(folder: pathlib.Path) -> pathlib.Path:
     """A copy of the programs in which German is a language whose words are all marked. Returns its folder."""
     for name in ("bin", "python"):
-        shutil.copytree(ROOT / name, folder / name, ignore=shutil.ignore_patterns("__pycache__"))
+        shutil.copytree(ROOT / name, folder / name, ignore=shutil.ignore_patterns("__pycache__", "*.mo"))
     for name in ("tests/reference.py", "docs/READING-A-SHEET.md"):
         (folder / name).parent.mkdir()
         shutil.copy(ROOT / name, folder / name)
@@ -69,6 +73,9 @@ def marked_tree(folder: pathlib.Path) -> pathlib.Path:
     head = file.read_text(encoding="utf-8").split("\n\n")[0]
     entries = [sentences.as_po(texts, tuple(map(marked, texts))) for texts in sentences.in_code()]
     file.write_text("\n".join([f"{head}\n", *entries]), encoding="utf-8")
+    with file.open("rb") as text, file.with_suffix(".mo").open("wb") as made:
+        # as the package has it: it is read sooner
+        mofile.write_mo(made, pofile.read_po(text))
     return folder
 
 
@@ -82,9 +89,11 @@ class LanguageTest(unittest.TestCase):
     def setUp(self) -> None:
         self.scratch = pathlib.Path(tempfile.mkdtemp(prefix="debvote-languages-"))
         self.addCleanup(shutil.rmtree, self.scratch, ignore_errors=True)
-    def run_program(self, program: str, *words: object, given: str = "", statuses: tuple[int, ...] = (0,)) -> str:
-        """What a program says, which has to end with one of these statuses."""
+
+    def run_program(self, program: str, *words: object, given: str = "", status: int = 0) -> str:
+        """What a program says, which has to end with this status."""
         path = os.pathsep.join([str(PROGRAM.parent), os.environ["PATH"]])
+        state = str(self.scratch / "state")
         ended = forks.run(
             [sys.executable, str(self.tree / "bin" / program), *map(str, words)],
             cwd=self.scratch,
@@ -92,37 +101,61 @@ class LanguageTest(unittest.TestCase):
             capture_output=True,
             text=True,
             timeout=SECONDS,
-            env={**os.environ, "PATH": path, "PYTHONDONTWRITEBYTECODE": "1"},
+            env={**os.environ, "PATH": path, "XDG_STATE_HOME": state, "PYTHONDONTWRITEBYTECODE": "1"},
         )
-        self.assertIn(ended.returncode, statuses, ended)
+        self.assertEqual(ended.returncode, status, ended)
         return ended.stdout + ended.stderr
 
-    def election(self, folder: str, *words: object, given: str = "", statuses: tuple[int, ...] = (0,)) -> str:
-        return self.run_program("debvote-election", "--folder", folder, *words, given=given, statuses=statuses)
+    def election(self, folder: str, *words: object, given: str = "", status: int = 0) -> str:
+        return self.run_program("debvote-election", "--folder", folder, *words, given=given, status=status)
 
-    def begun(self, folder: str, language: str, poll: str = POLL, *, is_secret: bool = False) -> pathlib.Path:
-        """An election in a language, with its roll, and in a secret vote its codes."""
+    def begun(self, folder: str, language: str, *, poll: str = POLL, codes: tuple[str, ...] | None = None) -> pathlib.Path:
+        """An election in a language, with its roll; with the words of `codes` it is secret."""
         self.run_program("debvote-election", "new", "--language", language, folder)
         place = self.scratch / folder
-        (place / "poll.toml").write_text(poll)
-        rows = [f"{name},Person {name[1:]},{name}@example.org\n" for name in ELECTORS]
-        (place / "members.csv").write_text("".join(["name,who,mail\n", *rows]))
+        (place / "poll.toml").write_text(poll if codes is None else f"secret = true\n{poll}")
+        rows = [f"Person {name[1:]},{name}@example.org,{name}\n" for name in ELECTORS]
+        (place / "members.csv").write_text("".join(["who,mail,name\n", *rows]))
         self.election(folder, "roll")
-        if is_secret:
-            self.election(folder, "codes")
+        if codes is not None:
+            self.election(folder, "codes", *codes)
         return place
 
-    def held(self, folder: str, language: str, *, is_secret: bool = False, words: tuple[str, ...] = ()) -> pathlib.Path:
-        """An election in a language from its beginning to its publication, with all letters."""
-        place = self.begun(folder, language, is_secret=is_secret)
-        self.election(folder, "call", "--until", "2031-12-01 18:00 +01:00", "--to", "vote@example.org")
-        self.election(folder, "call", "--until", "2031-12-03 18:00:30 +01:00")
-        self.election(folder, "letters", "call")
-        self.election(folder, "add", given=BALLOTS, statuses=(0, 9))
-        self.election(folder, "letters", "reminders")
-        self.election(folder, "close", "--early")
-        self.election(folder, "add", given="e09 1,2,3,4\n", statuses=(0, 9))
-        secret = ("--secret", "--voters", "--texts-read") if is_secret else ()
-        self.election(folder, "publish", "--even-so", *secret, "--who", place / "members.csv", *words)
-        self.election(folder, "letters", "result", "--at", "https://example.org/")
+    def called(self, folder: str, language: str, *, codes: tuple[str, ...] | None = None) -> pathlib.Path:
+        """An election in a language that is called, with all that a call may have."""
+        place = self.begun(folder, language, codes=codes)
+        names = ("--names",) if codes is None else ()
+        self.election(folder, "call", "--until", FIRST_END, "--zone", "Europe/Berlin", "--to", TO, "--at", AT, "--form", *names)
         return place
+
+    def held(self, folder: str, language: str, *, is_secret: bool = False) -> pathlib.Path:
+        """An election in a language, from its beginning to its publication, in which all was done that pages and letters tell."""
+        place = self.called(folder, language, codes=() if is_secret else None)
+        self.election(folder, "letters", "call")
+        self.election(folder, "call", "--until", END, "--zone", "Europe/Berlin")
+        self.election(folder, "letters", "call")
+        self.election(folder, "add", "--yes", given=BALLOTS)
+        self.election(folder, "add", "--yes", *self.letters())
+        self.election(folder, "strike", 5, "--because", REASON)
+        self.election(folder, "letters", "reminders")
+        self.election(folder, "letters", "receipts")
+        self.election(folder, "close", "--early", "--force", "--because", REASON)
+        self.election(folder, "reopen", "--because", REASON)
+        self.election(folder, "add", "--yes", "--came-before-close", "yes", given="e12 2,1,3,4\n")
+        self.election(folder, "close", "--early", "--force", "--because", REASON)
+        self.election(folder, "letters", "closed")
+        self.election(folder, "add", "--yes", given="e05 1,2,3,4\n")
+        self.election(folder, "publish", "--yes")
+        self.election(folder, "letters", "result")
+        return place
+
+    def letters(self) -> list[pathlib.Path]:
+        """Files with the letters of electors, which have arrived now."""
+        files = []
+        for name, text in LETTERS.items():
+            files.append(self.scratch / f"{name}.eml")
+            files[-1].write_text(
+                f"From: {name}@example.org\nTo: {TO}\nSubject: x\nMessage-ID: <{name}@x>\n"
+                f"Received: from a by b; {email.utils.formatdate()}\nDate: {email.utils.formatdate()}\n\n{text}\n"
+            )
+        return files

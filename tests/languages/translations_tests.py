@@ -14,9 +14,8 @@ import support
 
 sys.path.insert(0, str(support.ROOT / "python"))
 
-from debvote_tools import po  # noqa: E402
-from debvote_tools.announced import time_in_words  # noqa: E402
-from debvote_tools.language import LANGUAGES, language_of  # noqa: E402
+from debvote_tools.times import time_in_words  # noqa: E402
+from debvote_tools.language import LANGUAGES, catalog_of, language_of  # noqa: E402
 from debvote_tools.publish.parts.result import share  # noqa: E402
 from debvote_tools.sentences import numbered, sentence  # noqa: E402
 
@@ -61,7 +60,7 @@ class Translations(support.LanguageTest):
                         self.assertNotIn('"', TAG.sub("", form))
 
     def test_what_puts_parts_behind_each_other_has_its_places_at_its_ends(self) -> None:
-        both = {("{entries} and {last}",), ("{before}, then {step}",), ("{before}; then {step}",)}
+        both = {("{entries} and {last}",), ("{before}; {after}",), ("{before}, then {step}",), ("{before}; then {step}",)}
         for code, entries in self.entries.items():
             found = {entry.texts: entry.forms[0] for entry in entries if entry.texts in both}
             self.assertEqual(found.keys(), both)
@@ -83,43 +82,28 @@ class Translations(support.LanguageTest):
         for entry in self.entries["fr"][1:]:
             for form in entry.forms:
                 with self.subTest(text=entry.texts[0]):
-                    self.assertIsNone(re.search(r"[^\u00a0:/][;?!\u00bb]|\u00ab[^\u00a0]| :|\w: ", TAG.sub("", form).replace("https:", "")), form)
+                    self.assertIsNone(
+                        re.search(r"[^\u00a0:/][;?!\u00bb]|\u00ab[^\u00a0]| :|\w: ", TAG.sub("", form).replace("https:", "")), form
+                    )
 
     @unittest.skipUnless(MSGFMT, "msgfmt is not installed")
     def test_msgfmt_takes_each_file_and_makes_of_it_what_is_read_here(self) -> None:
-        for code, text in self.texts.items():
+        for code in support.LANGUAGES:
             with self.subTest(language=code):
-                made = self.scratch / f"{code}.mo"
-                ended = subprocess.run(
-                    [MSGFMT, "--check", "-o", made, sentences.LOCALE / f"{code}.po"], capture_output=True, text=True
-                )
+                made, file = self.scratch / f"{code}.mo", sentences.LOCALE / f"{code}.po"
+                ended = subprocess.run([MSGFMT, "--check", "-o", made, file], capture_output=True, text=True)
                 self.assertEqual((ended.returncode, ended.stdout, ended.stderr), (0, "", ""))
-                by_msgfmt = gettext.GNUTranslations(io.BytesIO(made.read_bytes()))
-                here = po.catalog_of(text)
-                self.assertEqual(by_msgfmt._catalog, here._catalog)
+                by_msgfmt, here = gettext.GNUTranslations(io.BytesIO(made.read_bytes())), catalog_of(file.read_bytes())
+                # but for the head, which is no sentence
+                self.assertEqual({**by_msgfmt._catalog, "": ""}, {**here._catalog, "": ""})
                 self.assertEqual([by_msgfmt.plural(n) for n in range(200)], [here.plural(n) for n in range(200)])
 
-    def test_what_a_file_of_translations_may_have(self) -> None:
-        text = (
-            'msgid ""\nmsgstr "Plural-Forms: nplurals=2; plural=(n > 1);\\n"\n"Content-Type: text/plain; charset=UTF-8\\n"\n\n'
-            '# a remark\n#: page.py:3\nmsgid "one \\"quoted\\"\\n"\nmsgstr ""\n"ein "\n"\\u00ab\\\\ \u00fc\\n"\n\n'
-            '#, fuzzy\nmsgid "two"\nmsgstr "zwei"\n\nmsgid "three"\nmsgstr ""\n\n#~ msgid "four"\n#~ msgstr "vier"\n\n'
-            'msgid "{number} line"\nmsgid_plural "{number} lines"\nmsgstr[0] "{number} ligne"\nmsgstr[1] "{number} lignes"\n'
-        )
-        found = po.catalog_of(text)
-        self.assertEqual(found.gettext('one "quoted"\n'), "ein \u00ab\\ \u00fc\n")
-        self.assertEqual([found.gettext(word) for word in ("two", "three", "four")], ["two", "three", "four"])
-        lines = [found.ngettext("{number} line", "{number} lines", number) for number in (0, 1, 2)]
-        self.assertEqual(lines, ["{number} ligne", "{number} ligne", "{number} lignes"])
-
     def test_sentences_that_are_said_later(self) -> None:
-        german = language_of("de")
-        inner = numbered("{number} is wanted", "{number} are wanted", 3)
-        self.assertEqual(german.of(sentence("Quorum: {wanted}.", wanted=inner)), "Quorum: n\u00f6tig sind 3.")
-        some = (sentence("all other options were dropped"), inner)
-        self.assertEqual(german.of(sentence("{what}: {which}.", what="{x}", which=some)),
-                         "{x}: alle anderen Optionen sind ausgeschieden; n\u00f6tig sind 3.")  # fmt: skip
-        self.assertEqual(language_of("en").of(inner), "3 are wanted")
+        for code, wanted in (("en", ("1 is wanted", "3 are wanted")), ("de", ("n\u00f6tig ist 1", "n\u00f6tig sind 3"))):
+            said = [language_of(code).of(numbered("{number} is wanted", "{number} are wanted", number)) for number in (1, 3)]
+            self.assertEqual(tuple(said), wanted)
+        self.assertEqual(language_of("de").of(sentence("Quorum: {wanted}.", wanted="{x}")), "Quorum: {x}.")
+        self.assertEqual(language_of("fr").in_a_row(["a", "b", "c"]), "a\u00a0; b\u00a0; c")
 
     def test_numbers_and_dates(self) -> None:
         first = datetime.datetime(2027, 1, 1, 8, 5, 0, tzinfo=datetime.UTC)

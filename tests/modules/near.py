@@ -1,4 +1,4 @@
-#!/usr/bin/env python3
+#!/usr/bin/python3
 """Names that are not there: which there are that are near, or how to list them.
 
     tests/modules/near.py crate NAME    ends with 0 where crates.txt has the crate, else says what is near, and ends with 1

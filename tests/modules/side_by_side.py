@@ -18,8 +18,6 @@ import unittest
 from collections.abc import Iterator
 from dataclasses import dataclass, field
 
-import forks
-
 # a class that has not ended after so many seconds hangs; on a quiet machine the longest takes half a minute
 LIMIT = 3_600
 
@@ -92,7 +90,7 @@ def run_here(tests: list[unittest.TestCase], file: pathlib.Path) -> None:
     sys.stdout.flush()
     sys.stderr.flush()
     whole = file.with_suffix(".whole")
-    told = {"passed": found.passed, "skipped": skipped_in(found), "facts": found.facts, "seconds": sum(os.times()[:4]) + sum(forks.ready.seconds)}
+    told = {"passed": found.passed, "skipped": skipped_in(found), "facts": found.facts, "seconds": sum(os.times()[:4])}
     whole.write_text(json.dumps(told), encoding="utf-8")
     whole.rename(file)
 

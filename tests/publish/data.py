@@ -24,6 +24,7 @@ import re
 import subprocess
 import sys
 import tempfile
+import tomllib
 
 import forks
 import page as pages
@@ -99,7 +100,7 @@ def count_of(poll_data, ballots, casting_name):
 
 
 # ---------------------------------------------------------------- the data
-def document_of(count, version, labels):
+def document_of(count, version, names):
     """The document of result.json, by docs/FORMATS.md."""
     poll, votes = count.poll, count.votes
     least = next(number for number in range(20_000) if reference.meets_quorum(poll, number))
@@ -108,7 +109,7 @@ def document_of(count, version, labels):
         "format": "debvote result 1",
         "program": version,
         "title": poll.title,
-        "label": labels.get(0, poll.title),
+        "label": names.get(0, poll.title),
         "electors": len(poll.roll),
         "quorum": {"multiple": poll.quorum, "votes": least},
         "wording": "more_than" if poll.is_more_than else "at_least",
@@ -121,7 +122,7 @@ def document_of(count, version, labels):
             {
                 "number": option,
                 "name": name,
-                "label": labels.get(option, name),
+                "label": names.get(option, name),
                 "is_default": option == poll.default,
                 "ratio": poll.ratios.get(option),
                 "dropped": count.dropped.get(option),
@@ -179,37 +180,24 @@ VERDICTS = {
 }
 
 
-def try_sentences(page, count, labels):
-    """Takes each sentence of Why apart, in which options have their labels. Returns the kinds of clauses that were met."""
+def try_sentences(page, count, shown):
+    """Takes each sentence of Why apart, in which options have the names that people read. Returns the kinds of clauses that were met."""
     part = page.partition('<h2 id="Why">')[2].partition("</section>")[0]
     entries = re.findall(r"<li>(.*)</li>", part)
     met = collections.Counter()
     demand(len(entries) == len(count.poll.names), "a sentence for each option")
-    told = set()
     for option, entry in enumerate(entries, start=1):
-        entry = without_names_in_poll(entry, count, labels, told)
-        names = {int(number): html.unescape(re.sub("</?bdi>", "", name)) for number, name in re.findall(r"<b>(\d+) (.*?)</b>", entry)}
-        demand(names == {number: labels.get(number, count.poll.names[number]) for number in names}, "its names")
-        text = re.sub(r"<b>(\d+) .*?</b>", r"#\1", entry)
+        named = re.findall(r'<b data-option="(\d+)">Option (\d+): (.*?)</b>', entry)
+        demand(all(number == said for number, said, _ in named), "its numbers")
+        names = {int(number): html.unescape(re.sub("</?bdi>", "", name)) for number, _, name in named}
+        demand(names == {number: shown.get(number, count.poll.names[number]) for number in names}, "its names")
+        text = re.sub(r'<b data-option="(\d+)">.*?</b>', r"#\1", entry)
         found = re.fullmatch(rf"#{option} ([a-z ]+): (.*)\.", text)
         demand(found and VERDICTS[found[1]](count, option), f"verdict of {text}")
         kinds = [kind_of(clause, option, count) for clause in found[2].split("; ")]
         met.update(kinds)
         demand_whole(kinds, option, count)
     return met
-
-
-def without_names_in_poll(entry, count, labels, told):
-    """The sentence without the names of the poll, each of which stands beside the first label of its option in the section."""
-    parts, end = [], 0
-    for found in re.finditer(r"<b>(\d+) .*?</b>", entry):
-        number = int(found[1])
-        beside = f" (in the poll: {html.escape(count.poll.names[number])})" if number in labels and number not in told else ""
-        told.add(number)
-        demand(entry.startswith(beside, found.end()), f"the name of {number} in the poll, once")
-        parts.append(entry[end : found.end()])
-        end = found.end() + len(beside)
-    return "".join([*parts, entry[end:]])
 
 
 def demand_whole(kinds, option, count):
@@ -414,9 +402,8 @@ def try_refused(page, count):
         first, last, text, cause = which.groups()
         for number in range(int(first), int(last or first) + 1):
             demand(text == line_shown(count.lines[number - 1]), f"the text of line {number}: {text}")
-        # what a person calls the shape stands behind it
-        bare = re.sub(r"^(bad shape: .*?) \([^()]*\)$", r"\1", cause)
-        found += [f"ballots:{number}: {bare}" for number in range(int(first), int(last or first) + 1)]
+        # a remark on the line is open
+        found += [reference_checks.promised(count.poll, f"ballots:{number}: {cause}") for number in range(int(first), int(last or first) + 1)]
     wanted = list(reference_checks.refusals(count.poll, count.lines, count.replies))
     demand(found == wanted, f"refused lines {found[:3]} in place of {wanted[:3]}")
     demand(("No line was refused" in part) == (not wanted), "that no line was refused")
@@ -430,11 +417,22 @@ def line_shown(line):
 
 
 # ---------------------------------------------------------------- one poll
-def labels_of(seed, count):
-    """Labels for some options, of every second poll."""
+def names_of(seed, count):
+    """Names that people read for title (0) and options, in every second poll; those that differ from the plain ones."""
     if seed % 2:
         return {}
     return {number: f"Größe «{number}» & <i>" for number in (0, *count.poll.options) if (seed + number) % 3 == 0}
+
+
+def with_names(poll, count, names):
+    """The poll with these names: its keys stand above all that it has."""
+    if not names:
+        return poll
+    shown = [names.get(number, name) for number, name in count.poll.names.items()]
+    keys = {"shown_title": names.get(0, count.poll.title), "shown_options": shown}
+    mark = b"\xef\xbb\xbf" if poll.startswith(b"\xef\xbb\xbf") else b""
+    said = "".join(f"{key} = {json.dumps(value, ensure_ascii=False)}\n" for key, value in keys.items())
+    return mark + said.encode() + poll.removeprefix(mark)
 
 
 def meet(seed):
@@ -454,12 +452,10 @@ def meet(seed):
 
 
 def try_folder(room, seed, election, count, casting):
-    (room / "poll.toml").write_bytes(election.poll)
+    names = names_of(seed, count)
+    (room / "poll.toml").write_bytes(with_names(election.poll, count, names))
     (room / "ballots").write_bytes(election.ballots)
-    labels = labels_of(seed, count)
-    (room / "labels").write_text("".join(f"{number}\t{text}\n" for number, text in labels.items()))
-    words = ["--poll", "poll.toml", "--ballots", "ballots", "--even-so", *(["--labels", "labels"] if labels else [])]
-    words += [] if casting is None else [f"--casting={casting}"]
+    words = ["--poll", "poll.toml", "--ballots", "ballots", *([] if casting is None else [f"--casting={casting}"])]
     folders = [room / "one", *([room / "two"] if seed % 10 == 0 else [])]
     for folder in folders:
         # no Graphviz: pictures are tried elsewhere
@@ -470,6 +466,9 @@ def try_folder(room, seed, election, count, casting):
             left = " and ".join(f"{option} {count.poll.names[option]}" for option in count.final)
             demand(f"which is not left; left {'are' if count.final[1:] else 'is'} {left};" in ended.stderr.decode(), ended.stderr)
             return collections.Counter()
+        if b"write the poll as TOML 1.0" in ended.stderr:
+            demand((ended.returncode, is_toml_1_0(room / "poll.toml")) == (3, False), "a poll that is TOML 1.0 was refused")
+            return None
         wanted = 1 if count.winner is None else 0
         demand(ended.returncode == wanted, f"status {ended.returncode} in place of {wanted}: {ended.stderr}")
     contents = [{file.name: file.read_bytes() for file in folder.iterdir()} for folder in folders]
@@ -481,39 +480,41 @@ def try_folder(room, seed, election, count, casting):
         words = [sys.executable, "recount.py", "count", "--poll", "poll.toml", "--ballots", "ballots.txt", *more]
         again = subprocess.run(words, cwd=room / "one", capture_output=True, text=True, timeout=SECONDS)
         demand((again.stdout, again.stderr) == (sheet, ""), "recount.py")
-    return try_made(room / "one", count, labels)
+    return try_made(room / "one", count, names)
 
 
-def try_made(folder, count, labels):
-    """Meets data, labels, refused lines and sentences of a folder. Returns the kinds of clauses that were met."""
+def is_toml_1_0(file):
+    try:
+        tomllib.loads(file.read_bytes().decode("utf-8-sig"))
+    except ValueError:
+        return False
+    return True
+
+
+def try_made(folder, count, names):
+    """Meets data, names, refused lines and sentences of a folder. Returns the kinds of clauses that were met."""
     data, table, page = ((folder / name).read_text() for name in ("result.json", "votes.csv", "index.html"))
     version = subprocess.run([PROGRAM, "--version"], capture_output=True, text=True).stdout.strip()
-    document = document_of(count, version, labels)
+    document = document_of(count, version, names)
     demand(json.loads(data) == document, f"result.json: {data} in place of {document}")
     demand(list(json.loads(data)) == list(document), "the order of its keys")
     demand(list(csv.reader(io.StringIO(table))) == list(table_of(count)), f"votes.csv: {table}")
-    for number, text in labels.items():
-        demand(f"<bdi>{html.escape(text)}</bdi>" in page, f"label of {number}")
+    for number, text in names.items():
+        demand(f"<bdi>{html.escape(text)}</bdi>" in page, f"name of {number}")
     try_refused(page, count)
-    pages.try_parts(page, count, labels)
-    return try_sentences(page, count, labels)
-
-
-def try_made_of(folder, labels):
-    """What is wrong with a folder that is there and has these labels, or none."""
-    count = count_of((folder / "poll.toml").read_bytes(), (folder / "ballots.txt").read_bytes(), None)
-    try:
-        try_made(folder, count, labels)
-    except (Wrong, pages.Wrong) as wrong:
-        return str(wrong)
-    return None
+    pages.try_parts(page, count, names)
+    return try_sentences(page, count, names)
 
 
 def try_published(expect, name, folder, casting):
-    """Meets a folder that is there, of a poll without labels. Returns the kinds of clauses that were met."""
-    count = count_of((folder / "poll.toml").read_bytes(), (folder / "ballots.txt").read_bytes(), casting)
+    """Meets a folder that is there. Returns the kinds of clauses that were met."""
+    poll_bytes = (folder / "poll.toml").read_bytes()
+    count = count_of(poll_bytes, (folder / "ballots.txt").read_bytes(), casting)
+    poll = tomllib.loads(poll_bytes.decode())
+    names = dict(enumerate([poll.get("shown_title", poll["title"]), *poll.get("shown_options", count.poll.names.values())]))
+    names = {number: text for number, text in names.items() if text != {0: poll["title"], **count.poll.names}[number]}
     try:
-        kinds, wrong = try_made(folder, count, {}), None
+        kinds, wrong = try_made(folder, count, names), None
     except (Wrong, pages.Wrong) as found:
         kinds, wrong = collections.Counter(), str(found)
     expect(f"{name}: data, sentences and refused lines", wrong, None)

@@ -1,5 +1,7 @@
 """Elections that are published: the examples, some cases, and one whose names are made to hurt a page."""
 
+import json
+
 import support
 
 # cases of tests/cases/
@@ -17,9 +19,6 @@ CASES = [
     "votes-of-hyphens-alone",
 ]
 
-# those that are published with --even-so alone
-DOUBTFUL = {"dropped-all-without-ballots", "late-last-envelope-0-makes-all-late", "sheet-refused-lines-of-each-kind"}
-
 # names that would be tags, ends of texts, places of the page or of the picture, or words of the sheet
 HOSTILE_POLL = r"""
 title = '</title><script>alert("x")</script>'
@@ -32,6 +31,11 @@ default = "wwwwwwwwwwwwwwwwwwwwwwwwwwwwwwwwwwwwwwww"
 quorum = 0
 roll = ["node1", "graph0", "votes", "..", "-", "a.b-c", "00000000000000000000000000000000"]
 """
+# the same, as people read it
+HOSTILE_NAMES = [
+    "</b><script>alert(1)</script> & \"'<img src=x onerror=alert(1)>", "&amp; & &#60;", "דיון נוסף", "Größe «4» & <i>", "72 Euro",
+    "</li></ul>", "ｗｗｗ",
+]  # fmt: skip
 HOSTILE_BALLOTS = """node1 1,2,3,4,5,6,7
 graph0 2,1,1,-,5,6,7
 votes -,-,-,-,-,-,-
@@ -55,4 +59,7 @@ def elections(scratch):
     poll.write_text(HOSTILE_POLL)
     ballots.write_text(HOSTILE_BALLOTS)
     yield "hostile", poll, ballots, []
+    shown = scratch / "shown.toml"
+    shown.write_text(f"{HOSTILE_POLL}shown_title = 'Ob die <b>Satzung</b> geändert wird'\nshown_options = {json.dumps(HOSTILE_NAMES)}\n")
+    yield "hostile-names", shown, ballots, []
     yield "hostile-casting", poll, ballots, ["--casting=Wins by casting vote"]

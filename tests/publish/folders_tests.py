@@ -4,13 +4,13 @@ In each folder the files must be what the program writes, with their sums; readi
 """
 
 import hashlib
-import re
+import json
+import tomllib
 
 import browser
 import data
 import elections
 import reading
-import slips
 import support
 
 # the files of a folder, but for picture and sums
@@ -19,21 +19,21 @@ FILES |= {"READING-A-SHEET.md", "letter.txt", "recount.js"}
 
 
 def try_folder(expect, name, poll, ballots, more, folder):
-    """The files of a folder: the inputs, what the program writes of them, and their sums."""
-    even_so = ["--even-so"] if name in elections.DOUBTFUL else []
+    """The files of a folder: the inputs, what the program writes of them, and their checksums."""
     files = ["--poll", poll, "--ballots", ballots]
     sheet, _, wanted = support.run([support.PROGRAM, "count", *files, *more])
-    is_tie = " " in re.findall(r"(?m)^Round \d+: (.*)$", sheet)[-1]
-    cast = support.CAST if is_tie and more else []
-    output, faults, status = support.publish_files(poll, ballots, folder, "--desks", "3", *more, *cast, *even_so)
-    expect(f"{name}: its status", (status, faults if support.HAS_PICTURES else ""), (wanted, ""))
+    output, faults, status = support.publish_files(poll, ballots, folder, "--desks", "3", *more)
+    doubts = [line for line in faults.splitlines() if not line.endswith("; the page tells it") and support.HAS_PICTURES]
+    expect(f"{name}: its status", (status, doubts), (wanted, []))
     if not folder.exists():
         return False
     verified = support.run([support.PROGRAM, "verify", *files, "--sheet", folder / "sheet.txt"])[0]
     expect(f"{name}: what is said", output, sheet.splitlines()[-1] + "\n" + verified)
-    texts = [(folder / file).read_bytes() for file in ("poll.toml", "ballots.txt", "sheet.txt", "standing.txt")]
+    texts = [(folder / file).read_bytes() for file in ("ballots.txt", "sheet.txt", "standing.txt")]
     standing = support.run([support.PROGRAM, "standing", *files])[0]
-    expect(f"{name}: its files", texts, [poll.read_bytes(), ballots.read_bytes(), sheet.encode(), standing.encode()])
+    expect(f"{name}: its files", texts, [ballots.read_bytes(), sheet.encode(), standing.encode()])
+    expect(f"{name}: its poll", *(in_plain_form(file.read_bytes()) for file in (folder / "poll.toml", poll)))
+    expect(f"{name}: its poll is in plain form", (folder / "poll.toml").read_bytes(), plain_bytes(poll.read_bytes()))
     guide = (folder / "READING-A-SHEET.md").read_bytes()
     expect(f"{name}: its guide", guide, (support.ROOT / "docs" / "READING-A-SHEET.md").read_bytes())
     found = {file.name: hashlib.sha256(file.read_bytes()).hexdigest() for file in folder.iterdir() if file.name != "SHA256SUMS"}
@@ -46,25 +46,42 @@ def try_folder(expect, name, poll, ballots, more, folder):
     return True
 
 
+# the keys of a poll in plain form, in their order
+KEYS = "title options ratios default quorum wording roll last_envelope deadline address secret shown_title shown_options explanations"
+
+
+def in_plain_form(poll_bytes):
+    """What a poll says, without keys that a sealed poll does not have."""
+    document = tomllib.loads(poll_bytes.decode("utf-8-sig"))
+    return {key: document[key] for key in KEYS.split() if key in document}
+
+
+def plain_bytes(poll_bytes):
+    """The poll in plain form."""
+    lines = (f"{key} = {json.dumps(value, ensure_ascii=False)}\n" for key, value in in_plain_form(poll_bytes).items())
+    return "".join(lines).replace("\x7f", "\\u007f").encode()
+
+
 def try_recasts_and_a_last_envelope(expect, scratch):
-    """The words for electors who voted again, and for a poll that has got its last envelope since the call."""
+    """The words for electors who voted again, and for a poll that has a last envelope."""
     room = scratch / "recasts"
     room.mkdir()
-    called = slips.PLAIN_POLL.encode()
     for ends, ballots, last, said in [
         ("plain", "ada 1,2,3\n", "", ""),
         ("one", "ada 1,2,3\nada 2,1,3\n", "last_envelope = 2\n", "1 voter has 2 valid lines: electors who voted again "),
         ("late", "ada 1,2,3\nben 2,1,3\nada 2,1,3\nben 1,2,3\n", "last_envelope = 3\n", "2 voters have 3 valid lines: electors who"),
     ]:
-        (room / "poll.toml").write_bytes(called + last.encode())
+        (room / "poll.toml").write_text(support.PLAIN_POLL + last)
         (room / "ballots").write_text(ballots)
         found = support.publish_files(room / "poll.toml", room / "ballots", room / ends)
         expect(f"{ends}: its status", found[2], 0)
         reading.try_page(expect, ends, room / ends)
         page = (room / ends / "index.html").read_text()
         expect(f"{ends}: its words", (said in page, "voted again" in page), (True, bool(said)))
-        is_told = "The sum of the poll without the lines that it got after the call. Compare it with the one" in page
-        expect(f"{ends}: the sum of the call", (is_told, hashlib.sha256(called).hexdigest() + "  -" in page), (bool(last),) * 2)
+        given = hashlib.sha256((room / "poll.toml").read_bytes()).hexdigest()
+        plain = hashlib.sha256((room / ends / "poll.toml").read_bytes()).hexdigest()
+        named = [f"has the checksum (SHA-256) <code>{given}</code>" in page, f"must have this checksum, the poll's: <code>{plain}</code>" in page]
+        expect(f"{ends}: the checksums of the poll", named, [given != plain, True])
 
 
 class FoldersTest(support.PublishTest):

@@ -91,25 +91,18 @@ def doubts_of(page):
 class Parts:
     """The parts of a page beside the count of the reference."""
 
-    def __init__(self, page, count, labels):
-        self.page, self.count, self.labels = page, count, labels
+    def __init__(self, page, count, names):
+        """`names` are those that people read of title (0) and options, where they differ from the plain ones."""
+        self.page, self.count, self.names = page, count, names
         self.sections = sections_of(page)
 
     def name(self, option):
         """An option as the page calls it."""
-        return f"{option} {self.labels.get(option, self.count.poll.names[option])}"
-
-    def said(self, node):
-        """The text of a part, without the names of the poll beside labels."""
-        text = node.text()
-        for option in self.labels:
-            if option:
-                text = text.replace(f" (in the poll: {self.count.poll.names[option]})", "")
-        return text
+        return f"Option {option}: {self.names.get(option, self.count.poll.names[option])}"
 
     def entries(self, heading, kind="ul"):
         lists = list(self.sections[heading].all(kind))
-        return [self.said(entry) for found in lists for entry in found.all("li")]
+        return [entry.text() for found in lists for entry in found.all("li")]
 
     def check(self):
         for check in (
@@ -133,7 +126,7 @@ class Parts:
         quorum = f"{least_of(count)} votes: at least {poll.quorum}Q, where Q is half of the square root of the number of electors"
         wanted = {
             "Electors": str(electors),
-            "Voters": f"{count.voters}, which is {share(count.voters, electors)} of the electors: those with a ballot that stands",
+            "Voters": f"{count.voters}, which is {share(count.voters, electors)} of the electors: those with a ballot that counts",
             "Quorum": quorum if poll.quorum else "none",
             "Lines": lines,
         }
@@ -160,7 +153,7 @@ class Parts:
         entries = list(self.sections["The-result-in-bars"].one("ol", "bars").all("li"))
         legend = next(self.sections["The-result-in-bars"].all("p"))
         has = "elector has" if count.voters == 1 else "electors have"
-        said = (f"default option, {self.name(default)}." in self.said(legend), "dashed mark" in legend.text())
+        said = (f"default option, {self.name(default)}." in legend.text(), "dashed mark" in legend.text())
         demand_equal("the legend of the bars", said, (True, poll.quorum > 0))
         end = f"The whole width stands for {whole}, and {count.voters} {has} voted."
         demand_equal("the end of the legend", legend.text()[-len(end) :], end)
@@ -168,7 +161,7 @@ class Parts:
         order = sorted(poll.options, key=lambda o: (o != count.winner, o in count.dropped, -last[o], o))
         demand_equal("how many bars", len(entries), len(order))
         for option, entry in zip(order, entries):
-            said = [self.said(text) for text in entry.all("p")]
+            said = [text.text() for text in entry.all("p")]
             if option == default:
                 demand_equal("the default option", said, [f"{self.name(option)} is the default option, and {self.verdict(option)}."])
                 demand_equal("its bars", list(entry.all("svg")), [])
@@ -210,7 +203,8 @@ class Parts:
     def options(self):
         poll = self.count.poll
         kinds = {o: "the default option" if o == poll.default else f"majority ratio {poll.ratios[o]}" for o in poll.options}
-        demand_equal("Options", self.entries("Options"), [f"{self.name(o)}, {kinds[o]}" for o in poll.options])
+        plain = {o: f" (plain name, on the result sheet: {poll.names[o]})" if o in self.names else "" for o in poll.options}
+        demand_equal("Options", self.entries("Options"), [f"{self.name(o)}, {kinds[o]}{plain[o]}" for o in poll.options])
 
     def table(self):
         """The table: its numbers, which cells are marked as those of a defeat, and how each row is marked."""
@@ -219,7 +213,7 @@ class Parts:
         demand_equal("how many rows", len(rows), len(poll.options))
         for a, row in zip(poll.options, rows):
             ended, kind = self.mark(a)
-            demand_equal(f"the head of row {a}", self.said(row.one("th")), self.name(a) + (f" {ended}" if ended else ""))
+            demand_equal(f"the head of row {a}", row.one("th").text(), self.name(a) + (f" {ended}" if ended else ""))
             demand_equal(f"the kind of row {a}", row.attributes.get("class"), kind)
             cells = [(cell.text(), cell.attributes.get("class")) for cell in row.all("td")]
             beats = {b: "beats" if (a, b) in count.defeats else None for b in poll.options}
@@ -322,6 +316,6 @@ def share(voters, electors):
     return f"{str(rounded).removesuffix('.0')} %"
 
 
-def try_parts(page, count, labels):
+def try_parts(page, count, names):
     """Meets all parts of a page with the count. Raises Wrong."""
-    Parts(page, count, labels).check()
+    Parts(page, count, names).check()

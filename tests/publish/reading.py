@@ -7,13 +7,11 @@ ballot must have its place, and the table of votes must be that of the sheet.
 import html
 import html.parser
 import re
-
-import support
+import tomllib
 
 # of scripts a page has its own alone
 UNWANTED_TAGS = {"link", "iframe", "img", "object", "embed", "form", "base", "audio", "video", "image", "use"}
 EMPTY_TAGS = {"meta", "br", "hr", "input"}  # in HTML; those of a picture end themselves
-
 
 
 class Reader(html.parser.HTMLParser):
@@ -71,38 +69,32 @@ def try_page(expect, name, folder):
     votes = sheet.partition("\nVotes:\n")[2].partition("\nDropped:\n")[0].splitlines()[1:]
     expect(f"{name}: its table", [row for row in page.rows if row], [line.split()[1:] for line in votes])
     text = "".join(page.texts)
-    names = re.findall(r"^ *\d+ (?:ratio \d+|default) (.*)$", sheet.partition("\nVotes:\n")[0], re.MULTILINE)
-    expect(f"{name}: its names", [option for option in names if option not in text], [])
+    plain_names = re.findall(r"^ *\d+ (?:ratio \d+|default) (.*)$", sheet.partition("\nVotes:\n")[0], re.MULTILINE)
+    poll = tomllib.loads((folder / "poll.toml").read_text())
+    names = poll.get("shown_options", plain_names)
+    expect(f"{name}: its names", [option for option in [*names, *plain_names] if option not in text], [])
     title = sheet.splitlines()[0].removeprefix("Poll: ")
-    expect(f"{name}: its title", title in text, True)
-    try_outcome(expect, name, sheet.splitlines()[-1], text)
+    expect(f"{name}: its title", poll.get("shown_title", title) in text, True)
+    try_outcome(expect, name, sheet.splitlines()[-1], text, names, plain_names)
     try_numbers(expect, name, folder)
 
 
-def try_outcome(expect, name, decision, text):
+def try_outcome(expect, name, decision, text, names, plain_names):
     """The page begins with what the last line of the sheet says."""
-    winner = re.fullmatch(r"Winner: (.*?)( by casting vote)?", decision)
+    winner = re.match(r"Winner: (\d+) ", decision)
     if winner:
-        words = f"{winner[1]} has won." + (" Several options were left, and the casting vote chose" if winner[2] else "")
+        is_said = f"Option {winner[1]}: {names[int(winner[1]) - 1]} has won." in text
         # the name of an option may have these words itself
-        is_said = words in text or f"{winner[1]}{winner[2] or ''} has won." in text
-    elif "not among them" in decision:
-        is_said = "No option has won: " in text and "which is not one of them" in text
+        is_by_casting = not decision.endswith(f" {plain_names[int(winner[1]) - 1]}")
+        is_said = is_said and ("Several options were left, and the casting vote chose" in text) == is_by_casting
     else:
         is_said = "No option has won yet: " in text and " are tied." in text
     expect(f"{name}: its outcome", is_said, True)
 
 
-COMPARE = "grep -vxE '(last_envelope = [0-9]+|extended_to = \"[0-9T:+ -]*\")\\s?' \\\n  poll.toml | sha256sum"
-
-
 def try_numbers(expect, name, folder):
-    """The page explains where voters and valid lines differ, and how the poll is compared with its call; or says nothing of it."""
-    facts = dict(re.findall(r"^(Voters|Valid|Last envelope): (.*)$", (folder / "sheet.txt").read_text(), re.MULTILINE))
+    """The page explains where voters and valid lines differ, or says nothing of it."""
+    facts = dict(re.findall(r"^(Voters|Valid): (.*)$", (folder / "sheet.txt").read_text(), re.MULTILINE))
     page = html.unescape((folder / "index.html").read_text())
     again = "account for the difference, and the last valid line of each counts"
     expect(f"{name}: voters and valid lines", again in page, facts["Voters"] != facts["Valid"])
-    expect(f"{name}: the poll and its call", COMPARE in page, "Last envelope" in facts)
-    if "Last envelope" in facts:
-        answer = support.run(["sh", "-c", COMPARE], cwd=folder)[0].rstrip("\n")
-        expect(f"{name}: what the sum is", page.split(COMPARE)[1].split("<pre><code>")[1].split("</code>")[0], answer)

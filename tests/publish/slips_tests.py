@@ -1,4 +1,4 @@
-"""Slips of the hand, as a poll given as ballots: each stops the run, and with --even-so stands on the page."""
+"""Slips of the hand: what is doubtful is told and stands on the page; files that are swapped are told as such."""
 
 import os
 import sys
@@ -6,77 +6,81 @@ import sys
 import browser
 import page
 import reading
-import slips
 import support
 
+NOBODY = "No elector has a ballot that counts: nobody's vote has decided this."
+NOBODY_TOLD = "no elector has a ballot that counts; look whether these are the ballots of this poll"
+MOSTLY_REFUSED = "More than half of the lines of the ballot file are refused: {} of {}."
+MOSTLY_REFUSED_TOLD = "more than half of the lines are refused, {} of {}; debvote explain says why"
 
-def doubts_in(expect, folder):
-    """What the page of a folder has marked as a doubt, in the part that has the result."""
-    text = (folder / "index.html").read_text(encoding="utf-8")
-    expect(f"{folder}: doubts stand in the part of the result", "doubts" in text.partition("<body>")[2].partition("</section>")[2], False)
-    return page.doubts_of(text)
+# what is told of ballots, and what the page says
+SLIPS = {
+    "an empty file": ("", [NOBODY_TOLD], [NOBODY]),
+    "names of another roll": (
+        "zoe 1,2,3\nyan 2,1,3\n",
+        [NOBODY_TOLD, MOSTLY_REFUSED_TOLD.format(2, 2)],
+        [NOBODY, MOSTLY_REFUSED.format(2, 2)],
+    ),
+    "more refused lines than ballots": (
+        "ada 1,2,3\nben 1,2\nCleo 1,2,3\n",
+        [MOSTLY_REFUSED_TOLD.format(2, 3)],
+        [MOSTLY_REFUSED.format(2, 3)],
+    ),
+    "as many refused lines as ballots": ("ada 1,2,3\nben 1,2\n", [], []),
+    "hyphens alone": ("ada -,-,-\n", [], []),
+}
 
 
-def try_slip(expect, slip, scratch):
-    """An election with a slip stops, and is published with --even-so, each doubt on the page. Returns the folder."""
-    room = scratch / "slips" / slip.name.replace(" ", "-")
-    slip.write(room)
-    files = ["--poll", "poll.toml", "--ballots", "ballots"]
-    before = sorted(os.listdir(room))
-    output, faults, status = support.run([sys.executable, support.PUBLISH, *files, "result"], cwd=room)
-    wanted = "".join(f"debvote-publish: {line}{slips.EVEN_SO}\n" for line in slip.told)
-    expect(f"{slip.name}: what is told", (output, faults, status), ("", wanted, 9))
-    expect(f"{slip.name}: what is left", sorted(os.listdir(room)), before)
-    output, faults, status = support.run([sys.executable, support.PUBLISH, "--even-so", *files, "result"], cwd=room)
-    sheet, _, wanted = support.run([support.PROGRAM, "count", *files], cwd=room)
-    said = (output, faults if support.HAS_PICTURES else "", status)
-    expect(f"{slip.name}: with --even-so", said, (sheet.splitlines()[-1] + "\nverified\n", "", wanted))
-    expect(f"{slip.name}: what the page says", doubts_in(expect, room / "result"), slip.shown)
-    reading.try_page(expect, slip.name, room / "result")
+def try_slip(expect, name, scratch):
+    """What is told of the ballots, and what stands on the page. Returns the folder."""
+    ballots, told, shown = SLIPS[name]
+    room = support.plain_room(scratch / "slips" / name.replace(" ", "-"), ballots=ballots)
+    output, faults, status = support.publish(room, *support.FILES, "result")
+    expect(f"{name}: what is told", faults, "".join(f"Note: {line}; the page tells it\n" for line in told))
+    sheet, _, wanted = support.run([support.PROGRAM, "count", *support.FILES], cwd=room)
+    expect(f"{name}: how it ended", (output, status), (sheet.splitlines()[-1] + "\nverified\n", wanted))
+    text = (room / "result" / "index.html").read_text(encoding="utf-8")
+    expect(f"{name}: what the page says", page.doubts_of(text), shown)
+    is_below = "doubts" in text.partition("<body>")[2].partition("</section>")[2].partition("<script>")[0]
+    expect(f"{name}: doubts stand in the part of the result alone", is_below, False)
+    reading.try_page(expect, name, room / "result")
     return room / "result"
 
 
-def try_near_slip(expect, slip, scratch):
-    """What is near a slip is published, and --even-so changes no byte of it."""
-    room = scratch / "near" / slip.name.replace(" ", "-")
-    slip.write(room)
-    for more in ([], ["--even-so"]):
-        found = support.publish_files(room / "poll.toml", room / "ballots", room / f"result{len(more)}", *more)
-        expect(f"{slip.name} {more}: its status", found[2], 0)
-    pages = [(room / name / "index.html").read_bytes() for name in ("result0", "result1")]
-    expect(f"{slip.name}: no doubt", (pages[0] == pages[1], b"doubts" in pages[0]), (True, False))
-
-
-def try_names_of_an_election(expect, scratch):
-    """An election is found where its poll is named from elsewhere, and where the name is a link."""
-    room = scratch / "elsewhere"
-    slips.Slip("elsewhere", acts=["add"]).write(room / "of spring")
-    (room / "link.toml").symlink_to("of spring/poll.toml")
-    for poll in ("of spring/poll.toml", "link.toml"):
-        words = [sys.executable, support.PUBLISH, "--poll", poll, "--ballots", "of spring/ballots", "result"]
-        output, faults, status = support.run(words, cwd=room)
-        folder = room.resolve() / "of spring" if poll == "link.toml" else "of spring"
-        cure = f"close it: debvote-election --folder '{folder}' close{slips.EVEN_SO}"
-        wanted = f"debvote-publish: {folder}/journal: the election in this folder is not closed; {cure}\n"
-        expect(f"an election by {poll}", (output, faults, status), ("", wanted, 9))
-
-
 def try_swapped(expect, scratch):
-    """Where the poll is refused since it is the ballot file, a line says so beside the fault of debvote, with --even-so too."""
-    room = scratch / "swapped"
-    slips.Slip("swapped").write(room)
-    for more in ([], ["--even-so"]):
-        for poll, ballots, wanted in [
-            ("ballots", "poll.toml", slips.SWAPPED),
-            ("ballots", "ballots", slips.BALLOTS_TWICE),
-        ]:
-            words = [sys.executable, support.PUBLISH, "--poll", poll, "--ballots", ballots, *more, "result"]
-            name = f"{poll} as the poll, {ballots} as the ballots {more}"
-            expect(name, support.run(words, cwd=room), ("", wanted, 3))
+    """Where the poll is refused since it is a ballot file, the fault says so, and nothing is made."""
+    room = support.plain_room(scratch / "swapped")
     (room / "bad.toml").write_text("title = 1\n")
-    found = support.run([sys.executable, support.PUBLISH, "--poll", "bad.toml", "--ballots", "ballots", "result"], cwd=room)
-    expect("a poll that is refused for itself", found, ("", "debvote: poll refused: key title\n", 3))
-    expect("what is left", sorted(os.listdir(room)), ["bad.toml", "ballots", "poll.toml"])
+    (room / "new.toml").write_text(support.PLAIN_POLL + 'note = "\\e"\n')
+    refused = "poll refused: syntax, since it is a ballot file; nothing was published: "
+    for poll, ballots, wanted in [
+        ("ballots", "poll.toml", f"ballots: {refused}the two files are swapped: give --poll poll.toml --ballots ballots"),
+        ("ballots", "ballots", f"ballots: {refused}give the poll"),
+        ("bad.toml", "ballots", "bad.toml: poll refused: key title; nothing was published: debvote explain --poll bad.toml says what"),
+        ("new.toml", "ballots", "new.toml: it can't be read (Unescaped '\\' in a string"),
+    ]:
+        output, faults, status = support.run([sys.executable, support.PUBLISH, "--poll", poll, "--ballots", ballots, "result"], cwd=room)
+        expect(f"{poll} and {ballots}: {faults}", (output, faults.startswith(f"debvote-publish: {wanted}"), status), ("", True, 3))
+    expect("what is left", sorted(os.listdir(room)), ["bad.toml", "ballots", "new.toml", "poll.toml"])
+
+
+def try_secret(expect, scratch):
+    """A poll that says that its vote is secret is published with aliases alone."""
+    room = support.plain_room(scratch / "secret", poll=support.PLAIN_POLL + "secret = true\n")
+    output, faults, status = support.publish(room, *support.FILES, "result")
+    wanted = "poll.toml: the vote is secret, and this would publish each name with its vote; publish it from its election, "
+    expect(f"a secret vote with names: {faults}", (output, faults.startswith(f"debvote-publish: {wanted}"), status), ("", True, 9))
+    roll = ["0" * 31 + digit for digit in "0123"]
+    poll = support.PLAIN_POLL.replace('["ada", "ben", "cleo", "dan"]', str(roll).replace("'", '"')) + "secret = true\n"
+    twice = support.plain_room(scratch / "twice", poll=poll, ballots=f"{roll[0]} 1,2,3\n{roll[1]} 2,1,3\n{roll[0]} 2,1,3\n")
+    output, faults, status = support.publish(twice, *support.FILES, "result")
+    expect(f"an alias twice: {faults}", ("not each line of this secret vote counts, once" in faults, status), (True, 9))
+    room = support.plain_room(scratch / "aliases", poll=poll, ballots=f"{roll[0]} 1,2,3\n{roll[1]} 2,1,3\n{roll[2]} 1,2,3\n")
+    expect("a secret vote with aliases", support.publish(room, *support.FILES, "result")[1:], ("", 0))
+    sections = page.sections_of((room / "result" / "index.html").read_text())
+    expect("nobody is listed as one who voted", "Who-voted" in sections, False)
+    expect("the refused lines", "What was refused or came late is not published." in sections["Refused-lines"].text(), True)
+    expect("those who did not vote", [item.text() for item in sections["Find-your-ballot"].all("li")], [roll[3]])
 
 
 class SlipsTest(support.PublishTest):
@@ -84,9 +88,7 @@ class SlipsTest(support.PublishTest):
     def setUpClass(cls):
         super().setUpClass()
         cls.facts = []
-        cls.folders = support.side_by_side(lambda slip: try_slip(lambda *fact: cls.facts.append(fact), slip, cls.scratch), slips.SLIPS)
-        # a window of a telephone has no room for more
-        cls.few = [folder for slip, folder in zip(slips.SLIPS, cls.folders, strict=True) if len(slip.shown) <= 4]
+        cls.folders = support.side_by_side(lambda name: try_slip(lambda *fact: cls.facts.append(fact), name, cls.scratch), SLIPS)
 
     def test_slips(self):
         for fact in self.facts:
@@ -98,16 +100,12 @@ class SlipsTest(support.PublishTest):
 
     @browser.NEEDS_BROWSER
     def test_doubts_are_seen(self):
-        browser.try_doubts(self.expect, self.few, self.scratch)
+        browser.try_doubts(self.expect, self.folders[:3], self.scratch)
 
 
-class NoSlipsTest(support.PublishTest):
-    def test_what_is_near_a_slip(self):
-        for slip in slips.NEAR_SLIPS:
-            try_near_slip(self.expect, slip, self.scratch)
-
-    def test_names_of_an_election(self):
-        try_names_of_an_election(self.expect, self.scratch)
-
+class NoPublicationTest(support.PublishTest):
     def test_swapped_files(self):
         try_swapped(self.expect, self.scratch)
+
+    def test_secret_votes(self):
+        try_secret(self.expect, self.scratch)

@@ -12,7 +12,7 @@ import expecting
 import forks
 
 ROOT = pathlib.Path(__file__).resolve().parent.parent.parent
-PROGRAM = ROOT / "crates" / "debvote" / "out" / "debvote"
+PROGRAM = pathlib.Path(os.environ.get("DEBVOTE", ROOT / "crates" / "debvote" / "out" / "debvote"))
 PUBLISH = ROOT / "bin" / "debvote-publish"
 CASES = ROOT / "tests" / "cases"
 EXAMPLES = ROOT / "examples"
@@ -20,7 +20,7 @@ PATH = os.pathsep.join([str(PROGRAM.parent), os.environ["PATH"]])
 
 # what a run says where Graphviz is not installed, and so of this machine
 HAS_PICTURES = shutil.which("dot") is not None
-NO_PICTURE = "debvote-publish: no picture: Graphviz (its program dot) is not installed\n"
+NO_PICTURE = "Note: no picture: Graphviz (its program dot) is not installed\n"
 
 # a run that has not ended by then hangs: far more than any takes beside other work
 SECONDS = 600
@@ -29,8 +29,15 @@ SECONDS = 600
 # carries to have them counted again
 LARGEST_PAGE = 7_000_000
 
-# whose the casting vote was, where one decides
-CAST = ["--cast-by", "Anna <b>", "--cast-on", "2026-12-05"]
+# a poll with three options and four electors, and three ballots for it
+PLAIN_POLL = """title = "Plain"
+options = ["A", "B"]
+ratios = [1, 1]
+default = "N"
+quorum = 1
+roll = ["ada", "ben", "cleo", "dan"]
+"""
+PLAIN_BALLOTS = "ada 1,2,3\nben 2,1,3\ncleo 1,2,3\n"
 
 # the two files of an election, in its folder
 FILES = ["--poll", "poll.toml", "--ballots", "ballots"]
@@ -65,6 +72,14 @@ def room_with(folder, example):
     folder.mkdir(parents=True)
     for name in ("poll.toml", "ballots"):
         (folder / name).write_bytes((EXAMPLES / example / name).read_bytes())
+    return folder
+
+
+def plain_room(folder, poll=PLAIN_POLL, ballots=PLAIN_BALLOTS):
+    """A folder with these two files."""
+    folder.mkdir(parents=True)
+    (folder / "poll.toml").write_bytes(poll.encode())
+    (folder / "ballots").write_bytes(ballots.encode())
     return folder
 
 

@@ -1,5 +1,5 @@
 -- The exit status that the program answers to its words.
-use Rattle.std.specs.Prelude.{◌≡◌, ◌<◌, ◌⊎◌, ℕ, List, None, drop, length}
+use Rattle.std.specs.Prelude.{◌≡◌, ◌<◌, ◌⊎◌, ℕ, List, Option, None, Some, drop, length}
 use Rattle.std.proofs.Common.{Bor}
 use Rattle.vote_job_words.specs.Words.{texts_of}
 use Rattle.vote_job_words.specs.declared.OrderFault.{OrderFault}
@@ -12,13 +12,14 @@ use Rattle.vote_job_files.specs.WordStatus.{order_status}
 abbrev pub AreNotGiven : OrderFault → Type 0
 AreNotGiven fault = (fault ≡ NotUtf8) ⊎ (fault ≡ Memory)
 
--- this is answered, for some output, to these words, or without any to a joined input, where files and standard input tell no bytes
-abbrev pub Answers : List (Bor (List ℕ)) → ℕ → Type 0
-Answers words answered =
-    (written : Written) × (length words ≡ 0 → AnswersJoined None written answered)
-    × (0 < length words → AnswersWorded (λ name. None) (texts_of words) written answered)
+-- this is answered, for some output, to these words, or without any to a joined input, where files and standard input tell these bytes
+abbrev pub Answers : (List ℕ → Option (List ℕ)) → Option (List ℕ) → List (Bor (List ℕ)) → ℕ → Type 0
+Answers file_bytes standard_bytes words answered =
+    (written : Written) × (length words ≡ 0 → AnswersJoined standard_bytes written answered)
+    × (0 < length words → AnswersWorded file_bytes (texts_of words) written answered)
 
--- this is answered to the words of a run behind the first, the program's name, or there is no memory for them
-abbrev pub AnswersRun : List (List ℕ) → ℕ → Type 0
-AnswersRun given answered =
-    ((words : List (Bor (List ℕ))) × (texts_of words ≡ drop 1 given) × Answers words answered) ⊎ (answered ≡ order_status Memory)
+-- This is answered to the words of a run after the first, the program's name, and it is what was noted; or nothing was answered, since there is no memory for the words.
+abbrev pub AnswersRun : (List ℕ → Option (List ℕ)) → Option (List ℕ) → List (List ℕ) → Option ℕ → ℕ → Type 0
+AnswersRun file_bytes standard_bytes given noted answered =
+    ((words : List (Bor (List ℕ))) × (texts_of words ≡ drop 1 given) × Answers file_bytes standard_bytes words answered × (noted ≡ Some answered))
+    ⊎ ((answered ≡ order_status Memory) × (noted ≡ None))

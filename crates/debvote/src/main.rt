@@ -6,11 +6,11 @@
 //! reports every problem in it and in the ballots. Without arguments the program reads a poll and its ballots from
 //! standard input, joined by a line `%%`, and acts as `steps`.
 //!
-//! The program gives its words, the files and the standard input of the system, and standard output to one call of
-//! `vote_job_files`, which answers them.
+//! The program gives its words, the files and the standard input of the system, which can be read and nothing else, and standard
+//! output to one call of `vote_job_files`, which answers them.
 #![tactic(auto)]
 
-ghost use Rattle.std.specs.Prelude.{◌≡◌, IfErr, IfOk, drop, map, string_bytes};
+ghost use Rattle.std.specs.Prelude.{◌≡◌, None, Some, IfErr, IfOk, drop, map, string_bytes};
 ghost use Rattle.vote_job_words.specs.Words.{texts_of};
 ghost use Rattle.debvote.specs.Program.{Answers, AnswersRun, AreNotGiven};
 
@@ -18,13 +18,13 @@ use std::alloc::{AllocError, Global};
 use std::io::{ErrorKind, IsTerminal};
 use std::marker::Brand;
 use std::process::ExitCode;
-use std::rt::{Env, Files};
+use std::rt::Env;
 use std::sync::Wait;
 use std::sync::ledger::{Blank, Ledger};
 use std::thread::Threads;
 use std::{env, io};
-use vote_files::{Meter, SystemSources, WriterSink};
-use vote_job_files::{answer, refuse};
+use vote_files::{Meter, ReadableFiles, ReadableInput, Sources, StandardInput, WriterSink};
+use vote_job_files::{StatusNote, answer, refuse};
 use vote_job_words::OrderFault;
 
 /// The words of the run, the first of which is the program's name, as the system gives them: which they are, no contract of std says.
@@ -38,21 +38,30 @@ fn words_given<R: Env + AllocGlobal>(rt: &R) -> Result<Vec<String>, OrderFault>
     }
 }
 
-/// Answers words, on the files and the standard input of the system, and a standard output that counts by this blank; and gives
-/// the exit status.
-fn run_metered<R: Files + Input + Print + Eprint + AllocGlobal + Threads + Wait + Sync, L: Ledger>(
+/// Answers words, on a standard output that counts by this blank; and gives the exit status that was answered, which is noted.
+fn run_metered<
+    S: Sources,
+    I: StandardInput,
+    R: Print + Eprint + AllocGlobal + Threads + Wait + Sync,
+    L: Ledger,
+>(
     rt: &R,
+    files: &S,
+    input: &I,
     words: &[&str],
     at_terminal: bool,
+    note: &mut StatusNote,
     blank: Blank,
 ) -> u8
     requires name { blank.name ≡ L.name }
     requires parts { blank.parts ≡ L.parts }
     requires two { blank.parts ≡ 2 }
-    ensures { Answers words.now result }
+    requires unanswered { note.old ≡ None }
+    ensures answers { Answers (S.file_bytes files.now) (I.standard_bytes input.now) words.now result }
+    ensures returned { note.new ≡ Some result }
 {
     let mut sink = WriterSink::new(io::writer(rt), Meter::<L>::new(blank));
-    answer(rt, &SystemSources(rt), words, at_terminal, &mut sink)
+    answer(rt, files, input, words, at_terminal, note, &mut sink)
 }
 
 /// The words after the program's name.
@@ -77,22 +86,38 @@ fn borrowed<'a>(alloc: Global, words: &'a [String]) -> Result<Vec<&'a str>, Allo
 }
 
 /// Answers the words that a run is given, and gives the exit status.
-fn run_program<R: Files + Input + Print + Eprint + AllocGlobal + Threads + Wait + Sync>(
-    rt: &R,
-    given: &[String],
-    at_terminal: bool,
-) -> u8
-    ensures { AnswersRun (map string_bytes given.now) result }
+fn run_program<
+    S: Sources,
+    I: StandardInput,
+    R: Print + Eprint + AllocGlobal + Threads + Wait + Sync,
+>(rt: &R, files: &S, input: &I, given: &[String], at_terminal: bool, note: &mut StatusNote) -> u8
+    requires { note.old ≡ None }
+    ensures { AnswersRun (S.file_bytes files.now) (I.standard_bytes input.now) (map string_bytes given.now) note.new result }
 {
     match borrowed(rt.alloc(), after_name(given)) {
-        Ok(words) => run_metered::<R, Brand>(rt, words.as_slice(), at_terminal, Blank::new(2)),
+        Ok(words) => run_metered::<S, I, R, Brand>(
+            rt,
+            files,
+            input,
+            words.as_slice(),
+            at_terminal,
+            note,
+            Blank::new(2),
+        ),
         Err(fault) => refuse(rt, &OrderFault::from(fault)),
     }
 }
 
 fn main(rt: HostRuntime) -> ExitCode {
     let status = match words_given(&rt) {
-        Ok(given) => run_program(&rt, given.as_slice(), rt.stdin().is_terminal()),
+        Ok(given) => run_program(
+            &rt,
+            &ReadableFiles::of(&rt),
+            &ReadableInput::of(&rt),
+            given.as_slice(),
+            rt.stdin().is_terminal(),
+            &mut StatusNote::new(),
+        ),
         Err(fault) => refuse(&rt, &fault),
     };
     ExitCode::from(status)

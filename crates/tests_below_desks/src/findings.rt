@@ -12,15 +12,15 @@ const FAULTY: &str =
 
 /// What is wrong with it.
 const FINDINGS: &str = "poll: key title: an integer, and a text is wanted\n\
-    poll: key roll: it is missing; it is inside [more]; put it before the first table\n\
+    poll: key roll: it is missing; more.roll or rol may be meant: ask which\n\
     poll: name of option 2: \"B \" ends with a space\n\
     poll: name of option 3: \"A\" is option 1 too\n\
     poll: ratios: 12 is not from 1 to 10\n\
     poll: quorum: 11 is not from 0 to 10; it says how many times Q is needed, half the square root of the number of electors\n\
     poll: wording: \"most\" is neither at_least nor more_than\n\
-    poll: key more.roll is not read; it is inside [more]; put it before the first table\n\
+    poll: key more.roll is not read; it is one of several that may be roll: ask which is meant\n\
     poll: key rest is not read\n\
-    poll: key rol is not read; did you mean roll?\n";
+    poll: key rol is not read; it is one of several that may be roll: ask which is meant\n";
 
 /// The findings of a text, and its fault if it is no poll.
 fn explained(alloc: Global, text: &[u8]) -> Result<(String, Option<PollFault>), AllocError> {

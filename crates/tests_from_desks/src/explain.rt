@@ -10,18 +10,18 @@ use vote_poll::Poll;
 const POLL: &str =
     "title = \"A poll\"\noptions = [\"A\", \"B\"]\nratios = [1, 1]\ndefault = \"None\"\nquorum = 0\nroll = [\"ada\", \"ben\", \"bob\", \"cleo\"]\nlast_envelope = 9\n";
 
-/// A file with a line for each hint and for each line on the whole file, and what is said of it. No line feed ends it.
+/// A file with a line for each word of a refused line, and what is said of it. No line feed ends it.
 const LINES: &str =
-    "ada 1,2,3\nada 1,2,\x0B\nada 1,2\nbo 1,2,3\ndaniela -,-,1\ncloe 1,2,3\nada 3,2,1\ndan 1,\"\n\u{feff}ben 1,2,3\nben 1,2,3\ntitle = 1";
+    "ada 1,2,3\nada 1,2,\x0B\nada 1,2\nbo 1,2,3\ndaniela -,-,1\ncloe 1,2,3\nada 3,2,1\ndan 1,\"\n\u{feff}ben 1,2,3\nben 1,2,3";
 
 /// A file from Windows with a byte-order mark, and a last line without a line feed.
 const OF_WINDOWS: &str = "\u{feff}ada 1,2,3\r\nben 1,2,3\r\nben 1,2,3cleo 1,2,3";
 
 const SAID_OF_WINDOWS: &str =
-    "ballots:1: bad shape: column 1: byte-order mark\nballots:2: bad shape: column 10: carriage return\nballots:3: bad shape: column 10: \"c\"; two ballots on one line? look at both files: the first may lack its last line feed\na ballot line of this poll: ada 1,2,3\nlines of bad shape end with a carriage return: the file comes from Windows; take it out with tail -c +4 < 'my ballots' | tr -d '\\r' > 'my ballots'.new\n3 lines: 0 valid, 3 refused, 0 of them late; 0 of 4 electors have a ballot\n";
+    "the ballot file comes from Windows: carriage returns end its lines of bad shape; take them out with tail -c +4 < 'my ballots' | tr -d '\\r' > 'my ballots'.new\nballots:1: bad shape: column 1: byte-order mark; a line begins with the name\nballots:2: bad shape: column 10: carriage return; the line ends with the last rank\nballots:3: bad shape: column 10: \"c\"; two ballots on one line? look at both files: the first may lack its last line feed\na ballot line of this poll: ada 1,2,3\n3 lines: 0 valid, 3 refused, 0 of them late; 0 of 4 electors have a ballot\n";
 
 const FINDINGS: &str =
-    "the ballot file looks like a poll: are the files exchanged?\nballots:2: bad shape: column 9: byte 0x0B\nballots:3: bad rank count: 2 ranks, the poll has 3 options\nballots:4: bad not on roll: bo is not on the roll\nballots:5: bad not on roll: daniela is not on the roll\nballots:6: bad not on roll: cloe is not on the roll; did you mean cleo?\nballots:8: bad shape: column 7: \"\"\"\nballots:9: bad shape: column 1: byte-order mark\nballots:10: late: the last envelope is 9\nballots:11: late: the last envelope is 9\na ballot line of this poll: ada 1,2,3\n11 lines: 2 valid, 9 refused, 2 of them late; 1 of 4 electors have a ballot\n";
+    "ballots:2: bad shape: column 9: byte 0x0B; ranks are numbers from 1, the first choice, to 99, and a hyphen says that an option is not ranked; ask the elector\nballots:3: bad rank count: 2 ranks, the poll has 3 options; is that of the last one missing, the default option None? ask the elector\nballots:4: bad not on roll: bo is not on the roll\nballots:5: bad not on roll: daniela is not on the roll\nballots:6: bad not on roll: cloe is not on the roll; did you mean cleo?\nballots:8: bad shape: column 7: \"\"\"; a ballot has a name, one space, and ranks with commas between\nballots:9: bad shape: column 1: byte-order mark; a line begins with the name\nballots:10: late: the last envelope is 9\na ballot line of this poll: ada 1,2,3\n10 lines: 2 valid, 8 refused, 1 of them late; 1 of 4 electors have a ballot\n";
 
 /// What is said of a ballot file for a poll.
 fn explained_for(
@@ -70,7 +70,7 @@ fn assert_explained(
 
 #[test]
 fn memory_of_explain_ballots(rt: HostRuntime) -> Result<(), Fail> {
-    assert_explained(&rt, rt.alloc(), LINES, 9, FINDINGS)
+    assert_explained(&rt, rt.alloc(), LINES, 8, FINDINGS)
 }
 
 #[test]

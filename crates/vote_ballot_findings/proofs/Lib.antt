@@ -1,14 +1,8 @@
 pub mod Texts
-pub mod FirstLetters
-pub mod LastBytes
-pub mod Distances
-pub mod NearNames
+pub mod Edits
 pub mod Listing
-pub mod Signs
 pub mod BoxReplies
 pub mod Counting
-pub mod Determined
-pub mod Examples
 pub mod RankTexts
 pub mod Parts
 pub mod Steps

@@ -1,55 +1,27 @@
 -- The refused lines one after another, and what is listed of them.
-use Rattle.std.proofs.Common.{◌≡◌, ◌+◌, ◌++◌, ◌∙◌, ℕ, zero, suc, List, [], ◌∷◌, length, drop, take, refl, ap, sym, subst, None, Some, Bool, true, false, not, if◌then◌else◌, codes, arith, append_assoc, append-nil, slice_get, string_bytes}
+use Rattle.std.proofs.Common.{◌≡◌, ◌+◌, ◌++◌, ◌∙◌, ℕ, zero, suc, List, [], ◌∷◌, length, drop, take, refl, ap, sym, subst, None, Some, Bool, true, false, not, if◌then◌else◌, arith, append_assoc, append-nil, slice_get}
 use Rattle.vote_poll.specs.PollContent.{PollContent, last_in_time}
 use Rattle.vote_poll.specs.Readings.{reading}
+use Rattle.vote_poll_text.specs.Lines.{line_feed}
 use Rattle.vote_steps.specs.History.{is_valid}
 use Rattle.vote_steps.specs.declared.Reply.{Reply}
 use Rattle.vote_sheet.specs.Texts.{Text}
-use Rattle.vote_ballot_findings.specs.Adding.{Lists, left_after_all}
-use Rattle.vote_ballot_findings.specs.Hints.{AreRefusalFindings, IsHint, finding_head, finding_line, left_after}
+use Rattle.vote_ballot_findings.specs.Explained.{AreFindings, IsHint, finding, finding_head}
 use Rattle.vote_ballot_findings.specs.Refusals.{Refusal, refusal_by, refusals, refusals_from, refusing_reply}
 use Rattle.vote_ballot_findings.specs.Replies.{if_refusing, refusal}
-use Rattle.vote_ballot_findings.specs.declared.findings.Findings.{Findings}
+use Rattle.vote_ballot_findings.proofs.Texts.{Added}
 
 -- ---- findings, one after another
-findings_append : (poll : PollContent) (left : ℕ) (some others : List Refusal) (text rest : Text) → AreRefusalFindings poll left some text
-    → AreRefusalFindings poll (left_after_all some left) others rest → AreRefusalFindings poll left (some ++ others) (text ++ rest)
-findings_append poll left [] others text rest are more = subst (AreRefusalFindings poll left others) (sym (ap (λ t. t ++ rest) are)) more
-findings_append poll left (refusal ∷ some) others text rest (hint, later, is, are, same) more =
-    (hint, later ++ rest, is, findings_append poll (left_after refusal.reply left) some others later rest are more, ap (λ t. t ++ rest) same ∙ append_assoc (finding_line refusal hint) later rest)
+pub findings_append : (poll : PollContent) (some others : List Refusal) (text rest : Text) → AreFindings poll some text → AreFindings poll others rest → AreFindings poll (some ++ others) (text ++ rest)
+findings_append poll [] others text rest are more = subst (AreFindings poll others) (sym (ap (λ t. t ++ rest) are)) more
+findings_append poll (refusal ∷ some) others text rest (hint, later, is, are, same) more =
+    (hint, later ++ rest, is, findings_append poll some others later rest are more, ap (λ t. t ++ rest) same ∙ append_assoc (finding refusal hint) later rest)
 
-left_append : (some others : List Refusal) (left : ℕ) → left_after_all (some ++ others) left ≡ left_after_all others (left_after_all some left)
-left_append [] others left = refl
-left_append (refusal ∷ some) others left = left_append some others (left_after refusal.reply left)
-
--- nothing was added yet
-pub adds_none : (poll : PollContent) (findings : Findings) → Lists poll [] findings findings
-adds_none poll findings = ([], refl, record { is_text = sym (append-nil (string_bytes findings.text)); is_left = refl })
-
-pub adds_append : (poll : PollContent) (some others : List Refusal) (a b c : Findings) → Lists poll some a b → Lists poll others b c → Lists poll (some ++ others) a c
-adds_append poll some others a b c (text, are, first) (rest, more, second) = (
-  text ++ rest,
-  findings_append poll a.searches.left some others text rest are (subst (λ left. AreRefusalFindings poll left others rest) first.is_left more),
-  record {
-    is_text = second.is_text ∙ ap (λ t. t ++ rest) first.is_text ∙ append_assoc (string_bytes a.text) text rest;
-    is_left = second.is_left ∙ ap (left_after_all others) first.is_left ∙ sym (left_append some others a.searches.left);
-  },
-)
+pub findings_on : (poll : PollContent) (some others : List Refusal) (t0 t1 t2 : Text) → Added (AreFindings poll some) t0 t1 → Added (AreFindings poll others) t1 t2 → Added (AreFindings poll (some ++ others)) t0 t2
+findings_on poll some others t0 t1 t2 (a, are, e1) (b, more, e2) =
+    (a ++ b, findings_append poll some others a b are more, e2 ∙ ap (λ t. t ++ b) e1 ∙ append_assoc t0 a b)
 
 -- ---- the finding of a line, where a reply refuses it
-finding_by : (refusal : Refusal) (hint t0 t1 t2 t3 : Text) → t1 ≡ t0 ++ finding_head refusal.number refusal.reply → t2 ≡ t1 ++ hint → t3 ≡ t2 ++ codes "\n" → t3 ≡ t0 ++ finding_line refusal hint
-unfolding finding_line
-finding_by refusal hint t0 t1 t2 t3 e1 e2 e3 = rw (e3, e2, e1) (simp append_assoc)
-
-pub adds_one : (poll : PollContent) (refusal : Refusal) (before after : Findings) (hint t1 t2 : Text) → IsHint poll before.searches.left refusal.bytes refusal.reply hint
-    → t1 ≡ string_bytes before.text ++ finding_head refusal.number refusal.reply → t2 ≡ t1 ++ hint → string_bytes after.text ≡ t2 ++ codes "\n"
-    → after.searches.left ≡ left_after refusal.reply before.searches.left → Lists poll (refusal ∷ []) before after
-adds_one poll refusal before after hint t1 t2 is e1 e2 e3 left = (
-  finding_line refusal hint,
-  (hint, [], is, refl, sym (append-nil (finding_line refusal hint))),
-  record { is_text = finding_by refusal hint (string_bytes before.text) t1 t2 (string_bytes after.text) e1 e2 e3; is_left = left },
-)
-
 valid_by : (b : Bool) → not b ≡ false → b ≡ true
 valid_by true h = refl
 valid_by false h = cc
@@ -63,6 +35,21 @@ none_refused number bytes reply valid = ap (λ b. refusal_by number bytes (if b 
 
 pub one_refused : (number : ℕ) (bytes : Text) (reply : Reply) → not (is_valid reply) ≡ true → refusal number bytes reply ≡ record { number = number; bytes = bytes; reply = reply } ∷ []
 one_refused number bytes reply refused = ap (λ b. refusal_by number bytes (if b then None else Some reply)) (refused_if (is_valid reply) refused)
+
+-- its words were added, then its hint, and a line feed
+pub one_finding : (poll : PollContent) (number : ℕ) (bytes : Text) (reply : Reply) (hint t0 t1 t2 t3 : Text) → not (is_valid reply) ≡ true → IsHint poll bytes reply hint
+    → t1 ≡ t0 ++ finding_head number reply → t2 ≡ t1 ++ hint → t3 ≡ t2 ++ line_feed → (text : Text) × AreFindings poll (refusal number bytes reply) text × (t3 ≡ t0 ++ text)
+one_finding poll number bytes reply hint t0 t1 t2 t3 refused is e1 e2 e3 =
+    let one : Refusal = record { number = number; bytes = bytes; reply = reply } in (
+      finding one hint,
+      subst (λ refusals. AreFindings poll refusals (finding one hint)) (sym (one_refused number bytes reply refused)) (hint, [], is, refl, sym (append-nil (finding one hint))),
+      rw (e3, e2, e1) (simp append_assoc),
+    )
+
+pub no_finding : (poll : PollContent) (number : ℕ) (bytes : Text) (reply : Reply) (text : Text) → not (is_valid reply) ≡ false
+    → (more : Text) × AreFindings poll (refusal number bytes reply) more × (text ≡ text ++ more)
+no_finding poll number bytes reply text valid =
+    ([], subst (λ refusals. AreFindings poll refusals []) (sym (none_refused number bytes reply valid)) refl, sym (append-nil text))
 
 -- ---- the refusals of the first lines, and of one line more
 refusals_append : (poll : PollContent) (number : ℕ) (some others : List Text)

@@ -1,9 +1,13 @@
--- What several writes append to a text, and the place of the first element that passes a test.
-use Rattle.std.proofs.Common.{◌≡◌, ◌+◌, ◌++◌, append_assoc, append-nil, Result, Ok, Err, OnOk, is_ok, if◌then◌else◌, ◌≤◌, ℕ, suc, List, [], ◌∷◌, length, Bool, true, false, not, cond, nat_lt, inl, inr, arith, unwrap_or, Some, None, is_some, refl, ap, sym, ◌∙◌, ◌-◌, take, take_all, drop, length-drop}
-use Rattle.std.specs.List.{concat, list_any, position, position_or_len, prefix_len}
+-- What calls say that add to a text.
+use Rattle.std.proofs.Common.{◌≡◌, ◌++◌, ◌∙◌, ◌∷◌, [], ℕ, List, append_assoc, append-nil, Result, Ok, Err, OnOk, is_ok, if◌then◌else◌, ap, codes, refl, sym, ◌+◌, ◌≤◌, suc, length, Bool, true, false, not, cond, nat_lt, inl, inr, arith, unwrap_or}
+use Rattle.std.specs.List.{flat_map, position, position_or_len, prefix_len}
 use Rattle.std.proofs.lemmas.Bool.{cases_Bool}
 use Rattle.std.proofs.lemmas.Bool.Decides.{nat_tests}
+use Rattle.std.proofs.lemmas.List.Elements.{All-append, All-cons, All-nil}
+use Rattle.vote_sheet.specs.Texts.{Text}
+use Rattle.vote_ballot_findings.specs.Explained.{AreFileLines, IsRemark, IsRemarked, file_line}
 
+-- ---- the first element that passes a test
 within_by : (b : Bool) (n m : ℕ) → n ≤ m → cond b (1 + n) 0 ≤ suc m
 within_by true n m le = omega arith
 within_by false n m le = omega arith
@@ -22,46 +26,6 @@ first_or_len p xs =
       | inr past ↦ let same : length xs ≡ position_or_len p xs = grind (arith, nat_tests, first_is_within p xs) in rw past same
     ]
 
--- an element passes where a first one does
-some_by : (b : Bool) (k : ℕ) → is_some (cond b (Some k) None) ≡ b
-some_by true k = refl
-some_by false k = refl
-
-next_below : (n m : ℕ) → nat_lt (1 + n) (suc m) ≡ nat_lt n m
-next_below n m =
-    elim (cases_Bool (nat_lt n m)) [
-      | inl is ↦ let here : nat_lt (1 + n) (suc m) ≡ true = grind (arith, nat_tests) in here ∙ sym is
-      | inr not_so ↦ let here : nat_lt (1 + n) (suc m) ≡ false = grind (arith, nat_tests) in here ∙ sym not_so
-    ]
-
-pub any_at_first : (m : ℕ) → nat_lt 0 (suc m) ≡ true
-any_at_first m = grind (arith, nat_tests)
-
-any_before_end : {X : Type 0} (p : X → Bool) (xs : List X) → nat_lt (position_or_len p xs) (length xs) ≡ list_any p xs
-any_before_end p [] = refl
-any_before_end p (x ∷ xs) =
-    elim (cases_Bool (p x)) [
-      | inl is ↦ rw is (any_at_first (length xs))
-      | inr not_so ↦ rw not_so (next_below (position_or_len p xs) (length xs) ∙ any_before_end p xs)
-    ]
-
-pub any_position : {X : Type 0} (p : X → Bool) (xs : List X) → is_some (position p xs) ≡ list_any p xs
-any_position p xs = some_by (nat_lt (position_or_len p xs) (length xs)) (position_or_len p xs) ∙ any_before_end p xs
-
--- what is left of a list from its first element on that passes
-pub passed_over : {X : Type 0} (p : X → Bool) (x : X) (xs : List X) → p x ≡ false → drop (position_or_len p (x ∷ xs)) (x ∷ xs) ≡ drop (position_or_len p xs) xs
-passed_over p x xs not_so = let next : 1 + position_or_len p xs ≡ suc (position_or_len p xs) = omega arith in rw not_so (ap (λ n. drop n (x ∷ xs)) next)
-
-pub begins_there : {X : Type 0} (p : X → Bool) (x : X) (xs : List X) → p x ≡ true → drop (position_or_len p (x ∷ xs)) (x ∷ xs) ≡ x ∷ xs
-begins_there p x xs is = rw is
-
--- ---- parts of a text
-pub all_are_few : {X : Type 0} (xs : List X) (most : ℕ) → length xs ≤ most → xs ≡ take most xs
-all_are_few xs most few = sym (take_all most xs few)
-
-pub all_of_rest : {X : Type 0} (xs : List X) (n : ℕ) → n ≤ length xs → take (length xs - n) (drop n xs) ≡ drop n xs
-all_of_rest xs n within = take_all (length xs - n) (drop n xs) (omega (arith, length-drop n xs))
-
 -- ---- texts
 -- what holds where a call gives no error, from what its callee says then
 pub on_ok : {X E P Q : Type 0} (r : Result X E) → (P → Q) → OnOk r P → OnOk r Q
@@ -73,22 +37,38 @@ pub where_ok : {X E : Type 0} (r : Result X E) (now longer old : List ℕ) → n
 where_ok (Ok x) now longer old e = e
 where_ok (Err e) now longer old h = tt
 
--- a text to which three parts are added, one after another
-pub three_parts : (a b c t0 t1 t2 t3 : List ℕ) → t1 ≡ t0 ++ a → t2 ≡ t1 ++ b → t3 ≡ t2 ++ c → t3 ≡ t0 ++ concat (a ∷ b ∷ c ∷ [])
-three_parts a b c t0 t1 t2 t3 e1 e2 e3 = rw (e3, e2, e1) (simp (append_assoc, append-nil))
+-- a text of a kind was added
+abbrev pub Added : (Text → Type 0) → Text → Text → Type 0
+Added kind before after = (text : Text) × kind text × (after ≡ before ++ text)
 
--- the same, where the last part is added if memory allows it
-pub last_part : {X E : Type 0} (r : Result X E) (a b c t0 t1 t2 t3 : List ℕ) → t1 ≡ t0 ++ a → t2 ≡ t1 ++ b → t3 ≡ (if is_ok r then t2 ++ c else t2) → OnOk r (t3 ≡ t0 ++ concat (a ∷ b ∷ c ∷ []))
-last_part (Ok x) a b c t0 t1 t2 t3 e1 e2 e3 = three_parts a b c t0 t1 t2 t3 e1 e2 e3
-last_part (Err e) a b c t0 t1 t2 t3 e1 e2 e3 = tt
+pub none_added : (kind : Text → Type 0) (before : Text) → kind [] → Added kind before before
+none_added kind before is = ([], is, sym (append-nil before))
 
--- five parts, and seven
-pub last_of_five : {X E : Type 0} (r : Result X E) (a b c d e t0 t1 t2 t3 t4 t5 : List ℕ) → t1 ≡ t0 ++ a → t2 ≡ t1 ++ b → t3 ≡ t2 ++ c → t4 ≡ t3 ++ d → t5 ≡ (if is_ok r then t4 ++ e else t4)
-    → OnOk r (t5 ≡ t0 ++ concat (a ∷ b ∷ c ∷ d ∷ e ∷ []))
-last_of_five (Ok x) a b c d e t0 t1 t2 t3 t4 t5 e1 e2 e3 e4 e5 = rw (e5, e4, e3, e2, e1) (simp (append_assoc, append-nil))
-last_of_five (Err x) a b c d e t0 t1 t2 t3 t4 t5 e1 e2 e3 e4 e5 = tt
+-- words were added, and then a remark
+pub remarked : (words t0 t1 t2 : Text) → t1 ≡ t0 ++ words → Added IsRemark t1 t2 → Added (IsRemarked words) t0 t2
+remarked words t0 t1 t2 e (remark, is, e2) = (words ++ remark, (remark, is, refl), e2 ∙ ap (λ t. t ++ remark) e ∙ append_assoc t0 words remark)
 
-pub last_of_seven : {X E : Type 0} (r : Result X E) (a b c d e f g t0 t1 t2 t3 t4 t5 t6 t7 : List ℕ) → t1 ≡ t0 ++ a → t2 ≡ t1 ++ b → t3 ≡ t2 ++ c → t4 ≡ t3 ++ d → t5 ≡ t4 ++ e → t6 ≡ t5 ++ f
-    → t7 ≡ (if is_ok r then t6 ++ g else t6) → OnOk r (t7 ≡ t0 ++ concat (a ∷ b ∷ c ∷ d ∷ e ∷ f ∷ g ∷ []))
-last_of_seven (Ok x) a b c d e f g t0 t1 t2 t3 t4 t5 t6 t7 e1 e2 e3 e4 e5 e6 e7 = rw (e7, e6, e5, e4, e3, e2, e1) (simp (append_assoc, append-nil))
-last_of_seven (Err x) a b c d e f g t0 t1 t2 t3 t4 t5 t6 t7 e1 e2 e3 e4 e5 e6 e7 = tt
+pub weaker : (kind other : Text → Type 0) (t0 t1 : Text) → ((text : Text) → kind text → other text) → Added kind t0 t1 → Added other t0 t1
+weaker kind other t0 t1 step (text, is, e) = (text, step text is, e)
+
+-- ---- lines on a file
+pub one_line : (remark t0 t1 t2 t3 : Text) → IsRemark remark → t1 ≡ t0 ++ codes "the ballot file " → t2 ≡ t1 ++ remark → t3 ≡ t2 ++ codes "\n" → Added AreFileLines t0 t3
+one_line remark t0 t1 t2 t3 is e1 e2 e3 = (
+  file_line remark ++ [],
+  (remark ∷ [], All-cons IsRemark remark [] is (All-nil IsRemark), refl),
+  rw (e3, e2, e1) (simp (append_assoc, append-nil)),
+)
+
+pub no_line : (t0 : Text) → Added AreFileLines t0 t0
+no_line t0 = none_added AreFileLines t0 ([], All-nil IsRemark, refl)
+
+flat_append : (xs ys : List Text) → flat_map file_line (xs ++ ys) ≡ flat_map file_line xs ++ flat_map file_line ys
+flat_append [] ys = refl
+flat_append (x ∷ xs) ys = ap (λ t. file_line x ++ t) (flat_append xs ys) ∙ sym (append_assoc (file_line x) (flat_map file_line xs) (flat_map file_line ys))
+
+pub lines_on : (t0 t1 t2 : Text) → Added AreFileLines t0 t1 → Added AreFileLines t1 t2 → Added AreFileLines t0 t2
+lines_on t0 t1 t2 (a, (some, are, is), e1) (b, (more, are', is'), e2) = (
+  a ++ b,
+  (some ++ more, All-append IsRemark some more are are', ap (λ t. t ++ b) is ∙ ap (λ t. flat_map file_line some ++ t) is' ∙ sym (flat_append some more)),
+  e2 ∙ ap (λ t. t ++ b) e1 ∙ append_assoc t0 a b,
+)

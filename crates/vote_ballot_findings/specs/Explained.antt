@@ -1,31 +1,108 @@
--- What `explain` says of the lines of a ballot file: all that is said, in its order.
-use Rattle.std.specs.Prelude.{◌≡◌, Bool, List, [], ◌∷◌, Option, string_bytes}
-use Rattle.std.specs.List.{concat}
+-- What `explain` says of the lines of a ballot file. Which lines are listed, where each leaves the grammar, and all numbers are
+-- fixed here. What a remark says is open.
+use Rattle.std.specs.Prelude.{◌≡◌, ℕ, ◌+◌, ◌≤◌, ◌==◌, ◌⊎◌, List, [], ◌∷◌, ◌++◌, count_by, length, IsTrue, codes, decimal, string_bytes}
+use Rattle.std.specs.List.{All, before_first, concat, flat_map, list_all}
+use Rattle.std.specs.Str.{byte}
 use Rattle.std.specs.declared.string.String.{String}
-use Rattle.vote_poll.specs.PollContent.{PollContent}
-use Rattle.vote_sheet.specs.Texts.{Text}
-use Rattle.vote_ballot_findings.specs.FileSigns.{advice_text, closing_text, opening_text}
-use Rattle.vote_ballot_findings.specs.Hints.{AreRefusalFindings}
-use Rattle.vote_ballot_findings.specs.Refusals.{refusals}
-use Rattle.vote_ballot_findings.specs.declared.TheConstants.{MOST_SEARCHES}
+use Rattle.vote_poll.specs.PollContent.{PollContent, elector_count, last_in_time, option_count}
+use Rattle.vote_poll.specs.Readings.{is_ballot, is_space, reading}
+use Rattle.vote_poll.specs.declared.LineFault.TheVariants.{Shape, RankCount, Roll}
+use Rattle.vote_poll_text.specs.Lines.{line_feed}
+use Rattle.vote_poll_text.specs.Names.{is_printable}
+use Rattle.vote_poll_text.specs.Shown.{shown}
+use Rattle.vote_steps.specs.declared.Reply.{Reply}
+use Rattle.vote_steps.specs.declared.Reply.TheVariants.{BadLine, Late}
+use Rattle.vote_sheet.specs.LastBallots.{refused_count, valid_count, voter_count}
+use Rattle.vote_sheet.specs.Steps.{reply_words}
+use Rattle.vote_sheet.specs.Texts.{Text, line}
+use Rattle.vote_ballot_findings.specs.Column.{IsColumn}
+use Rattle.vote_ballot_findings.specs.NearNames.{IsNearest, question}
+use Rattle.vote_ballot_findings.specs.Refusals.{Refusal, late_count, refusals}
+use Rattle.vote_ballot_findings.specs.declared.TheConstants.{MOST_REMARK, MOST_SHOWN}
 
--- the findings of all lines that are refused
-abbrev pub AreAllFindings : PollContent → List Text → Text → Type 0
-AreAllFindings poll lines findings = AreRefusalFindings poll MOST_SEARCHES (refusals poll lines) findings
+-- ---- remarks
+-- printable text, of which no line feed is a part, and which is not too long
+pub record IsRemark (text : Text) : Type 0 where
+  pub printable : IsTrue (list_all is_printable text)
+  pub short : length text ≤ MOST_REMARK
 
--- what is said of the lines, of which the last may lack its line feed, and of their file, which may have a name: what the file looks
--- like, the findings, advice, and the totals
-abbrev pub IsExplained : PollContent → List Text → Bool → Option Text → Text → Type 0
-IsExplained poll lines all_ended file text =
-    (findings : Text) × AreAllFindings poll lines findings × (text ≡ concat (
-    opening_text lines ∷ findings ∷ advice_text poll lines all_ended file (refusals poll lines) ∷ closing_text poll lines ∷ []))
+-- these words, and then a remark
+abbrev pub IsRemarked : Text → Text → Type 0
+IsRemarked words text = (remark : Text) × IsRemark remark × (text ≡ words ++ remark)
+
+-- ---- of the whole file
+abbrev pub file_line : Text → Text
+file_line remark = line (codes "the ballot file " ∷ remark ∷ [])
+
+-- lines with remarks on the file
+abbrev pub AreFileLines : Text → Type 0
+AreFileLines text = (remarks : List Text) × All IsRemark remarks × (text ≡ flat_map file_line remarks)
+
+-- ---- of each refused line
+-- how many ranks a ballot line has, one more than commas, and how many it is to have
+abbrev pub rank_count : Text → ℕ
+rank_count bytes = count_by (λ b. b == byte ",") bytes + 1
+
+unfoldable pub rank_count_words : ℕ → ℕ → Text
+rank_count_words ranks options = concat (decimal ranks ∷ codes " ranks, the poll has " ∷ decimal options ∷ codes " options" ∷ [])
+
+-- a name that is not on the roll, and the names on it that are suggested
+abbrev pub stranger_words : Text → List Text → Text
+stranger_words name near = shown MOST_SHOWN name ++ codes " is not on the roll" ++ question near
+
+abbrev pub IsStrangerHint : PollContent → Text → Text → Type 0
+IsStrangerHint poll name hint = (near : List Text) × All (IsNearest name poll.roll) near × IsRemarked (stranger_words name near) hint
+
+-- the column in which a line leaves the grammar
+abbrev pub IsColumnHint : Text → Text → Type 0
+IsColumnHint bytes hint = (column : ℕ) × IsColumn bytes column × IsRemarked (codes "column " ++ decimal column ++ codes ": ") hint
+
+-- what is said after the words of the reply; no other reply refuses a line
+abbrev pub IsHint : PollContent → Text → Reply → Text → Type 0
+IsHint poll bytes (BadLine Shape) hint = IsColumnHint bytes hint
+IsHint poll bytes (BadLine RankCount) hint = IsRemarked (rank_count_words (rank_count bytes) (option_count poll)) hint
+IsHint poll bytes (BadLine Roll) hint = IsStrangerHint poll (before_first is_space bytes) hint
+IsHint poll bytes Late hint = hint ≡ codes "the last envelope is " ++ decimal (last_in_time poll)
+IsHint poll bytes other hint = hint ≡ []
+
+-- the line of a refusal, up to its hint
+abbrev pub finding_head : ℕ → Reply → Text
+finding_head number reply = codes "ballots:" ++ decimal number ++ codes ": " ++ reply_words reply ++ codes ": "
+
+-- all of it
+abbrev pub finding : Refusal → Text → Text
+finding refusal hint = finding_head refusal.number refusal.reply ++ hint ++ line_feed
+
+-- a line for each of the refusals, in their order
+abbrev pub AreFindings : PollContent → List Refusal → Text → Type 0
+AreFindings poll [] text = text ≡ []
+AreFindings poll (refusal ∷ refusals) text =
+    (hint : Text) × (rest : Text) × IsHint poll refusal.bytes refusal.reply hint × AreFindings poll refusals rest × (text ≡ finding refusal hint ++ rest)
+
+-- ---- an example
+-- nothing, or a line with a ballot of this poll
+abbrev pub IsExample : PollContent → Text → Type 0
+IsExample poll text =
+    (text ≡ []) ⊎ ((ballot : Text) × IsTrue (is_ballot (reading poll ballot)) × (text ≡ line (codes "a ballot line of this poll: " ∷ ballot ∷ [])))
+
+-- ---- the whole
+-- the numbers of the result sheet, and how many lines are late
+abbrev pub totals_text : PollContent → List Text → Text
+totals_text poll lines = line (
+    decimal (length lines) ∷ codes " lines: " ∷ decimal (valid_count poll lines) ∷ codes " valid, " ∷ decimal (refused_count poll lines)
+    ∷ codes " refused, " ∷ decimal (late_count poll lines) ∷ codes " of them late; " ∷ decimal (voter_count poll lines) ∷ codes " of "
+    ∷ decimal (elector_count poll) ∷ codes " electors have a ballot" ∷ [])
+
+-- what is remarked on the file, a line for each line that is refused, an example, and the numbers
+pub record IsExplained (poll : PollContent) (lines : List Text) (text : Text) : Type 0 where
+  pub of_file : Text
+  pub are_of_file : AreFileLines of_file
+  pub findings : Text
+  pub are_findings : AreFindings poll (refusals poll lines) findings
+  pub example : Text
+  pub is_example : IsExample poll example
+  pub is_text : text ≡ of_file ++ findings ++ example ++ totals_text poll lines
 
 -- the text says it
-abbrev pub SaysAll : {Z : Type 0} → PollContent → List Text → Bool → Option Text → String Z → Type 0
-SaysAll poll lines all_ended file text = IsExplained poll lines all_ended file (string_bytes text)
-
--- the poll and the lines leave no choice in the text
-abbrev pub FindingsAreDetermined : Type 0
-FindingsAreDetermined =
-    (poll : PollContent) (lines : List Text) (all_ended : Bool) (file : Option Text) (text other : Text)
-    → IsExplained poll lines all_ended file text → IsExplained poll lines all_ended file other → text ≡ other
+abbrev pub SaysAll : {Z : Type 0} → PollContent → List Text → String Z → Type 0
+SaysAll poll lines text = IsExplained poll lines (string_bytes text)

@@ -1,68 +1,97 @@
-//! Characters that stand in a line in place of others, and have a name.
+//! Characters outside ASCII that stand in a line in place of plain ones, as word processors and web pages put them there.
 
-ghost use Rattle.std.specs.Prelude.{◌≡◌, option_copied};
-ghost use Rattle.vote_ballot_findings.specs.Characters.{begins_with_curly_quote, character_name};
+use std::alloc::AllocError;
+use vote_poll::hex_digit;
+use vote_poll_text::{is_printable, letter_place, push_letter};
 
-/// What a text in UTF-8 may begin with, as editors for Windows write it: U+FEFF.
-pub(crate) const BYTE_ORDER_MARK: &[u8] = b"\xEF\xBB\xBF";
-
-/// A space at which no line is broken, as web pages have it: U+00A0.
-const NO_BREAK_SPACE: &[u8] = b"\xC2\xA0";
-
-/// A space that nobody sees: U+200B.
-const ZERO_WIDTH_SPACE: &[u8] = b"\xE2\x80\x8B";
-
-/// A dash, which word processors put in place of a hyphen: U+2013.
-const EN_DASH: &[u8] = b"\xE2\x80\x93";
-
-/// A long dash, which word processors put in place of two hyphens: U+2014.
-const EM_DASH: &[u8] = b"\xE2\x80\x94";
-
-/// Three points in one: U+2026.
-const ELLIPSIS: &[u8] = b"\xE2\x80\xA6";
-
-/// The sign of a negative number, as web pages have it: U+2212.
-const MINUS_SIGN: &[u8] = b"\xE2\x88\x92";
-
-/// Whether a text begins with a quotation mark that is no ASCII character: one of U+2018 to U+201F.
-fn begins_with_curly_quote(text: &[u8]) -> bool
-    ensures { result ≡ begins_with_curly_quote text.now }
-{
-    matches!(text, [0xE2, 0x80, 0x98..=0x9F, ..])
+/// The name of the character with which a text begins, if it has one here.
+fn character_name(text: &[u8]) -> Option<&'static str> {
+    match text {
+        [0xEF, 0xBB, 0xBF, ..] => Some("byte-order mark"),
+        [0xC2, 0xA0, ..] => Some("no-break space"),
+        [0xC2, 0xAD, ..] => Some("soft hyphen"),
+        [0xE2, 0x80, 0x8B, ..] => Some("zero-width space"),
+        [0xE2, 0x80, 0x90 | 0x91, ..] => Some("typographic hyphen"),
+        [0xE2, 0x80, 0x93, ..] => Some("en dash"),
+        [0xE2, 0x80, 0x94, ..] => Some("em dash"),
+        [0xE2, 0x80, 0x98..=0x9F, ..] => Some("curly quote"),
+        [0xE2, 0x80, 0xA6, ..] => Some("ellipsis"),
+        [0xE2, 0x88, 0x92, ..] => Some("minus sign"),
+        [0xE2, 0x9C, 0x93 | 0x94, ..] => Some("check mark"),
+        [0xE3, 0x80, 0x80, ..] => Some("full-width space"),
+        [0xEF, 0xBC, 0x8C, ..] => Some("full-width comma"),
+        [0xEF, 0xBC, 0x90..=0x99, ..] => Some("full-width digit"),
+        _ => None,
+    }
 }
 
-/// The name of the character with which a text begins, if it has one here. No ASCII character has: these come most, and are let
-/// through first.
-#[tactic(auto, unfolding(crate::specs::Characters::character_name))]
-pub(crate) fn character_name(text: &[u8]) -> Option<&'static str>
-    ensures { option_copied result ≡ character_name text.now }
-{
-    if !matches!(text, [0x80..=0xFF, ..]) {
-        return None;
+/// The plain character in whose place stands what a text begins with, and how many bytes that has. A soft hyphen has none, since it
+/// may be a hyphen or nothing.
+pub(crate) fn plain_character(text: &[u8]) -> (u8, usize) {
+    match text {
+        [0xEF, 0xBB, 0xBF, ..] | [0xE3, 0x80, 0x80, ..] | [0xE2, 0x80, 0x8B, ..] => (b' ', 3),
+        [0xC2, 0xA0, ..] => (b' ', 2),
+        [b'\t' | b'\r', ..] => (b' ', 1),
+        [0xE2, 0x80, 0x90 | 0x91 | 0x93 | 0x94, ..] | [0xE2, 0x88, 0x92, ..] => (b'-', 3),
+        [0xE2, 0x80, 0x98..=0x9F, ..] => (b'"', 3),
+        [0xEF, 0xBC, 0x8C, ..] => (b',', 3),
+        [0xEF, 0xBC, digit @ 0x90..=0x99, ..] => (b'0' + (*digit - 0x90), 3),
+        [byte, ..] => (*byte, 1),
+        [] => (b' ', 1),
     }
-    if text.starts_with(BYTE_ORDER_MARK) {
-        return Some("byte-order mark");
+}
+
+/// Whether a text begins with what stands in place of a hyphen.
+pub(crate) fn begins_with_dash(text: &[u8]) -> bool {
+    matches!(text, [0xE2, 0x80 | 0x88, ..]) && plain_character(text).0 == b'-'
+}
+
+/// Whether a text begins with a soft hyphen.
+pub(crate) fn begins_with_soft_hyphen(text: &[u8]) -> bool {
+    matches!(text, [0xC2, 0xAD, ..])
+}
+
+/// Whether a text begins with a digit that is none of ASCII.
+pub(crate) fn begins_with_wide_digit(text: &[u8]) -> bool {
+    matches!(text, [0xEF, 0xBC, 0x90..=0x99, ..])
+}
+
+/// Adds a byte by its number, as `byte 0x0B`.
+fn push_number(text: &mut String, byte: u8) -> Result<(), AllocError> {
+    text.push_str("byte 0x")?;
+    text.push(hex_digit(byte / 16) as char)?;
+    text.push(hex_digit(byte % 16) as char)
+}
+
+/// Adds the name of a byte.
+fn push_byte(text: &mut String, byte: u8) -> Result<(), AllocError> {
+    match byte {
+        b'\r' => text.push_str("carriage return"),
+        b'\t' => text.push_str("tab"),
+        b' ' => text.push_str("space"),
+        b',' => text.push_str("comma"),
+        b'A'..=b'Z' => text.push_str("capital letter"),
+        _ if is_printable(byte) => {
+            text.push('"')?;
+            text.push(byte as char)?;
+            text.push('"')
+        }
+        _ => push_number(text, byte),
     }
-    if text.starts_with(NO_BREAK_SPACE) {
-        return Some("no-break space");
+}
+
+/// Adds the name of what the rest of a line begins with.
+pub(crate) fn push_first(text: &mut String, rest: &[u8]) -> Result<(), AllocError> {
+    if let [0x80..=0xFF, ..] = rest {
+        if let Some(name) = character_name(rest) {
+            return text.push_str(name);
+        }
+        if let Some(place) = letter_place(rest) {
+            return push_letter(text, place);
+        }
     }
-    if text.starts_with(ZERO_WIDTH_SPACE) {
-        return Some("zero-width space");
+    match rest {
+        [byte, ..] => push_byte(text, *byte),
+        [] => text.push_str("end of line"),
     }
-    if text.starts_with(EN_DASH) {
-        return Some("en dash");
-    }
-    if text.starts_with(EM_DASH) {
-        return Some("em dash");
-    }
-    if begins_with_curly_quote(text) {
-        return Some("curly quote");
-    }
-    if text.starts_with(ELLIPSIS) {
-        return Some("ellipsis");
-    }
-    if text.starts_with(MINUS_SIGN) {
-        return Some("minus sign");
-    }
-    None
 }

@@ -1,17 +1,18 @@
 //! What is wrong with the lines of a ballot file, as a text.
 
-ghost use Rattle.std.specs.Prelude.{◌≡◌, IfOk, OnOk, option_copied};
+ghost use Rattle.std.specs.Prelude.{◌≡◌, IfOk, OnOk};
 ghost use Rattle.vote_poll_text.specs.Adding.{Adds};
 ghost use Rattle.vote_steps.specs.HeldLines.{HoldsLines};
 ghost use Rattle.vote_sheet.specs.LastBallots.{refused_count};
-ghost use Rattle.vote_ballot_findings.specs.Adding.{AreTotals, IsUnsaid};
-ghost use Rattle.vote_ballot_findings.specs.Explained.{FindingsAreDetermined, SaysAll};
-ghost use Rattle.vote_ballot_findings.specs.FileSigns.{closing_text};
+ghost use Rattle.vote_ballot_findings.specs.Adding.{AddsSome, AreTotals};
+ghost use Rattle.vote_ballot_findings.specs.Explained.{IsExample, SaysAll, totals_text};
 ghost use Rattle.vote_ballot_findings.specs.Refusals.{EachRefusalIsListed, late_count};
 ghost use Rattle.vote_ballot_findings.specs.Replies.{AreReplies, RefusedAsBySteps};
 
-use crate::file_signs::{push_advice, push_opening, unended_line};
 use crate::findings::Findings;
+use crate::plain_line::is_ballot;
+use crate::remark::push_file_lines;
+use crate::whole_file::{has_bad_shape, look_at, remarks_on_file};
 use std::alloc::{AllocError, Global};
 use vote_poll::{Lines, Poll};
 use vote_steps::laws::lines_are_counted;
@@ -20,7 +21,7 @@ use vote_steps::{BallotBox, Step, Totals, cast_all};
 /// What is wrong with the lines of a ballot file.
 #[derive(Drop)]
 pub struct Explained {
-    /// A line for each refused line, and what is said of the whole file.
+    /// What is remarked on the whole file, a line for each refused line, an example, and the numbers.
     pub text: String,
     /// How many lines are refused.
     pub refused: u64,
@@ -42,8 +43,48 @@ fn totals_of(poll: &Poll, lines: &Lines<'_>, ballot_box: &BallotBox) -> Totals
     ballot_box.totals()
 }
 
+/// A ballot line of the poll: its first elector ranks the options in their order.
+fn example(alloc: Global, poll: &Poll) -> Result<String, AllocError> {
+    let mut ballot = String::new(alloc);
+    for byte in poll.voter_name(0).unwrap_or(b"") {
+        ballot.push(*byte as char)?;
+    }
+    ballot.push_str(" 1")?;
+    for before in 1..poll.options() {
+        write!(ballot, ",{}", before + 1)?;
+    }
+    Ok(ballot)
+}
+
+/// Adds a ballot line as an example, if it is a ballot of the poll.
+fn push_example(text: &mut String, poll: &Poll, example: &str) -> Result<(), AllocError>
+    ensures { AddsSome (IsExample poll.now) result text.old text.new }
+{
+    if !is_ballot(poll, example.as_bytes()) {
+        return Ok(());
+    }
+    text.push_str("a ballot line of this poll: ")?;
+    text.push_str(example)?;
+    text.push_str("\n")
+}
+
+/// Adds an example, if a line is of bad shape.
+fn push_example_if(
+    alloc: Global,
+    text: &mut String,
+    poll: &Poll,
+    is_wanted: bool,
+) -> Result<(), AllocError>
+    ensures { AddsSome (IsExample poll.now) result text.old text.new }
+{
+    if !is_wanted {
+        return Ok(());
+    }
+    let ballot = example(alloc, poll)?;
+    push_example(text, poll, ballot.as_str())
+}
+
 /// Adds how many lines are valid, refused and late, and how many electors have a ballot.
-#[tactic(auto, unfolding(crate::specs::FileSigns::totals_line))]
 fn push_totals(
     text: &mut String,
     poll: &Poll,
@@ -51,7 +92,7 @@ fn push_totals(
     totals: &Totals,
 ) -> Result<(), AllocError>
     requires { AreTotals poll.now lines.now totals.now }
-    ensures { Adds result text.old (closing_text poll.now lines.now) text.new }
+    ensures { Adds result text.old (totals_text poll.now lines.now) text.new }
 {
     let (count, late, electors) = (lines.len(), late_count(poll, lines), poll.electors());
     let (valid, refused, voters) = (totals.valid, totals.refused, totals.voters);
@@ -61,31 +102,31 @@ fn push_totals(
     )
 }
 
-/// Adds all that is said of the lines, which one desk cast in their order.
-fn push_explained(
-    findings: &mut Findings,
+/// All that is said of the lines, which one desk cast in their order, and which this counts.
+fn text_of(
+    alloc: Global,
     poll: &Poll,
     lines: &Lines<'_>,
-    ended: bool,
-    file: Option<&str>,
+    remarks: &[String],
     steps: &[Step],
     totals: &Totals,
-) -> Result<(), AllocError>
-    requires unsaid { IsUnsaid findings.old }
+) -> Result<String, AllocError>
     requires replies { AreReplies poll.now lines.now steps.now }
     requires totals { AreTotals poll.now lines.now totals.now }
-    ensures { OnOk result (SaysAll poll.now lines.now ended (option_copied file.entry) findings.new.text) }
+    ensures { IfOk result (SaysAll poll.now lines.now) }
 {
-    push_opening(&mut findings.text, lines)?;
-    let signs = findings.add_all(poll, lines, steps, unended_line(lines, ended))?;
-    push_advice(&mut findings.text, poll, lines, ended, &signs, file)?;
-    push_totals(&mut findings.text, poll, lines, totals)
+    let mut findings = Findings::new(alloc, look_at(poll, lines));
+    push_file_lines(&mut findings.text, remarks)?;
+    findings.add_all(poll, lines, steps)?;
+    push_example_if(alloc, &mut findings.text, poll, has_bad_shape(steps))?;
+    push_totals(&mut findings.text, poll, lines, totals)?;
+    Ok(findings.text)
 }
 
-/// What is wrong with the lines of a ballot file: whether it looks like a poll; a line for each line that is refused, in their
-/// order, with the words that `steps` has for it and a hint; a ballot line as an example, if a line is of bad shape; how a table is
-/// brought in; what carriage returns are; and how many lines are valid and refused. `ended` says whether a line feed ends the last
-/// line too, and `file` the name of the file for a command that mends it, where it has one.
+/// What is wrong with the lines of a ballot file: what is remarked on the whole file; a line for each line that is refused, in their
+/// order, with the words that `steps` has for it and a hint; a ballot line as an example, if a line is of bad shape; and how many
+/// lines are valid and refused. `ended` says whether a line feed ends the last line too, and `file` the name of the file for a
+/// command that mends it, where it has one.
 pub fn explain_ballots(
     alloc: Global,
     poll: &Poll,
@@ -93,23 +134,15 @@ pub fn explain_ballots(
     ended: bool,
     file: Option<&str>,
 ) -> Result<Explained, AllocError>
-    ensures text { IfOk result (λ said. SaysAll poll.now lines.now ended (option_copied file.entry) said.text) }
+    ensures text { IfOk result (λ said. SaysAll poll.now lines.now said.text) }
     ensures refused { IfOk result (λ said. said.refused ≡ refused_count poll.now lines.now) }
 {
     let ballot_box = cast_all(alloc, poll, lines)?;
     let totals = totals_of(poll, lines, &ballot_box);
-    let mut findings = Findings::new(alloc);
-    push_explained(
-        &mut findings,
-        poll,
-        lines,
-        ended,
-        file,
-        ballot_box.steps(),
-        &totals,
-    )?;
+    let remarks = remarks_on_file(alloc, poll, lines, ended, file, ballot_box.steps())?;
+    let text = text_of(alloc, poll, lines, &remarks, ballot_box.steps(), &totals)?;
     Ok(Explained {
-        text: findings.text,
+        text,
         refused: totals.refused,
     })
 }
@@ -122,9 +155,4 @@ pub fn each_refusal_is_listed()
 /// A law: the box of `steps` refuses the lines that are listed, and no others, each with the reply that is told.
 pub fn refused_as_by_steps()
     ensures { RefusedAsBySteps }
-{}
-
-/// A law: the lines of a poll have one such text.
-pub fn findings_are_determined()
-    ensures { FindingsAreDetermined }
 {}

@@ -282,7 +282,7 @@ module _ (K : ℕ → Type 0) (m : Votes) (n : ℕ) (few : (o : ℕ) → K o →
   clone_law = (one_of_two, λ one. elim one [ inl first ↦ stays c (inl refl) first | inr second ↦ stays d (inr refl) second ])
 
 -- some option below a number is in two sets, or none is
-common : (set other : List Bool) (n : ℕ) → Meet set other ⊎ ((a : ℕ) → a < n → In set a → ¬ In other a)
+common : (set other : List Bool) (n : ℕ) → Meet set (In other) ⊎ ((a : ℕ) → a < n → In set a → ¬ In other a)
 common set other zero = inr (λ a less. absurd (omega arith))
 common set other (suc n) =
     elim (common set other n) [
@@ -306,13 +306,13 @@ module _ (K : ℕ → Type 0) (m : Votes) (n : ℕ) (few : (o : ℕ) → K o →
   outside a other k = (k, λ gone. other (within a gone))
 
   -- what is not refuted is so, of a set's having an option in common with the clones
-  meets : (set : List Bool) → ((a : ℕ) → In set a → K a) → ¬ (¬ Meet clones set) → Meet clones set
+  meets : (set : List Bool) → ((a : ℕ) → In set a → K a) → ¬ (¬ Meet clones (In set)) → Meet clones (In set)
   meets set kept h = elim (common clones set n) [ inl found ↦ found | inr none ↦ absurd (h (λ found. none found.0 (few found.0 (kept found.0 found.2)) found.1 found.2)) ]
 
   pub set_others_same : (x : ℕ) → ¬ In clones x → In (final_set rs) x ↔ In (final_set ss) x
   set_others_same = others m (In clones) (is_in clones) K (Outside K removed) (λ a l. l.0) outside set_alike n few c clone (are.members c clone, left) rs ss rounds fewer
 
-  pub set_law : Meet clones (final_set rs) ↔ Meet clones (final_set ss)
+  pub set_law : Meet clones (In (final_set rs)) ↔ Meet clones (In (final_set ss))
   set_law = (
     λ one. meets (final_set ss) (λ a i. (final_kept (Outside K removed) m (PairwiseDefeats (Outside K removed) m) ss fewer a i).0) (λ none.
         one_left m (In clones) (is_in clones) K (Outside K removed) (λ a l. l.0) outside set_alike n few c clone (are.members c clone, left) rs ss rounds fewer one.0 one.1 one.2

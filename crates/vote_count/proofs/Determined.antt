@@ -137,7 +137,7 @@ outcomes_same poll m w o u same is_o is_u =
     }
 
 -- whether an option is alone in a set is known
-alone_or_not : (set : List Bool) → ((o : ℕ) × IsAlone set o) ⊎ ((o : ℕ) → ¬ IsAlone set o)
+pub alone_or_not : (set : List Bool) → ((o : ℕ) × IsAlone set o) ⊎ ((o : ℕ) → ¬ IsAlone set o)
 alone_or_not set =
     elim (cases_eq (size set) 1) [
       | inl single ↦ let some = size_some set (omega arith) in inl (some.0, alone_from_size set some.0 some.1 single)

@@ -19,4 +19,7 @@ mod RunningLemmas
 pub mod Determined
 mod Filled
 pub mod Examples
+pub mod Tests
+pub mod Existence
 pub mod Left
+pub mod FinalSets

@@ -9,10 +9,36 @@ use Rattle.vote_count.specs.declared.rounds.Round.{Round}
 use Rattle.vote_count.specs.Ballots.{entry_prefers}
 use Rattle.vote_count.specs.declared.rounds.Decision.{Decision}
 use Rattle.vote_count.specs.declared.rounds.Decision.TheVariants.{Winner}
-use Rattle.vote_count.specs.Rounds.{AreRounds, AreSameRounds, IsByCasting, IsDecision, IsOutcome, VerdictState, cause_of, final_set}
-use Rattle.vote_count.specs.Rules.{IsKept, PairwiseDefeats, TransitivelyDefeats, IsWeaker}
+use Rattle.vote_count.specs.Rounds.{AreRounds, AreSameRounds, IsByCasting, IsDecision, IsInFinalSet, IsOutcome, VerdictState, cause_of, final_set}
+use Rattle.vote_count.specs.Rules.{IsKept, IsQuorum, PairwiseDefeats, TransitivelyDefeats, IsWeaker}
 use Rattle.vote_count.specs.Sets.{In, IsAlone, Pairs, size}
 use Rattle.vote_count.specs.Votes.{Votes, votes}
+
+-- A count has rounds: each of them but the last drops a defeat, so they end.
+abbrev pub RoundsExist : Type 0
+RoundsExist =
+    (poll : PollContent) (matrix : Votes) → 1 ≤ option_count poll →
+    let kept = IsKept poll matrix in
+    (rounds : List Round) × AreRounds kept matrix (PairwiseDefeats kept matrix) rounds
+
+-- A count comes to something: each matrix of votes has an outcome by each poll that has an option.
+abbrev pub OutcomesExist : Type 0
+OutcomesExist = (poll : PollContent) (matrix : Votes) → 1 ≤ option_count poll → (outcome : VerdictState) × IsOutcome poll matrix outcome
+
+-- Something is decided, whatever the final set and the casting vote.
+abbrev pub DecisionsExist : Type 0
+DecisionsExist = (set : List Bool) (casting : Option ℕ) → (decision : Decision) × IsDecision set casting decision
+
+-- Some number of votes is the fewest that meet the quorum.
+abbrev pub QuorumsExist : Type 0
+QuorumsExist = (poll : PollContent) → (votes : ℕ) × IsQuorum poll votes
+
+-- All rounds of a count have the same final set, of the options that the count leaves.
+abbrev pub FinalSetIsOne : Type 0
+FinalSetIsOne =
+    (poll : PollContent) (matrix : Votes) (rounds : List Round) →
+    let kept = IsKept poll matrix in
+    AreRounds kept matrix (PairwiseDefeats kept matrix) rounds → (o : ℕ) → In (final_set rounds) o ↔ IsInFinalSet kept matrix o
 
 -- two matrices have the same votes between so many options
 abbrev pub HaveSameVotes : ℕ → Votes → Votes → Type 0
@@ -38,18 +64,17 @@ DecisionsAreDetermined =
 
 -- A count always leaves an option: the final set is not empty.
 abbrev pub FinalSetIsNotEmpty : Type 0
-FinalSetIsNotEmpty =
-    (poll : PollContent) (matrix : Votes) (rounds : List Round) →
-    let kept = IsKept poll matrix in
-    AreRounds kept matrix (PairwiseDefeats kept matrix) rounds → (o : ℕ) × In (final_set rounds) o
+FinalSetIsNotEmpty = (poll : PollContent) (matrix : Votes) → 1 ≤ option_count poll → (o : ℕ) × IsInFinalSet (IsKept poll matrix) matrix o
+
+-- the set has just the options that a count leaves
+abbrev pub IsFinalSet : (ℕ → Type 0) → Votes → List Bool → Type 0
+IsFinalSet options matrix set = (o : ℕ) → In set o ↔ IsInFinalSet options matrix o
 
 -- So one option is left, and wins; or two or more are left, and the casting vote decides, or there is a tie.
 abbrev pub OneOrSeveralAreLeft : Type 0
 OneOrSeveralAreLeft =
-    (poll : PollContent) (matrix : Votes) (rounds : List Round) (casting : Option ℕ) (decision : Decision) →
-    let kept = IsKept poll matrix in
-    let set = final_set rounds in
-    AreRounds kept matrix (PairwiseDefeats kept matrix) rounds → IsDecision set casting decision →
+    (poll : PollContent) (matrix : Votes) (set : List Bool) (casting : Option ℕ) (decision : Decision) →
+    1 ≤ option_count poll → IsFinalSet (IsKept poll matrix) matrix set → IsDecision set casting decision →
     ((o : ℕ) × IsAlone set o × (decision ≡ Winner o)) ⊎ ((2 ≤ size set) × IsByCasting set casting decision)
 
 -- A winner is one of the options of the set, whether it is alone there or the casting vote chose it.
@@ -69,9 +94,9 @@ IsCondorcetWinner options matrix a = options a × ((b : ℕ) → options b → b
 -- A Condorcet winner of the options that are not dropped is alone in the final set.
 abbrev pub CondorcetWinnersWin : Type 0
 CondorcetWinnersWin =
-    (poll : PollContent) (matrix : Votes) (rounds : List Round) (winner : ℕ) →
+    (poll : PollContent) (matrix : Votes) (winner : ℕ) →
     let kept = IsKept poll matrix in
-    AreRounds kept matrix (PairwiseDefeats kept matrix) rounds → IsCondorcetWinner kept matrix winner → IsAlone (final_set rounds) winner
+    1 ≤ option_count poll → IsCondorcetWinner kept matrix winner → (o : ℕ) → IsInFinalSet kept matrix o ↔ (o ≡ winner)
 
 -- A set of options dominates: it is not empty, and each of its options defeats each option outside it.
 pub record IsDominant (options : ℕ → Type 0) (matrix : Votes) (set : List Bool) : Type 0 where
@@ -86,9 +111,9 @@ InSmithSet options matrix a = (set : List Bool) → IsDominant options matrix se
 -- Each option of the final set is in the Smith set of the options that are not dropped.
 abbrev pub FinalSetIsInSmithSet : Type 0
 FinalSetIsInSmithSet =
-    (poll : PollContent) (matrix : Votes) (rounds : List Round) (a : ℕ) →
+    (poll : PollContent) (matrix : Votes) (a : ℕ) →
     let kept = IsKept poll matrix in
-    AreRounds kept matrix (PairwiseDefeats kept matrix) rounds → In (final_set rounds) a → InSmithSet kept matrix a
+    IsInFinalSet kept matrix a → InSmithSet kept matrix a
 
 -- A has a chain of defeats to B, each of which is no weaker than the defeat (X,Y)
 abbrev pub ReachesBy : Votes → (ℕ → ℕ → Type 0) → ℕ → ℕ → ℕ → ℕ → Type 0
@@ -102,10 +127,9 @@ IsSchulzeWinner options matrix defeats a =
 -- The final set has exactly the options that win by Schulze's method, among those that are not dropped.
 abbrev pub FinalSetIsSchulze : Type 0
 FinalSetIsSchulze =
-    (poll : PollContent) (matrix : Votes) (rounds : List Round) (a : ℕ) →
+    (poll : PollContent) (matrix : Votes) (a : ℕ) →
     let kept = IsKept poll matrix in
-    let defeats = PairwiseDefeats kept matrix in
-    AreRounds kept matrix defeats rounds → In (final_set rounds) a ↔ IsSchulzeWinner kept matrix defeats a
+    1 ≤ option_count poll → IsInFinalSet kept matrix a ↔ IsSchulzeWinner kept matrix (PairwiseDefeats kept matrix) a
 
 -- Of so many options A is liked no less in the second matrix than in the first, and nothing else has changed: each other option has no more votes over A, and A no fewer over it; between other options the votes are the same.
 pub record IsRaised (options : ℕ) (a : ℕ) (matrix raised : Votes) : Type 0 where
@@ -116,12 +140,8 @@ pub record IsRaised (options : ℕ) (a : ℕ) (matrix raised : Votes) : Type 0 w
 -- Monotonicity: an option of the final set stays in it where it is liked more and nothing else changes.
 abbrev pub RaisedWinnersWin : Type 0
 RaisedWinnersWin =
-    (poll : PollContent) (matrix raised : Votes) (rounds raised_rounds : List Round) (a : ℕ) →
-    let kept = IsKept poll matrix in
-    let raised_kept = IsKept poll raised in
-    IsPoll poll → IsRaised (option_count poll) a matrix raised →
-    AreRounds kept matrix (PairwiseDefeats kept matrix) rounds → AreRounds raised_kept raised (PairwiseDefeats raised_kept raised) raised_rounds →
-    In (final_set rounds) a → In (final_set raised_rounds) a
+    (poll : PollContent) (matrix raised : Votes) (a : ℕ) →
+    IsPoll poll → IsRaised (option_count poll) a matrix raised → IsInFinalSet (IsKept poll matrix) matrix a → IsInFinalSet (IsKept poll raised) raised a
 
 -- Of so many options the second entry prefers A to whatever the first prefers it to, prefers nothing to A that the first does not, and prefers as the first does between other options.
 pub record IsRaisedEntry (options : ℕ) (a : ℕ) (entry raised : Option (List (Option ℕ))) : Type 0 where
@@ -156,11 +176,10 @@ Except options d a = options a × (a ≢ d)
 -- Independence of clones: without one of two clones, of the options that are not dropped, the final set has the same other options, and the other clone exactly where it had one of the two.
 abbrev pub FinalSetIsCloneproof : Type 0
 FinalSetIsCloneproof =
-    (poll : PollContent) (matrix : Votes) (rounds fewer : List Round) (c d : ℕ) →
-    let kept = IsKept poll matrix in
-    let less = Except kept d in
-    AreClones kept matrix c d → AreRounds kept matrix (PairwiseDefeats kept matrix) rounds → AreRounds less matrix (PairwiseDefeats less matrix) fewer →
-    ((x : ℕ) → x ≢ c → x ≢ d → In (final_set rounds) x ↔ In (final_set fewer) x) × (In (final_set fewer) c ↔ (In (final_set rounds) c ⊎ In (final_set rounds) d))
+    (poll : PollContent) (matrix : Votes) (c d : ℕ) →
+    let all = IsInFinalSet (IsKept poll matrix) matrix in
+    let fewer = IsInFinalSet (Except (IsKept poll matrix) d) matrix in
+    AreClones (IsKept poll matrix) matrix c d → ((x : ℕ) → x ≢ c → x ≢ d → all x ↔ fewer x) × (fewer c ↔ (all c ⊎ all d))
 
 -- Two of so many options are clones on an entry: it ranks no further option between the two, nor as high as one of them alone.
 pub record AreClonesOn (options : ℕ) (c d : ℕ) (entry : Option (List (Option ℕ))) : Type 0 where
@@ -186,18 +205,17 @@ abbrev pub Outside : (ℕ → Type 0) → List Bool → ℕ → Type 0
 Outside options set a = options a × ¬ In set a
 
 -- two sets have an option in common
-abbrev pub Meet : List Bool → List Bool → Type 0
-Meet set other = (a : ℕ) × In set a × In other a
+abbrev pub Meet : List Bool → (ℕ → Type 0) → Type 0
+Meet set other = (a : ℕ) × In set a × other a
 
 -- Independence of any number of clones: without some of a set of clones, but not without C of them, the final set has the same other options, and some of the clones exactly where it had some.
 abbrev pub CloneSetsAreIndependent : Type 0
 CloneSetsAreIndependent =
-    (poll : PollContent) (matrix : Votes) (rounds fewer : List Round) (clones removed : List Bool) (c : ℕ) →
-    let kept = IsKept poll matrix in
-    let less = Outside kept removed in
-    IsCloneSet kept matrix clones → ((a : ℕ) → In removed a → In clones a) → In clones c → ¬ In removed c →
-    AreRounds kept matrix (PairwiseDefeats kept matrix) rounds → AreRounds less matrix (PairwiseDefeats less matrix) fewer →
-    ((x : ℕ) → ¬ In clones x → In (final_set rounds) x ↔ In (final_set fewer) x) × (Meet clones (final_set rounds) ↔ Meet clones (final_set fewer))
+    (poll : PollContent) (matrix : Votes) (clones removed : List Bool) (c : ℕ) →
+    let all = IsInFinalSet (IsKept poll matrix) matrix in
+    let fewer = IsInFinalSet (Outside (IsKept poll matrix) removed) matrix in
+    IsCloneSet (IsKept poll matrix) matrix clones → ((a : ℕ) → In removed a → In clones a) → In clones c → ¬ In removed c →
+    ((x : ℕ) → ¬ In clones x → all x ↔ fewer x) × (Meet clones all ↔ Meet clones fewer)
 
 -- The options of a set, of so many, are clones on an entry: it ranks no option outside the set between two of them, nor as high as one of two alone.
 pub record IsCloneSetOn (options : ℕ) (clones : List Bool) (entry : Option (List (Option ℕ))) : Type 0 where
@@ -219,10 +237,9 @@ IsUnanimous a b ballots = All (λ entry. IfSome entry (λ ranks. IsTrue (prefers
 -- Pareto's criterion: an option to which each ballot prefers another that is not dropped is not in the final set.
 abbrev pub FinalSetIsPareto : Type 0
 FinalSetIsPareto =
-    (poll : PollContent) (ballots : List (Option (List (Option ℕ)))) (matrix : Votes) (rounds : List Round) (a b : ℕ) →
+    (poll : PollContent) (ballots : List (Option (List (Option ℕ)))) (matrix : Votes) (a b : ℕ) →
     let kept = IsKept poll matrix in
-    IsMatrixOf (option_count poll) ballots matrix → AreRounds kept matrix (PairwiseDefeats kept matrix) rounds →
-    kept a → a ≢ b → IsUnanimous a b ballots → ¬ In (final_set rounds) b
+    IsMatrixOf (option_count poll) ballots matrix → kept a → a ≢ b → IsUnanimous a b ballots → ¬ IsInFinalSet kept matrix b
 
 -- Examples to check by hand, of three defeats: 1 defeats 2 by 5 votes to 3, 3 defeats 4 by 5 to 2, and 5 defeats 6 by 4 to 0.
 pub record AreThreeDefeats (matrix : Votes) : Type 0 where

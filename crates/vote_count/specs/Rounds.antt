@@ -33,6 +33,10 @@ final_set [] = []
 final_set (round ∷ []) = round.set
 final_set (round ∷ next ∷ rest) = final_set (next ∷ rest)
 
+-- A count of these options leaves A: A is in the final set of its rounds. There are rounds, and they leave no choice, by the laws `Laws.RoundsExist` and `RoundsAreDetermined`.
+abbrev pub IsInFinalSet : (ℕ → Type 0) → Votes → ℕ → Type 0
+IsInFinalSet options matrix a = (rounds : List Round) × AreRounds options matrix (PairwiseDefeats options matrix) rounds × In (final_set rounds) a
+
 -- Why an option is dropped, if it is: by A.5.2 if it misses the quorum, whether or not it has its majority, and else by A.5.3.
 abbrev pub HasCause : PollContent → Votes → ℕ → Option Cause → Type 0
 HasCause poll matrix o None = IsKept poll matrix o

@@ -1,10 +1,35 @@
 //! Laws of the count. Each function does nothing: its contract is the law, and that is proved.
-ghost use Rattle.vote_count.specs.Laws.{BallotsAreAnonymous, CondorcetWinnersWin, FinalSetIsInSmithSet, FinalSetIsSchulze, RaisedWinnersWin, RaisedBallotsRaise, FinalSetIsCloneproof, ClonesOnBallotsAreClones, CloneSetsAreIndependent, CloneSetsOnBallotsAreCloneSets, FinalSetIsPareto, OutcomesAreDetermined, DecisionsAreDetermined, FinalSetIsNotEmpty, OneOrSeveralAreLeft, WeakerDefeatsAsInTheExamples, WinnersAreInTheSet};
+ghost use Rattle.vote_count.specs.Laws.{BallotsAreAnonymous, CondorcetWinnersWin, FinalSetIsInSmithSet, FinalSetIsSchulze, RaisedWinnersWin, RaisedBallotsRaise, FinalSetIsCloneproof, ClonesOnBallotsAreClones, CloneSetsAreIndependent, CloneSetsOnBallotsAreCloneSets, FinalSetIsPareto, OutcomesAreDetermined, DecisionsAreDetermined, FinalSetIsNotEmpty, OneOrSeveralAreLeft, RoundsExist, OutcomesExist, DecisionsExist, QuorumsExist, FinalSetIsOne, WeakerDefeatsAsInTheExamples, WinnersAreInTheSet};
 ghost use Rattle.vote_count.specs.Rounds.{RoundsAreDetermined};
 
 /// The rules leave no choice: two lists of rounds of the same poll and matrix are the same.
 pub fn rounds_are_determined()
     ensures { RoundsAreDetermined }
+{}
+
+/// Each count has rounds: each of them but the last drops a defeat, so they end.
+pub fn rounds_exist()
+    ensures { RoundsExist }
+{}
+
+/// Each count comes to something: whatever the matrix, there is an outcome.
+pub fn outcomes_exist()
+    ensures { OutcomesExist }
+{}
+
+/// Something is decided, whatever the final set and the casting vote.
+pub fn decisions_exist()
+    ensures { DecisionsExist }
+{}
+
+/// Some number of votes is the fewest that meet the quorum.
+pub fn quorums_exist()
+    ensures { QuorumsExist }
+{}
+
+/// All rounds of a count have the same final set, of which the laws below speak.
+pub fn final_set_is_one()
+    ensures { FinalSetIsOne }
 {}
 
 /// The outcome of a matrix depends on the votes between the poll's options alone, and these leave no choice in it.

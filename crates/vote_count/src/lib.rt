@@ -24,9 +24,11 @@
 //! [`final_set_is_in_smith_set`], [`final_set_is_schulze`], [`raised_winners_win`],
 //! [`raised_ballots_raise`], [`final_set_is_cloneproof`], [`clones_on_ballots_are_clones`],
 //! [`clone_sets_are_independent`], [`clone_sets_on_ballots_are_clone_sets`],
-//! [`final_set_is_pareto`]; and that the rules leave no choice: [`rounds_are_determined`],
-//! [`outcomes_are_determined`], [`decisions_are_determined`]. A count always leaves an option, or
-//! several: [`final_set_is_not_empty`], [`one_or_several_are_left`]. A winner is in the final set:
+//! [`final_set_is_pareto`]; that each count comes to something: [`rounds_exist`],
+//! [`outcomes_exist`], [`decisions_exist`], [`quorums_exist`]; and that the rules leave no choice:
+//! [`rounds_are_determined`], [`outcomes_are_determined`], [`decisions_are_determined`],
+//! [`final_set_is_one`]. A count always leaves an option, or several:
+//! [`final_set_is_not_empty`], [`one_or_several_are_left`]. A winner is in the final set:
 //! [`winners_are_in_the_set`].
 //!
 //! A set of options is a word of bits, and a list of defeats has one such word for each option.
@@ -44,10 +46,11 @@ mod tally;
 
 pub use laws::{
     ballots_are_anonymous, clone_sets_are_independent, clone_sets_on_ballots_are_clone_sets,
-    clones_on_ballots_are_clones, condorcet_winners_win, decisions_are_determined,
-    final_set_is_cloneproof, final_set_is_in_smith_set, final_set_is_not_empty,
+    clones_on_ballots_are_clones, condorcet_winners_win, decisions_are_determined, decisions_exist,
+    final_set_is_cloneproof, final_set_is_in_smith_set, final_set_is_not_empty, final_set_is_one,
     final_set_is_pareto, final_set_is_schulze, one_or_several_are_left, outcomes_are_determined,
-    raised_ballots_raise, raised_winners_win, rounds_are_determined, winners_are_in_the_set,
+    outcomes_exist, quorums_exist, raised_ballots_raise, raised_winners_win, rounds_are_determined,
+    rounds_exist, winners_are_in_the_set,
 };
 pub use options::{OptionSet, Word};
 pub use pairs::{Chains, Defeats, reach};

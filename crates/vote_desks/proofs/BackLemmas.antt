@@ -4,9 +4,9 @@ use Rattle.std.specs.List.{All, AllByRecursion, range_with_len, enumerate_from}
 use Rattle.std.proofs.lemmas.List.{length-map, map-append}
 use Rattle.std.proofs.lemmas.List.Elements.{All-from_recursion, All-push, recursion_from_All}
 use Rattle.std.proofs.lemmas.List.Sums.{sum_by_push, sum_by-cons}
-use Rattle.std.proofs.lemmas.List.FromFn.{length-range_with_len, get_or-range_with_len}
+use Rattle.std.proofs.lemmas.List.FromFn.{length-enumerate_from, length-range_with_len, get_or-range_with_len}
 use Rattle.std.specs.List.Sorted.{IsPermutation}
-use Rattle.std.proofs.lemmas.List.Sorted.{sum_by-IsPermutation, All-permutation}
+use Rattle.std.proofs.lemmas.List.Sorted.{sum_by-IsPermutation, All-permutation, length_permutation}
 use Rattle.vote_tray.specs.Passes.{TrayId, PassState, new_pass, joined}
 use Rattle.vote_desks_box.specs.declared.Slip.{Slip}
 use Rattle.vote_desks_box.specs.Slips.{Rises}
@@ -16,6 +16,7 @@ use Rattle.vote_steps.specs.Boxes.{BoxState, box_of}
 use Rattle.vote_steps.specs.HeldLines.{HasSizes}
 use Rattle.vote_desks.specs.Work.{IsFresh, IsUnused, HasCastAll, tray_and_parts}
 use Rattle.vote_desks.specs.Back.{AreBackFrom, AreHandedIn}
+use Rattle.vote_desks.specs.Workers.{numbers_of}
 
 range-more : (n m : ℕ) → range_with_len n (suc m) ≡ range_with_len n m ++ (n + m) ∷ []
 range-more n zero = let at : n + 0 ≡ n = omega arith in ap (λ k. k ∷ []) (sym at)
@@ -134,6 +135,15 @@ gathered_rise desks sheets same rising =
     let before : All P (paired desks) = All-from_recursion P (paired desks) (rise_paired desks (recursion_from_All (λ (d : DeskState). Rises d.slips) desks rising)) in
     let after : All P (enumerate_from 1 sheets) = All-permutation P (paired desks) (enumerate_from 1 sheets) same before in
     All-from_recursion Rises sheets (rise_numbered 1 sheets (recursion_from_All P (enumerate_from 1 sheets) after))
+
+pub gathered_long : (desks : List DeskState) (sheets : List (List Slip)) (count : ℕ) → IsPermutation (paired desks) (enumerate_from 1 sheets) → numbers_of desks ≡ range_with_len 1 count → length sheets ≡ count
+gathered_long desks sheets count same numbered =
+    sym (length-enumerate_from 1 sheets)
+    ∙ length_permutation (paired desks) (enumerate_from 1 sheets) same
+    ∙ length-map desks (λ (d : DeskState). (d.number, d.slips))
+    ∙ sym (length-map desks (λ (d : DeskState). d.number))
+    ∙ ap length numbered
+    ∙ length-range_with_len 1 count
 
 -- a box that was opened for a poll and its lines has their sizes
 pub has_sizes : (poll : PollContent) (lines : List (List ℕ)) (opened b : BoxState) (limit : ℕ) → limit ≡ length lines → opened ≡ box_of poll limit [] → IsLater opened b → HasSizes poll lines b

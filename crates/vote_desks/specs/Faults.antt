@@ -1,9 +1,10 @@
 -- Which faults can come where.
-use Rattle.std.specs.Prelude.{◌≡◌, ◌≢◌, ◌≤◌, ◌⊎◌, ℕ, Bool, List, IsTrue}
+use Rattle.std.specs.Prelude.{◌≡◌, ◌≢◌, ◌≤◌, ◌⊎◌, ℕ, Bool, List, All, IsTrue, length}
 use Rattle.vote_poll.specs.PollContent.{PollContent}
 use Rattle.vote_steps.specs.Boxes.{IsLegal}
 use Rattle.vote_desks_box.specs.declared.Slip.{Slip}
 use Rattle.vote_desks_box.specs.Desks.{SealedState}
+use Rattle.vote_desks_box.specs.Slips.{Rises}
 use Rattle.vote_desks_box.specs.declared.EnterFault.TheVariants.{StampUsed}
 use Rattle.vote_desks.specs.declared.fault.AuditFault.TheVariants.{SizeDiffers, CountDiffers}
 use Rattle.vote_desks.specs.declared.fault.VoteFault.{VoteFault}
@@ -55,6 +56,10 @@ IsAuditFaultOf poll lines s (Gate desk) = ⊥
 IsAuditFaultOf poll lines s (Enter desk fault) = ⊥
 IsAuditFaultOf poll lines s (Desk fault) = ⊥
 IsAuditFaultOf poll lines s (Audit fault) = IsFaultOf poll lines s.ballot_box s.sheets fault
+
+-- these are the sheets of so many desks, and the stamps of each rise
+abbrev pub AreSheetsOf : ℕ → List (List Slip) → Type 0
+AreSheetsOf desks sheets = (length sheets ≡ desks) × All Rises sheets
 
 -- if it is an audit's, the audit finds it in a legal box with sheets of this kind
 abbrev pub IsFoundIn : (List (List Slip) → Type 0) → PollContent → List (List ℕ) → VoteFault → Type 0

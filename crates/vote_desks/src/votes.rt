@@ -14,7 +14,7 @@ ghost use Rattle.vote_desks_box.specs.Desks.{AreSlipsInOrder, fresh_desks};
 ghost use Rattle.vote_desks.specs.Audit.{IsAuditedFor};
 ghost use Rattle.vote_desks.specs.Back.{AreAllHandedIn, AreBackFrom, casts_at};
 ghost use Rattle.vote_desks.specs.Stops.{stop_fault, IsLeastStop, StopsWorkers};
-ghost use Rattle.vote_desks.specs.Faults.{CanStopAudit, CanStopCasts, CanStopVotes, IsOfDesk, IsAuditFaultOf, IsFoundIn};
+ghost use Rattle.vote_desks.specs.Faults.{AreSheetsOf, CanStopAudit, CanStopCasts, CanStopVotes, IsOfDesk, IsAuditFaultOf, IsFoundIn};
 ghost use Rattle.vote_desks.specs.Work.{new_passes, tray_and_parts};
 ghost use Rattle.vote_desks.specs.Workers.{AreBarredBy, numbers_back, numbers_of, pairs_back, parts_back, stops_back};
 
@@ -258,7 +258,7 @@ fn serve<
     ensures desks { IfOk result (λ audited. length audited.sheets ≡ desks) }
     ensures rising { IfOk result (λ audited. All Rises audited.sheets) }
     ensures fault { IfErr result (CanStopVotes G.bars) }
-    ensures found { IfErr result (IsFoundIn (All Rises) poll.now lines.now) }
+    ensures found { IfErr result (IsFoundIn (AreSheetsOf desks) poll.now lines.now) }
     ensures desk { IfErr result (IsOfDesk desks) }
 {
     let limit = lines.len() as u32;
@@ -275,7 +275,7 @@ fn serve<
 ///
 /// If it returns Ok, the box is audited for the poll and its lines, there is a sheet for each desk, and the stamps of each sheet
 /// rise. An error is one of those that may stop votes with this gate, and if it names a desk, one of these desks. If it is an
-/// audit's, there is a legal box whose sheets rise, and in which the audit finds it.
+/// audit's, there is a legal box with a sheet for each desk, the sheets rise, and the audit finds it there.
 pub fn take_votes<G: Gate + Sync, R: Threads + Wait + Sync>(
     rt: &R,
     alloc: Global,
@@ -289,7 +289,7 @@ pub fn take_votes<G: Gate + Sync, R: Threads + Wait + Sync>(
     ensures desks { IfOk result (λ audited. length audited.sheets ≡ desks) }
     ensures rising { IfOk result (λ audited. All Rises audited.sheets) }
     ensures fault { IfErr result (CanStopVotes G.bars) }
-    ensures found { IfErr result (IsFoundIn (All Rises) poll.now lines.now) }
+    ensures found { IfErr result (IsFoundIn (AreSheetsOf desks) poll.now lines.now) }
     ensures desk { IfErr result (IsOfDesk desks) }
 {
     serve::<Brand, Brand, G, R>(

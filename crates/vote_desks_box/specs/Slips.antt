@@ -2,13 +2,10 @@
 use Rattle.std.specs.Prelude.{◌≡◌, ℕ, ◌+◌, ◌==◌, not, if◌then◌else◌, List, [], ◌∷◌, Option, Some, None, count_by, map}
 use Rattle.std.specs.List.{cons_option}
 use Rattle.std.specs.List.Sorted.{IsStrictlyIncreasing}
-use Rattle.vote_poll.specs.declared.Reading.{Reading}
 use Rattle.vote_desks_box.specs.declared.slip.Slip.{Slip}
-use Rattle.vote_steps.specs.declared.Reply.{Reply}
 use Rattle.vote_steps.specs.declared.Step.{Step}
 use Rattle.vote_steps.specs.declared.Step.TheVariants.{Cast, Close}
-use Rattle.vote_steps.specs.Boxes.{BoxState}
-use Rattle.vote_steps.specs.History.{is_valid, reply_to}
+use Rattle.vote_steps.specs.History.{is_valid}
 
 -- the slip that a step of this number gives a desk
 abbrev pub slip_of : ℕ → ℕ → Step → Option Slip
@@ -35,8 +32,3 @@ stamps_of sheet = map (λ slip. slip.stamp) sheet
 -- these slips are of envelopes that were cast in the order of their stamps
 abbrev pub Rises : List Slip → Type 0
 Rises sheet = IsStrictlyIncreasing (stamps_of sheet)
-
--- a reply that a box can give to an envelope with this stamp and this line, after whatever steps
-pub record CanReply (b : BoxState) (stamp : ℕ) (reading : Reading) (reply : Reply) : Type 0 where
-  pub steps : List Step
-  pub answered : reply ≡ reply_to b.last_in_time steps stamp reading

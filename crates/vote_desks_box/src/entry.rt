@@ -1,6 +1,6 @@
 //! Entering an envelope at a desk.
-ghost use Rattle.std.specs.Prelude.{◌≡◌, ◌≢◌, ◌+◌, ◌<◌, ◌↔◌, Err, IsTrue, IfOk, OnErr};
-ghost use Rattle.vote_steps.specs.Boxes.{HasUsed, IsOutOfRange};
+ghost use Rattle.std.specs.Prelude.{◌≡◌, ◌≢◌, ◌+◌, ◌<◌, ◌↔◌, Err, IsTrue, IfOk, OnErr, OnOk};
+ghost use Rattle.vote_steps.specs.Boxes.{HasUsed, IsLegal, IsOutOfRange};
 ghost use Rattle.vote_desks_box.specs.declared.fault.EnterFault.TheVariants.{Sizes, SheetFull, StampRange, StampUsed};
 ghost use Rattle.vote_desks_box.specs.Desks.{FitsBox, HasRoom, IsLater, next_slip, refused_by, valid_by, with_cast, with_slip};
 ghost use Rattle.vote_desks_box.specs.Entering.{LacksRoom, NoStamp, WasUsed};
@@ -23,6 +23,7 @@ pub fn enter<VL: Tally, RL: Tally>(
     ensures step { IfOk result (λ slip. held.new ≡ with_cast held.old desk.old reading slip) }
     ensures slip { IfOk result (λ slip. slip ≡ next_slip held.old.ballot_box stamp reading) }
     ensures noted { IfOk result (λ slip. desk.new ≡ with_slip desk.old slip) }
+    ensures legal { OnOk result (IsLegal held.old.ballot_box) }
 
     ensures sizes { (result ≡ Err Sizes) ↔ ¬ FitsBox held.old.ballot_box reading }
     ensures full { (result ≡ Err SheetFull) ↔ LacksRoom held.old.ballot_box desk.old reading }
@@ -51,6 +52,7 @@ fn cast_and_note<VL: Tally, RL: Tally>(
     ensures step { IfOk result (λ slip. held.new ≡ with_cast held.old desk.old reading slip) }
     ensures slip { IfOk result (λ slip. slip ≡ next_slip held.old.ballot_box stamp reading) }
     ensures noted { IfOk result (λ slip. desk.new ≡ with_slip desk.old slip) }
+    ensures legal { OnOk result (IsLegal held.old.ballot_box) }
     ensures tested { (result ≢ Err Sizes) × (result ≢ Err SheetFull) }
     ensures range { (result ≡ Err StampRange) ↔ IsOutOfRange held.old.ballot_box stamp }
     ensures used { (result ≡ Err StampUsed) ↔ HasUsed held.old.ballot_box stamp }

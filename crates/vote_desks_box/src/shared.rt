@@ -4,8 +4,7 @@ ghost use Rattle.vote_steps.specs.History.{is_closed};
 ghost use Rattle.vote_steps.specs.Boxes.{IsLegal, box_of};
 ghost use Rattle.vote_steps.specs.Desks.{AreDesks};
 ghost use Rattle.vote_desks_box.specs.declared.fault.EnterFault.TheVariants.{Sizes, SheetFull, StampRange};
-ghost use Rattle.vote_desks_box.specs.Slips.{CanReply};
-ghost use Rattle.vote_desks_box.specs.Answering.{CanClose, CanStand};
+ghost use Rattle.vote_desks_box.specs.Answering.{CanClose, CanNote, CanStand};
 ghost use Rattle.vote_desks_box.specs.Desks.{FitsBox, IsLater, fresh_desk, fresh_desks, shared_for, standing_in, with_close, with_slip};
 ghost use Rattle.vote_desks_box.specs.Entering.{LacksRoom, NoStamp};
 
@@ -145,7 +144,7 @@ impl<VL: Tally, RL: Tally> SharedBox<VL, RL> {
     ) -> Result<Slip, EnterFault>
         ensures noted { IfOk result (λ slip. desk.new ≡ with_slip desk.old slip) }
         ensures stamp { IfOk result (λ slip. slip.stamp ≡ stamp) }
-        ensures reply { IfOk result (λ slip. CanReply self.now.opened stamp reading slip.reply) }
+        ensures slip { IfOk result (CanNote self.now.opened stamp reading) }
         ensures sizes { (result ≡ Err Sizes) ↔ ¬ FitsBox self.now.opened reading }
         ensures full { (result ≡ Err SheetFull) ↔ LacksRoom self.now.opened desk.old reading }
         ensures range { (result ≡ Err StampRange) ↔ NoStamp self.now.opened desk.old stamp reading }

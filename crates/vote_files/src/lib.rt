@@ -8,6 +8,8 @@
 //!   device failed, more came than the limit, or memory ran out. [`read_all`] does so for a reader of std.
 //! - [`write_text`] writes a text, all of it and nothing else, and flushes it; if it can't, a prefix of the text is
 //!   written.
+//! - [`Sources`] are files that are read by their names, and [`StandardInput`] is read whole. Those of the system are lent as
+//!   [`ReadableFiles`] and [`ReadableInput`]: who has one can read, and do nothing else.
 //! - [`ReaderSource`] and [`WriterSink`] are devices over std's readers and writers. They count by a [`Meter`], which only
 //!   contracts see: it takes no memory and no time.
 //!
@@ -18,6 +20,7 @@ mod device;
 mod input;
 mod meter;
 mod output;
+mod readable;
 mod sources;
 mod standard;
 
@@ -25,5 +28,6 @@ pub use device::{DeviceFault, Sink, Source};
 pub use input::{ReadFault, read_limited};
 pub use meter::Meter;
 pub use output::write_text;
-pub use sources::{Sources, SystemSources};
+pub use readable::{ReadableFiles, ReadableInput};
+pub use sources::{Sources, StandardInput};
 pub use standard::{ReaderSource, WriterSink, read_all};

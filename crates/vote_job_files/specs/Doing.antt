@@ -7,7 +7,7 @@ use Rattle.vote_work.specs.declared.Listing.TheVariants as listing
 use Rattle.vote_work.specs.declared.Work.TheVariants as work
 use Rattle.vote_job_words.specs.Order.{Task}
 use Rattle.vote_jobs.specs.Joined.{AreParts}
-use Rattle.vote_jobs.specs.Performing.{Job, Performs}
+use Rattle.vote_jobs.specs.Performing.{Job, Performs, TellsNoBox}
 use Rattle.vote_jobs.specs.declared.InputFile.TheVariants as file
 use Rattle.vote_jobs.specs.declared.Performed.{Performed}
 use Rattle.vote_jobs.specs.declared.RunFault.{RunFault}
@@ -26,9 +26,10 @@ pub record Written : Type 0 where
 abbrev pub written_by : {S : Type 0} → (S → Option (List ℕ)) → (S → Bool) → S → S → Written
 written_by contents flushed old new = record { old = contents old; new = contents new; flushed = flushed new }
 
--- a file was not read, for this fault, and nothing is written
+-- a file was not read, for this fault, and nothing is written, nor a box told
 abbrev pub StopsUnread : (RunFault → Type 0) → Written → Performed → Type 0
-StopsUnread IsFault written performed = (fault : RunFault) × (performed.end ≡ Err fault) × IsFault fault × Keeps written.old written.new
+StopsUnread IsFault written performed =
+    (fault : RunFault) × (performed.end ≡ Err fault) × IsFault fault × Keeps written.old written.new × TellsNoBox performed
 
 -- the job is done, with no gate that may stop a desk; if it comes to its end, what it wrote is passed on
 abbrev pub IsDone : Job → Written → Performed → Type 0

@@ -1,6 +1,6 @@
 //! What the program answers to its words: the exit status, and what it writes.
 
-ghost use Rattle.std.specs.Prelude.{◌≡◌, ◌<◌, ◌↔◌, length};
+ghost use Rattle.std.specs.Prelude.{◌≡◌, ◌<◌, ◌↔◌, None, Some, length};
 ghost use Rattle.vote_job_words.specs.Words.{texts_of};
 ghost use Rattle.vote_job_files.specs.Answering.{AnswersJoined, AnswersWorded, AnswersWords};
 ghost use Rattle.vote_job_files.specs.Doing.{written_by};
@@ -8,9 +8,10 @@ ghost use Rattle.vote_job_files.specs.WordStatus.{order_status};
 
 use crate::doing::{carry_out, print_joined};
 use crate::ending::{order_status, report};
+use crate::note::StatusNote;
 use std::sync::Wait;
 use std::thread::Threads;
-use vote_files::{Sink, Sources, write_text};
+use vote_files::{Sink, Sources, StandardInput, write_text};
 use vote_job_words::{OrderFault, order};
 use vote_jobs::RunFault;
 
@@ -50,37 +51,63 @@ fn answer_no_task<W: Sink, R: Eprint>(rt: &R, fault: &OrderFault, sink: &mut W) 
 /// Answers words: does the task that they ask for, or says why they are none; and gives the exit status.
 fn answer_words<S: Sources, W: Sink, R: Eprint + AllocGlobal + Threads + Wait + Sync>(
     rt: &R,
-    sources: &S,
+    files: &S,
     words: &[&str],
     sink: &mut W,
 ) -> u8
-    ensures answers { AnswersWorded (S.file_bytes sources.now) (texts_of words.now) (written_by W.contents W.flushed sink.old sink.new) result }
+    ensures answers { AnswersWorded (S.file_bytes files.now) (texts_of words.now) (written_by W.contents W.flushed sink.old sink.new) result }
     ensures output { (result ≡ 7) ↔ (W.faults sink.old < W.faults sink.new) }
 {
     match order(rt.alloc(), words) {
-        Ok(task) => report(rt, &carry_out(rt, rt.alloc(), sources, &task, sink).end),
+        Ok(task) => report(rt, &carry_out(rt, rt.alloc(), files, &task, sink).end),
         Err(fault) => answer_no_task(rt, &fault, sink),
     }
 }
 
-/// Answers the words after the program's name, or without any a joined input; and gives the exit status.
-pub fn answer<S: Sources, W: Sink, R: Eprint + AllocGlobal + Threads + Wait + Sync>(
-    rt: &R,
-    sources: &S,
-    words: &[&str],
-    at_terminal: bool,
-    sink: &mut W,
-) -> u8
-    ensures alone { length words.now ≡ 0 → AnswersJoined (S.standard_bytes sources.now) (written_by W.contents W.flushed sink.old sink.new) result }
+/// Answers words, or without any a joined input; and gives the exit status.
+fn answer_either<
+    S: Sources,
+    I: StandardInput,
+    W: Sink,
+    R: Eprint + AllocGlobal + Threads + Wait + Sync,
+>(rt: &R, files: &S, input: &I, words: &[&str], at_terminal: bool, sink: &mut W) -> u8
+    ensures alone { length words.now ≡ 0 → AnswersJoined (I.standard_bytes input.now) (written_by W.contents W.flushed sink.old sink.new) result }
     ensures worded { 0 < length words.now
-        → AnswersWorded (S.file_bytes sources.now) (texts_of words.now) (written_by W.contents W.flushed sink.old sink.new) result }
+        → AnswersWorded (S.file_bytes files.now) (texts_of words.now) (written_by W.contents W.flushed sink.old sink.new) result }
     ensures output { (result ≡ 7) ↔ (W.faults sink.old < W.faults sink.new) }
 {
     if !words.is_empty() {
-        return answer_words(rt, sources, words, sink);
+        return answer_words(rt, files, words, sink);
     }
     if at_terminal {
         let _ = eprintln!(rt; "debvote: {TERMINAL_HINT}");
     }
-    report(rt, &print_joined(rt, rt.alloc(), sources, sink).end)
+    report(rt, &print_joined(rt, rt.alloc(), input, sink).end)
+}
+
+/// Answers the words after the program's name, or without any a joined input; and gives the exit status, which it notes.
+pub fn answer<
+    S: Sources,
+    I: StandardInput,
+    W: Sink,
+    R: Eprint + AllocGlobal + Threads + Wait + Sync,
+>(
+    rt: &R,
+    files: &S,
+    input: &I,
+    words: &[&str],
+    at_terminal: bool,
+    note: &mut StatusNote,
+    sink: &mut W,
+) -> u8
+    requires unanswered { note.old ≡ None }
+    ensures alone { length words.now ≡ 0 → AnswersJoined (I.standard_bytes input.now) (written_by W.contents W.flushed sink.old sink.new) result }
+    ensures worded { 0 < length words.now
+        → AnswersWorded (S.file_bytes files.now) (texts_of words.now) (written_by W.contents W.flushed sink.old sink.new) result }
+    ensures output { (result ≡ 7) ↔ (W.faults sink.old < W.faults sink.new) }
+    ensures noted { note.new ≡ Some result }
+{
+    let status = answer_either(rt, files, input, words, at_terminal, sink);
+    note.write(status);
+    status
 }

@@ -2,6 +2,7 @@
 
 ghost use Rattle.std.specs.Prelude.{◌≡◌, ◌<◌, ◌↔◌, Err, IsErrOf};
 ghost use Rattle.vote_work.specs.Asked.{DesksFit};
+ghost use Rattle.vote_jobs.specs.Performing.{TellsNoBox};
 ghost use Rattle.vote_job_files.specs.Doing.{EndsJoined, EndsTask, IsTaskDone, written_by};
 
 use crate::inputs::{Inputs, read_inputs, read_joined};
@@ -10,14 +11,15 @@ use std::alloc::Global;
 use std::sync::Wait;
 use std::thread::Threads;
 use vote_desks::NoGate;
-use vote_files::{Sink, Sources};
+use vote_files::{Sink, Sources, StandardInput};
 use vote_job_words::Task;
 use vote_jobs::{Performed, RunFault, perform, split_joined};
 use vote_work::{Listing, Work};
 
 /// How a run ends whose inputs were not all read.
 fn unread(fault: RunFault) -> Performed
-    ensures { result.end ≡ Err fault }
+    ensures end { result.end ≡ Err fault }
+    ensures none { TellsNoBox result }
 {
     Performed {
         end: Err(fault),
@@ -47,15 +49,15 @@ fn do_job<W: Sink, R: Threads + Wait + Sync>(
 pub fn carry_out<S: Sources, W: Sink, R: Threads + Wait + Sync>(
     rt: &R,
     alloc: Global,
-    sources: &S,
+    files: &S,
     task: &Task<'_>,
     sink: &mut W,
 ) -> Performed
     requires { DesksFit task.now }
-    ensures ends { EndsTask (S.file_bytes sources.now) task.now (written_by W.contents W.flushed sink.old sink.new) result }
+    ensures ends { EndsTask (S.file_bytes files.now) task.now (written_by W.contents W.flushed sink.old sink.new) result }
     ensures output { IsErrOf result.end RunFault.Output ↔ (W.faults sink.old < W.faults sink.new) }
 {
-    let inputs = match read_inputs(sources, alloc, task) {
+    let inputs = match read_inputs(files, alloc, task) {
         Ok(inputs) => inputs,
         Err(fault) => return unread(fault),
     };
@@ -63,20 +65,20 @@ pub fn carry_out<S: Sources, W: Sink, R: Threads + Wait + Sync>(
 }
 
 /// Writes the reply to each ballot of standard input, a poll and its ballots joined by a line `%%`.
-pub fn print_joined<S: Sources, W: Sink, R: Threads + Wait + Sync>(
+pub fn print_joined<I: StandardInput, W: Sink, R: Threads + Wait + Sync>(
     rt: &R,
     alloc: Global,
-    sources: &S,
+    input: &I,
     sink: &mut W,
 ) -> Performed
-    ensures ends { EndsJoined (S.standard_bytes sources.now) (written_by W.contents W.flushed sink.old sink.new) result }
+    ensures ends { EndsJoined (I.standard_bytes input.now) (written_by W.contents W.flushed sink.old sink.new) result }
     ensures output { IsErrOf result.end RunFault.Output ↔ (W.faults sink.old < W.faults sink.new) }
 {
-    let input = match read_joined(sources, alloc) {
-        Ok(input) => input,
+    let text = match read_joined(input, alloc) {
+        Ok(text) => text,
         Err(fault) => return unread(fault),
     };
-    let (poll, ballots) = split_joined(input.as_slice());
+    let (poll, ballots) = split_joined(text.as_slice());
     let job = Work::List {
         poll,
         ballots,

@@ -9,7 +9,7 @@ ghost use Rattle.vote_job_files.specs.Jobs.{AreReadOf};
 ghost use Rattle.vote_job_files.specs.Unread.{IsOneUnread, IsUnread};
 
 use std::alloc::Global;
-use vote_files::{ReadFault, Sources};
+use vote_files::{ReadFault, Sources, StandardInput};
 use vote_job_words::Task;
 use vote_jobs::{InputFile, RunFault, unread};
 
@@ -38,33 +38,29 @@ fn of_file(file: InputFile, read: Result<Vec<u8>, ReadFault>) -> Result<Vec<u8>,
 
 /// All bytes of a task's poll file.
 #[tactic(auto, using(crate::proofs::OnFiles::is_unread))]
-fn read_poll<S: Sources>(sources: &S, alloc: Global, task: &Task<'_>) -> Result<Vec<u8>, RunFault>
-    ensures whole { IfOk result (λ bytes. IsWhole (S.file_bytes sources.now (poll_file task.now).now) bytes.items) }
+fn read_poll<S: Sources>(files: &S, alloc: Global, task: &Task<'_>) -> Result<Vec<u8>, RunFault>
+    ensures whole { IfOk result (λ bytes. IsWhole (S.file_bytes files.now (poll_file task.now).now) bytes.items) }
     ensures within { IfOk result (λ bytes. vec_len bytes ≤ POLL_LIMIT) }
-    ensures fault { IfErr result (IsUnread InputFile.Poll (S.file_bytes sources.now (poll_file task.now).now) POLL_LIMIT) }
+    ensures fault { IfErr result (IsUnread InputFile.Poll (S.file_bytes files.now (poll_file task.now).now) POLL_LIMIT) }
 {
     of_file(
         InputFile::Poll,
-        sources.read_file(alloc, task.poll(), POLL_LIMIT),
+        files.read_file(alloc, task.poll(), POLL_LIMIT),
     )
 }
 
 /// All bytes of a task's ballot file, or none if it names none.
 #[tactic(auto, using(crate::proofs::OnFiles::is_unread))]
-fn read_ballots<S: Sources>(
-    sources: &S,
-    alloc: Global,
-    task: &Task<'_>,
-) -> Result<Vec<u8>, RunFault>
-    ensures whole { IfOk result (λ bytes. IfSome (ballot_file task.now) (λ name. IsWhole (S.file_bytes sources.now name.now) bytes.items)) }
+fn read_ballots<S: Sources>(files: &S, alloc: Global, task: &Task<'_>) -> Result<Vec<u8>, RunFault>
+    ensures whole { IfOk result (λ bytes. IfSome (ballot_file task.now) (λ name. IsWhole (S.file_bytes files.now name.now) bytes.items)) }
     ensures within { IfOk result (λ bytes. vec_len bytes ≤ BALLOTS_LIMIT) }
     ensures unnamed { ¬ IsSome (ballot_file task.now) → IfOk result (λ bytes. bytes.items ≡ []) }
-    ensures fault { IfErr result (λ fault. IsSomeAnd (ballot_file task.now) (λ name. IsUnread InputFile.Ballots (S.file_bytes sources.now name.now) BALLOTS_LIMIT fault)) }
+    ensures fault { IfErr result (λ fault. IsSomeAnd (ballot_file task.now) (λ name. IsUnread InputFile.Ballots (S.file_bytes files.now name.now) BALLOTS_LIMIT fault)) }
 {
     match task.ballots() {
         Some(name) => of_file(
             InputFile::Ballots,
-            sources.read_file(alloc, name, BALLOTS_LIMIT),
+            files.read_file(alloc, name, BALLOTS_LIMIT),
         ),
         None => Ok(Vec::new(alloc)),
     }
@@ -72,17 +68,14 @@ fn read_ballots<S: Sources>(
 
 /// All bytes of the published sheet that a task compares, or none if it compares none.
 #[tactic(auto, using(crate::proofs::OnFiles::is_unread))]
-fn read_sheet<S: Sources>(sources: &S, alloc: Global, task: &Task<'_>) -> Result<Vec<u8>, RunFault>
-    ensures whole { IfOk result (λ bytes. IfSome (sheet_file task.now) (λ name. IsWhole (S.file_bytes sources.now name.now) bytes.items)) }
+fn read_sheet<S: Sources>(files: &S, alloc: Global, task: &Task<'_>) -> Result<Vec<u8>, RunFault>
+    ensures whole { IfOk result (λ bytes. IfSome (sheet_file task.now) (λ name. IsWhole (S.file_bytes files.now name.now) bytes.items)) }
     ensures within { IfOk result (λ bytes. vec_len bytes ≤ SHEET_LIMIT) }
     ensures unnamed { ¬ IsSome (sheet_file task.now) → IfOk result (λ bytes. bytes.items ≡ []) }
-    ensures fault { IfErr result (λ fault. IsSomeAnd (sheet_file task.now) (λ name. IsUnread InputFile.Sheet (S.file_bytes sources.now name.now) SHEET_LIMIT fault)) }
+    ensures fault { IfErr result (λ fault. IsSomeAnd (sheet_file task.now) (λ name. IsUnread InputFile.Sheet (S.file_bytes files.now name.now) SHEET_LIMIT fault)) }
 {
     match task.sheet() {
-        Some(name) => of_file(
-            InputFile::Sheet,
-            sources.read_file(alloc, name, SHEET_LIMIT),
-        ),
+        Some(name) => of_file(InputFile::Sheet, files.read_file(alloc, name, SHEET_LIMIT)),
         None => Ok(Vec::new(alloc)),
     }
 }
@@ -97,27 +90,27 @@ pub struct Inputs {
 
 /// Reads the files of a task: the poll, then the ballots, then a published sheet.
 pub fn read_inputs<S: Sources>(
-    sources: &S,
+    files: &S,
     alloc: Global,
     task: &Task<'_>,
 ) -> Result<Inputs, RunFault>
-    ensures files { IfOk result (λ inputs. AreReadOf (S.file_bytes sources.now) task.now inputs) }
+    ensures files { IfOk result (λ inputs. AreReadOf (S.file_bytes files.now) task.now inputs) }
     ensures poll { IfOk result (λ inputs. vec_len inputs.poll ≤ POLL_LIMIT) }
     ensures ballots { IfOk result (λ inputs. vec_len inputs.ballots ≤ BALLOTS_LIMIT) }
     ensures sheet { IfOk result (λ inputs. vec_len inputs.sheet ≤ SHEET_LIMIT) }
     ensures no_ballots { ¬ IsSome (ballot_file task.now) → IfOk result (λ inputs. inputs.ballots.items ≡ []) }
     ensures no_sheet { ¬ IsSome (sheet_file task.now) → IfOk result (λ inputs. inputs.sheet.items ≡ []) }
-    ensures fault { IfErr result (IsOneUnread (S.file_bytes sources.now) task.now) }
+    ensures fault { IfErr result (IsOneUnread (S.file_bytes files.now) task.now) }
 {
-    let poll = match read_poll(sources, alloc, task) {
+    let poll = match read_poll(files, alloc, task) {
         Ok(poll) => poll,
         Err(fault) => return Err(fault),
     };
-    let ballots = match read_ballots(sources, alloc, task) {
+    let ballots = match read_ballots(files, alloc, task) {
         Ok(ballots) => ballots,
         Err(fault) => return Err(fault),
     };
-    let sheet = match read_sheet(sources, alloc, task) {
+    let sheet = match read_sheet(files, alloc, task) {
         Ok(sheet) => sheet,
         Err(fault) => return Err(fault),
     };
@@ -130,13 +123,13 @@ pub fn read_inputs<S: Sources>(
 
 /// All bytes of standard input, a joined input. One that can't be read is as a ballot file that can't be.
 #[tactic(auto, using(crate::proofs::OnFiles::is_unread))]
-pub fn read_joined<S: Sources>(sources: &S, alloc: Global) -> Result<Vec<u8>, RunFault>
-    ensures whole { IfOk result (λ bytes. IsWhole (S.standard_bytes sources.now) bytes.items) }
+pub fn read_joined<I: StandardInput>(input: &I, alloc: Global) -> Result<Vec<u8>, RunFault>
+    ensures whole { IfOk result (λ bytes. IsWhole (I.standard_bytes input.now) bytes.items) }
     ensures within { IfOk result (λ bytes. vec_len bytes ≤ JOINED_LIMIT) }
-    ensures fault { IfErr result (IsUnread InputFile.Ballots (S.standard_bytes sources.now) JOINED_LIMIT) }
+    ensures fault { IfErr result (IsUnread InputFile.Ballots (I.standard_bytes input.now) JOINED_LIMIT) }
 {
     of_file(
         InputFile::Ballots,
-        sources.read_standard_input(alloc, JOINED_LIMIT),
+        input.read_standard_input(alloc, JOINED_LIMIT),
     )
 }

@@ -1,7 +1,8 @@
 //! The program between its words and its output: a task of the command line with the files that it names, or a joined input.
 //!
-//! - [`answer`] is the one call that the program makes: it answers the words after the program's name, over any
-//!   [`Sources`](vote_files::Sources) and any [`Sink`](vote_files::Sink), and gives the exit status.
+//! - [`answer`] is the one call that the program makes: it answers the words after the program's name, over any files
+//!   ([`Sources`](vote_files::Sources)), any [`StandardInput`](vote_files::StandardInput) and any [`Sink`](vote_files::Sink), and
+//!   gives the exit status, which it notes for contracts ([`StatusNote`]).
 //! - [`carry_out`] reads the files that a task names, whole and up to their limits ([`read_inputs`]), and does its job
 //!   ([`job_of`]); [`print_joined`] does so for standard input ([`read_joined`]).
 //! - [`report`] says on standard error why a run did not come to its end, and gives the exit status; [`refuse`] does so for words
@@ -19,10 +20,12 @@ mod doing;
 mod ending;
 mod inputs;
 pub mod laws;
+mod note;
 mod tasks;
 
 pub use answering::{answer, refuse};
 pub use doing::{carry_out, print_joined};
 pub use ending::{order_status, report};
 pub use inputs::{Inputs, read_inputs, read_joined};
+pub use note::StatusNote;
 pub use tasks::job_of;

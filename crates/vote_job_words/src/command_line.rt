@@ -1,7 +1,6 @@
 //! The command line.
 
-ghost use Rattle.std.specs.Prelude.{◌≡◌, ◌≢◌, ℕ, IfErr, IfNone, IfOk, IfSome, OnOk, [], codes, false, option_copied};
-ghost use Rattle.clap.specs.Faults.{fault_of};
+ghost use Rattle.std.specs.Prelude.{◌≡◌, ◌≢◌, ℕ, IfErr, IfNone, IfOk, IfSome, codes, false, option_copied};
 ghost use Rattle.clap.specs.Values.{kind_of};
 ghost use Rattle.clap.specs.declared.builder.command.Command.TheViews.{out-Command as fields_of};
 ghost use Rattle.clap.specs.Words.{app_of, first_of, found_of, rows_of, rule_of, subcommand_rows_of};
@@ -432,7 +431,6 @@ fn order_of<'a>(
     ensures desks { IfOk result DesksFit }
     ensures ok { IfOk result (AskFor (texts_of words.entry.now)) }
     ensures no_task { IfErr result (AreNoTask (texts_of words.entry.now)) }
-    ensures accepted { OnOk result (fault_of debvote_command (texts_of words.entry.now) ≡ []) }
 {
     let matches = match command.try_get_matches_from_mut(words) {
         Ok(matches) => matches,
@@ -449,7 +447,6 @@ pub fn order<'a>(alloc: Global, words: &'a [&'a str]) -> Result<Task<'a>, OrderF
     ensures desks { IfOk result DesksFit }
     ensures ok { IfOk result (AskFor (texts_of words.entry.now)) }
     ensures no_task { IfErr result (AreNoTask (texts_of words.entry.now)) }
-    ensures accepted { OnOk result (fault_of debvote_command (texts_of words.entry.now) ≡ []) }
 {
     match debvote_command(alloc) {
         Ok(mut command) => order_of(alloc, &mut command, words),

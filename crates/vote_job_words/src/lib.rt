@@ -16,4 +16,4 @@ mod command_line;
 pub use command_line::{OrderFault, Task, order};
 
 /// The version of the program, as `debvote --version` says it.
-pub const VERSION: &str = "1.1.0";
+pub const VERSION: &str = "2.0.0";

@@ -1,14 +1,17 @@
 -- Which fault stops a run, and that what was looked for before does not.
-use Rattle.std.proofs.Common.{◌≡◌, ◌≢◌, ℕ, Bool, Option, Some, None, Result, Ok, Err, inl, inr, refl, subst, ◌∙◌}
+use Rattle.std.proofs.Common.{◌≡◌, ◌≢◌, ℕ, Bool, List, Option, Some, None, Result, Ok, Err, inl, inr, refl, subst, sym, ◌∙◌}
 use Rattle.std.specs.Result.{result_err}
 use Rattle.vote_poll.specs.PollContent.{PollContent}
 use Rattle.vote_poll.specs.PollFile.{poll_in}
 use Rattle.vote_poll_keys.specs.Keys.{Fails}
 use Rattle.vote_poll_keys.specs.declared.fault.PollFault.{PollFault}
 use Rattle.vote_poll_keys.specs.declared.fault.PollFault.TheVariants as poll_fault
-use Rattle.vote_poll_text.specs.Lines.{HasTooManyLines}
+use Rattle.vote_poll_text.specs.Lines.{HasTooManyLines, lines_of}
 use Rattle.vote_poll_text.specs.declared.lines.LinesFault.{LinesFault}
 use Rattle.vote_poll_text.specs.declared.lines.LinesFault.TheVariants as lines_fault
+use Rattle.vote_desks.specs.Faults.{AreSheetsOf, CanStopVotes, IsFoundIn, IsOfDesk}
+use Rattle.vote_desks.specs.declared.VoteFault.{VoteFault}
+use Rattle.vote_desks.specs.declared.VoteFault.TheVariants as vote
 use Rattle.vote_sheet.specs.Texts.{Text}
 use Rattle.vote_jobs.specs.Counting.{NamesNoOption, StopsCount}
 use Rattle.vote_jobs.specs.Inputs.{Inputs}
@@ -16,7 +19,7 @@ use Rattle.vote_jobs.specs.Reading.{GivesNoLines, GivesNoPoll}
 use Rattle.vote_jobs.specs.Runs.{Runs, Stops, StopsAtLines, StopsAtPoll, Tells, Writes}
 use Rattle.vote_jobs.specs.Taking.{AreTaken, StopsTaking}
 use Rattle.vote_jobs.specs.Told.{Told}
-use Rattle.vote_jobs.specs.Words.{lines_refused, poll_refused}
+use Rattle.vote_jobs.specs.Words.{lines_refused, poll_refused, votes_stopped}
 use Rattle.vote_jobs.specs.declared.fault.Ended.{Ended}
 use Rattle.vote_jobs.specs.declared.fault.RunFault.{RunFault}
 use Rattle.vote_jobs.specs.declared.fault.RunFault.TheVariants as run
@@ -53,6 +56,20 @@ count_without_poll bars inputs fault refused =
 pub count_without_option : (bars : ℕ → Bool) (inputs : Inputs) (poll : PollContent) → poll_in inputs.poll ≡ Ok poll → NamesNoOption poll inputs.casting
     → StopsTaking bars inputs run.NoSuchOption
 count_without_option bars inputs poll meant none = record { stops = rw meant (inl (none, refl)); unwritten = λ same. cc }
+
+-- no other fault than want of memory is told as that of the votes
+stopped_by : (bars : ℕ → Bool) (inputs : Inputs) (poll : PollContent) (fault : VoteFault) → poll_in inputs.poll ≡ Ok poll → ¬ NamesNoOption poll inputs.casting → ¬ HasTooManyLines inputs.ballots
+    → CanStopVotes bars fault → IsOfDesk inputs.desks fault → IsFoundIn (AreSheetsOf inputs.desks) poll (lines_of inputs.ballots) fault → StopsTaking bars inputs (votes_stopped fault)
+stopped_by bars inputs poll vote.Memory meant one few can desk found = record { stops = tt; unwritten = λ same. cc }
+stopped_by bars inputs poll fault meant one few can desk found =
+    record { stops = rw meant (inr (one, inr (few, (λ same. cc, can, desk, found)))); unwritten = λ same. cc }
+
+pub count_without_votes : (bars : ℕ → Bool) (inputs : Inputs) (poll : PollContent) (lines : List Text) (fault : VoteFault) (told : RunFault)
+    → poll_in inputs.poll ≡ Ok poll → ¬ NamesNoOption poll inputs.casting → ¬ HasTooManyLines inputs.ballots → lines ≡ lines_of inputs.ballots
+    → CanStopVotes bars fault → IsOfDesk inputs.desks fault → IsFoundIn (AreSheetsOf inputs.desks) poll lines fault → told ≡ votes_stopped fault → StopsTaking bars inputs told
+count_without_votes bars inputs poll lines fault told meant one few same can desk found is =
+    subst (StopsTaking bars inputs) (sym is)
+    (stopped_by bars inputs poll fault meant one few can desk (subst (λ all. IsFoundIn (AreSheetsOf inputs.desks) poll all fault) same found))
 
 -- nothing stops a count whose votes are taken
 pub count_goes_through : (bars : ℕ → Bool) (inputs : Inputs) (taken : Taken) → AreTaken inputs taken → StopsCount bars inputs None

@@ -11,7 +11,7 @@ use Rattle.vote_poll.specs.PollFile.{poll_in}
 use Rattle.vote_desks_box.specs.Desks.{SealedState}
 use Rattle.vote_desks_box.specs.Slips.{Rises}
 use Rattle.vote_desks.specs.Audit.{IsAuditedFor}
-use Rattle.vote_desks.specs.Faults.{CanStopVotes, IsOfDesk}
+use Rattle.vote_desks.specs.Faults.{AreSheetsOf, CanStopVotes, IsFoundIn, IsOfDesk}
 use Rattle.vote_desks.specs.declared.VoteFault.TheVariants as vote
 use Rattle.vote_sheet.specs.Picture.{IsPictureAndDecision}
 use Rattle.vote_sheet.specs.SheetOf.{IsSheetAndDecision}
@@ -45,16 +45,17 @@ pub record IsNamed (poll : PollContent) (named : Option Text) (option : Option �
   pub option_is : option ≡ casting_option poll named
   pub range : IfSome option (IsOption (option_count poll))
 
--- allowed are both: the votes are taken, or a fault of theirs stops them that they can have at so many desks, by a gate that may stop these
-abbrev pub StopsAtVotes : (ℕ → Bool) → ℕ → Option RunFault → Type 0
-StopsAtVotes bars desks (Some (run.Vote fault)) = (fault ≢ vote.Memory) × CanStopVotes bars fault × IsOfDesk desks fault
-StopsAtVotes bars desks stop = GoesThrough stop
+-- Allowed are both: the votes are taken, or a fault of theirs stops them that they can have at so many desks, by a gate that may stop these. A fault of the audit is one that it finds in some legal box of these lines, with a sheet for each desk.
+abbrev pub StopsAtVotes : (ℕ → Bool) → ℕ → PollContent → List Text → Option RunFault → Type 0
+StopsAtVotes bars desks poll lines (Some (run.Vote fault)) =
+    (fault ≢ vote.Memory) × CanStopVotes bars fault × IsOfDesk desks fault × IsFoundIn (AreSheetsOf desks) poll lines fault
+StopsAtVotes bars desks poll lines stop = GoesThrough stop
 
 -- a count is stopped by its poll, by a casting vote that names no option, by too many lines, and else by its votes
 abbrev pub StopsCount : (ℕ → Bool) → Inputs → Option RunFault → Type 0
 StopsCount bars inputs =
     StopsAtPoll (poll_in inputs.poll) (λ poll.
-    StopsWhere (NamesNoOption poll inputs.casting) run.NoSuchOption (StopsAtLines inputs.ballots (StopsAtVotes bars inputs.desks)))
+    StopsWhere (NamesNoOption poll inputs.casting) run.NoSuchOption (StopsAtLines inputs.ballots (StopsAtVotes bars inputs.desks poll (lines_of inputs.ballots))))
 
 -- how a count ends that is decided so
 abbrev pub ended_by_decision : Decision → Ended

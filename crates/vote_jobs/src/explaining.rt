@@ -41,7 +41,7 @@ fn appended(first: String, rest: String) -> Result<String, AllocError>
 
 /// The findings of a poll in order, and after them the line of `check`.
 fn with_sizes(alloc: Global, poll: &Poll, findings: String) -> Result<RunText, AllocError>
-    ensures { IfOk result (IsSaid poll.now None None (string_bytes findings)) }
+    ensures { IfOk result (IsSaid poll.now None (string_bytes findings)) }
 {
     let ended = ended_by_findings(&findings, 0);
     let sizes = check_text(alloc, poll)?;
@@ -59,7 +59,7 @@ fn with_lines(
     file: Option<&str>,
     findings: String,
 ) -> Result<RunText, AllocError>
-    ensures { IfOk result (IsSaidOfLines poll.now lines.now all_ended (option_copied file.entry) (string_bytes findings)) }
+    ensures { IfOk result (IsSaidOfLines poll.now lines.now (string_bytes findings)) }
 {
     let Explained {
         text: rest,
@@ -79,7 +79,7 @@ fn with_rest(
     file: Option<&str>,
     found: String,
 ) -> Result<RunText, RunFault>
-    ensures ok { IfOk result (IsSaid poll.now (option_copied ballots.entry) (option_copied file.entry) (string_bytes found)) }
+    ensures ok { IfOk result (IsSaid poll.now (option_copied ballots.entry) (string_bytes found)) }
     ensures stops { Stops (StopsExplanation (Ok poll.now) (option_copied ballots.entry)) (result_err result) }
     ensures unwritten { result ≢ Err RunFault.Output }
 {
@@ -100,7 +100,7 @@ fn explanation(
     file: Option<&str>,
     poll_file: Option<&str>,
 ) -> Result<RunText, RunFault>
-    ensures told { IfOk result (IsExplanation poll_text.now (option_copied ballots.entry) (option_copied file.entry)) }
+    ensures told { IfOk result (IsExplanation poll_text.now (option_copied ballots.entry)) }
     ensures stops { Stops (StopsExplanation (poll_in poll_text.now) (option_copied ballots.entry)) (result_err result) }
     ensures unwritten { result ≢ Err RunFault.Output }
 {
@@ -127,7 +127,7 @@ pub fn explain<W: Sink>(
     poll_file: Option<&str>,
     sink: &mut W,
 ) -> Result<Ended, RunFault>
-    ensures explains { Explains poll_text.now (option_copied ballots.entry) (option_copied file.entry) (W.contents sink.old) (W.contents sink.new) result }
+    ensures explains { Explains poll_text.now (option_copied ballots.entry) (W.contents sink.old) (W.contents sink.new) result }
     ensures output { IsErrOf result RunFault.Output ↔ (W.faults sink.old < W.faults sink.new) }
     ensures flushed { OnOk result (W.flushed sink.new ≡ true) }
 {

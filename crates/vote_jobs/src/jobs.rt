@@ -3,7 +3,7 @@
 ghost use Rattle.std.specs.Prelude.{◌≡◌, ◌<◌, ◌↔◌, true, IsErrOf, OnOk};
 ghost use Rattle.std.specs.Result.{result_err};
 ghost use Rattle.vote_work.specs.Asked.{DesksFit};
-ghost use Rattle.vote_jobs.specs.Performing.{EndsDone, Performs};
+ghost use Rattle.vote_jobs.specs.Performing.{EndsDone, Performs, TellsNoBox};
 
 use crate::checking::check_poll;
 use crate::counting::count_for;
@@ -29,6 +29,7 @@ pub type Job<'a> = Work<'a, &'a [u8]>;
 fn ended_as_done(outcome: Result<(), RunFault>) -> Performed
     ensures stop { result_err result.end ≡ result_err outcome }
     ensures end { EndsDone result.end }
+    ensures none { TellsNoBox result }
 {
     match outcome {
         Ok(()) => unaudited(Ok(Ended::Done)),

@@ -1,6 +1,7 @@
 //! How a job was done.
 
 ghost use Rattle.std.specs.Prelude.{◌≡◌};
+ghost use Rattle.vote_jobs.specs.Performing.{TellsNoBox};
 
 use crate::fault::{Ended, RunFault};
 use vote_desks::AuditWitness;
@@ -14,7 +15,8 @@ pub struct Performed {
 
 /// How a job ended that took no votes, or did not come to its end.
 pub(crate) fn unaudited(end: Result<Ended, RunFault>) -> Performed
-    ensures { result.end ≡ end }
+    ensures end { result.end ≡ end }
+    ensures none { TellsNoBox result }
 {
     Performed { end, audited: None }
 }

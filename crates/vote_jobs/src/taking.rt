@@ -81,6 +81,7 @@ fn read_poll<G: Gate>(
 
 /// The lines of the ballot file and the audited box of their votes, which are taken at so many desks, each in a thread of its own.
 /// The poll is that of the poll file, and has the option that the casting vote names.
+#[tactic(auto, using(crate::proofs::Stopping::count_without_votes))]
 fn take_ballots<'t, G: Gate + Sync, R: Threads + Wait + Sync>(
     rt: &R,
     alloc: Global,

@@ -14,3 +14,4 @@ mod RankRow
 mod ReadingLaws
 mod SeenLaws
 pub mod OptionLaws
+pub mod MeantPolls

@@ -6,6 +6,7 @@ pub mod Names
 pub mod PollContent
 pub mod PollValues
 pub mod PollFile
+pub mod Meant
 pub mod PollFaults
 pub mod BallotLine
 pub mod Readings

@@ -20,6 +20,7 @@
 //! What is promised, memory aside:
 //! - A poll file means one poll or one fault (`specs/PollFile.antt`), and `from_text` returns just that. If
 //!   several faults hold it is the first in the order of [`PollFault`].
+//! - A poll that a text means keeps the limits of a poll ([`polls_keep_the_limits`]).
 //! - All faults of a poll file, each judged by itself, are those of `specs/PollFaults.antt`, and the one that is returned is
 //!   the first of them ([`first_fault_is_told`]).
 //! - A poll reads one thing in a line (`specs/Readings.antt`, [`readings_are_unique`]), by a grammar that says
@@ -46,7 +47,7 @@ mod wording;
 pub use faults::{parse_ratio, push_faults};
 pub use names::names_are_distinct;
 pub use poll::Poll;
-pub use poll_file::first_fault_is_told;
+pub use poll_file::{first_fault_is_told, polls_keep_the_limits};
 pub use ranks::Ranks;
 pub use reading::{
     LineFault, Reading, each_line_is_read, is_ballot_line, is_reading, read_line,

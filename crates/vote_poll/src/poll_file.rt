@@ -7,6 +7,7 @@ ghost use Rattle.vote_poll_keys.specs.Keys.{Gives};
 ghost use Rattle.vote_poll_text.specs.Names.{is_voter_name};
 ghost use Rattle.vote_poll.specs.Names.{first_bad};
 ghost use Rattle.vote_poll.specs.PollFaults.{IsJudged};
+ghost use Rattle.vote_poll.specs.Meant.{PollsKeepTheLimits};
 ghost use Rattle.vote_poll.specs.PollFile.{FirstIsTold, GivesPollOrFirst, poll_in, poll_of};
 ghost use Rattle.vote_poll.specs.PollValues.{is_integer_within, last_envelope_in, quorum_in, wording_in};
 ghost use Rattle.vote_poll.specs.declared.wording.Wording.TheVariants.{AtLeast};
@@ -166,4 +167,9 @@ impl Poll {
 #[tactic(auto, using(crate::proofs::PollFaultsLaws::first_is_told))]
 pub fn first_fault_is_told()
     ensures { FirstIsTold }
+{}
+
+/// A law: a poll that a text means keeps the limits of a poll.
+pub fn polls_keep_the_limits()
+    ensures { PollsKeepTheLimits }
 {}

@@ -1,7 +1,4 @@
-mod EditLaws
-mod FindingLaws
-mod OneKeyLine
-mod AddedLines
-mod NumberLaws
 mod PathLaws
 mod UnreadLaws
+mod NearLaws
+mod LineLaws

@@ -1,18 +1,12 @@
 -- Paths that are cut.
 use Rattle.std.proofs.Common.{◌≡◌, ◌≤◌, ◌<◌, ◌+◌, ◌∷◌, ◌++◌, [], ℕ, zero, suc, List, take, length, get_or, refl, ap, sym, ◌∙◌, append_assoc, append-nil, set, arith}
 use Rattle.std.proofs.lemmas.List.{take_all, take_more, take_more_set, take-append-le, length-append, length-take-le}
-use Rattle.vote_poll_findings.specs.declared.TheConstants.{MAX_SHOWN}
 
 -- what is cut, and goes on, may be cut at its end alone
 pub cut_append : {X : Type 0} (n : ℕ) (xs ys : List X) → take n (take n xs ++ ys) ≡ take n (xs ++ ys)
 cut_append zero xs ys = refl
 cut_append (suc n) [] ys = refl
 cut_append (suc n) (x ∷ xs) ys = ap (λ zs. x ∷ zs) (cut_append n xs ys)
-
-pub cut_cut : {X : Type 0} (n : ℕ) (xs : List X) → take n (take n xs) ≡ take n xs
-cut_cut zero xs = refl
-cut_cut (suc n) [] = refl
-cut_cut (suc n) (x ∷ xs) = ap (λ zs. x ∷ zs) (cut_cut n xs)
 
 -- one element more
 pub cut_more : {X : Type 0} (n i : ℕ) (xs ys : List X) (d : X) → i < length ys → take n (take n (xs ++ take i ys) ++ get_or ys i d ∷ []) ≡ take n (xs ++ take (i + 1) ys)
@@ -39,7 +33,3 @@ length_cut (suc n) (x ∷ xs) = omega (arith, length_cut n xs)
 -- what is cut already
 pub cut_short : {X : Type 0} (n m : ℕ) (xs : List X) → m ≤ n → take m xs ≡ take n (take m xs ++ [])
 cut_short n m xs few = sym (ap (take n) (append-nil (take m xs)) ∙ take_all n (take m xs) (omega (arith, length_cut m xs)))
-
--- two texts that go on alike
-pub cut_behind : (a b more : List ℕ) → take MAX_SHOWN a ≡ take MAX_SHOWN b → take MAX_SHOWN (a ++ more) ≡ take MAX_SHOWN (b ++ more)
-cut_behind a b more same = sym (cut_append MAX_SHOWN a more) ∙ ap (λ t. take MAX_SHOWN (t ++ more)) same ∙ cut_append MAX_SHOWN b more

@@ -1,8 +1,20 @@
--- What of the hints on faults is not open.
-use Rattle.std.specs.Prelude.{ℕ, ◌-◌, true, List, ◌++◌, length, replicate, codes}
-use Rattle.std.specs.Fmt.{digits}
-use Rattle.std.specs.Str.{byte}
+-- What a hint is, and what calls say that add to a text.
+use Rattle.std.specs.Prelude.{◌≡◌, ◌≤◌, ◌/◌, ℕ, List, ◌++◌, Result, String, OnOk, length, string_bytes}
+use Rattle.std.specs.declared.alloc.Global.{Global}
+use Rattle.vote_poll_text.specs.Lines.{IsUnbroken}
+use Rattle.vote_poll_text.specs.Shown.{shown}
+use Rattle.vote_poll_findings.specs.declared.TheConstants.{MAX_HINT}
 
--- the number of a character in base 16, with zeros before it if it has fewer than four digits
-unfoldable pub character_number : ℕ → List ℕ
-character_number number = codes "U+" ++ replicate (4 - length (digits 16 true number)) (byte "0") ++ digits 16 true number
+-- a hint is what is shown of some words, so it is printable; it is one line, and not long
+pub record IsHint (hint : List ℕ) : Type 0 where
+  pub words : List ℕ
+  pub is_shown : hint ≡ shown (MAX_HINT / 4) words
+  pub unbroken : IsUnbroken hint
+  pub short : length hint ≤ MAX_HINT
+
+-- a text was added of which this is said
+abbrev pub Adding : (List ℕ → Type 0) → List ℕ → List ℕ → Type 0
+Adding Says before after = (added : List ℕ) × Says added × (after ≡ before ++ added)
+
+abbrev pub Tells : {X E : Type 0} → Result X E → String Global → (List ℕ → Type 0) → String Global → Type 0
+Tells r before Says after = OnOk r (Adding Says (string_bytes before) (string_bytes after))

@@ -6,9 +6,10 @@ ghost use Rattle.vote_poll_keys.specs.FoundView.{found_view};
 ghost use Rattle.vote_poll_keys.specs.Keys.{document};
 ghost use Rattle.vote_poll.specs.PollFaults.{IsJudged};
 ghost use Rattle.vote_poll.specs.PollFile.{IsPollOrFirst, poll_in, poll_in_table};
-ghost use Rattle.vote_poll_findings.specs.Findings.{HasLines, KeyLinesAreDetermined, ListsAll, ListsTable};
+ghost use Rattle.vote_poll_findings.specs.Findings.{ListsAll, ListsTable};
+ghost use Rattle.vote_poll_findings.specs.Hints.{Tells};
 ghost use Rattle.vote_poll_findings.specs.Syntax.{IsSyntaxFinding};
-ghost use Rattle.vote_poll_findings.specs.UnreadView.{TellsAll};
+ghost use Rattle.vote_poll_findings.specs.UnreadView.{HasLines, SaysAll};
 ghost use Rattle.vote_poll_keys.specs.declared.fault.PollFault.TheVariants.{Memory, Syntax};
 
 use crate::findings::{push_findings, push_unread_keys};
@@ -32,21 +33,23 @@ pub struct ExplainedPoll {
 /// Adds the findings of a file with these faults: a line for each, and for each key that is not read.
 fn push_found(
     alloc: Global,
-    text: &mut String,
+    findings: &mut String,
+    text: &[u8],
     keys: &FoundKeys<'_>,
     unread: &UnreadKeys<'_>,
     faults: &[PollFault],
 ) -> Result<(), AllocError>
-    ensures { TellsAll result text.old faults.now unread.now text.new }
+    ensures { Tells result findings.old (SaysAll faults.now unread.now) findings.new }
 {
-    let hints = Hints::of(alloc, keys, unread)?;
-    push_findings(alloc, text, faults, &hints)?;
-    push_unread_keys(alloc, text, unread)
+    let hints = Hints::of(alloc, text, keys, unread)?;
+    push_findings(alloc, findings, faults, &hints)?;
+    push_unread_keys(alloc, findings, unread, &hints)
 }
 
 /// The findings of a table with these faults.
 fn findings_of(
     alloc: Global,
+    text: &[u8],
     table: &Table,
     keys: &FoundKeys<'_>,
     faults: &[PollFault],
@@ -55,7 +58,7 @@ fn findings_of(
 {
     let unread = UnreadKeys::of_table(alloc, table)?;
     let mut findings = String::new(alloc);
-    push_found(alloc, &mut findings, keys, &unread, faults)?;
+    push_found(alloc, &mut findings, text, keys, &unread, faults)?;
     Ok(findings)
 }
 
@@ -79,6 +82,7 @@ fn outcome_of(
 /// What a table says of which the keys were found and all faults.
 fn explain_judged(
     alloc: Global,
+    text: &[u8],
     table: &Table,
     keys: &FoundKeys<'_>,
     faults: &[PollFault],
@@ -89,13 +93,13 @@ fn explain_judged(
     ensures known { IfOk result (λ told. told.outcome ≢ Err Memory) }
 {
     Ok(ExplainedPoll {
-        findings: findings_of(alloc, table, keys, faults)?,
+        findings: findings_of(alloc, text, table, keys, faults)?,
         outcome: outcome_of(alloc, keys, faults)?,
     })
 }
 
 /// What the table of a poll file says, and all that is wrong with it: it is judged as [`Poll::from_text`] judges it.
-fn explain_table(alloc: Global, table: &Table) -> Result<ExplainedPoll, AllocError>
+fn explain_table(alloc: Global, text: &[u8], table: &Table) -> Result<ExplainedPoll, AllocError>
     ensures findings { IfOk result (λ told. ListsTable (table_view table.now) told.findings) }
     ensures outcome { IfOk result (λ told. told.outcome ≡ poll_in_table (table_view table.now)) }
     ensures known { IfOk result (λ told. told.outcome ≢ Err Memory) }
@@ -103,7 +107,7 @@ fn explain_table(alloc: Global, table: &Table) -> Result<ExplainedPoll, AllocErr
     let keys = FoundKeys::of_table(alloc, table)?;
     let mut faults = keys.key_faults(alloc, table)?;
     push_faults(alloc, &mut faults, &keys)?;
-    explain_judged(alloc, table, &keys, &faults)
+    explain_judged(alloc, text, table, &keys, &faults)
 }
 
 /// That a text is no TOML, which is all that is wrong with it.
@@ -138,7 +142,7 @@ pub fn explain_poll(
     ensures known { IfOk result (λ told. told.outcome ≢ Err Memory) }
 {
     match toml::table_from_slice(alloc, text) {
-        Ok(table) => explain_table(alloc, &table),
+        Ok(table) => explain_table(alloc, text, &table),
         Err(error) => {
             if error.is_memory() {
                 return Err(AllocError);
@@ -147,8 +151,3 @@ pub fn explain_poll(
         }
     }
 }
-
-/// A law: a file leaves no choice in the lines of its keys that are not read.
-pub fn key_lines_are_determined()
-    ensures { KeyLinesAreDetermined }
-{}

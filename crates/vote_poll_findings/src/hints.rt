@@ -1,64 +1,18 @@
-//! What was found where a poll file has a fault, in words. The contracts leave open which hint a fault has; whoever adds one to a
-//! line takes care that it does not break the line.
-ghost use Rattle.std.specs.Prelude.{◌≡◌};
-ghost use Rattle.vote_poll_text.specs.Adding.{Adds};
-ghost use Rattle.vote_poll_findings.specs.Hints.{character_number};
-ghost use Rattle.vote_poll_findings.specs.UnreadKeys.{above_words, closing, inside_words, line_words, opening};
-ghost use Rattle.vote_poll_findings.specs.UnreadView.{line_of};
+//! What was found where a poll file has a fault, or has a key that is not read. The contracts leave these words open.
 
 use crate::MAX_SHOWN;
-use crate::unread::{LineAbove, UnreadKeys};
+use crate::characters::push_character;
+use crate::path::UnreadKey;
+use crate::reasons::TIMES_Q;
+use crate::unread::{Near, UnreadKeys};
 use indexmap::IndexMap;
 use std::alloc::{AllocError, Global};
-use toml::Value;
+use toml::{Table, Value};
 use vote_poll::{MAX_ELECTORS, MAX_OPTIONS, MAX_QUORUM_MULTIPLE, MAX_RATIO, parse_ratio};
-use vote_poll_keys::{FoundKeys, PollFault, PollKey};
+use vote_poll_keys::{FoundKeys, PollFault, PollKey, value_at};
 use vote_poll_text::{
-    MAX_LINES, MAX_OPTION_NAME, MAX_TITLE, MAX_VOTER_NAME, is_option_name, is_printable, is_title,
-    is_voter_byte, is_voter_name, letter_place, push_letter, push_shown,
+    MAX_LINES, MAX_OPTION_NAME, MAX_TITLE, MAX_VOTER_NAME, is_printable, is_voter_byte, push_shown,
 };
-
-/// What is said behind a position of the roll.
-const FROM_ZERO: &str = ", counted from 0";
-
-/// What a name is the name of.
-#[derive(Clone, Copy)]
-enum Named {
-    /// The poll: its title.
-    Poll,
-    /// An option.
-    Option,
-    /// A voter.
-    Voter,
-}
-
-impl Named {
-    /// The most bytes that the name can have.
-    fn most(self) -> usize {
-        match self {
-            Named::Poll => MAX_TITLE,
-            Named::Option => MAX_OPTION_NAME,
-            Named::Voter => MAX_VOTER_NAME,
-        }
-    }
-
-    /// Whether the name may have this byte.
-    fn may_have(self, byte: u8) -> bool {
-        match self {
-            Named::Poll | Named::Option => is_printable(byte),
-            Named::Voter => is_voter_byte(byte),
-        }
-    }
-
-    /// Whether a text has the shape of such a name.
-    fn has_shape(self, name: &str) -> bool {
-        match self {
-            Named::Poll => is_title(name.as_bytes()),
-            Named::Option => is_option_name(name.as_bytes()),
-            Named::Voter => is_voter_name(name.as_bytes()),
-        }
-    }
-}
 
 /// Adds a text in quotes, at most so many of its bytes as are shown.
 fn push_quoted(words: &mut String, text: &str) -> Result<(), AllocError> {
@@ -67,94 +21,63 @@ fn push_quoted(words: &mut String, text: &str) -> Result<(), AllocError> {
     words.push_str("\"")
 }
 
+/// Whether the name of a voter may have this byte, or another name.
+fn may_have(is_voter: bool, byte: u8) -> bool {
+    if is_voter {
+        is_voter_byte(byte)
+    } else {
+        is_printable(byte)
+    }
+}
+
 /// The first character of a name that it may not have.
-fn bad_character(named: Named, name: &str) -> Option<char> {
+fn bad_character(name: &str, is_voter: bool) -> Option<char> {
     for character in name.chars() {
-        if !character.is_ascii() || !named.may_have(character as u8) {
+        if !character.is_ascii() || !may_have(is_voter, character as u8) {
             return Some(character);
         }
     }
     None
 }
 
-/// Adds the number of a character, as `U+4E2D`.
-#[tactic(auto, using(crate::proofs::NumberLaws::padded_to_four), unfolding(crate::specs::Hints::character_number))]
-fn push_number(words: &mut String, character: char) -> Result<(), AllocError>
-    ensures { Adds result words.old (character_number character) words.new }
-{
-    let number = character as u32;
-    write!(words, "U+{number:04X}")
-}
-
-/// Adds that a name has a character outside ASCII, by its name if it is a letter with a mark.
-fn push_character(words: &mut String, character: char) -> Result<(), AllocError> {
-    let mut bytes = [0; 4];
-    if let Some(place) = letter_place(character.encode_utf8(&mut bytes).as_bytes()) {
-        words.push_str(" has the ")?;
-        return push_letter(words, place);
-    }
-    words.push_str(" has a character outside ASCII (")?;
-    push_number(words, character)?;
-    words.push_str(")")
-}
-
-/// Adds that a name has a character that it may not have.
-fn push_bad_character(words: &mut String, named: Named, bad: char) -> Result<(), AllocError> {
-    if !bad.is_ascii() {
-        push_character(words, bad)?;
-        return words.push_str(match named {
-            Named::Voter => "; a voter's name has a to z, 0 to 9, . and -",
-            Named::Poll | Named::Option => {
-                "; options have plain characters, and a page can show another spelling"
-            }
-        });
-    }
-    let byte = bad as u8;
-    match byte {
-        b' ' => words.push_str(" has a space"),
-        b'\t' => words.push_str(" has a tab"),
-        b'\n' => words.push_str(" has a line feed"),
-        b'\r' => words.push_str(" has a carriage return"),
-        b',' => words.push_str(" has a comma"),
-        b'A'..=b'Z' => words.push_str(" has a capital letter"),
-        0x21..=0x7E => write!(words, " has the character {bad}"),
-        _ => write!(words, " has the byte 0x{byte:02X}"),
-    }
-}
-
-/// Adds what is wrong with the shape of a name.
-fn push_shape(words: &mut String, named: Named, name: &str) -> Result<(), AllocError> {
-    if name.is_empty() {
-        return words.push_str("it is empty");
-    }
-    push_quoted(words, name)?;
-    if name.len() > named.most() {
-        return write!(
-            words,
-            " has {} bytes, {} are the most",
-            name.len(),
-            named.most()
-        );
-    }
-    match bad_character(named, name) {
-        Some(bad) => push_bad_character(words, named, bad),
-        None if name.starts_with(' ') => words.push_str(" begins with a space"),
-        None => words.push_str(" ends with a space"),
-    }
-}
-
-/// Adds that a name is also that of an earlier option or voter, which has this place.
-fn push_double(
+/// Adds what is wrong with the shape of a name of at most so many bytes, and returns whether something is.
+fn push_shape(
     words: &mut String,
-    named: Named,
     name: &str,
-    place: usize,
-) -> Result<(), AllocError> {
-    push_quoted(words, name)?;
-    match named {
-        Named::Voter => write!(words, " stands at position {place} too"),
-        Named::Poll | Named::Option => write!(words, " is option {} too", place.saturating_add(1)),
+    most: usize,
+    is_voter: bool,
+) -> Result<bool, AllocError> {
+    if name.is_empty() {
+        words.push_str("it is empty")?;
+        return Ok(true);
     }
+    push_quoted(words, name)?;
+    if name.len() > most {
+        write!(words, " has {} bytes, {most} are the most", name.len())?;
+    } else if let Some(bad) = bad_character(name, is_voter) {
+        words.push_str(" has ")?;
+        push_character(words, bad)?;
+        if !bad.is_ascii() {
+            words.push_str(if is_voter {
+                "; a voter's name has a to z, 0 to 9, . and -"
+            } else {
+                "; options have plain characters, and a page can show another spelling"
+            })?;
+        }
+    } else if name.starts_with(' ') || name.ends_with(' ') {
+        write!(
+            words,
+            " {} with a space",
+            if name.starts_with(' ') {
+                "begins"
+            } else {
+                "ends"
+            }
+        )?;
+    } else {
+        return Ok(false);
+    }
+    Ok(true)
 }
 
 /// Adds that a number that was found is not from the first of its limits to the second.
@@ -191,8 +114,19 @@ fn hundredths_of_q(electors: u64) -> u64 {
     MAX_LINES as u64
 }
 
-/// Adds which multiple of Q gives so many votes or more, if one does, for so many electors.
-fn push_multiple(words: &mut String, wanted: i64, electors: u64) -> Result<(), AllocError> {
+/// Adds that the quorum is no number of votes, and which multiple of Q gives so many votes or more, if one does.
+fn push_times_q(words: &mut String, votes: Option<i64>, electors: usize) -> Result<(), AllocError> {
+    words.push_str(TIMES_Q)?;
+    if electors == 0 {
+        return Ok(());
+    }
+    let electors = electors as u64;
+    let hundredths = hundredths_of_q(electors);
+    let (whole, tenths, rest) = (hundredths / 100, hundredths / 10 % 10, hundredths % 10);
+    write!(words, ", {whole}.{tenths}{rest} votes for {electors}")?;
+    let Some(wanted) = votes else {
+        return Ok(());
+    };
     for multiple in 0..=u64::from(MAX_QUORUM_MULTIPLE) {
         let votes = quorum_votes(multiple, electors);
         if wanted >= 0 && votes >= wanted.unsigned_abs() {
@@ -200,22 +134,6 @@ fn push_multiple(words: &mut String, wanted: i64, electors: u64) -> Result<(), A
         }
     }
     Ok(())
-}
-
-/// Adds what is wrong with the quorum of a poll with so many electors: it is not how many votes are needed.
-fn push_quorum(words: &mut String, number: i64, electors: usize) -> Result<(), AllocError> {
-    push_range(words, Some(number), 0, u32::from(MAX_QUORUM_MULTIPLE))?;
-    words.push_str(
-        "; it says how many times Q is needed, half the square root of the number of electors",
-    )?;
-    if electors == 0 {
-        return Ok(());
-    }
-    let electors = electors as u64;
-    let hundredths = hundredths_of_q(electors);
-    let (votes, tenths, rest) = (hundredths / 100, hundredths / 10 % 10, hundredths % 10);
-    write!(words, ", {votes}.{tenths}{rest} votes for {electors}")?;
-    push_multiple(words, number, electors)
 }
 
 /// Adds that there are so many options but the default, which is too few or too many.
@@ -238,22 +156,16 @@ fn push_roll_size(words: &mut String, electors: usize) -> Result<(), AllocError>
     write!(words, "{electors} names, {MAX_ELECTORS} are the most")
 }
 
-/// The first number that is no majority ratio.
-fn bad_ratio(numbers: &[i64]) -> Option<i64> {
-    for number in numbers {
-        if parse_ratio(*number).is_none() {
-            return Some(*number);
-        }
-    }
-    None
-}
-
 /// Adds that there are not so many ratios as options but the default, or else which is the first that is no ratio.
 fn push_ratios(words: &mut String, ratios: &[i64], others: usize) -> Result<(), AllocError> {
     if ratios.len() != others {
         return write!(words, "{} ratios for {others} options", ratios.len());
     }
-    push_range(words, bad_ratio(ratios), 1, u32::from(MAX_RATIO))
+    let bad = ratios
+        .iter()
+        .find(|ratio| parse_ratio(**ratio).is_none())
+        .copied();
+    push_range(words, bad, 1, u32::from(MAX_RATIO))
 }
 
 /// What a value is.
@@ -278,17 +190,13 @@ fn is_wrong_entry(key: PollKey, entry: &Value) -> bool {
     }
 }
 
-/// Adds what stands at a key in place of what is wanted: of a list its first entry of the wrong kind, and its option or position.
-fn push_kind(words: &mut String, key: PollKey, value: &Value) -> Result<(), AllocError> {
-    words.push_str(kind_words(value))?;
-    let Value::Array(entries) = value else {
-        return Ok(());
-    };
+/// Adds the first entry of a list that is of the wrong kind, and its option or position.
+fn push_wrong_entry(words: &mut String, key: PollKey, entries: &[Value]) -> Result<(), AllocError> {
     for (place, entry) in entries.iter().enumerate() {
         if is_wrong_entry(key, entry) {
             let kind = kind_words(entry);
             return match key {
-                PollKey::Roll => write!(words, " with {kind} at position {place}{FROM_ZERO}"),
+                PollKey::Roll => write!(words, " with {kind} at position {place}, counted from 0"),
                 _ => write!(words, " with {kind} at option {}", place.saturating_add(1)),
             };
         }
@@ -302,72 +210,9 @@ fn wanted_words(key: PollKey, is_list: bool) -> &'static str {
         PollKey::Title | PollKey::DefaultOption | PollKey::Wording => ", and a text is wanted",
         PollKey::Quorum | PollKey::LastEnvelope => ", and a whole number is wanted",
         PollKey::Ratios => ", and whole numbers are wanted",
-        PollKey::Options | PollKey::Roll => {
-            if is_list {
-                ", and texts are wanted"
-            } else {
-                ", and a list of texts is wanted"
-            }
-        }
+        PollKey::Options | PollKey::Roll if is_list => ", and texts are wanted",
+        PollKey::Options | PollKey::Roll => ", and a list of texts is wanted",
     }
-}
-
-/// Adds that a text is neither wording.
-fn push_wording(words: &mut String, text: &str) -> Result<(), AllocError> {
-    push_quoted(words, text)?;
-    words.push_str(" is neither at_least nor more_than")
-}
-
-/// Adds that a key is missing, and inside which table one of its name is, if there is one.
-fn push_missing(words: &mut String, table: Option<&[u8]>) -> Result<(), AllocError> {
-    words.push_str("it is missing")?;
-    match table {
-        Some(table) => push_inside(words, table),
-        None => Ok(()),
-    }
-}
-
-/// What stands before the name in the line of a table, or of a list of tables.
-fn opening(is_list: bool) -> &'static str
-    ensures { result.now ≡ opening is_list }
-{
-    if is_list { "[[" } else { "[" }
-}
-
-/// What stands behind it.
-fn closing(is_list: bool) -> &'static str
-    ensures { result.now ≡ closing is_list }
-{
-    if is_list { "]]" } else { "]" }
-}
-
-/// Adds the line of a table, or of a list of tables.
-#[tactic(auto, unfolding(crate::specs::UnreadKeys::line_words))]
-fn push_line_above(words: &mut String, name: &str, is_list: bool) -> Result<(), AllocError>
-    ensures { Adds result words.old (line_words name.now is_list) words.new }
-{
-    words.push_str(opening(is_list))?;
-    push_shown(words, name.as_bytes(), MAX_SHOWN)?;
-    words.push_str(closing(is_list))
-}
-
-/// Adds that all keys stand below the line of one table, or of a list of tables.
-#[tactic(auto, unfolding(crate::specs::UnreadKeys::above_words))]
-pub(crate) fn push_above(words: &mut String, above: &LineAbove<'_>) -> Result<(), AllocError>
-    ensures { Adds result words.old (above_words (line_of above.now)) words.new }
-{
-    words.push_str("; all keys stand below ")?;
-    push_line_above(words, above.name, above.is_list)?;
-    words.push_str(": take that line out")
-}
-
-/// Adds that a key is inside a table, while it is read before all tables.
-pub(crate) fn push_inside(words: &mut String, table: &[u8]) -> Result<(), AllocError>
-    ensures { Adds result words.old (inside_words table.now) words.new }
-{
-    words.push_str("; it is inside [")?;
-    push_shown(words, table, MAX_SHOWN)?;
-    words.push_str("]; put it before the first table")
 }
 
 /// The names of a list, each with the place at which it stands first.
@@ -387,20 +232,6 @@ fn with_first_places<'t>(
     Ok(placed)
 }
 
-/// Adds what is wrong with a name that stands first at a place.
-fn push_name(words: &mut String, named: Named, name: &str, first: usize) -> Result<(), AllocError> {
-    if named.has_shape(name) {
-        push_double(words, named, name, first)
-    } else {
-        push_shape(words, named, name)
-    }
-}
-
-/// The name at a place of a list, and the place at which it stands first.
-fn name_at<'t>(names: &[(&'t str, usize)], place: usize) -> (&'t str, usize) {
-    names.get(place).copied().unwrap_or(("", place))
-}
-
 /// The entries of a list that was found, or none.
 fn entries<T>(list: &Option<Vec<T>>) -> &[T] {
     match list {
@@ -409,81 +240,261 @@ fn entries<T>(list: &Option<Vec<T>>) -> &[T] {
     }
 }
 
-/// What hints on the faults of a poll file are made of.
+/// The line of a table, or of a list of tables, that stands above all keys of a file, and how often it does.
+#[derive(Clone, Copy, Drop)]
+struct LineAbove<'f> {
+    opening: &'static str,
+    name: &'f str,
+    closing: &'static str,
+    times: usize,
+}
+
+impl LineAbove<'_> {
+    /// Whether this is the line.
+    fn is(&self, line: &[u8]) -> bool {
+        let name = line.strip_prefix(self.opening.as_bytes());
+        name.and_then(|name| name.strip_suffix(self.closing.as_bytes()))
+            == Some(self.name.as_bytes())
+    }
+
+    /// Adds the line, and what is to be done: it has to go, unless it stands several times.
+    fn push(&self, words: &mut String) -> Result<(), AllocError> {
+        words.push_str(self.opening)?;
+        push_shown(words, self.name.as_bytes(), MAX_SHOWN)?;
+        words.push_str(self.closing)?;
+        match self.times {
+            1 => words.push_str(": take that line out"),
+            times => write!(words, ", which stands {times} times: ask which is meant"),
+        }
+    }
+}
+
+/// The line of the only table, or list of tables, of a file, if all else is inside it and the line is there.
+fn line_above<'f>(text: &[u8], file: &'f Table) -> Option<LineAbove<'f>> {
+    let mut members = file.iter();
+    let (name, value) = members.next()?;
+    if members.next().is_some() {
+        return None;
+    }
+    let (opening, closing) = match value {
+        Value::Table(_) => ("[", "]"),
+        Value::Array(items) if matches!(items.first(), Some(Value::Table(_))) => ("[[", "]]"),
+        _ => return None,
+    };
+    let mut above = LineAbove {
+        opening,
+        name: name.as_str(),
+        closing,
+        times: 0,
+    };
+    for line in text.split(|byte| *byte == b'\n') {
+        if above.is(line.trim_ascii()) {
+            above.times = above.times.saturating_add(1);
+        }
+    }
+    if above.times == 0 { None } else { Some(above) }
+}
+
+/// Adds below which line a key stands, as all keys do.
+fn push_below(words: &mut String, above: &LineAbove<'_>) -> Result<(), AllocError> {
+    words.push_str("below ")?;
+    above.push(words)
+}
+
+/// Adds that a key is inside a table, while it is read before all tables. Another key above the tables may be it, too.
+fn push_inside(words: &mut String, key: &UnreadKey<'_>, is_alone: bool) -> Result<(), AllocError> {
+    words.push_str("inside [")?;
+    push_shown(words, key.table_path(), MAX_SHOWN)?;
+    words.push_str(if is_alone {
+        "]; put it before the first table"
+    } else {
+        "], unless it is a key above the tables that is not read: ask which is meant"
+    })
+}
+
+/// Adds two keys of which one may be meant.
+fn push_two_places(
+    words: &mut String,
+    first: &UnreadKey<'_>,
+    other: &UnreadKey<'_>,
+) -> Result<(), AllocError> {
+    words.push_str("; ")?;
+    push_shown(words, first.path().as_bytes(), MAX_SHOWN)?;
+    words.push_str(" or ")?;
+    push_shown(words, other.path().as_bytes(), MAX_SHOWN)?;
+    words.push_str(" may be meant: ask which")
+}
+
+/// What hints on a poll file are made of.
 #[derive(Drop)]
 pub(crate) struct Hints<'f> {
     keys: &'f FoundKeys<'f>,
     unread: &'f UnreadKeys<'f>,
+    above: Option<LineAbove<'f>>,
+    /// Whether no key above all tables may be any of those that are missing.
+    is_alone: bool,
     options: Vec<(&'f str, usize)>,
     roll: Vec<(&'f str, usize)>,
 }
 
 impl<'f> Hints<'f> {
-    /// Of the keys of a file that were found, and those that are not read.
+    /// Of a file, its keys that were found, and those that are not read.
     pub(crate) fn of(
         alloc: Global,
+        text: &[u8],
         keys: &'f FoundKeys<'f>,
         unread: &'f UnreadKeys<'f>,
     ) -> Result<Hints<'f>, AllocError> {
         let names = keys.option_names(alloc)?;
         let options = with_first_places(alloc, entries(&names))?;
         let roll = with_first_places(alloc, entries(&keys.roll))?;
+        let above = line_above(text, unread.file());
+        let is_alone = !unread.keys().iter().any(|key| unread.may_be_any(key));
         Ok(Hints {
             keys,
             unread,
+            above,
+            is_alone,
             options,
             roll,
         })
     }
 
+    /// What was found where the file has a fault.
+    pub(crate) fn of_fault(&self, alloc: Global, fault: PollFault) -> Result<String, AllocError> {
+        let mut words = String::new(alloc);
+        self.push_fault(&mut words, fault)?;
+        Ok(words)
+    }
+
     /// Adds what was found where the file has a fault.
-    fn push(&self, words: &mut String, fault: PollFault) -> Result<(), AllocError> {
+    fn push_fault(&self, words: &mut String, fault: PollFault) -> Result<(), AllocError> {
         let keys = self.keys;
         let others = entries(&keys.options).len();
         match fault {
             PollFault::Syntax => words.push_str("it is no TOML"),
-            PollFault::Key(key) => self.push_bad_key(words, key),
-            PollFault::Title => push_shape(words, Named::Poll, keys.title.unwrap_or("")),
+            PollFault::Key(key) => self.push_key(words, key),
+            PollFault::Title => {
+                push_shape(words, keys.title.unwrap_or(""), MAX_TITLE, false)?;
+                Ok(())
+            }
             PollFault::OptionCount => push_option_count(words, others),
-            PollFault::OptionName(option) => {
-                let (name, first) = name_at(&self.options, option.saturating_sub(1));
-                push_name(words, Named::Option, name, first)
-            }
+            PollFault::OptionName(option) => self.push_option(words, option.saturating_sub(1)),
             PollFault::Ratio => push_ratios(words, entries(&keys.ratios), others),
-            PollFault::Quorum => push_quorum(words, keys.quorum.unwrap_or(0), self.roll.len()),
-            PollFault::RollSize => push_roll_size(words, self.roll.len()),
-            PollFault::VoterName(place) => {
-                let (name, first) = name_at(&self.roll, place);
-                push_name(words, Named::Voter, name, first)?;
-                words.push_str("; positions count from 0")
+            PollFault::Quorum => {
+                push_range(words, keys.quorum, 0, u32::from(MAX_QUORUM_MULTIPLE))?;
+                push_times_q(words, keys.quorum, self.roll.len())
             }
+            PollFault::RollSize => push_roll_size(words, self.roll.len()),
+            PollFault::VoterName(place) => self.push_voter(words, place),
             PollFault::LastEnvelope => push_range(words, keys.last_envelope, 0, MAX_LINES as u32),
-            PollFault::Wording => push_wording(words, keys.wording.unwrap_or("")),
+            PollFault::Wording => {
+                push_quoted(words, keys.wording.unwrap_or(""))?;
+                words.push_str(" is neither at_least nor more_than")
+            }
             PollFault::Memory => words.push_str("out of memory"),
         }
     }
 
-    /// Adds what is wrong with a key: it is missing, and may be inside a table, or it is of the wrong kind.
-    fn push_bad_key(&self, words: &mut String, key: PollKey) -> Result<(), AllocError> {
-        match self.unread.value_at(key) {
-            Some(value) => {
-                push_kind(words, key, value)?;
-                words.push_str(wanted_words(key, matches!(value, Value::Array(_))))
+    /// Adds what is wrong with the name of the option at a place, from 0.
+    fn push_option(&self, words: &mut String, place: usize) -> Result<(), AllocError> {
+        let (name, first) = self.options.get(place).copied().unwrap_or(("", place));
+        if push_shape(words, name, MAX_OPTION_NAME, false)? {
+            return Ok(());
+        }
+        write!(words, " is option {} too", first.saturating_add(1))
+    }
+
+    /// Adds what is wrong with the name of the voter at a place, from 0.
+    fn push_voter(&self, words: &mut String, place: usize) -> Result<(), AllocError> {
+        let (name, first) = self.roll.get(place).copied().unwrap_or(("", place));
+        if !push_shape(words, name, MAX_VOTER_NAME, true)? {
+            write!(words, " stands at position {first} too")?;
+        }
+        words.push_str("; positions count from 0")
+    }
+
+    /// Adds what is wrong with a key: it is missing, or it is of the wrong kind.
+    fn push_key(&self, words: &mut String, key: PollKey) -> Result<(), AllocError> {
+        let Some(value) = value_at(self.unread.file(), key) else {
+            words.push_str("it is missing")?;
+            return self.push_whereabouts(words, key);
+        };
+        words.push_str(kind_words(value))?;
+        if let Value::Array(entries) = value {
+            push_wrong_entry(words, key, entries)?;
+        }
+        words.push_str(wanted_words(key, matches!(value, Value::Array(_))))?;
+        if key == PollKey::Quorum {
+            return push_times_q(words, None, self.roll.len());
+        }
+        Ok(())
+    }
+
+    /// Adds where a missing key may be: in one of two places, below a line that is above all keys, or inside a table.
+    fn push_whereabouts(&self, words: &mut String, key: PollKey) -> Result<(), AllocError> {
+        let (first, other) = self.unread.claims_to(key);
+        match (first, other, &self.above) {
+            (Some(first), Some(other), _) => push_two_places(words, &first.key, &other.key),
+            (_, _, Some(above)) => {
+                words.push_str("; all keys stand below ")?;
+                above.push(words)
             }
-            None => match self.unread.line_above_all() {
-                Some(above) => {
-                    words.push_str("it is missing")?;
-                    push_above(words, &above)
-                }
-                None => push_missing(words, self.unread.table_with(key.name())),
-            },
+            (Some(claim), _, _) if claim.key.name == key.name() => {
+                words.push_str("; it is ")?;
+                push_inside(words, &claim.key, self.is_alone)
+            }
+            _ => Ok(()),
         }
     }
 
-    /// The words of what was found where the file has a fault.
-    pub(crate) fn words(&self, alloc: Global, fault: PollFault) -> Result<String, AllocError> {
+    /// Whether a key that is not read is misspelt, and nothing else is to be said of it.
+    pub(crate) fn are_suggesting(&self, key: &UnreadKey<'f>, near: &Near) -> bool {
+        let is_above = self.above.is_some() && key.table.is_none();
+        !is_above && self.unread.is_misspelt(key, near)
+    }
+
+    /// What is remarked of a key that is not read and may be another one; nothing if nothing is.
+    pub(crate) fn of_key(
+        &self,
+        alloc: Global,
+        key: &UnreadKey<'f>,
+        near: Option<Near>,
+    ) -> Result<String, AllocError> {
         let mut words = String::new(alloc);
-        self.push(&mut words, fault)?;
+        if let Some(above) = &self.above {
+            if key.table.is_none() {
+                push_below(&mut words, above)?;
+                return Ok(words);
+            }
+        }
+        if let Some(near) = &near {
+            self.push_near(&mut words, key, near)?;
+        }
         Ok(words)
+    }
+
+    /// Adds what is remarked of a key that may be another one, which the file lacks.
+    fn push_near(
+        &self,
+        words: &mut String,
+        key: &UnreadKey<'f>,
+        near: &Near,
+    ) -> Result<(), AllocError> {
+        let meant = near.meant;
+        if self.unread.claims_to(meant).1.is_some() {
+            return write!(
+                words,
+                "one of several that may be {meant}: ask which is meant"
+            );
+        }
+        match (&near.other, &self.above) {
+            (Some(other), _) => write!(
+                words,
+                "as near to {meant} as to {other}: ask which is meant"
+            ),
+            (None, Some(above)) => push_below(words, above),
+            (None, None) => push_inside(words, key, self.is_alone),
+        }
     }
 }

@@ -70,11 +70,11 @@ pub(crate) struct UnreadKey<'t> {
 impl UnreadKey<'_> {
     ghost use Rattle.std.specs.Prelude.{◌≡◌, [], take, unwrap_or};
     ghost use Rattle.vote_poll_findings.specs.UnreadKeys.{path_of};
-    ghost use Rattle.vote_poll_findings.specs.UnreadView.{path_bytes, place_of};
+    ghost use Rattle.vote_poll_findings.specs.UnreadView.{key_place, path_bytes};
 
     /// The path of the key.
     pub(crate) fn path(&self) -> Path
-        ensures { path_bytes result ≡ take MAX_SHOWN (path_of (place_of self.now)) }
+        ensures { path_bytes result ≡ path_of (key_place self.now) }
     {
         match self.table {
             Some(table) => table.with(b".").with(self.name.as_bytes()),
@@ -84,7 +84,7 @@ impl UnreadKey<'_> {
 
     /// The path of its table, which is empty for a key of the file itself.
     pub(crate) fn table_path(&self) -> &[u8]
-        ensures { result.now ≡ unwrap_or (place_of self.now).table [] }
+        ensures { result.now ≡ unwrap_or (key_place self.now).table [] }
     {
         match &self.table {
             Some(table) => table.as_bytes(),

@@ -20,3 +20,4 @@ pub mod NormalRanks
 pub mod NormalRanksAreOne
 pub mod Publishing
 pub mod VerifiedOnce
+pub mod SheetExists

@@ -6,7 +6,7 @@ use Rattle.vote_count.specs.declared.Cause.{Cause}
 use Rattle.vote_count.specs.declared.Cause.TheVariants.{Quorum, Majority}
 use Rattle.vote_count.specs.declared.Decision.{Decision}
 use Rattle.vote_count.specs.declared.Decision.TheVariants.{Winner}
-use Rattle.vote_count.specs.Laws.{CondorcetWinnersWin, FinalSetIsPareto, FinalSetIsSchulze, RaisedBallotsRaise, RaisedWinnersWin, WinnersAreInTheSet}
+use Rattle.vote_count.specs.Laws.{CondorcetWinnersWin, FinalSetIsOne, FinalSetIsPareto, FinalSetIsSchulze, RaisedBallotsRaise, RaisedWinnersWin, WinnersAreInTheSet}
 use Rattle.vote_count.specs.Rounds.{HasCause, IsDecision, cause_of, final_set}
 use Rattle.vote_count.specs.Rules.{IsKept}
 use Rattle.vote_count.specs.Votes.{Votes, votes}
@@ -48,32 +48,37 @@ module _ (poll : PollContent) (lines : List Text) (casting : Option ℕ) (s : Sh
   more_votes : (a b : ℕ) → IsOption (option_count poll) a → IsOption (option_count poll) b → votes_for poll lines b a < votes_for poll lines a b → votes s.matrix b a < votes s.matrix a b
   more_votes a b of_a of_b more = omega (arith, is.counted a b of_a of_b, is.counted b a of_b of_a, more)
 
-pub liked_options : FinalSetIsSchulze → RaisedBallotsRaise → RaisedWinnersWin → LikedOptionsStay
-liked_options schulze raise win poll lines raised casting other s r a is_poll likes is_s is_r left =
-    let kept = ((schulze poll s.matrix s.outcome.rounds a is_s.outcome.rounds).0 left).0 in
-    let option = kept_option poll s.matrix a (omega (arith, is_poll.options_min)) kept in
-    win poll s.matrix r.matrix s.outcome.rounds r.outcome.rounds a is_poll
+pub liked_options : FinalSetIsOne → FinalSetIsSchulze → RaisedBallotsRaise → RaisedWinnersWin → LikedOptionsStay
+liked_options one schulze raise win poll lines raised casting other s r a is_poll likes is_s is_r left =
+    let in_final = (one poll s.matrix s.outcome.rounds is_s.outcome.rounds a).0 left in
+    let options : 1 ≤ option_count poll = omega (arith, is_poll.options_min) in
+    let kept = ((schulze poll s.matrix a options).0 in_final).0 in
+    let option = kept_option poll s.matrix a options kept in
+    (one poll r.matrix r.outcome.rounds is_r.outcome.rounds a).1 (win poll s.matrix r.matrix a is_poll
     (raise (option_count poll) a (last_valid_ballots poll lines) (last_valid_ballots poll raised) s.matrix r.matrix option likes is_s.counted is_r.counted)
-    is_s.outcome.rounds is_r.outcome.rounds left
+    in_final)
 
 pub liked_winners : LikedOptionsStay → WinnersAreInTheSet → LikedWinnersStay
 liked_winners stay winners poll lines raised other s r a is_poll likes is_s is_r named =
     stay poll lines raised None other s r a is_poll likes is_s is_r (named_is_left poll lines None s is_s winners a named)
 
-pub unanimity : FinalSetIsPareto → WinnersAreInTheSet → UnanimityRules
-unanimity pareto winners poll lines casting s a b is there distinct unanimous =
+pub unanimity : FinalSetIsOne → FinalSetIsPareto → WinnersAreInTheSet → UnanimityRules
+unanimity one pareto winners poll lines casting s a b is there distinct unanimous =
     let out : ¬ IsLeft s b =
-    pareto poll (last_valid_ballots poll lines) s.matrix s.outcome.rounds a b is.counted is.outcome.rounds (kept_there poll lines casting s is a there) distinct unanimous in
+    λ left. pareto poll (last_valid_ballots poll lines) s.matrix a b is.counted (kept_there poll lines casting s is a there) distinct unanimous
+    ((one poll s.matrix s.outcome.rounds is.outcome.rounds b).0 left) in
     (out, λ named. out (named_is_left poll lines casting s is winners b named))
 
-pub condorcet_named : CondorcetWinnersWin → CondorcetWinnersAreNamed
-condorcet_named win poll lines casting s a is wins =
+pub condorcet_named : FinalSetIsOne → CondorcetWinnersWin → CondorcetWinnersAreNamed
+condorcet_named one win poll lines casting s a is wins =
     let kept = kept_there poll lines casting s is a wins.0 in
     let some : 1 ≤ option_count poll = omega (arith, wins.0.0.0, wins.0.0.1) in
-    is.decision.alone a
-    (win poll s.matrix s.outcome.rounds a is.outcome.rounds (
+    let alone = win poll s.matrix a some (
       kept,
       λ b kept_b other.
           let there = not_dropped poll lines casting s is b some kept_b in
           (kept, kept_b, more_votes poll lines casting s is a b wins.0.0 there.0 (wins.1 b there other)),
-    ))
+    ) in
+    is.decision.alone a (λ o.
+    let same = one poll s.matrix s.outcome.rounds is.outcome.rounds o in
+    (λ left. (alone o).0 (same.0 left), λ is_a. same.1 ((alone o).1 is_a)))

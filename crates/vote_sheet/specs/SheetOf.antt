@@ -1,8 +1,9 @@
 -- Which sheet a poll, its lines and the casting vote have. No history, desk or reply occurs in it.
-use Rattle.std.specs.Prelude.{◌≡◌, ℕ, List, Option, string_bytes}
+use Rattle.std.specs.Prelude.{◌≡◌, ℕ, List, Ok, Option, string_bytes}
 use Rattle.std.specs.declared.string.String.{String}
 use Rattle.vote_poll.specs.Options.{IsOption}
 use Rattle.vote_poll.specs.PollContent.{PollContent, option_count}
+use Rattle.vote_poll.specs.PollFile.{poll_in}
 use Rattle.vote_count.specs.Votes.{votes}
 use Rattle.vote_count.specs.Rules.{IsQuorum}
 use Rattle.vote_count.specs.Rounds.{IsDecision, IsOutcome, final_set}
@@ -38,3 +39,7 @@ IsSheet poll lines casting text = (s : Sheet) × IsSheetOf poll lines casting s 
 abbrev pub SheetIsUnique : Type 0
 SheetIsUnique =
     (poll : PollContent) (lines : List Text) (casting : Option ℕ) (text other : Text) → IsSheet poll lines casting text → IsSheet poll lines casting other → text ≡ other
+
+-- each poll that a text means has a sheet of any lines and any casting vote
+abbrev pub SheetExists : Type 0
+SheetExists = (file : Text) (poll : PollContent) (lines : List Text) (casting : Option ℕ) → poll_in file ≡ Ok poll → (text : Text) × IsSheet poll lines casting text

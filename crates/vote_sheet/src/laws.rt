@@ -9,8 +9,8 @@ ghost use Rattle.vote_sheet.specs.Verify.{NamesTheFirstLine, VerificationsAreDet
 
 use crate::sheet::sheet_is_unique;
 use vote_count::{
-    condorcet_winners_win, final_set_is_pareto, final_set_is_schulze, raised_ballots_raise,
-    raised_winners_win, winners_are_in_the_set,
+    condorcet_winners_win, final_set_is_one, final_set_is_pareto, final_set_is_schulze,
+    raised_ballots_raise, raised_winners_win, winners_are_in_the_set,
 };
 use vote_poll::{each_line_is_read, lines_are_unique, names_are_distinct, readings_are_unique};
 
@@ -18,6 +18,7 @@ use vote_poll::{each_line_is_read, lines_are_unique, names_are_distinct, reading
 pub fn liked_options_stay()
     ensures { LikedOptionsStay }
 {
+    final_set_is_one();
     final_set_is_schulze();
     raised_ballots_raise();
     raised_winners_win();
@@ -36,6 +37,7 @@ pub fn liked_winners_stay()
 pub fn unanimity_rules()
     ensures { UnanimityRules }
 {
+    final_set_is_one();
     final_set_is_pareto();
     winners_are_in_the_set();
 }
@@ -44,6 +46,7 @@ pub fn unanimity_rules()
 pub fn condorcet_winners_are_named()
     ensures { CondorcetWinnersAreNamed }
 {
+    final_set_is_one();
     condorcet_winners_win();
 }
 

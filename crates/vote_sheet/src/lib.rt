@@ -3,8 +3,9 @@
 //!
 //! - [`sheet_of_box`] gives the sheet of a box that holds the lines of the poll, and what the sheet decides. What the sheet
 //!   says is a relation between the poll, the lines, the casting vote and the sheet (`IsSheetOf`), in which no history, desk or
-//!   reply occurs; its text is a function of it, the poll and the number of lines (`sheet_text`). So by [`sheet_is_unique`] it is
-//!   the same for every number of desks and every order in which the lines came, byte for byte.
+//!   reply occurs; its text is a function of it, the poll and the number of lines (`sheet_text`). Each poll that a text means has
+//!   a sheet ([`sheet_exists`]), and just one ([`sheet_is_unique`]): it is the same for every number of desks and every order in
+//!   which the lines came, byte for byte.
 //! - [`steps_text`] gives the reply of the box to each line, where one desk casts the lines in their order. By
 //!   [`steps_are_determined`] the poll and the lines leave no choice in it.
 //! - [`verify_sheet`] compares a text with the sheets of a box, without a casting vote and with each ([`Verification`]).
@@ -28,7 +29,7 @@ mod steps;
 mod verify;
 
 pub use picture::picture_of_box;
-pub use sheet::{sheet_is_unique, sheet_of_box};
+pub use sheet::{sheet_exists, sheet_is_unique, sheet_of_box};
 pub use standing::standing_text;
 pub use steps::{check_text, reply_words, steps_are_determined, steps_text};
 pub use verify::{Verification, verify_sheet};

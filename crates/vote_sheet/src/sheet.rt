@@ -6,15 +6,15 @@ ghost use Rattle.vote_poll.specs.Options.{IsOption};
 ghost use Rattle.vote_poll.specs.PollContent.{option_count};
 ghost use Rattle.vote_steps.specs.HeldLines.{HoldsLines};
 ghost use Rattle.vote_sheet.specs.Counted.{FinalSetIsKept, IsCountOf, WinnerIsOption, shared_text, whole_text};
-ghost use Rattle.vote_sheet.specs.SheetOf.{PrintsSheet, SheetIsUnique};
+ghost use Rattle.vote_sheet.specs.SheetOf.{PrintsSheet, SheetExists, SheetIsUnique};
 
 use crate::sheet_text::{push_counted, push_decision, push_head, push_options, push_totals};
 use std::alloc::{AllocError, Global};
 use vote_count::{
-    Decision, Matrix, Verdict, decide, decisions_are_determined, outcome, outcomes_are_determined,
-    quorum_votes,
+    Decision, Matrix, Verdict, decide, decisions_are_determined, decisions_exist, outcome,
+    outcomes_are_determined, outcomes_exist, quorum_votes, quorums_exist,
 };
-use vote_poll::{Lines, Poll};
+use vote_poll::{Lines, Poll, polls_keep_the_limits};
 use vote_steps::laws::lines_are_counted;
 use vote_steps::{BallotBox, Totals};
 
@@ -104,4 +104,14 @@ pub fn sheet_is_unique()
 {
     outcomes_are_determined();
     decisions_are_determined();
+}
+
+/// Each poll that a text means has a sheet, of any lines and any casting vote. With [`sheet_is_unique`] it has just one.
+pub fn sheet_exists()
+    ensures { SheetExists }
+{
+    polls_keep_the_limits();
+    outcomes_exist();
+    decisions_exist();
+    quorums_exist();
 }

@@ -1,44 +1,82 @@
-"""What is told of a batch of lines: the reply to each, what was changed of it, and why debvote refuses it."""
+"""What is printed about lines: the reply to each, what was changed of it, and why debvote refuses it."""
 
 import collections
 import re
-from collections.abc import Iterator
+from collections.abc import Iterable, Iterator, Sequence
 
 from debvote_tools.ballots import ranks_in_words
-from debvote_tools.election.batch import Batch, BatchLine
-from debvote_tools.election.folder import Election
-from debvote_tools.election.telling import count_of
-from debvote_tools.lines import Line, differences
+from debvote_tools.debvote import Finding
+from debvote_tools.election.batch import BatchLine, Vote
+from debvote_tools.election.reporting import count_of
 from debvote_tools.language import ENGLISH
-from debvote_tools.program import Finding
-from debvote_tools.shapes import plainly
-from debvote_tools.signs import shown_line
+from debvote_tools.lines import Line, differences
+from debvote_tools.terminal_text import shown_line
+
+# what a code and an alias look like
+CODE = re.compile(rb"(?<![0-9a-f])[0-9a-f]{32}(?![0-9a-f])")
+IS_CODE = " (it has 32 digits, as codes and aliases have: a ballot has the elector's name alone, and a code is shown to nobody)"
+
+LATE = "late"
 
 
-def report(election: Election, batch: Batch, *, is_entered: bool = True) -> Iterator[str]:
-    """What is told of a batch that was entered, or of one that would be, line by line."""
-    if batch.ends_a_line:
-        yield f"Note: the last line of {election.ballots_path} had no line feed; it {'was' if is_entered else 'would be'} ended."
-    yield from frame_words(batch.lines)
-    for line in batch.lines:
-        yield from change_words(line)
-        yield f"{line.envelope} {line.reply}  {ballot_words(line, batch.option_names)}"
-        yield from cause_words(line, is_entered=is_entered)
-    if any(line.finding for line in batch.lines):
-        yield right_words(batch)
-    late_count = sum(line.reply == "late" for line in batch.lines)
-    if late_count:
-        yield f"{count_of(late_count, 'line')} came after the close, and late ones count for nothing."
+class LineWords:
+    """The words for the lines of one vote."""
+
+    def __init__(self, vote: Vote) -> None:
+        self.vote = vote
+        # most ballots have one of a few orders
+        self.in_words: dict[str, str] = {}
+
+    def report(
+        self, lines: Sequence[BatchLine], numbers: Iterable[int], replies: Sequence[str], *, is_entered: bool
+    ) -> Iterator[str]:
+        """What is printed about lines that were entered, or that would be."""
+        yield from frame_words([line.came for line in lines])
+        for number, reply, line in zip(numbers, replies, lines):
+            if line.came.whole != line.as_entered:
+                yield from change_words(line)
+            yield f"{number} {reply}  {self.of(line, reply)}"
+            if not line.is_ballot:
+                yield from cause_words(line, is_entered=is_entered)
+        if not all(line.is_ballot for line in lines):
+            yield self.right_words()
+        if LATE in replies:
+            yield f"{count_of(replies.count(LATE), 'line')} came after the close, and late ones count for nothing."
+
+    def of(self, line: BatchLine, reply: str = "") -> str:
+        """A ballot in words, or the line and why debvote refuses it."""
+        if line.finding is None:
+            return f"{line.voter}: {self.ranks(line.ranks)}"
+        word = "" if line.finding.word == reply else f"{line.finding.word}: "
+        return f"{shown_line(line.as_entered)}: {word}{line.finding.hint}{self.more(line)}"
+
+    def ranks(self, ranks: str) -> str:
+        """The ranks of a ballot in words."""
+        if ranks not in self.in_words:
+            self.in_words[ranks] = ranks_in_words(ranks, self.vote.option_names)
+        return self.in_words[ranks]
+
+    def more(self, line: BatchLine) -> str:
+        """All other names that fit if debvote offers one, so that nobody takes one elector for another; and that a line has a code."""
+        others = f" (or {ENGLISH.joined(list(line.other_names))})" if line.other_names else ""
+        return others if self.vote.has_codes or not CODE.search(line.came.changed) else others + IS_CODE
+
+    def right_words(self) -> str:
+        """What a right line looks like."""
+        name = "a code of the roll" if self.vote.has_codes else "an elector of the roll"
+        ranks = f"{len(self.vote.option_names)} ranks with commas between, a rank or a hyphen for each option"
+        return f"A right line in this poll: {self.vote.right_line} ({name}, a space, and {ranks})"
 
 
-def frame_words(batch_lines: list[BatchLine]) -> Iterator[str]:
-    """The marks and the line ends of Windows that were taken off, told once a file."""
+def frame_words(lines: Iterable[Line]) -> Iterator[str]:
+    """The byte-order marks and the line ends of Windows that were removed, once a file."""
     by_source: dict[str, list[Line]] = {}
-    for batch_line in batch_lines:
-        by_source.setdefault(batch_line.came.source, []).append(batch_line.came)
-    for name, lines in by_source.items():
-        return_count = sum(line.had_return for line in lines)
-        if any(line.had_mark for line in lines):
+    for line in lines:
+        if line.whole != line.changed:
+            by_source.setdefault(line.source, []).append(line)
+    for name, changed_lines in by_source.items():
+        return_count = sum(line.had_return for line in changed_lines)
+        if any(line.had_mark for line in changed_lines):
             yield f"{name}: it begins with a mark that Windows writes (byte-order mark); it was taken off"
         if return_count:
             verb, they = ("ends", "it") if return_count == 1 else ("end", "them")
@@ -53,62 +91,42 @@ def change_words(line: BatchLine) -> Iterator[str]:
         yield f"{line.came.where}: `{shown_line(before)}` was changed to `{shown_line(line.as_entered)}` ({how})"
 
 
-def ballot_words(line: BatchLine, option_names: list[str]) -> str:
-    """The ballot in words, or the line and why debvote refuses it."""
-    if line.finding is not None:
-        word = "" if line.finding.word == line.reply else f"{line.finding.word}: "
-        plain = "" if other_cause(line) else plainly(line.came.changed, line.finding)
-        return f"{shown_line(line.as_entered)}: {word}{line.finding.hint}{plain}{more_words(line)}"
-    voter, ranks = line.as_entered.decode("ascii").split(" ")
-    return f"{voter}: {ranks_in_words(ranks, option_names)}"
-
-
-def more_words(line: BatchLine) -> str:
-    """All other names that fit where debvote offers one, so that nobody takes one elector for another; and what a line has that
-    looks like a code or an alias.
-    """
-    others = f" (or {ENGLISH.joined(line.other_names)})" if line.other_names else ""
-    if re.search(rb"(?<![0-9a-f])[0-9a-f]{32}(?![0-9a-f])", line.came.changed):
-        others += (
-            " (it has 32 digits, as codes and aliases have: a ballot has the elector's name alone, and a code is shown to nobody)"
-        )
-    return others
-
-
 def cause_words(line: BatchLine, *, is_entered: bool) -> Iterator[str]:
-    """Why debvote refuses the changed line too, where that is another cause."""
+    """Why debvote refuses the changed line too, if that is another reason."""
     other = other_cause(line)
     if other is not None:
-        why = f"{other.word}: {other.hint}{plainly(line.came.changed, other)}"
+        why = f"{other.word}: {other.hint}"
         goes = "it went in" if is_entered else "it would go in"
         yield f"  {goes} as it came; written as `{shown_line(line.came.changed)}` it is refused too: {why}"
 
 
 def would_words(line: BatchLine) -> str:
-    """A line that is not entered yet, as it would go in, and the one cause that would stay after the changes that are allowed."""
+    """A line that is not entered yet, and the one reason that stays after the changes that are allowed."""
     finding = line.finding_of_changed
-    why = "" if finding is None else f": {finding.word}: {finding.hint}{plainly(line.came.changed, finding)}"
+    why = "" if finding is None else f": {finding.word}: {finding.hint}"
     return f"{shown_line(line.as_entered)}{why}"
 
 
 def other_cause(line: BatchLine) -> Finding | None:
-    """Why debvote refuses the changed line; none where it does not, or for the same cause as the line as it came."""
+    """Why debvote refuses the changed line; None if it does not, or for the same reason as the line as it came."""
     finding, other = line.finding, line.finding_of_changed
     if finding is None or other is None or (other.word, other.hint) == (finding.word, finding.hint):
         return None
     return other
 
 
-def right_words(batch: Batch) -> str:
-    """What a right line looks like."""
-    return (
-        f"A right line in this poll: {batch.right_line} (an elector of the roll, a space, "
-        f"and {len(batch.option_names)} ranks with commas between, a rank or a hyphen for each option)"
-    )
+def summary(replies: Sequence[str]) -> str:
+    """How many lines there were, and with which replies."""
+    counts = collections.Counter(replies)
+    listed = ", ".join(f"{number} {reply}" for reply, number in counts.items())
+    return count_of(len(replies), "line") + (f" ({listed})" if listed else "")
 
 
-def summary(batches: list[Batch]) -> str:
-    """How many ballots there were, and with which replies."""
-    replies = collections.Counter(line.reply for batch in batches for line in batch.lines)
-    told = ", ".join(f"{number} {reply}" for reply, number in replies.items())
-    return count_of(sum(replies.values()), "line") + (f" ({told})" if told else "")
+def standing_words(words: LineWords, before: dict[str, str], after: dict[str, str], none: str) -> list[str]:
+    """Whose ballot is another one afterwards, or is gone; `none` says that. In a vote with codes only how many."""
+    changed = {name: after.get(name) for name, ranks in before.items() if after.get(name) != ranks}
+    if words.vote.has_codes:
+        gone = sum(ranks is None for ranks in changed.values())
+        earlier = len(changed) - gone
+        return [f"  {count_of(gone, 'elector')}: {none}; {count_of(earlier, 'elector')}: an earlier ballot"] if changed else []
+    return [f"  {name}: {none if ranks is None else words.ranks(ranks) + ', as before'}" for name, ranks in changed.items()]

@@ -8,33 +8,21 @@ import sys
 from collections.abc import Sequence
 
 from debvote_tools import console
-from debvote_tools.election.folder import Election
-from debvote_tools.faults import Fault, Status
+from debvote_tools.book.book import Overtaken
+from debvote_tools.election.election import Election
+from debvote_tools.faults import Fault, Several, Status
 from debvote_tools.files import Written
 
 PROGRAM = "debvote-election"
 
 # the modules of the commands, in the order in which an election needs them; each has `HELP`, `add_arguments` and `run`
 COMMANDS = (
-    "new",
-    "roll",
-    "check",
-    "codes",
-    "call",
-    "add",
-    "held",
-    "undo",
-    "letters",
-    "desk",
-    "status",
-    "close",
-    "count",
-    "publish",
+    *("new", "roll", "check", "codes", "call", "add", "held", "undo", "strike", "desk", "letters", "show", "status"),
+    *("close", "reopen", "count", "publish", "log", "export", "backup"),
 )
 
-
 # the commands that change nothing
-QUIET = ("check", "status", "count")
+QUIET = ("check", "show", "status", "count", "log")
 
 
 def modules_for(words: Sequence[str]) -> set[str]:
@@ -45,7 +33,7 @@ def modules_for(words: Sequence[str]) -> set[str]:
 
 def parser(words: Sequence[str] = COMMANDS) -> argparse.ArgumentParser:
     """The command line: each command, and its options if it may be the one that these words ask for."""
-    # --folder may stand before the command and behind it
+    # --folder may come before the command and after it
     folder = argparse.ArgumentParser(add_help=False)
     folder.add_argument(
         "--folder", metavar="F", default=argparse.SUPPRESS, help="The folder of the election; the current one if it is not given"
@@ -84,19 +72,25 @@ def main(program_folder: pathlib.Path, words: Sequence[str] | None = None) -> in
         status: int = namespace.run(election, namespace)
         return status
     except console.OutputFailed as fault:
-        # a command that changes nothing ends quietly where nobody reads on
+        # a command that changes nothing ends quietly if nobody reads on
         is_quiet = fault.is_closed_pipe and namespace.command in QUIET
         return 128 + signal.SIGPIPE if is_quiet else console.failed(PROGRAM, fault.words, fault.status)
+    except Several as several:
+        for one in several.faults:
+            console.failed(PROGRAM, one.words, one.status)
+        return several.status
     except Fault as fault:
         return console.failed(PROGRAM, fault.words, fault.status)
+    except Overtaken:
+        words = "another command changed the election meanwhile, and nothing was changed by this one; run it again"
+        return console.failed(PROGRAM, words, Status.DOUBT)
     except KeyboardInterrupt:
         return console.failed(PROGRAM, "interrupted; what was told is done, and nothing else", 128 + signal.SIGINT)
     except OSError as error:
         # a file that can't be read or written is named, but for standard input
         if error.filename is None:
-            return console.failed(
-                PROGRAM, f"{error.strerror}; what was told is done: ask debvote-election status", Status.BAD_OUTPUT
-            )
+            words = f"{error.strerror}; what was told is done: ask debvote-election status"
+            return console.failed(PROGRAM, words, Status.BAD_OUTPUT)
         state = "it is written, but perhaps not on the disk yet" if isinstance(error, Written) else "it is as it was"
         words = f"{error.filename}: {error.strerror}; {state}; put this right, then run the command again"
         return console.failed(PROGRAM, words, Status.BAD_OUTPUT)

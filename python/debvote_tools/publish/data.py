@@ -4,25 +4,25 @@ import csv
 import io
 import json
 
-from debvote_tools.publish.labels import Labels
+from debvote_tools.sealed_poll import SealedPoll
 from debvote_tools.sheet import Round, Sheet
 
 FORMAT = "debvote result 1"
 
 
-def result_json(sheet: Sheet, labels: Labels, version: str) -> str:
-    """The sheet as JSON, a key a line."""
-    lines = [f"{json.dumps(key)}: {json.dumps(value, ensure_ascii=False)}" for key, value in document(sheet, labels, version)]
+def result_json(sheet: Sheet, poll: SealedPoll, version: str) -> str:
+    """The sheet as JSON, a key a line. A label is what people read as the name."""
+    lines = [f"{json.dumps(key)}: {json.dumps(value, ensure_ascii=False)}" for key, value in document(sheet, poll, version)]
     return "{\n" + ",\n".join(lines) + "\n}\n"
 
 
-def document(sheet: Sheet, labels: Labels, version: str) -> list[tuple[str, object]]:
+def document(sheet: Sheet, poll: SealedPoll, version: str) -> list[tuple[str, object]]:
     """The keys of the document with their values, in their order."""
     return [
         ("format", FORMAT),
         ("program", version),
         ("title", sheet.title),
-        ("label", labels.title or sheet.title),
+        ("label", poll.name),
         ("electors", sheet.electors),
         ("quorum", {"multiple": sheet.quorum_multiple, "votes": sheet.quorum}),
         ("wording", "more_than" if sheet.is_more_than else "at_least"),
@@ -31,7 +31,7 @@ def document(sheet: Sheet, labels: Labels, version: str) -> list[tuple[str, obje
         ("valid", sheet.valid),
         ("refused", sheet.refused),
         ("voters", sheet.voters),
-        ("options", [option_of(sheet, labels, option) for option in sheet.names]),
+        ("options", [option_of(sheet, poll, option) for option in sheet.names]),
         ("votes", [[sheet.votes.get((a, b)) for b in sheet.names] for a in sheet.names]),
         ("defeats", [defeat_of(sheet, a, b) for a, b in sheet.defeats]),
         ("rounds", [round_of(step) for step in sheet.rounds]),
@@ -39,12 +39,12 @@ def document(sheet: Sheet, labels: Labels, version: str) -> list[tuple[str, obje
     ]
 
 
-def option_of(sheet: Sheet, labels: Labels, option: int) -> dict[str, object]:
+def option_of(sheet: Sheet, poll: SealedPoll, option: int) -> dict[str, object]:
     name = sheet.names[option]
     return {
         "number": option,
         "name": name,
-        "label": labels.options.get(option, name),
+        "label": poll.names[option - 1],
         "is_default": option == sheet.default,
         "ratio": sheet.ratios.get(option),
         "dropped": sheet.dropped.get(option),

@@ -4,6 +4,7 @@ from debvote_tools.sentences import marked
 
 BALLOTS = marked("Ballots")
 COUNT_AGAIN = marked("Count again here")
+DONE = marked("What was done")
 REFUSED = marked("Refused lines")
 REMAINS = marked("What is not hidden")
 UNSEEN = marked("What nobody can see from here")

@@ -29,13 +29,13 @@ def picture_of(graph: str, options: int) -> bytes | None:
     """The picture of a graph by Graphviz, or none; where there is none it says why."""
     dot = shutil.which("dot")
     if dot is None:
-        tell_aside("debvote-publish: no picture: Graphviz (its program dot) is not installed")
+        tell_aside("Note: no picture: Graphviz (its program dot) is not installed")
         return None
     words = words_for_dot(options)
     try:
         drawn = subprocess.run([dot, *words[1:]], input=graph.encode(), capture_output=True, timeout=PICTURE_SECONDS, check=True)
     except subprocess.SubprocessError as error:
-        tell_aside(f"debvote-publish: no picture: {error}")
+        tell_aside(f"Note: no picture: {error}")
         return None
     return drawn.stdout
 

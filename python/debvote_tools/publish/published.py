@@ -1,20 +1,20 @@
-"""What is published: the records from which the page and the files of a folder are made."""
+"""What is published: the value from which the files of a folder and the parts of its page are made."""
 
 import dataclasses
-import re
-from collections.abc import Mapping, Sequence
-from html import escape
+import functools
 
-from debvote_tools.announced import Announced
-from debvote_tools.faults import Doubt
-from debvote_tools.journal import Entry
-from debvote_tools.language import ENGLISH, Language
-from debvote_tools.program import Finding, Totals
-from debvote_tools.publish.casting_vote import CastingVote
-from debvote_tools.publish.labels import IN_POLL, Labels
-from debvote_tools.publish.poll_sums import PollSums
-from debvote_tools.publish.parts.roll import Voting
+from debvote_tools.debvote import casting_words
+from debvote_tools.files import sha256_of
+from debvote_tools.language import Language
+from debvote_tools.lines import ballot_lines
+from debvote_tools.publish.counting import Counted
+from debvote_tools.publish.doubts import Doubt
+from debvote_tools.publish.inputs import Publication
+from debvote_tools.sentences import marked
 from debvote_tools.sheet import Sheet
+
+# an option in a sentence: its number and its name do not run into each other
+OPTION = marked("Option {number}: {name}")
 
 
 @dataclasses.dataclass(frozen=True)
@@ -33,128 +33,57 @@ class WholeFile(NamedFile):
 
 
 @dataclasses.dataclass(frozen=True)
-class Further:
-    """What a publication has beside what follows from its poll and its ballots. An open vote has nothing of it.
+class Published:
+    """What was given, what debvote says of it, and all doubts about it."""
 
-    All texts but the script are HTML already.
-    """
+    publication: Publication
+    counted: Counted
+    doubts: list[Doubt]
 
-    # in a secret vote, whose refused and late lines are not among the published ballots: how many lines came, which is told
-    private_totals: Totals | None = None
-    # where the published roll has no names: the electors who have voted, if they are told
-    voters: Sequence[str] | None = None
-    # what stands above the ballots, in place of the ordinary sentences
-    about_ballots: str | None = None
-    # whole parts of the page (`pages.part`), which stand before that about verification
-    parts: Sequence[str] = ()
-    # style and script behind those that all pages have
-    style: str = ""
-    script: str = ""
-    # further files
-    files: Sequence[WholeFile] = ()
-    # what files of the ordinary names are called on the page, by their names
-    described: Mapping[str, str] = dataclasses.field(default_factory=dict)
+    @property
+    def sheet(self) -> Sheet:
+        return self.counted.sheet
+
+    @property
+    def language(self) -> Language:
+        return self.publication.language
 
     @property
     def is_secret(self) -> bool:
-        """Whether the vote is secret, and published under aliases."""
-        return self.private_totals is not None
+        return self.publication.is_secret
 
+    @property
+    def casting_words(self) -> list[str]:
+        """The words of the casting vote, as the commands of the page have them."""
+        return casting_words(self.publication.casting_option)
 
-@dataclasses.dataclass(frozen=True)
-class LinesInTime:
-    """The last envelope of a poll, and the sum of so many first lines of its ballots."""
+    @functools.cached_property
+    def ballot_lines(self) -> list[bytes]:
+        """The lines of the ballots, line i at index i - 1."""
+        return ballot_lines(self.publication.ballots)
 
-    last_envelope: int
-    lines_sum: str
-
-
-@dataclasses.dataclass(frozen=True)
-class Times:
-    """What is known of time: what the poll says, the acts of the election, none of two files alone, and the lines in time."""
-
-    said: Announced
-    acts: list[Entry] | None
-    # in an open vote that has a last envelope
-    in_time: LinesInTime | None = None
-
-    def entries(self, act: str) -> list[Entry]:
-        return [entry for entry in self.acts or [] if entry.act == act]
-
-
-@dataclasses.dataclass(frozen=True)
-class Published:
-    """What the page is made from: the texts of debvote, the picture, what there is to doubt, and what was given beside."""
-
-    sheet: Sheet
-    # the ballots that stand, as `debvote standing` writes them
-    standing_text: str
-    # the lines that are refused, late ones among them
-    refused: list[Finding]
-    # the lines of the published ballots, that of envelope i at i - 1
-    published_lines: list[bytes]
-    picture: bytes | None
-    # the words of the casting vote, as the commands of the page have them
-    casting_words: list[str]
-    verified: str
-    version: str
-    doubts: list[Doubt]
-    poll_sums: PollSums
-    labels: Labels
-    about: str | None
-    further: Further
-    times: Times
-    # who voted and who did not, as far as that is told
-    voting: Voting | None = None
-    # why the doubts are none, in the words of those who publish
-    because: str | None = None
-    # whose the casting vote was, in the words of those who publish
-    casting_vote: CastingVote = CastingVote()
-    # the sum of the published ballots
-    ballots_sum: str = ""
-    # the language of page and letter
-    language: Language = ENGLISH
-    # the texts of the options, by their numbers
-    texts: Mapping[int, str] = dataclasses.field(default_factory=dict)
+    @functools.cached_property
+    def ballots_checksum(self) -> str:
+        return sha256_of(self.publication.ballots)
 
     def say(self, text: str, **places: object) -> str:
         return self.language.say(text, **places)
 
+    # ------------------------------------------------------------ names, in HTML
     def title(self) -> str:
-        """What the election is called on the page, in HTML."""
-        return shown(self.labels.title, self.sheet.title)
+        return self.publication.title()
 
     def name(self, option: int) -> str:
-        """What an option is called on the page, in HTML."""
-        return shown(self.labels.options.get(option), self.sheet.names[option])
+        return self.publication.name(option)
+
+    def named(self, option: int) -> str:
+        """An option, by its number and its name."""
+        return self.say(OPTION, number=option, name=self.name(option))
 
     def option(self, option: int) -> str:
-        """An option as it is called in a sentence, by its number and its name, in HTML that is not whole yet: `with_names` puts the name of
-        the poll beside the label, or takes its place away.
-        """
-        return f"<b>{option} {self.name(option)}</b>{self.place_of_name(option)}"
+        """An option as it stands in a sentence."""
+        return f'<b data-option="{option}">{self.named(option)}</b>'
 
-    def place_of_name(self, option: int) -> str:
-        """Where the name of the poll may come to stand beside a label; no text has these two signs."""
-        return f"\x02{option}\x03" if option in self.labels.options else ""
-
-    def in_poll(self, option: int) -> str:
-        """What an option is called in the poll, as it stands beside its label."""
-        return f" ({self.say(IN_POLL, name=escape(self.sheet.names[option]))})"
-
-    def with_names(self, section: str) -> str:
-        """A section of the page in which the name of the poll stands beside the first label of each option."""
-        told: set[str] = set()
-
-        def name_of(place: re.Match[str]) -> str:
-            if place[1] in told:
-                return ""
-            told.add(place[1])
-            return self.in_poll(int(place[1]))
-
-        return re.sub("\x02(\\d+)\x03", name_of, section)
-
-
-def shown(label: str | None, name: str) -> str:
-    """A label, or the name where there is none. A label may be written from right to left, and turns nothing around it."""
-    return escape(name) if label is None else f"<bdi>{escape(label)}</bdi>"
+    def plain_name(self, option: int) -> str:
+        """An option in plain text, by its number and its name, as a letter has it."""
+        return self.say(OPTION, number=option, name=self.publication.poll.names[option - 1])

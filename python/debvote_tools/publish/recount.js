@@ -9,17 +9,15 @@
      nodejs recount.js standing --poll FILE --ballots FILE
      nodejs recount.js verify --poll FILE --ballots FILE --sheet FILE
 
-   To read how it counts, begin at "The poll" and end before "At a terminal": that is half of it.
-   The part above "The poll" reads TOML, the form of the poll file. It is as long as it is since a
-   poll may have any TOML beside its own keys.
+   To read how it counts, begin at "The poll" and end before "At a terminal".
 
    What stands in brackets are paragraphs of the Constitution of Debian, version 1.9.
 
    JavaScript computes exactly up to 2^53, and no number comes near that. There are at most 100,000
    lines and 10,000 electors, so a number of votes is at most 10,000. The greatest products are ten
    times a number of votes (a ratio is at most 10), and 100 times the number of electors (the square
-   of a quorum of at most 10): 1,000,000. Whole numbers of the poll file may be greater. They are
-   read as BigInt, which is exact, and become numbers once they are known to be within limits. */
+   of a quorum of at most 10): 1,000,000. A whole number of the poll file that is greater than 2^53
+   is not in plain form here, and refused. */
 
 /** Why the files cannot be counted, and the status with which a run at a terminal ends. */
 class Fault extends Error {
@@ -32,193 +30,46 @@ class Fault extends Error {
 const MOST_POLL_BYTES = 1048576;
 const MOST_BALLOT_BYTES = 33554432;
 const MOST_LINES = 100000;
-const MOST_DEPTH = 80;
 
-/* ---- The poll file is TOML --------------------------------------------------------------------
+/* ---- The poll -------------------------------------------------------------------------------
 
-   A text becomes a string, a whole number a BigInt, a float a number, true and false a boolean, a
-   date or time an object, a list an Array and a table a Map: so the kinds can be told apart. */
-
-/** A table, and what made it, since it is made only once: "header", as [a.b] makes b; "above", as
-    it makes a; "dotted", as a.b = 1 makes a; "inline", as braces do. */
-class Table extends Map {
-  constructor(origin) {
-    super();
-    this.origin = origin;
-  }
-}
-
-/** A list of tables, to which each header [[name]] adds one. */
-class Tables extends Array {}
-
-const here = (pattern) => new RegExp(pattern, "yu"); // finds something at one place alone
-const PLAIN = "\\t\\x20-\\x7e\\x80-\\u{10ffff}"; // what texts and comments are made of
-const BREAK = "\\r?\\n";
-const BLANKS = here("[ \\t]*");
-const END_OF_LINE = here(`[ \\t]*(?:#[${PLAIN}]*)?(?:${BREAK}|$)`);
-const GAP = here(`(?:[ \\t\\n]+|\\r\\n|#[${PLAIN}]*(?=${BREAK}))*`);
-const BARE_KEY = here("[A-Za-z0-9_-]+");
-const TEXT = here(`"((?:(?!["\\\\])[${PLAIN}]|\\\\.)*)"`);
-const LITERAL = here(`'((?:(?!')[${PLAIN}])*)'`);
-// up to two quotation marks at the end of a long text, before the three that end it, belong to it
-const LONG_TEXT = here(`"""(?:${BREAK})?((?:(?!["\\\\])[${PLAIN}]|${BREAK}|\\\\(?:${BREAK}|.)`
-  + '|"{1,2}(?!"))*"{0,2})"""');
-const LONG_LITERAL = here(`'''(?:${BREAK})?((?:(?!')[${PLAIN}]|${BREAK}|'{1,2}(?!'))*'{0,2})'''`);
-const HEX = "[0-9A-Fa-f]";
-const ESCAPE = new RegExp("\\\\(?:([btnfre\"\\\\])|([ \\t]*\\r?\\n[ \\t\\r\\n]*)"
-  + `|x(${HEX}{2})|u(${HEX}{4})|U(${HEX}{8})|)`, "g");
-const ESCAPED = { b: "\b", t: "\t", n: "\n", f: "\f", r: "\r", e: "\x1b", '"': '"', "\\": "\\" };
-const HOUR = "(?:[01]\\d|2[0-3]):[0-5]\\d";
-const TIME = `${HOUR}(?::(?:[0-5]\\d|60)(?:\\.\\d+)?)?`;
-const DAY = "(\\d{4})-(0[1-9]|1[0-2])-(0[1-9]|[12]\\d|3[01])";
-const WHEN = here(`${TIME}|${DAY}(?:[Tt ]${TIME}(?:[Zz]|[+-]${HOUR})?)?`);
-const WORD = here("(true|false)|[+-]?(?:inf|nan)");
-const BASED = here(`0(?:x${HEX}(?:_?${HEX})*|o[0-7](?:_?[0-7])*|b[01](?:_?[01])*)`);
-const NUMBER = here("([+-]?)(0|[1-9](?:_?\\d)*)((?:\\.\\d(?:_?\\d)*)?(?:[eE][+-]?\\d(?:_?\\d)*)?)");
-
-/** The table of a TOML document. */
-function readToml(text) {
-  let at = 0;
-  const refuse = () => {
-    throw new Fault("poll refused: syntax", 3);
-  };
-  const next = () => text.charAt(at);
-  /** What the pattern finds at this place, which is passed then; or null. */
-  const take = (pattern) => {
-    pattern.lastIndex = at;
-    const found = pattern.exec(text);
-    if (found) at = pattern.lastIndex;
-    return found;
-  };
-  const need = (pattern) => take(pattern) || refuse();
-  const takeWord = (word) => text.startsWith(word, at) && (at += word.length) > 0;
-  const needWord = (word) => takeWord(word) || refuse();
-
-  const unescape = (written) => written.replace(ESCAPE, (all, sign, lineEnd, two, four, eight) => {
-    if (sign) return ESCAPED[sign];
-    if (lineEnd) return "";
-    const code = parseInt(two || four || eight, 16);
-    const isCharacter = code < 0xd800 || (code > 0xdfff && code <= 0x10ffff);
-    return isCharacter ? String.fromCodePoint(code) : refuse();
-  });
-  const keyPart = () => {
-    const quoted = next() === '"' ? unescape(need(TEXT)[1]) : null;
-    return quoted !== null ? quoted : next() === "'" ? need(LITERAL)[1] : need(BARE_KEY)[0];
-  };
-  const key = () => {
-    const parts = [];
-    do {
-      take(BLANKS);
-      parts.push(keyPart());
-      take(BLANKS);
-    } while (takeWord("."));
-    return parts.length > MOST_DEPTH ? refuse() : parts;
-  };
-
-  const whole = (sign, digits) => {
-    const size = BigInt(digits.replace(/_/g, ""));
-    const number = sign === "-" ? -size : size;
-    return BigInt.asIntN(64, number) === number ? number : refuse();
-  };
-  const bareValue = () => {
-    let found = take(WHEN);
-    if (found) {
-      const [, year, month, day] = found;
-      const days = new Date(Date.UTC(2000 + (year % 400), month, 0)).getUTCDate();
-      return year && Number(day) > days ? refuse() : { date: found[0] };
-    }
-    if ((found = take(WORD))) return found[1] ? found[1] === "true" : NaN;
-    if ((found = take(BASED))) return whole("", found[0]);
-    const [all, sign, digits, fraction] = need(NUMBER);
-    return fraction ? Number(all.replace(/_/g, "")) : whole(sign, digits);
-  };
-  /** What stands between the signs that open and close a list or a table, with commas between. */
-  const entries = (open, close, depth, entry) => {
-    needWord(open);
-    if (depth > MOST_DEPTH) refuse();
-    for (take(GAP); !takeWord(close); take(GAP)) {
-      entry();
-      take(GAP);
-      if (next() !== close) needWord(",");
-    }
-  };
-  /** A value; the depth is 1 for one that stands in no list and in no table in braces. */
-  const value = (depth) => {
-    if (next() === '"') return unescape((take(LONG_TEXT) || need(TEXT))[1]);
-    if (next() === "'") return (take(LONG_LITERAL) || need(LITERAL))[1];
-    if (next() === "[") {
-      const list = [];
-      entries("[", "]", depth, () => list.push(value(depth + 1)));
-      return list;
-    }
-    if (next() === "{") {
-      const table = new Table("inline");
-      entries("{", "}", depth, () => pair(table, depth + 1));
-      return table;
-    }
-    return bareValue();
-  };
-  /** Puts `key = value` into a table; a dotted key makes tables on its way. */
-  const pair = (table, depth) => {
-    const parts = key();
-    const last = parts.pop();
-    for (const part of parts) {
-      if (!table.has(part)) table.set(part, new Table("above"));
-      table = table.get(part);
-      if (!(table instanceof Table) || !["above", "dotted"].includes(table.origin)) refuse();
-      table.origin = "dotted";
-    }
-    needWord("=");
-    take(BLANKS);
-    if (table.has(last)) refuse();
-    table.set(last, value(depth));
-  };
-  /** The table of a header `[key]`, or a new one at the end of the list of a header `[[key]]`. */
-  const header = (root, isList) => {
-    const parts = key();
-    const last = parts.pop();
-    needWord(isList ? "]]" : "]");
-    let above = root;
-    for (const part of parts) {
-      if (!above.has(part)) above.set(part, new Table("above"));
-      above = above.get(part);
-      if (above instanceof Tables) above = above[above.length - 1];
-      if (!(above instanceof Table) || above.origin === "inline") refuse();
-    }
-    if (!above.has(last)) above.set(last, isList ? new Tables() : new Table("above"));
-    let found = above.get(last);
-    if (isList) {
-      if (!(found instanceof Tables)) refuse();
-      found.push((found = new Table("above")));
-    }
-    if (!(found instanceof Table) || found.origin !== "above") refuse();
-    found.origin = "header";
-    return found;
-  };
-
-  const root = new Table("header");
-  let table = root;
-  while (at < text.length) {
-    take(BLANKS);
-    if (takeWord("[[")) table = header(root, true);
-    else if (takeWord("[")) table = header(root, false);
-    else if (next() !== "" && !"#\r\n".includes(next())) pair(table, 1);
-    need(END_OF_LINE);
-  }
-  return root;
-}
-
-/* ---- The poll ------------------------------------------------------------------------------- */
+   A published poll is in plain form: a line `key = value` for each key, in this order, with the
+   value as JSON has it. It is read as such and written anew; a poll of any other form is refused,
+   so that nothing in it can be read in two ways. */
 
 const isText = (value) => typeof value === "string";
-const isWhole = (value) => typeof value === "bigint";
+const isWhole = (value) => Number.isSafeInteger(value);
 const areAll = (isKind) => (value) => Array.isArray(value) && value.every(isKind);
 const orNothing = (isKind) => (value) => value === undefined || isKind(value);
 const KEYS = {
   title: isText, options: areAll(isText), ratios: areAll(isWhole), default: isText,
-  quorum: isWhole, roll: areAll(isText), last_envelope: orNothing(isWhole),
-  wording: orNothing(isText),
+  quorum: isWhole, wording: orNothing(isText), roll: areAll(isText),
+  last_envelope: orNothing(isWhole), deadline: orNothing(isText), address: orNothing(isText),
+  secret: orNothing((value) => value === true), shown_title: orNothing(isText),
+  shown_options: orNothing(areAll(isText)), explanations: orNothing(areAll(isText)),
 };
+
+/** A value as plain form writes it. */
+function written(value) {
+  if (Array.isArray(value)) return `[${value.map(written).join(", ")}]`;
+  return JSON.stringify(value).replace(/\x7f/g, "\\u007f");
+}
+
+/** The keys and values of a text in plain form; null if it is in another form. */
+function readPlain(text) {
+  const values = new Map();
+  try {
+    for (const line of text.split("\n").slice(0, -1)) {
+      const at = line.indexOf(" = ");
+      values.set(line.slice(0, at), JSON.parse(line.slice(at + 3)));
+    }
+  } catch (error) {
+    return null;
+  }
+  const kept = Object.keys(KEYS).filter((key) => values.has(key));
+  const again = kept.map((key) => `${key} = ${written(values.get(key))}\n`).join("");
+  return again === text ? values : null;
+}
 
 /** The poll of a file, or its first fault. */
 function readPoll(bytes) {
@@ -228,13 +79,14 @@ function readPoll(bytes) {
   ask(bytes.length <= MOST_POLL_BYTES, "poll too long");
   let text = null;
   try {
-    text = new TextDecoder("utf-8", { fatal: true }).decode(bytes); // skips a byte-order mark
+    text = new TextDecoder("utf-8", { fatal: true, ignoreBOM: true }).decode(bytes);
   } catch (error) {
-    ask(false, "poll refused: syntax");
+    ask(false, "poll refused: not in UTF-8");
   }
-  const table = readToml(text);
-  const found = Object.fromEntries(Object.keys(KEYS).map((key) => [key, table.get(key)]));
+  const values = readPlain(text);
   const right = (isRight, words) => ask(isRight, "poll refused: " + words);
+  right(values !== null, "not in plain form, as the poll.toml of a result is");
+  const found = Object.fromEntries(Object.keys(KEYS).map((key) => [key, values.get(key)]));
   for (const key of Object.keys(KEYS)) right(KEYS[key](found[key]), "key " + key);
 
   const { title, options, ratios, quorum, roll, last_envelope: last, wording } = found;
@@ -259,10 +111,9 @@ function readPoll(bytes) {
   right(last === undefined || isWithin(last, 0, MOST_LINES), "last envelope");
   right([undefined, "at_least", "more_than"].includes(wording), "wording");
   return {
-    title, names, electors, ratios: ratios.map(Number), quorum: Number(quorum),
-    last: last === undefined ? null : Number(last), isMoreThan: wording === "more_than",
-    isSecret: table.get("secret") === true,
-    later: ["last_envelope", "extended_to"].filter((key) => table.has(key)),
+    title, names, electors, ratios, quorum, last: last === undefined ? null : last,
+    isMoreThan: wording === "more_than", isSecret: found.secret === true,
+    shownTitle: found.shown_title || title, shown: found.shown_options || names,
   };
 }
 
@@ -336,7 +187,7 @@ function addVotes(votes, ranks) {
     the call. Null if it is one, or if the vote is not secret. */
 function whyNotSecret(poll, tally) {
   if (!poll.isSecret) return null;
-  if (poll.later.length > 0) return `its poll has no ${poll.later[0]}, and this one has it`;
+  if (poll.last !== null) return "its poll has no last_envelope, and this one has it";
   if (tally.odd === null) return null;
   return `each line counts, once, and the reply to line ${tally.odd.line} is: ${tally.odd.reply}`;
 }
@@ -560,4 +411,7 @@ function main() {
   }
 }
 
-if (typeof require === "function" && typeof module === "object" && require.main === module) main();
+// read from a file, or from standard input
+if (typeof require === "function" && typeof module === "object") {
+  if (require.main === module || require.main === undefined) main();
+}

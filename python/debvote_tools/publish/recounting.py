@@ -6,11 +6,9 @@ import importlib.resources
 import pathlib
 
 from debvote_tools.faults import Fault, Status
+from debvote_tools.publish.names import GUIDE, RECOUNT, SCRIPT
 
-NAME = "recount.py"
-SCRIPT = "recount.js"
 PACKAGE = "debvote_tools.publish"
-GUIDE = "READING-A-SHEET.md"
 GUIDE_LINK = f'<a href="{GUIDE}">{GUIDE}</a>'
 
 # the folder that debvote_tools lies in; the package has recount.py and the guide there, and a checkout has them elsewhere
@@ -19,7 +17,7 @@ PLACE = pathlib.Path(__file__).resolve().parents[2]
 
 def recount_program() -> bytes:
     """The bytes of the program."""
-    return first_there("the second count", PLACE / NAME, PLACE.parent / "tests" / "reference.py")
+    return first_there("the second count", PLACE / RECOUNT, PLACE.parent / "tests" / "reference.py")
 
 
 def recount_script() -> bytes:

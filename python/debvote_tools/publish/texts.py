@@ -1,8 +1,8 @@
-"""Texts that are given for the page beside poll and ballots: plain, in UTF-8."""
+"""Texts of those who publish, for the page: plain, in UTF-8."""
 
 from debvote_tools.faults import Fault, Status
 from debvote_tools.files import read_at_most
-from debvote_tools.signs import number_of, odd_sign
+from debvote_tools.terminal_text import number_of, odd_sign
 
 # in bytes
 LIMIT = 65_536
@@ -10,14 +10,14 @@ LIMIT = 65_536
 # in characters; a reason that is given with --because is a sentence or some
 LONGEST_REASON = 2_000
 
-# the signs that steer a terminal, and stand in a plain text all the same
+# the characters that steer a terminal, and stand in a plain text all the same
 ALLOWED = "\t\n"
 
 
 def text_in(file: str, what: str) -> str:
     """The text of a file, without its byte-order mark and with a line feed alone at the end of each line.
 
-    `what` is the name of the option that was given it.
+    `what` is the name of the option that was given the file.
     """
     try:
         data = read_at_most(file, LIMIT)
@@ -31,11 +31,11 @@ def text_in(file: str, what: str) -> str:
         line = data.count(b"\n", 0, error.start) + 1
         raise bad_text(f"{file}:{line}", "it is not in UTF-8", "save it as plain text in UTF-8") from None
     text = text.replace("\r\n", "\n")
-    sign = odd_sign(text, allowed=ALLOWED)
-    if sign is not None:
+    character = odd_sign(text, allowed=ALLOWED)
+    if character is not None:
         raise bad_text(
-            f"{file}:{line_at(text, text.index(sign))}",
-            f"it has the sign {number_of(sign)}, which no plain text has",
+            f"{file}:{line_at(text, text.index(character))}",
+            f"it has the character {number_of(character)}, which no plain text has",
             "take it out",
         )
     if not text.strip():
@@ -45,9 +45,9 @@ def text_in(file: str, what: str) -> str:
 
 def reason_in(text: str) -> str:
     """The reason that is given with --because, on the command line."""
-    sign = odd_sign(text, allowed=ALLOWED)
-    if sign is not None:
-        raise bad_text("--because", f"the text has the sign {number_of(sign)}, which no plain text has", "take it out")
+    character = odd_sign(text, allowed=ALLOWED)
+    if character is not None:
+        raise bad_text("--because", f"the text has the character {number_of(character)}, which no plain text has", "take it out")
     if not text.strip():
         raise bad_text("--because", "the text is empty", "write it, or leave --because out")
     if len(text) > LONGEST_REASON:

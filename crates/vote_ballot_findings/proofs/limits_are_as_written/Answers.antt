@@ -2,4 +2,4 @@ use Rattle.std.proofs.Common.{refl}
 use Rattle.vote_ballot_findings.proofs.limits_are_as_written.Goals as goal
 
 pub returns : goal.returns
-returns c = record { shown = refl; edits = refl; short = refl; edits_of_short = refl; letters = refl; suggested = refl; searches = refl; ahead = refl }
+returns c = record { shown = refl; remark = refl; edits = refl }

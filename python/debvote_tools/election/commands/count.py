@@ -2,14 +2,16 @@
 
 import argparse
 import dataclasses
+import shlex
 
 from debvote_tools.arguments import arguments_of
+from debvote_tools.book import queries
 from debvote_tools.console import tell_as_it_is, tell_aside
-from debvote_tools.election.folder import Election
-from debvote_tools.election.running import demand_option, file_words, in_shell, refusal
-from debvote_tools.election.secrecy import publish_words
-from debvote_tools.faults import Status
-from debvote_tools.program import casting_words
+from debvote_tools.debvote import casting_words
+from debvote_tools.election.election import Election, Sealed
+from debvote_tools.election.history import History
+from debvote_tools.faults import Fault, Status
+from debvote_tools.sealed_poll import SealedPoll
 from debvote_tools.sheet import Sheet, sheet_in
 
 HELP = "Print the result sheet"
@@ -17,7 +19,7 @@ HELP = "Print the result sheet"
 
 @dataclasses.dataclass(frozen=True)
 class Arguments:
-    """What stands behind the command on the command line."""
+    """The command's options."""
 
     casting: str | None
 
@@ -37,29 +39,48 @@ def add_casting_argument(parser: argparse.ArgumentParser) -> None:
 
 def run(election: Election, namespace: argparse.Namespace) -> int:
     arguments = arguments_of(Arguments, namespace)
-    with election.reading() as counted:
-        answer = election.debvote.run("count", *file_words(election, counted), *casting_words(arguments.casting))
-        if not answer.text and answer.status == Status.CASTING_OUTSIDE and arguments.casting is not None:
-            demand_option(election, arguments.casting)
-        if not answer.text:
-            raise refusal(election, answer)
-        sheet = sheet_in(answer.text)
-        changes = [*election.what_is_gone(counted), *election.changed_since_close(counted, sheet)]
+    sealed, history = election.sealed(), election.history()
+    demand_countable(election, history, sealed)
+    if arguments.casting is not None:
+        demand_option(sealed.counted, arguments.casting)
+    ballots = queries.ballots_of(queries.lines_in_time(election.book))
+    answer = election.debvote.answer("count", sealed.counted.as_bytes(), ballots, *casting_words(arguments.casting))
     # the sheet alone, so that it can go into a file
     tell_as_it_is(answer.text)
-    tell_aside(*(f"Note: {change}" for change in changes), f"Next: {what_next(election, sheet, arguments.casting)}")
+    tell_aside(f"Next: {what_next(election, history, sheet_in(answer.text), arguments.casting)}")
     return answer.status
 
 
-def what_next(election: Election, sheet: Sheet, casting: str | None) -> str:
+def demand_countable(election: Election, history: History, sealed: Sealed) -> None:
+    """Stops at a secret vote that is not closed: who sees its numbers grow sees who voted what."""
+    if sealed.counted.secret and not history.is_closed:
+        words = "the vote is secret, and it is counted after the close alone"
+        raise Fault(None, words, f"close it first: {election.command('close')}", Status.DOUBT, "nothing was counted")
+
+
+def demand_option(poll: SealedPoll, name: str) -> None:
+    """Stops where no option of the poll has this name, and says which names there are."""
+    if name not in poll.plain_names:
+        cure = f"give one of these, exactly as it stands here: {in_shell(poll.plain_names)}"
+        raise Fault(
+            f"--casting={shlex.quote(name)}", "no option has this name", cure, Status.CASTING_OUTSIDE, "nothing was counted"
+        )
+
+
+def what_next(election: Election, history: History, sheet: Sheet, casting: str | None) -> str:
     """What the secretary does with this sheet. Before the close it is no result yet."""
-    over = "" if election.close_entry() else f"this is no result yet: when the vote is over {election.command('close')}, then "
-    publish = publish_words(election)
+    over = "" if history.is_closed else f"this is no result yet: when the vote is over {election.command('close')}, then "
+    cast = ("--cast-by", "WHO", "--cast-on", "DATE")
     winner = sheet.winner()
     if winner is not None:
-        return over + election.command(*publish, *(casting_words(casting) if winner.is_by_casting else []))
+        return over + election.command("publish", *((*casting_words(casting), *cast) if winner.is_by_casting else ()))
     names = [sheet.names[option] for option in sheet.final_set()]
     outside = sheet.casting_outside()
     why = f"; {in_shell([sheet.names[outside]])} is not among them" if outside is not None else ""
-    commands = " or ".join(election.command(*publish, *casting_words(name)) for name in names)
+    commands = " or ".join(election.command("publish", *casting_words(name), *cast) for name in names)
     return f"{over}it is a tie between {in_shell(names)}{why}; who has the casting vote chooses one of them: {commands}"
+
+
+def in_shell(names: list[str] | tuple[str, ...]) -> str:
+    """Some names, each as it is typed in a shell."""
+    return ", ".join(map(shlex.quote, names))

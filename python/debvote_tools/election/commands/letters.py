@@ -1,272 +1,265 @@
-"""`letters`: the letters that go to the electors, as files that any mail program sends."""
+"""`letters`: what goes to the electors, as files that a mail program sends, or sent to a mail server."""
 
 import argparse
+import contextlib
 import dataclasses
+import getpass
 import pathlib
-import shlex
-from collections.abc import Callable
+from collections.abc import Callable, Iterator, Sequence
 
-from debvote_tools import called, poll_file, secret
-from debvote_tools.announced import announced_in
+from debvote_tools import console
 from debvote_tools.arguments import arguments_of
+from debvote_tools.book import sent
+from debvote_tools.book.book import Book
+from debvote_tools.book.sent import POSTPONED, REFUSED, TAKEN, SentLetter
+from debvote_tools.call.data import demand_web_address
 from debvote_tools.console import tell
-from debvote_tools.election.folder import Election
-from debvote_tools.election.letters import keyring, mail, plan, store, texts
-from debvote_tools.election.letters.mail import Mail
-from debvote_tools.election.letters.message import AUTOMATIC
-from debvote_tools.election.election_files import PollAndBallots
-from debvote_tools.election.running import file_words, refusal
-from debvote_tools.election.secrecy import demand_own_folder
-from debvote_tools.election.telling import count_of, tell_edits
+from debvote_tools.election import acting, letter_files
+from debvote_tools.election.election import LETTERS, Election
+from debvote_tools.election.letters_due import Plan, plan_of
+from debvote_tools.election.reporting import count_of
 from debvote_tools.faults import Fault, Status
-from debvote_tools.files import uninterrupted
-from debvote_tools.language import Language
-from debvote_tools.members import Member, members_in
-from debvote_tools.program import replies_in, standing_in
-from debvote_tools.publish.letter import NAME as RESULT
+from debvote_tools.files import locked, uninterrupted
+from debvote_tools.letters_out import send
+from debvote_tools.letters_out.compose import Kind
+from debvote_tools.letters_out.message import is_address
+from debvote_tools.letters_out.send import Outgoing, Server
+from debvote_tools.terminal_text import shown_text
 
-HELP = "Write the letters to the electors as files: the call, receipts, reminders, the result"
+HELP = "Write letters to the electors, or send them: the call, receipts, reminders, the close, the result"
 
-CALL, RECEIPTS, REMINDERS, RESULTS = KINDS = ("call", "receipts", "reminders", "result")
+ACT, SENT = "letters out", "letter sent"
 
-# so many names are told
+# so many names are told of electors without an address
 MOST = 20
+# in characters
+BAR = 40
 
 
 @dataclasses.dataclass(frozen=True)
 class Arguments:
-    """What stands behind the command on the command line."""
+    """The command's options."""
 
     kind: str
+    send: bool
+    server: str | None
+    user: str | None
+    password_file: str | None
+    again: list[str]
     sender: str | None
     at: str | None
-    mbox: bool
+    moved: bool
+    because: str | None
+
+
+@dataclasses.dataclass(frozen=True)
+class Done:
+    """What was written and sent."""
+
+    plan: Plan
+    # where files were written, and how many letters are among them; None if there was nothing to write
+    place: pathlib.Path | None
+    files: int
+    # what the server said of each letter that it was given
+    tried: tuple[SentLetter, ...]
+    # the letters of an earlier run that a server may have
+    cut_off: tuple[SentLetter, ...]
+    is_sent: bool
 
 
 def add_arguments(parser: argparse.ArgumentParser) -> None:
-    parser.add_argument("kind", metavar="KIND", choices=KINDS, help="call, receipts, reminders or result")
-    sender = "The address that sends them, where the call names none"
+    parser.add_argument("kind", metavar="KIND", choices=list(Kind), help="call, receipts, reminders, closed or result")
+    parser.add_argument("--send", action="store_true", help="Send them to a mail server, and go on where a run was cut off")
+    server = "With --send: the mail server; the connection is encrypted unless it is on this computer"
+    parser.add_argument("--server", metavar="HOST[:PORT]", help=server)
+    parser.add_argument("--user", metavar="USER", help="With --send: the user on the server; the password is asked")
+    parser.add_argument("--password-file", metavar="FILE", help="With --user: the file that has the password")
+    again = "With --send: the elector whose letter was cut off, and is to be sent again"
+    parser.add_argument("--again", metavar="NAME", action="append", default=[], help=again)
+    sender = "The address that sends the letters; that of the call if it is not given"
     parser.add_argument("--from", metavar="ADDRESS", dest="sender", help=sender)
-    parser.add_argument("--at", metavar="URL", help="With result: where it is published")
-    parser.add_argument("--mbox", action="store_true", help="Write one mbox in place of a folder of messages")
+    parser.add_argument("--at", metavar="URL", help="With result: where it is published, if the call does not say it")
+    acting.add_arguments(parser)
 
 
 def run(election: Election, namespace: argparse.Namespace) -> int:
     arguments = arguments_of(Arguments, namespace)
-    if (arguments.at is None) == (arguments.kind == RESULTS):
-        reason, cure = (
-            ("it goes with result", "leave it out")
-            if arguments.at is not None
-            else ("it is missing", "write where the result is published")
-        )
-        raise Fault("--at", reason, cure, Status.BAD_WORDS, "nothing was written")
-    if arguments.kind == RECEIPTS:
-        return write_receipts(election, arguments)
-    with election.changing() as counted:
-        demand_own_folder(election)
-        sender = sender_of(counted.poll_bytes, arguments)
-        known = addresses_of(election)
-        mails, without = mails_of(election, counted, arguments, known)
-        place = mail.write(election, arguments.kind, mails, sender, is_mbox=arguments.mbox) if mails else None
-    say(election, place, mails, without)
-    return Status.DONE
+    demand_words(arguments)
+    server = None if arguments.server is None else with_password(send.server_of(arguments.server), arguments)
+    book = acting.acting(election, moved=arguments.moved, because=arguments.because)
+    if arguments.at is not None:
+        announce(election, book, arguments.at)
+    sender = sender_of(election, arguments)
+    letter_files.make_own(election.path(LETTERS) / arguments.kind)
+    # two runs at once would send each letter twice
+    with locked(election.path(LETTERS) / ".lock"):
+        done = do(election, book, arguments, sender, server)
+    report(election, done)
+    is_done = not done.cut_off and all(letter.state == TAKEN for letter in done.tried)
+    return Status.DONE if is_done else Status.DOUBT
 
 
-def sender_of(poll_bytes: bytes, arguments: Arguments) -> str:
-    """The address that sends the letters: that of the call, or the one that is given where it names none."""
-    known = announced_in(poll_bytes).address
-    if known is not None and arguments.sender not in (None, known):
-        raise Fault(
-            "--from", f"the call says that ballots are sent to {known}", "leave it out", Status.BAD_WORDS, "nothing was written"
-        )
-    sender = known or arguments.sender
+# ---------------------------------------------------------------- the words of the command line
+def demand_words(arguments: Arguments) -> None:
+    """Stops if the options do not go together."""
+    alone = {"--server": arguments.server, "--user": arguments.user, "--again": arguments.again}
+    given = [name for name, value in alone.items() if value]
+    if arguments.send and arguments.server is None:
+        raise Fault("--send", "no server is named", "give --server HOST[:PORT]", Status.BAD_WORDS, "nothing was sent")
+    if given and not arguments.send:
+        raise Fault(", ".join(given), "it goes with --send", "give that too, or leave it out", Status.BAD_WORDS, "nothing was sent")
+    if arguments.password_file is not None and arguments.user is None:
+        raise Fault("--password-file", "it goes with --user", "give that too", Status.BAD_WORDS, "nothing was sent")
+    if arguments.at is not None and arguments.kind != Kind.RESULT:
+        raise Fault("--at", "it goes with result", "leave it out", Status.BAD_WORDS, "nothing was written")
+
+
+def with_password(server: Server, arguments: Arguments) -> Server:
+    """The server with user and password, which is read from a file or asked at a terminal."""
+    if arguments.user is None:
+        return server
+    if arguments.password_file is not None:
+        password = send.password_in(arguments.password_file)
+    elif console.is_terminal():
+        password = getpass.getpass(f"The password of {arguments.user} on {server.host}: ")
+    else:
+        cure = "give --password-file FILE, or run the command at a terminal"
+        raise Fault("--user", "the password can't be asked here", cure, Status.BAD_WORDS, "nothing was sent")
+    return dataclasses.replace(server, user=arguments.user, password=password)
+
+
+def sender_of(election: Election, arguments: Arguments) -> str:
+    """The address that sends the letters."""
+    sender = arguments.sender or election.history().announced("to")
     if sender is None:
-        raise Fault(
-            "--from",
-            "the call names no address",
-            "write the address that sends the letters",
-            Status.BAD_WORDS,
-            "nothing was written",
-        )
-    if not mail.is_address(sender):
-        raise Fault(
-            "--from",
-            "it has to be one mail address, as secretary@example.org",
-            "write it anew",
-            Status.BAD_WORDS,
-            "nothing was written",
-        )
-    return sender
+        cure = "write the address that sends the letters"
+        raise Fault("--from", "the call names no address", cure, Status.BAD_WORDS, "nothing was written")
+    if not is_address(sender):
+        words = "it has to be one mail address, as secretary@example.org"
+        raise Fault("--from", words, "write it anew", Status.BAD_WORDS, "nothing was written")
+    return str(sender)
 
 
-# ---------------------------------------------------------------- to whom
-@dataclasses.dataclass(frozen=True)
-class Known:
-    """The members by their names on the roll."""
-
-    members: dict[str, Member]
-
-    def address(self, name: str) -> str | None:
-        """The first address of an elector; none where the list has none that every mail server takes."""
-        member = self.members.get(name)
-        addresses = [part.strip("<>") for part in plan.BETWEEN_ADDRESSES.split(member.mail)] if member is not None else []
-        return next((part for part in addresses if mail.is_address(part)), None)
-
-    def who(self, name: str) -> str:
-        return self.members[name].who if name in self.members else ""
+def announce(election: Election, book: Book, address: str) -> None:
+    """The act that says where the page of the vote is, if it is not known already."""
+    demand_web_address(address)
+    history = election.history()
+    if history.call is None:
+        raise election.not_called()
+    if history.announced("at") != address:
+        with book.act("announce", {"at": address}, seen=history.last.number):
+            pass
 
 
-def addresses_of(election: Election) -> Known:
-    """The members who are on the list."""
-    members = members_in(election.members_path).members
-    return Known({member.name: member for member in members if member.name})
+# ---------------------------------------------------------------- the acts
+def do(election: Election, book: Book, arguments: Arguments, sender: str, server: Server | None) -> Done:
+    """Writes the letters that are due, notes them, and sends those that a server has not taken."""
+    plan = plan_of(election, Kind(arguments.kind), sender, is_sending=server is not None)
+    again = chosen_again(plan, arguments.again)
+    made = letter_files.letter_files(plan, sender, is_sending=server is not None)
+    place = election.path(LETTERS) / plan.kind / str(plan.round)
+    with letter_files.in_place(made, place):
+        if plan.new:
+            with book.act(ACT, {"kind": plan.kind, "letters": len(plan.new)}, seen=plan.seen) as act:
+                sent.note_written(act, plan.new)
+    count = len(made.keys() - {letter_files.TO_PRINT})
+    if server is None:
+        return Done(plan, place if made else None, count, (), (), is_sent=False)
+    tried = send_waiting(book, plan, [*again, *plan.waiting], sender, server)
+    cut_off = tuple(letter for letter in plan.cut_off if letter not in again)
+    return Done(plan, place if made else None, count, tuple(tried), cut_off, is_sent=True)
 
 
-def mails_of(election: Election, counted: PollAndBallots, arguments: Arguments, known: Known) -> tuple[list[Mail], list[str]]:
-    """The letters of a kind to all electors whom it is for, and those who have no address."""
-    roll = poll_file.roll_of(counted.poll_bytes)
-    if arguments.kind == REMINDERS:
-        close = election.close_entry()
-        if close is not None:
-            raise Fault("reminders", "the vote is closed", "nobody can vote any more", Status.DOUBT, "nothing was written")
-        stands = standing_now(election, counted)
-        roll = [name for name in roll if name not in stands]
-    text = text_by(election, counted, arguments, known)
-    subject = election.language().say(texts.SUBJECTS[arguments.kind], title=texts.title_of(counted.poll_bytes))
-    addressed = [(name, address) for name in roll if (address := known.address(name)) is not None]
-    mails = [Mail(name, known.who(name), address, subject, text(name)) for name, address in addressed]
-    there = {name for name, _ in addressed}
-    return mails, [name for name in roll if name not in there]
+def chosen_again(plan: Plan, names: Sequence[str]) -> list[SentLetter]:
+    """The letters of these electors that a run was cut off in."""
+    by_name = {plan.name(letter): letter for letter in plan.cut_off}
+    unknown = [shown_text(name) for name in names if name not in by_name]
+    if unknown:
+        words = f"no run was cut off in the letter to {', '.join(unknown)}"
+        cure = f"it may be: {', '.join(by_name)}" if by_name else "leave it out"
+        raise Fault("--again", words, cure, Status.BAD_WORDS, "nothing was sent")
+    return [by_name[name] for name in dict.fromkeys(names)]
 
 
-def standing_now(election: Election, counted: PollAndBallots) -> dict[str, str]:
-    """The ballots that stand, by the names of their electors."""
-    answer = election.debvote.run("standing", *file_words(election, counted))
-    if answer.faults:
-        raise refusal(election, answer)
-    return standing_in(answer.text)
+def send_waiting(book: Book, plan: Plan, letters: Sequence[SentLetter], sender: str, server: Server) -> Sequence[SentLetter]:
+    """Sends letters; each is noted before and after."""
+    if not letters:
+        return ()
+    outgoing = (Outgoing(letter, sender, letter_files.message(plan, letter, sender, is_draft=False)) for letter in letters)
+    tried: list[SentLetter] = []
+    with progress_bar(len(letters)) as advance:
+        try:
+            for letter in send.send_all(outgoing, server, noting(book, plan.kind)):
+                tried.append(letter)
+                advance(len(tried))
+        except Fault as fault:
+            taken = sum(letter.state == TAKEN for letter in tried)
+            raise fault.with_done(f"{taken} of {count_of(len(letters), 'letter')} taken in this run") from None
+    return tried
 
 
-def text_by(election: Election, counted: PollAndBallots, arguments: Arguments, known: Known) -> Callable[[str], str]:
-    """What the letter of a kind says to an elector, by their name."""
-    language = election.language()
-    if arguments.kind == REMINDERS:
-        address = announced_in(counted.poll_bytes).address
-        is_signed = keyring.is_demanded(election)
-        return lambda name: texts.of_reminder(language, counted.poll_bytes, name, known.who(name), address, is_signed=is_signed)
-    if arguments.kind == CALL:
-        call = text_in(election.call_folder / called.LETTER, f"make it with {election.command('call')}")
-        holders = {holder.name: holder for holder in secret.holders_in(election.codes_path)} if election.is_secret() else {}
-        return lambda name: texts.of_call(language, known.who(name), name, call, holders.get(name))
-    letter = text_in(election.result_folder / RESULT, f"publish first: {election.command('publish')}")
-    place, is_secret, stands = mail.line_of(arguments.at or ""), election.is_secret(), standing_now(election, counted)
-    return lambda name: texts.of_result(
-        language, known.who(name), name, letter, place, has_ballot=name in stands, is_secret=is_secret
-    )
+@contextlib.contextmanager
+def progress_bar(total: int) -> Iterator[Callable[[int], None]]:
+    """A progress bar, where somebody sees it."""
 
+    def advance(count: int) -> None:
+        if console.shows():
+            done = BAR * count // total
+            console.tell_as_it_is(f"\r[{'#' * done}{'.' * (BAR - done)}] {count} of {total}")
 
-def text_in(file: pathlib.Path, cure: str) -> str:
-    """The text of a letter that was made before."""
+    advance(0)
     try:
-        return file.read_text("utf-8")
-    except OSError as error:
-        raise Fault(file, error.strerror, cure, Status.DOUBT, "nothing was written") from None
+        yield advance
+    finally:
+        if console.shows():
+            tell("")
 
 
-# ---------------------------------------------------------------- receipts
-def write_receipts(election: Election, arguments: Arguments) -> int:
-    """Writes a receipt for each letter that came since the last time."""
-    with election.changing() as counted:
-        demand_own_folder(election)
-        tell_edits(election, counted)
-        sender = sender_of(counted.poll_bytes, arguments)
-        known = addresses_of(election)
-        names = {address: name for name, member in known.members.items() for address in plan.addresses_of_member(member)}
-        answer = election.debvote.run("steps", *file_words(election, counted))
-        if answer.faults:
-            raise refusal(election, answer)
-        replies, language = replies_in(answer.text), election.language()
-        new = [letter for letter in store.state_of(election, counted).kept_letters.values() if not letter.has_receipt]
-        told = [letter for letter in new if receiver_of(letter, names, known) is not None]
-        is_signed = keyring.is_demanded(election)
-        mails = [
-            receipt_of(election, language, counted.poll_bytes, letter, receiver, known, replies, is_signed=is_signed)
-            for letter in told
-            if (receiver := receiver_of(letter, names, known)) is not None
-        ]
-        place = None
-        if mails:
-            with uninterrupted():
-                election.begin_journal()
-                place = mail.write(election, RECEIPTS, mails, sender, is_mbox=arguments.mbox)
-                record = store.prepare_record(election)
-                store.keep_record(election, record, ({"number": letter.number, "has_receipt": True} for letter in told))
-                election.act(store.RECEIPTS, counted, detail=record)
-    others = [str(letter.number) for letter in new if letter not in told]
-    say(election, place, mails, [])
-    if others:
-        which = ", ".join(others[:MOST]) + (f" and {len(others) - MOST} more" if len(others) > MOST else "")
-        why = "the list has no address for the receipt, a program wrote it, or it is set aside"
-        tell(f"{count_of(len(others), 'letter')} got none: {why} (number {which}).")
-    return Status.DONE
+def noting(book: Book, kind: Kind) -> send.Noting:
+    """What notes the states of letters, in one act."""
+
+    def note(letters: Sequence[SentLetter]) -> None:
+        with uninterrupted(), book.act(SENT, {"kind": kind}) as act:
+            for letter in letters:
+                sent.note_state(act, letter)
+
+    return note
 
 
-@dataclasses.dataclass(frozen=True)
-class Receiver:
-    """Who gets a receipt: the name on the roll, and the address."""
-
-    name: str
-    address: str
-
-
-def receiver_of(letter: store.KeptLetter, names: dict[str, str], known: Known) -> Receiver | None:
-    """Who gets the receipt of a letter. Of a ballot that is in it is the elector whose name is on it, whoever has sent it: so nobody
-    votes in the name of another unseen. Of a letter that waits it is its one sender, if the list has the address. There is none
-    where a program wrote it, or where it is set aside.
-    """
-    if letter.why == AUTOMATIC or letter.is_set_aside:
-        return None
-    if letter.is_in:
-        name = plan.elector_of(letter.ballot or "")
-        address = known.address(name)
-        return None if address is None else Receiver(name, address)
-    is_known = len(letter.senders) == 1 and letter.senders[0] in names and mail.is_address(letter.senders[0])
-    return Receiver(names[letter.senders[0]], letter.senders[0]) if is_known else None
-
-
-def receipt_of(
-    election: Election,
-    language: Language,
-    poll_bytes: bytes,
-    letter: store.KeptLetter,
-    receiver: Receiver,
-    known: Known,
-    replies: list[str],
-    *,
-    is_signed: bool,
-) -> Mail:
-    """The receipt of a letter."""
-    name = receiver.name
-    is_there = letter.envelope is not None and letter.envelope <= len(replies)
-    reply = replies[letter.envelope - 1] if is_there and letter.envelope is not None else None
-    who = known.who(name)
-    text = texts.of_receipt(language, poll_bytes, letter, reply, name, who, is_secret=election.is_secret(), is_signed=is_signed)
-    subject = language.say(texts.SUBJECTS[RECEIPTS], title=texts.title_of(poll_bytes))
-    return Mail(f"{letter.number}-{name}", who, receiver.address, subject, text, letter.message_id, letter.references)
-
-
-# ---------------------------------------------------------------- what is said
-def say(election: Election, place: pathlib.Path | None, mails: list[Mail], without: list[str]) -> None:
-    """Says what was written, and how it is sent."""
-    if without:
-        some = ", ".join(without[:MOST]) + (f" and {len(without) - MOST} more" if len(without) > MOST else "")
-        tell(f"No address in {election.members_path}: {some}.")
-    if place is None:
-        tell("There is no letter to write.")
+# ---------------------------------------------------------------- what is printed
+def report(election: Election, done: Done) -> None:
+    """Says what was written, sent and left, and what comes next."""
+    plan = done.plan
+    on_paper = [plan.name(letter) for letter in (*plan.written, *plan.new) if not letter.address]
+    if on_paper:
+        some = ", ".join(on_paper[:MOST]) + (f" and {len(on_paper) - MOST} more" if len(on_paper) > MOST else "")
+        tell(f"Without an address: {some}. Print {done.place}/{letter_files.TO_PRINT}.")
+    if done.is_sent:
+        report_sent(election, done)
         return
-    tell(f"Wrote {count_of(len(mails), 'letter')}: {place}")
-    if place.suffix == ".mbox":
-        tell("Next: import this file into your mail program, and send the letters from there")
+    if not done.files:
+        tell("There is no letter to send.")
         return
-    tell(f'Next: for letter in {shlex.quote(str(place))}/*.eml; do sendmail -t < "$letter"; done')
-    tell("  or open the letters in your mail program, and send them from there")
+    command = election.command("letters", plan.kind, "--send", "--server", "HOST")
+    tell(f"Wrote {count_of(done.files, 'letter')}: {done.place}")
+    tell(f"Next: send them with your mail program, or by {command}")
+
+
+def report_sent(election: Election, done: Done) -> None:
+    """Says what the server took, what it did not, and in which letters a run was cut off."""
+    plan, taken = done.plan, sum(letter.state == TAKEN for letter in done.tried)
+    if not done.tried and not done.cut_off:
+        tell("There is no letter to send: the server has taken all that are due.")
+        return
+    tell(f"Sent {taken} of {count_of(len(done.tried), 'letter')}.")
+    for state, words in ((REFUSED, "Refused"), (POSTPONED, "Postponed")):
+        for letter in done.tried:
+            if letter.state == state:
+                tell(f"{words}: {plan.name(letter)}, {letter.address}: {shown_text(letter.reply)}")
+    send_again = ["letters", plan.kind, "--send", "--server", "HOST"]
+    if any(letter.state == POSTPONED for letter in done.tried):
+        tell(f"Next: in a quarter of an hour, send what was postponed: {election.command(*send_again)}")
+    for letter in done.cut_off:
+        name = plan.name(letter)
+        tell(f"A run was cut off in the letter to {name}, {letter.address}: the server may have it.")
+        tell(f"Next: ask, or send it again: {election.command(*send_again, '--again', name)}")

@@ -1,169 +1,195 @@
-"""`publish`: the folder of the result, which debvote-publish makes."""
+"""`publish`: the folder of the result, for a web site."""
 
 import argparse
+import contextlib
 import dataclasses
-import os
 import pathlib
-import shlex
+from collections.abc import Iterator
 
+from debvote_tools import times
 from debvote_tools.arguments import arguments_of
-from debvote_tools.console import tell
-from debvote_tools.election.commands.count import add_casting_argument
-from debvote_tools.election.other_publications import tell_other_publications
-from debvote_tools.election.folder import Election
-from debvote_tools.election.election_files import PollAndBallots
-from debvote_tools.election.running import NO_BALLOTS, demand_option
-from debvote_tools.election.secrecy import demand_own_folder
+from debvote_tools.book.book import Overtaken
+from debvote_tools.console import YES_OR_NO, is_terminal, is_yes, tell, tell_aside
+from debvote_tools.debvote import casting_words
+from debvote_tools.election import acting
+from debvote_tools.election.commands.count import add_casting_argument, demand_countable, demand_option
+from debvote_tools.election.commands.log import demand_whole
+from debvote_tools.election.election import RESULT, Election
+from debvote_tools.election.publication import ACT, Words, as_kept, last_publication, last_words, publication_of
+from debvote_tools.election.reporting import act_time
 from debvote_tools.faults import Fault, Status
+from debvote_tools.files import locked_folder
 from debvote_tools.language import LANGUAGES
-from debvote_tools.program import casting_words
-from debvote_tools.publish import letter
-from debvote_tools.publish.arguments import Arguments as PublishArguments
-from debvote_tools.publish.command_line import (
-    add_casting_vote_arguments,
-    add_page_arguments,
-    add_voters_argument,
-    make_result_folder,
-)
+from debvote_tools.publish import result_folder
+from debvote_tools.publish.casting_vote import casting_vote_of
+from debvote_tools.publish.counting import Counted
+from debvote_tools.publish.inputs import Publication
+from debvote_tools.publish.texts import reason_in, text_in
 
-HELP = "Make the folder of the result for a web site"
+HELP = "Make the folder of the result for a web site; without further words the last one again"
 
 
 @dataclasses.dataclass(frozen=True)
 class Arguments:
-    """What stands behind the command on the command line."""
+    """The command's options."""
 
-    target: str | None
     casting: str | None
     cast_by: str | None
     cast_on: str | None
-    even_so: bool
-    secret: bool
-    voters: bool
-    labels: str | None
     about: str | None
-    who: str | None
-    because: str | None
-    texts_read: bool
-    # the code of the language of page and letter; that of the folder where there is none
     language: str | None
+    force: bool
+    yes: bool
+    target: str | None
+    moved: bool
+    because: str | None
 
-    def again(self, *, is_secret: bool) -> list[str]:
-        """The same words, but for the folder."""
-        with_value = [("--cast-by", self.cast_by), ("--cast-on", self.cast_on)]
-        of_page = [("--labels", self.labels), ("--about", self.about), ("--who", self.who), ("--because", self.because)]
-        of_page += [("--language", self.language)]
-        vote_words, page_words = ([f"{name}={said}" for name, said in given if said is not None] for given in (with_value, of_page))
-        flags = ("--even-so", self.even_so), ("--secret", is_secret), ("--voters", self.voters), ("--texts-read", self.texts_read)
-        return ["publish", *casting_words(self.casting), *vote_words, *(name for name, is_given in flags if is_given), *page_words]
+
+@dataclasses.dataclass(frozen=True)
+class Done:
+    """A publication: whether it is another one than the last, and what was counted."""
+
+    target_folder: pathlib.Path
+    is_new: bool
+    counted: Counted
 
 
 def add_arguments(parser: argparse.ArgumentParser) -> None:
     add_casting_argument(parser)
-    parser.add_argument(
-        "--even-so", action="store_true", help="Publish where debvote-publish stops at a doubt; the page says what the doubt is"
-    )
-    secret_help = "The vote is secret: publish the ballots that stand under their aliases, and nothing else of what came"
-    parser.add_argument("--secret", action="store_true", help=secret_help)
-    add_voters_argument(parser)
-    add_casting_vote_arguments(parser)
-    add_page_arguments(parser)
-    language_help = "The language of page and letter: de, en, es or fr; that of the folder if it is not given"
-    parser.add_argument("--language", metavar="CODE", choices=sorted(LANGUAGES), help=language_help)
-    folder_help = "The folder to make; the folder result of the election if it is not given"
-    parser.add_argument("target", metavar="FOLDER", nargs="?", help=folder_help)
+    parser.add_argument("--cast-by", metavar="NAME", help="Whose the casting vote was; the page says it in your name")
+    parser.add_argument("--cast-on", metavar="DATE", help="When the casting vote was given, as 2026-12-05")
+    about = "A plain text in UTF-8 for the page: who certifies the result, and when"
+    parser.add_argument("--about", metavar="FILE", help=about)
+    language = "The language of page and letter: de, en, es or fr; that of the election if it is not given"
+    parser.add_argument("--language", metavar="CODE", choices=sorted(LANGUAGES), help=language)
+    force = "With --because: publish although there are doubts; the page tells them, and the reason"
+    parser.add_argument("--force", action="store_true", help=force)
+    yes = "In a secret vote: everybody may read the texts for the page; without it you are asked at the terminal"
+    parser.add_argument("--yes", action="store_true", help=yes)
+    folder = "The folder to make, in place of an earlier one; the folder result of the election if it is not given"
+    parser.add_argument("target", metavar="FOLDER", nargs="?", help=folder)
+    acting.add_arguments(parser)
 
 
 def run(election: Election, namespace: argparse.Namespace) -> int:
     arguments = arguments_of(Arguments, namespace)
-    target_folder = pathlib.Path(arguments.target) if arguments.target else election.result_folder
-    with election.reading() as counted:
-        demand_secrecy(election, arguments)
-        demand_free(election, arguments, target_folder)
-        demand_ballots(election, counted, arguments)
-        if arguments.casting is not None:
-            demand_option(election, arguments.casting)
-        status = make_result_folder(publish_arguments(election, counted, arguments, target_folder), election.program_folder)
-    if status in (Status.DONE, Status.TIE, Status.CASTING_OUTSIDE) and target_folder.is_dir():
-        if arguments.secret:
-            tell_other_publications(election, target_folder)
-        tell(f"Next: {what_next(election, arguments, target_folder, status)}")
-    return status
+    done = publish(election, arguments)
+    report(election, done)
+    return done.counted.status
 
 
-def demand_secrecy(election: Election, arguments: Arguments) -> None:
-    """Stops where a secret vote would be published openly, or where an open one has no codes."""
-    is_secret = election.is_secret()
-    if is_secret and not arguments.secret:
-        words = "the vote is secret, and this would publish each name with its vote"
-        named = [arguments.target] if arguments.target else []
-        cure = f"publish it under aliases: {election.command(*arguments.again(is_secret=is_secret), *named)}"
-        raise Fault(election.codes_path, words, cure, Status.DOUBT)
-    if arguments.secret and not is_secret:
-        words = "no codes were made for this vote, and they come before the call"
-        raise Fault(election.codes_path, words, election.command("codes"), Status.DOUBT, "")
-    if arguments.secret:
-        demand_own_folder(election)
-    if arguments.voters and not arguments.secret:
-        words = "it goes with --secret; in an open vote the page has who voted what"
-        raise Fault("--voters", words, "leave it out", Status.BAD_WORDS)
+# ---------------------------------------------------------------- the act
+def publish(election: Election, arguments: Arguments) -> Done:
+    """Makes the folder.
+
+    It is whole and counted before the act, and takes its place after it: so a kill leaves no folder that the book does not know, and
+    `publish` without words makes the folder of the last act anew.
+    """
+    target_folder = pathlib.Path(arguments.target) if arguments.target else election.path(RESULT)
+    result_folder.demand_free(target_folder, can_replace=True)
+    book = acting.acting(election, moved=arguments.moved, because=arguments.because)
+    demand_whole(book)
+    seen, history, sealed = book.last_number(), election.history(), election.sealed()
+    demand_countable(election, history, sealed)
+    given = words_of(arguments)
+    words = given if given.are_given else last_words(history) or given
+    if words.casting is not None:
+        demand_option(sealed.public, words.casting)
+    publication = publication_of(election, words)
+    if not arguments.yes:
+        demand_read(publication, is_same=not given.are_given and last_words(history) is not None)
+    with result_folder.made(publication, target_folder, election.program_folder) as made:
+        winner = made.published.sheet.winner()
+        decides = winner is not None and winner.is_by_casting
+        detail = as_kept(words, made.checksums, made.published.doubts, decides=decides)
+        before = last_publication(history)
+        is_new = before is None or before.detail != detail
+        with alone(election):
+            if is_new:
+                with book.act(ACT, detail, seen=seen):
+                    pass
+            elif book.last_number() != seen:
+                raise Overtaken
+            made.take_place(target_folder)
+        return Done(target_folder, is_new, made.published.counted)
 
 
-def publish_arguments(
-    election: Election, counted: PollAndBallots, arguments: Arguments, target_folder: pathlib.Path
-) -> PublishArguments:
-    """The arguments with which debvote-publish makes this folder."""
-    return PublishArguments(
-        poll_path=str(election.poll_path),
-        ballots_path=NO_BALLOTS if counted.ballots_bytes is None else str(election.ballots_path),
-        target_folder=str(target_folder),
+@contextlib.contextmanager
+def alone(election: Election) -> Iterator[None]:
+    """No other publication comes between the act and the folder that takes its place."""
+    try:
+        with locked_folder(election.folder):
+            yield
+    except BlockingIOError:
+        words = "another command publishes this election at the moment"
+        raise Fault(None, words, "run the command again when it is done", Status.DOUBT, "nothing was published") from None
+
+
+def words_of(arguments: Arguments) -> Words:
+    """The words of the command line, looked through."""
+    vote = None
+    if arguments.casting is not None:
+        today = times.now().astimezone().date()
+        vote = casting_vote_of(arguments.casting, arguments.cast_by, arguments.cast_on, today)
+    elif arguments.cast_by is not None or arguments.cast_on is not None:
+        words = "they say whose the casting vote of --casting was"
+        raise Fault("--cast-by, --cast-on", words, "give --casting too", Status.BAD_WORDS, "nothing was published")
+    return Words(
         casting=arguments.casting,
-        even_so=arguments.even_so,
-        codes_path=str(election.codes_path) if arguments.secret else None,
-        voters=arguments.voters,
-        cast_by=arguments.cast_by,
-        cast_on=arguments.cast_on,
-        labels=arguments.labels,
-        about=arguments.about,
-        who=arguments.who,
-        because=arguments.because,
-        texts_read=arguments.texts_read,
-        language=election.language().code if arguments.language is None else arguments.language,
-        texts=str(election.texts_folder) if election.texts_folder.exists() else None,
+        cast_by=vote.by if vote else None,
+        cast_on=vote.on.isoformat() if vote and vote.on else None,
+        about=None if arguments.about is None else text_in(arguments.about, "about"),
+        is_forced=arguments.force,
+        because=reason_in(arguments.because) if arguments.force and arguments.because is not None else None,
+        language=arguments.language,
     )
 
 
-def demand_free(election: Election, arguments: Arguments, target_folder: pathlib.Path) -> None:
-    """Stops where the folder is there and has something in it, and says which name is free."""
-    if not os.path.lexists(target_folder) or (target_folder.is_dir() and not any(target_folder.iterdir())):
+def demand_read(publication: Publication, *, is_same: bool) -> None:
+    """Asks before a secret vote is published: for the texts, unless they are those of last time, and for what two results would show."""
+    if publication.secret is None:
         return
-    free = free_name(target_folder)
-    cure = f"publish into another folder: {election.command(*arguments.again(is_secret=arguments.secret), str(free))}"
-    raise Fault(target_folder, "it is there already, and stays as it is", cure, Status.BAD_WORDS)
+    texts = {} if is_same else texts_of(publication)
+    for where, text in texts.items():
+        tell_aside(f"{where}:", *(f"  {line}" for line in text.strip().split("\n")))
+    if texts:
+        demand_yes("Is this what everybody may read?", "texts for the page may tell who voted what")
+    compared = publication.secret.compared
+    if compared:
+        words = f"a comparison with the earlier result shows how these voted: {', '.join(compared)}"
+        demand_yes(f"Publish it, although {words}?", words)
 
 
-def demand_ballots(election: Election, counted: PollAndBallots, arguments: Arguments) -> None:
-    """Stops where there is no ballot file, of which debvote-publish could say no more than that it is not there."""
-    if counted.ballots_bytes is None and not arguments.even_so:
-        cure = f"add them with {election.command('add', 'FILE')}, or publish without any with --even-so"
-        raise Fault(election.ballots_path, "there are no ballots", cure, Status.DOUBT)
+def texts_of(publication: Publication) -> dict[str, str]:
+    """The texts that would be published, by where they are from."""
+    texts = {"--about": publication.about, "--because": publication.because}
+    texts["--cast-by"] = publication.casting.by if publication.casting else None
+    acts = publication.chronicle.acts if publication.chronicle else ()
+    texts |= {f"the reason of what was done at {act_time(act.time)}": getattr(act, "because", None) for act in acts}
+    texts |= {f"texts/{number}.txt": text for number, text in enumerate(publication.poll.explanations, start=1)}
+    return {where: text for where, text in texts.items() if text is not None and text.strip()}
 
 
-def free_name(target_folder: pathlib.Path) -> pathlib.Path:
-    """The first of result-2, result-3 and so on that is not there."""
-    number = 2
-    while os.path.lexists(target_folder.with_name(f"{target_folder.name}-{number}")):
-        number += 1
-    return target_folder.with_name(f"{target_folder.name}-{number}")
+def demand_yes(question: str, why: str) -> None:
+    """Asks at a terminal, and stops unless the answer is yes; elsewhere it stops."""
+    if not is_terminal():
+        words = f"the vote is secret, and {why}"
+        raise Fault(None, words, "look whether that may be, then give the command --yes", Status.DOUBT, "nothing was published")
+    if not is_yes(f"The vote is secret. {question}", YES_OR_NO):
+        raise Fault(None, "the answer was not yes", "put it right, then publish", Status.DOUBT, "nothing was published")
 
 
-def what_next(election: Election, arguments: Arguments, target_folder: pathlib.Path, status: int) -> str:
-    """What the secretary does with the folder."""
-    if status == Status.DONE:
-        return f"put the folder {target_folder} on the web site as it is, and send {target_folder / letter.NAME} to each elector"
-    more = [*(["--secret"] if arguments.secret else []), *(["--voters"] if arguments.voters else [])]
-    # the ordinary folder is taken where it is free
-    place = "" if not os.path.lexists(election.result_folder) else f" {shlex.quote(str(free_name(election.result_folder)))}"
-    chosen = f"{election.command('publish', *more)} --casting=NAME --cast-by=WHO --cast-on=DATE{place}"
-    ask = f"put the folder {target_folder} on the web site, ask for the casting vote, and write its option, its voter and its day"
-    return f"it is a tie: {ask}: {chosen}"
+# ---------------------------------------------------------------- what is printed
+def report(election: Election, done: Done) -> None:
+    """Says how the vote ended, what was made, and what comes next."""
+    counted, folder = done.counted, done.target_folder
+    tell(counted.sheet.last_line, counted.verified)
+    if done.is_new:
+        tell(f"Made the folder {folder}.")
+    else:
+        tell(f"Made the folder {folder} again, as it was published; nothing was changed in the book.")
+    if counted.sheet.winner() is not None:
+        tell(f"Next: put the folder {folder} on the web site as it is, then {election.command('letters', 'result')}")
+        return
+    chosen = election.command("publish", *casting_words("NAME"), "--cast-by", "WHO", "--cast-on", "DATE")
+    tell(f"Next: it is a tie: ask for the casting vote, and write its option, whose it was and its day: {chosen}")

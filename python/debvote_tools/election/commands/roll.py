@@ -1,211 +1,173 @@
-"""`roll`: from the list of members to the roll of the poll."""
+"""`roll`: from the list of members to the electors. The list is read, and never written."""
 
 import argparse
 import dataclasses
-import json
-import pathlib
-import re
-from collections.abc import Callable
 
-from debvote_tools import called, poll_file
 from debvote_tools.arguments import arguments_of
-from debvote_tools.console import tell
-from debvote_tools.election.folder import Election
-from debvote_tools.election.election_files import PollAndBallots
-from debvote_tools.election.running import explanation_of, quorum_words, sheet_if_in_order
-from debvote_tools.election.taking_back import given_already
-from debvote_tools.election.telling import count_of
-from debvote_tools.faults import Fault, Status
-from debvote_tools.files import uninterrupted, write_whole
-from debvote_tools.members import AGAIN, LONGEST_NAME, Member, Members, doubles, doubt, members_in, plain, proposals
-from debvote_tools.language import ENGLISH
-from debvote_tools.signs import shown_text
+from debvote_tools.book import queries
+from debvote_tools.book.book import Book
+from debvote_tools.console import is_terminal, is_yes, tell
+from debvote_tools.election import acting
+from debvote_tools.election.election import MEMBERS_FILE, Election
+from debvote_tools.election.electors import Change, Elector, KnownElector, Roll, roll_of
+from debvote_tools.election.members import members_in
+from debvote_tools.election.reporting import count_of
+from debvote_tools.faults import Fault, Status, stop_at
+from debvote_tools.plain_names import alike
+from debvote_tools.terminal_text import shown_text
 
-HELP = "Write the roll of the poll from the list of members"
+HELP = "Read the list of members, and give each elector a name"
 
-# so many lines or names of a fault are shown
-SHOWN = 10
-
-# so many members are shown: of more the list itself is easier to read
-MOST_MEMBERS = 200
+# how many electors are printed: of more the list itself is easier to read
+MAX_SHOWN = 200
 
 
 @dataclasses.dataclass(frozen=True)
 class Arguments:
-    """What stands behind the command on the command line."""
+    """The command's options."""
 
-    file: str | None
     all: bool
+    yes: bool
+    moved: bool
+    because: str | None
 
 
 def add_arguments(parser: argparse.ArgumentParser) -> None:
-    parser.add_argument("file", metavar="FILE", nargs="?", help="The list of members, as CSV; members.csv if it is not given")
-    parser.add_argument("--all", action="store_true", help="Print all names, however many there are")
+    parser.add_argument("--all", action="store_true", help="Print all electors, however many there are")
+    parser.add_argument("--yes", action="store_true", help="After the call: take the new addresses and keys without a question")
+    acting.add_arguments(parser)
 
 
 def run(election: Election, namespace: argparse.Namespace) -> int:
     arguments = arguments_of(Arguments, namespace)
-    with election.changing() as counted:
-        members = members_in(pathlib.Path(arguments.file) if arguments.file else election.members_path)
-        if not all(member.name for member in members.members):
-            propose(election, members, has_all=arguments.all)
-        stop_at_doubles(members)
-        poll = poll_file.with_key(counted.poll_bytes, "roll", list_of([member.name for member in members.members]))
-        demand_allowed(election, members, poll)
-        tell_alike(members, "who", lambda member: " ".join(plain(member.who).split()))
-        tell_alike(members, "mail", lambda member: plain(member.mail))
-        demand_same_call(election, counted, poll, members)
-        with uninterrupted():
-            write(election, counted, poll)
-            tell_roll(election, members, has_all=arguments.all)
-        sheet = sheet_if_in_order(election)
-    tell_numbers(election, members)
-    if sheet is not None:
-        tell(quorum_words(sheet))
-    later = "" if sheet is not None else " (the poll is not in order yet: check tells what is missing)"
-    tell(f"Next: {election.command('check')}{later}")
+    book = acting.acting(election, moved=arguments.moved, because=arguments.because)
+    demand_names(election)
+    history = election.history()
+    is_called, seen = history.call is not None, history.last.number
+    roll = read_roll(election, is_called=is_called)
+    if is_called:
+        change_addresses(election, book, roll, seen, is_agreed=arguments.yes)
+    else:
+        keep(book, roll, seen)
+        report(election, roll, has_all=arguments.all)
     return Status.DONE
 
 
-# ---------------------------------------------------------------- names
-def propose(election: Election, members: Members, *, has_all: bool) -> None:
-    """Writes a name for each member who has none into the file, and stops, so that somebody looks at them."""
-    names = proposals(members.members)
-    without = [member.line for member in members.members if not member.name and member.line not in names]
-    if names:
-        with uninterrupted():
-            election.back_up(members.file)
-            write_whole(members.file.resolve(), members.with_names(names))
-            tell_proposals(members, names, has_all=has_all)
-    if without:
-        who = f"{count_of(len(without), 'member')} ({lines_of(without)})"
-        words = f"no name can be made for {who} from who or mail; write one into the column name"
-    else:
-        words = "names were proposed where there were none; open the file anew, look at its column name, and change what you want"
-    raise doubt(members.file, f"{words}, {AGAIN}", "the roll of the poll is as it was")
+def demand_names(election: Election) -> None:
+    """Stops if codes are on the roll: the list of members no longer says who votes."""
+    if any(act.detail.get("on_roll") for act in election.history().named("codes")):
+        words = "codes are on the roll, and nobody knows whose they are"
+        raise Fault(None, words, "for another roll begin anew in another folder", Status.DOUBT, "nothing was changed")
 
 
-def tell_proposals(members: Members, names: dict[int, str], *, has_all: bool) -> None:
-    """Says which names were written into the file; of many the first."""
-    tell(f"Names that {members.file} has now:")
-    told = [member for member in members.members if member.line in names]
-    most = len(told) if has_all else MOST_MEMBERS
-    for member in told[:most]:
-        tell(f"  {names[member.line]}: {shown_text(member.who or member.mail)} (line {member.line})")
-    if len(told) > most:
-        tell(f"  and {len(told) - most} more, in {members.file}")
+def read_roll(election: Election, *, is_called: bool) -> Roll:
+    """The roll by the list as it is now. All that is wrong with it is said at once."""
+    known = [
+        KnownElector(elector.number, elector.name, elector.who, elector.addresses, elector.key, elector.position is not None)
+        for elector in queries.all_electors(election.book)
+    ]
+    roll = roll_of(members_in(election.path(MEMBERS_FILE)), known, election.language.code, is_called=is_called)
+    stop_at(roll.faults)
+    return roll
 
 
-def stop_at_doubles(members: Members) -> None:
-    """Stops where two members have one name."""
-    groups = doubles(members.members, lambda member: member.name)
-    for group in groups:
-        tell(f"{members.file}: {lines_of([member.line for member in group])} have the same name: {shown_text(group[0].name)}")
-    if groups:
-        raise doubt(
-            members.file,
-            "an elector's name stands there more than once",
-            f"give each elector another one, or take a line out, {AGAIN}; the roll of the poll is as it was",
+def keep(book: Book, roll: Roll, seen: int) -> None:
+    """The act: the electors are those of the list. If they are already, it is no act."""
+    before = {elector.number: elector for elector in queries.all_electors(book)}
+    if is_same(roll, queries.electors(book)):
+        return
+    by_name = {elector.name: elector for elector in before.values()}
+    with book.act("roll", {"electors": len(roll.electors)}, seen=seen) as act:
+        after = {number: dataclasses.replace(elector, position=None) for number, elector in before.items()}
+        for position, elector in enumerate(roll.electors, start=1):
+            known = by_name.get(elector.name) or queries.new_elector(act, elector.name)
+            # a code that somebody else got shows this person nothing
+            kept = {} if alike(known.who) == alike(elector.who) else {"code": "", "alias": ""}
+            details = {"who": elector.who, "addresses": elector.addresses, "key": elector.key}
+            after[known.number] = dataclasses.replace(known, position=position, **details, **kept)
+        for number, now in after.items():
+            if before.get(number) != now:
+                queries.put_elector(act, now)
+
+
+def is_same(roll: Roll, before: list[queries.Elector]) -> bool:
+    """Whether the book has these electors already, in this order."""
+    now = [(elector.name, elector.who, elector.addresses, elector.key) for elector in roll.electors]
+    return now == [(elector.name, elector.who, elector.addresses, elector.key) for elector in before]
+
+
+# ---------------------------------------------------------------- what is printed
+def report(election: Election, roll: Roll, *, has_all: bool) -> None:
+    """Prints the electors, and what the secretary has to look at."""
+    shown = roll.electors if has_all else roll.electors[:MAX_SHOWN]
+    tell(f"{count_of(len(roll.electors), 'elector')}, each with the name on the roll:")
+    tell(*(line_of(elector) for elector in shown))
+    if len(shown) < len(roll.electors):
+        tell(f"  and {len(roll.electors) - len(shown)} more (--all prints them)")
+    if roll.proposed:
+        tell(
+            f"{count_of(len(roll.proposed), 'name was', 'names were')} proposed. To change one, write it into a column `name` of {MEMBERS_FILE}, and run this again."
         )
-
-
-def demand_allowed(election: Election, members: Members, poll_bytes: bytes) -> None:
-    """Asks debvote about the poll with the new roll. What it finds on the roll is told by the lines of the list."""
-    answer = explanation_of(election, poll_bytes)
-    findings = answer.text.splitlines()
-    syntax = next((finding for finding in findings if re.match(r"poll:\d", finding)), None)
-    if syntax is not None:
-        raise Fault(
-            election.poll_path, f"debvote can't read it ({syntax})", f"put this right with an editor, {AGAIN}", Status.BAD_POLL
+    tell(
+        *(
+            f"Note: several electors have the address {address}: {names_of(electors)}. Is that one person?"
+            for address, electors in roll.shared_addresses.items()
         )
-    # the lines of the list stand in place of the positions
-    at_position = re.compile(r"poll: voter at position (\d+): (.*?)(?:; positions count from 0)?")
-    names = [name for name in map(at_position.fullmatch, findings) if name]
-    for name in names:
-        tell(f"{members.file}:{members.members[int(name[1])].line}: {name[2]}")
-    if names:
-        raise doubt(
-            members.file,
-            f"a roll does not allow these names: each has 1 to {LONGEST_NAME} small letters, digits, points and hyphens",
-            f"put them right, {AGAIN}; the roll of the poll is as it was",
-        )
-    size = next((finding for finding in findings if finding.startswith("poll: size of roll: ")), None)
-    if size is not None:
-        raise doubt(
-            members.file, f"the roll would have {size.removeprefix('poll: size of roll: ')}", "the roll of the poll is as it was"
-        )
+    )
+    tell(*(f"Note: these real names look alike: {names_of(group)}. Is that one person?" for group in roll.alike_people))
+    if roll.without_address:
+        tell(f"Without an address, so letters in their name wait, and what goes out is printed: {names_of(roll.without_address)}")
+    tell(*(f"No longer on the list: {gone.name} ({shown_text(gone.who)})" for gone in roll.gone))
+    tell(f"Next: {election.command('check')}")
 
 
-def tell_alike(members: Members, column: str, key: Callable[[Member], str]) -> None:
-    """Tells the members who look like one person; whether they are is for the secretary to say."""
-    for group in doubles(members.members, key):
-        lines = lines_of([member.line for member in group])
-        texts = " and ".join(dict.fromkeys(f"`{shown_text(getattr(member, column))}`" for member in group))
-        names = ", ".join(member.name for member in group)
-        tell(f"{members.file}: {lines} have the same {column}: {texts}. Is this one person? They are on the roll as: {names}")
+def line_of(elector: Elector) -> str:
+    return f"  {elector.name}: {shown_text(elector.who)} {', '.join(elector.addresses)}".rstrip()
 
 
-# ---------------------------------------------------------------- the poll
-def demand_same_call(election: Election, counted: PollAndBallots, poll_bytes: bytes, members: Members) -> None:
-    """Stops where the call for votes was made with another roll than the list has now."""
-    call = called.call_of(election.folder)
-    if call is not None and not call.is_of(poll_bytes):
-        words = (
-            f"the call for votes was made with another roll than this list has: {roll_difference(counted.poll_bytes, poll_bytes)}"
-        )
-        anew = f"to call anew with this one, first take the call back: {election.command('call', '--take-back')}"
-        cure = given_already(election, counted, "the list") or f"put the list back as it was; {anew}"
-        raise Fault(members.file, words, cure, Status.DOUBT)
+def names_of(electors: list[Elector]) -> str:
+    """Names of electors in a sentence; of many the first."""
+    names = [elector.name for elector in electors]
+    more = f" and {len(names) - MAX_SHOWN} more" if len(names) > MAX_SHOWN else ""
+    return ", ".join(names[:MAX_SHOWN]) + more
 
 
-def roll_difference(before: bytes, after: bytes) -> str:
-    """Which names came and went; where the names are the same, that their order is another one."""
-    then, now = (poll_file.roll_of(poll) for poll in (before, after))
-    said = [f"new are {names_of([name for name in now if name not in set(then)])}"] if set(now) - set(then) else []
-    said += [f"gone are {names_of([name for name in then if name not in set(now)])}"] if set(then) - set(now) else []
-    return ", ".join(said) or "the names are the same, in another order"
+# ---------------------------------------------------------------- after the call
+def change_addresses(election: Election, book: Book, roll: Roll, seen: int, *, is_agreed: bool) -> None:
+    """The act after the call: new addresses and keys of the same people, each of them asked about."""
+    changes = [change for change in roll.changes if is_agreed or asked(change)]
+    before = {elector.number: elector for elector in queries.electors(book)}
+    if changes:
+        with book.act("addresses", {"electors": len(changes)}, seen=seen) as act:
+            for change in changes:
+                known = before[change.known.number]
+                queries.put_elector(act, dataclasses.replace(known, addresses=change.elector.addresses, key=change.elector.key))
+    tell(*(f"{change.elector.name}: {change_in_words(change)}" for change in changes))
+    tell(
+        f"{count_of(len(changes), 'elector')} changed; the page of the result tells how many."
+        if changes
+        else "Nothing was changed."
+    )
+    tell(f"Next: {election.command('status')}")
 
 
-def names_of(names: list[str]) -> str:
-    """Some names; of many the first."""
-    more = [f"{len(names) - SHOWN} more"] if len(names) > SHOWN else []
-    return ENGLISH.joined([*names[:SHOWN], *more])
+def asked(change: Change) -> bool:
+    """Whether the secretary agrees to a change, which is shown."""
+    question = f"{change.elector.label}: {change_in_words(change)}. Is that right?"
+    if not is_terminal():
+        raise Fault(None, question, "run it at a terminal, or with --yes", Status.DOUBT, "nothing was changed")
+    return bool(is_yes(question, "Type y for yes, or n for no."))
 
 
-def write(election: Election, counted: PollAndBallots, poll_bytes: bytes) -> None:
-    """Writes the poll with the new roll, where it is another one."""
-    if poll_bytes != counted.poll_bytes:
-        election.back_up(election.poll_path)
-        election.act("roll", counted, new_poll=poll_bytes)
-
-
-def list_of(names: list[str]) -> str:
-    """A list of texts as TOML has it, on one line."""
-    return "[" + ", ".join(json.dumps(name, ensure_ascii=False).replace("\x7f", "\\u007f") for name in names) + "]"
-
-
-# ---------------------------------------------------------------- what is told
-def tell_roll(election: Election, members: Members, *, has_all: bool) -> None:
-    """Says how many electors the roll has, and who they are; of many the first."""
-    first = members.members if has_all else members.members[:MOST_MEMBERS]
-    told = [f"  {member.name}" + (f": {shown_text(member.who)}" if member.who else "") for member in first]
-    rest = len(members.members) - len(first)
-    more = [f"  and {rest} more, in {members.file}"] if rest else []
-    tell(f"The roll of {election.poll_path} has {count_of(len(members.members), 'elector')}:", *told, *more)
-
-
-def tell_numbers(election: Election, members: Members) -> None:
-    """Asks about a roll that has numbers alone: electors know their own names, and one number is soon taken for another."""
-    if all(re.fullmatch(r"[0-9][0-9.-]*", member.name) for member in members.members):
-        cure = f"put the real names under who, leave name empty, and run {election.command('roll')} again"
-        tell(f"Note: all names on the roll are numbers. Are they member numbers? Then {cure}.")
-
-
-def lines_of(lines: list[int]) -> str:
-    """Some lines in words; of many the first."""
-    told = [str(line) for line in lines[:SHOWN]]
-    more = [f"{len(lines) - SHOWN} more"] if len(lines) > SHOWN else []
-    first, last = told + more, []
-    if len(first) > 1:
-        last = [first.pop()]
-    return ("line " if len(lines) == 1 else "lines ") + " and ".join([", ".join(first), *last])
+def change_in_words(change: Change) -> str:
+    """What of an elector is another than it was."""
+    pairs = {
+        "addresses": (", ".join(change.known.addresses), ", ".join(change.elector.addresses)),
+        "key": (change.known.key, change.elector.key),
+    }
+    words = {"addresses": "address", "key": "key"}
+    return "; ".join(
+        f"{words[field]} {pairs[field][0] or '(none)'} becomes {pairs[field][1] or '(none)'}"
+        for field in change.fields
+        if field in pairs
+    )

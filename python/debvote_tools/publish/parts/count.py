@@ -1,10 +1,12 @@
 """The parts of the page that say how the result came about: options, votes, defeats with their picture, and rounds."""
 
-from debvote_tools.pages import listed, paragraph, part, resource, wide
-from debvote_tools.publish import option_texts
+from html import escape
+
+from debvote_tools.pages import in_their_words, listed, paragraph, part, resource, wide
 from debvote_tools.publish.data import how_ended
 from debvote_tools.publish.picture import MOST_IN_PAGE, least_width, picture_in_page
 from debvote_tools.publish.published import Published
+from debvote_tools.publish.texts import paragraphs_of
 from debvote_tools.sentences import marked
 from debvote_tools.sheet import Round, Sheet
 
@@ -17,6 +19,10 @@ MARKS = {
 }
 
 STYLE = resource("debvote_tools.publish.parts", "count.css")
+
+# the words of the call
+ABOUT_OPTION = marked("About {option}, in the words of those who publish this page. The program has not checked them:")
+PLAIN_NAME = marked("plain name, on the result sheet: {name}")
 
 # what the signs of the picture mean
 LEGEND = marked(
@@ -32,24 +38,38 @@ def style(published: Published) -> str:
 
 
 def options(published: Published) -> str:
-    """The options with their ratios, in a list that bears their numbers."""
-    sheet = published.sheet
+    """The options with their ratios, and the texts about them. Here alone stand their plain names, where these differ."""
+    sheet, poll = published.sheet, published.publication.poll
     kinds = {option: published.say("majority ratio {ratio}", ratio=ratio) for option, ratio in sheet.ratios.items()}
-    entries = [f"{published.option(o)}, {kinds.get(o, published.say('the default option'))}" for o in sheet.names]
-    texts = [option_texts.shown(published.language, published.option(option), text) for option, text in published.texts.items()]
+    entries = [
+        f"{published.option(option)}, {kinds.get(option, published.say('the default option'))}{in_sheet(published, option)}"
+        for option in sheet.names
+    ]
+    texts = [
+        in_their_words(published.language, paragraphs_of(text), published.say(ABOUT_OPTION, option=published.option(option)))
+        for option, text in enumerate(poll.explanations, start=1)
+        if text.strip()
+    ]
     return part(published.language, "Options", listed("ul", entries), *texts)
+
+
+def in_sheet(published: Published, option: int) -> str:
+    """The plain name of an option, where it differs from its name."""
+    name = published.sheet.names[option]
+    is_plain = name == published.publication.poll.names[option - 1]
+    return "" if is_plain else f" ({published.say(PLAIN_NAME, name=escape(name))})"
 
 
 # ---------------------------------------------------------------- votes
 def votes(published: Published) -> str:
     """The table of votes."""
     names = published.sheet.names
-    heads = "".join(f'<th scope="col">{b}<span class="unseen"> {published.name(b)}</span></th>' for b in names)
+    heads = "".join(f'<th scope="col">{b}<span class="unseen">: {published.name(b)}</span></th>' for b in names)
     rows = "".join(row(published, a) for a in names)
     said = published.say(
-        "Each number says how many electors prefer the option of its row to the option of its column. "
-        "It is marked where the option of the row defeats that of the column, and neither was dropped. "
-        "A word behind an option says that it has won, is tied, or was dropped and why."
+        "Each number says how many electors prefer the option of its row to the option of its column. It is marked "
+        "where the option of the row defeats that of the column, and neither was dropped. A word after an option says "
+        "that it has won, is tied, or was dropped and why."
     )
     table = (
         f"<table>\n<caption>{published.say('Row preferred to column')}</caption>\n"
@@ -64,7 +84,7 @@ def row(published: Published, a: int) -> str:
     kind = f' class="{"dropped" if a in published.sheet.dropped else end}"' if end in MARKS else ""
     mark = f' <span class="ended">{published.say(MARKS[end])}</span>' if end in MARKS else ""
     cells = "".join(cell(published.sheet, a, b) for b in published.sheet.names)
-    return f'<tr{kind}><th scope="row">{a} {published.name(a)}{published.place_of_name(a)}{mark}</th>{cells}</tr>\n'
+    return f'<tr{kind}><th scope="row">{published.named(a)}{mark}</th>{cells}</tr>\n'
 
 
 def cell(sheet: Sheet, a: int, b: int) -> str:
@@ -99,16 +119,16 @@ def defeat(published: Published, a: int, b: int) -> str:
 
 def picture_within(published: Published) -> bytes | None:
     """The picture that stands within the page; none where it is too large for it, or where there is none."""
-    return published.picture if len(published.sheet.names) <= MOST_IN_PAGE else None
+    return published.counted.picture if len(published.sheet.names) <= MOST_IN_PAGE else None
 
 
 def figure(published: Published) -> str:
     """The picture with what its signs mean, or the link alone where it is too large for a page."""
-    if published.picture is None:
+    if published.counted.picture is None:
         return paragraph(published.say("There is no picture: Graphviz did not draw one when this page was made."))
     legend = published.say(LEGEND)
-    if not published.labels.is_empty:
-        legend += f" {published.say('The picture has the names of the poll.')}"
+    if published.publication.poll.shown_options:
+        legend += f" {published.say('The picture has the plain names.')}"
     picture = picture_within(published)
     if picture is None:
         large = published.say('<a href="picture.svg">The picture</a> of so many options is too large for this page.')

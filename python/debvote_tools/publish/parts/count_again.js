@@ -2,11 +2,17 @@
 // stands above, and says what is the same and what is not. Nothing is sent, and nothing is kept.
 "use strict";
 
+// The bytes of a file that the page carries, as it was published; null where it does not carry it.
+function carried(id) {
+  const node = document.getElementById(id);
+  if (node === null) return null;
+  if (node.dataset.as !== "base64") return new TextEncoder().encode(node.textContent);
+  return Uint8Array.from(atob(node.textContent), (sign) => sign.charCodeAt(0));
+}
+
 (() => {
   // milliseconds after which the page gets its turn
   const SLICE = 12;
-  // the lines that a poll may get after the call, whose sum is that of the others
-  const LATER = /^(last_envelope = [0-9]+|extended_to = "[0-9T:+ -]*")\s?$/;
 
   const byId = (id) => document.getElementById(id);
   const answer = byId("Again-answer");
@@ -32,14 +38,6 @@
   function say(...nodes) {
     answer.replaceChildren(...nodes);
     answer.scrollIntoView({ block: "nearest" });
-  }
-
-  // The bytes of a file that the page carries, as it was published.
-  function carried(id) {
-    const node = byId(id);
-    if (node === null) return null;
-    if (node.dataset.as !== "base64") return new TextEncoder().encode(node.textContent);
-    return Uint8Array.from(atob(node.textContent), (sign) => sign.charCodeAt(0));
   }
 
   // Runs the count in slices. Null where another count was asked for meanwhile.
@@ -89,8 +87,8 @@
     const found = compare(poll, above, outcome.set, textOf(files.sheet));
     const { line } = decision(poll, outcome.set, found.isSame ? found.casting : null);
     const nodes = verdict(files, poll, found, line, above.length + 1);
-    if (files.arePublished) nodes.push(aboutPage(files, tally, outcome, line));
-    nodes.push(...(await aboutSums(poll, files)), paragraph("second"));
+    if (files.arePublished) nodes.push(aboutPage(files, poll, tally, outcome, line));
+    nodes.push(...(await aboutChecksums(files)), paragraph("second"));
     if (isLast()) more.replaceChildren(sheetNode([...above, line].join("\n")));
     return nodes;
   }
@@ -105,12 +103,20 @@
   function verdict(files, poll, found, line, lines) {
     const sheet = sentence(files.whoseSheet);
     if (!found.isSame) {
-      const places = { sheet, line: found.at + 1, given: shown(found.given), counted: shown(found.counted) };
-      return [wrong(files, "differs", places), paragraph("last", { line })];
+      const [given, counted] = shownApart(found);
+      return [wrong(files, "differs", { sheet, line: found.at + 1, given, counted }), paragraph("last", { line })];
     }
     const nodes = [element("p", sentence("same", { sheet, lines }), "found"), paragraph("last", { line })];
     if (found.casting !== null) nodes.push(paragraph("casting", { option: poll.names[found.casting] }));
     return nodes;
+  }
+
+  // Two lines that differ, as they are shown. Where the line feed alone differs, this is said of each.
+  function shownApart({ given, counted }) {
+    const lines = [given, counted].map(shown);
+    if (lines[0] !== lines[1]) return lines;
+    const withEnd = (line, whole) => sentence(whole?.endsWith("\n") ? "with_feed" : "without_feed", { line });
+    return [withEnd(lines[0], given), withEnd(lines[1], counted)];
   }
 
   function sheetNode(text) {
@@ -121,22 +127,58 @@
     return node;
   }
 
-  // Whether the page shows what its files come to: its result, its votes and its ballots.
-  function aboutPage(files, tally, outcome, line) {
+  const option = (poll, at) => sentence("option", { number: at + 1, name: poll.shown[at] });
+
+  // A ballot in words, as the page says it; its options are said so.
+  function ballotWords(ranks, said) {
+    const steps = [...new Set(ranks)].filter((rank) => rank !== Infinity).sort((a, b) => a - b);
+    const withRank = (rank) => [...ranks.keys()].filter((at) => ranks[at] === rank).map(said);
+    const listed = (some) => (some.length > 1 ? some.slice(0, -1).join(", ") + words.and + some.at(-1) : some[0]);
+    if (steps.length === 0) return words.nothing;
+    const step = (some) => (some.length > 1 ? sentence("equally", { options: listed(some) }) : some[0]);
+    const ranked = steps.map((rank) => step(withRank(rank))).join(words.then);
+    const unranked = withRank(Infinity);
+    return unranked.length === 0 ? ranked : sentence("unranked", { ranked, unranked: listed(unranked) });
+  }
+
+  // The ballots of the page that are not as the files have them: their ranks, and their words.
+  function otherBallots(poll, tally) {
+    const entries = [...document.querySelectorAll('[aria-labelledby="Ballots"] .ballots li')];
+    const ballots = tally.standing.filter((ballot) => ballot !== null);
+    const [named, numbered] = [(at) => option(poll, at), (at) => String(at + 1)];
+    const isSame = (node, ballot) => {
+      const [elector, ranks] = ballot?.line.split(" ") ?? [];
+      const texts = [named, numbered].map((said) => () => ballotWords(ballot.ranks, said));
+      const isText = (text) => node.textContent === sentence("entry", { elector, ranks, ballot: text() });
+      return ballot !== undefined && node.id === elector && texts.some(isText);
+    };
+    const at = entries.findIndex((node, i) => !isSame(node, ballots[i]));
+    if (at >= 0) return [sentence("the_ballot", { elector: entries[at].id })];
+    return entries.length === ballots.length ? [] : [sentence("the_ballots")];
+  }
+
+  // Whether the page names the options as the poll does, where it has their plain names too.
+  function areNamesSame(poll) {
+    const entries = [...document.querySelectorAll('[aria-labelledby="Options"] > ul > li')];
+    const isNamed = (node, at) => {
+      const plain = poll.shown[at] === poll.names[at] ? "" : sentence("plain_name", { name: poll.names[at] });
+      return node.querySelector("b")?.textContent === option(poll, at) && node.textContent.includes(plain);
+    };
+    return entries.length === poll.names.length && entries.every(isNamed) && document.querySelector("h1").textContent === poll.shownTitle;
+  }
+
+  // Whether the page shows what its files come to: its result, its names, its votes and its ballots.
+  function aboutPage(files, poll, tally, outcome, line) {
     const others = [];
-    const numbers = line.startsWith("Winner: ") ? [parseInt(line.slice(8), 10)] : outcome.set.map((option) => option + 1);
-    const named = [...document.querySelectorAll(".outcome b")].map((node) => parseInt(node.textContent, 10));
-    if (named.join(" ") !== numbers.join(" ")) others.push(sentence("the_result"));
+    const options = line.startsWith("Winner: ") ? [parseInt(line.slice(8), 10) - 1] : outcome.set;
+    const named = [...document.querySelectorAll(".outcome b")].map((node) => node.textContent);
+    if (named.join("\n") !== options.map((at) => option(poll, at)).join("\n")) others.push(sentence("the_result"));
+    if (!areNamesSame(poll)) others.push(sentence("the_names"));
     const cells = [...document.querySelectorAll('[aria-labelledby="Votes"] tbody td')].map((cell) => cell.textContent);
     const counted = tally.votes.flatMap((row, a) => row.map((votes, b) => (a === b ? "-" : String(votes))));
     if (cells.join(" ") !== counted.join(" ")) others.push(sentence("the_votes"));
-    const entries = [...document.querySelectorAll('[aria-labelledby="Ballots"] .ballots li')];
-    const ballots = tally.standing.filter((ballot) => ballot !== null).map((ballot) => ballot.line);
-    const entry = (node) => `${node.id} ${node.querySelector("code").textContent}`;
-    const at = entries.findIndex((node, i) => entry(node) !== ballots[i]);
-    if (at >= 0) others.push(sentence("the_ballot", { elector: entries[at].id }));
-    else if (entries.length !== ballots.length) others.push(sentence("the_ballots"));
-    if (others.length === 0) return paragraph("page_same", { ballots: ballots.length });
+    others.push(...otherBallots(poll, tally));
+    if (others.length === 0) return paragraph("page_same", { ballots: tally.voters });
     return wrong(files, "page_differs", { where: others.join("; ") });
   }
 
@@ -145,26 +187,25 @@
     return [...digest].map((byte) => byte.toString(16).padStart(2, "0")).join("");
   }
 
-  // The poll as it was called: that of a secret vote has no line that came later.
-  function asCalled(poll, bytes) {
-    if (poll.isSecret) return bytes;
-    const lines = textOf(bytes).replace(/\n$/, "").split("\n");
-    const kept = lines.filter((line) => !LATER.test(line)).map((line) => line + "\n").join("");
-    return Uint8Array.from(kept, (sign) => sign.charCodeAt(0));
+  // What was typed, as it is or as a line that sha256sum prints, which may name its file.
+  function checksumTyped() {
+    const typed = byId("Again-letter").value.trim();
+    return (/^\\?([0-9a-f]{64})(?:\s|$)/i.exec(typed)?.[1] ?? typed.replace(/\s/g, "")).toLowerCase();
   }
 
-  // The sums of both files, beside those that the page names and the one that was typed.
-  async function aboutSums(poll, files) {
+  // The checksums of both files, beside those that the page names and the one that was typed.
+  async function aboutChecksums(files) {
     if (!globalThis.crypto || !crypto.subtle) return [paragraph("no_sums")];
-    const sums = [["called_sum", asCalled(poll, files.poll)], ["ballots_sum", files.ballots]];
-    if (!poll.isSecret && poll.last !== null) sums.splice(1, 0, ["poll_sum", files.poll]);
+    const parts = [["poll_sum", files.poll], ["ballots_sum", files.ballots]];
+    const { seal } = byId("Again").dataset;
+    if (seal) parts.push(["sealed_sum", Uint8Array.from([...new TextEncoder().encode(seal + "\n"), ...files.ballots])]);
     const named = byId("How-to-verify").closest("section").textContent;
-    const typed = byId("Again-letter").value.replace(/\s/g, "").toLowerCase();
+    const typed = checksumTyped();
     const nodes = [];
     let isFound = typed === "";
-    for (const [key, bytes] of sums) {
+    for (const [key, bytes] of parts) {
       const sum = await sumOf(bytes);
-      const said = [sentence(key, { sum, last: poll.last }), sentence(named.includes(sum) ? "sum_named" : "sum_not_named")];
+      const said = [sentence(key, { sum }), sentence(named.includes(sum) ? "sum_named" : "sum_not_named")];
       if (typed === sum) said.push(sentence("letter_same"));
       isFound = isFound || typed === sum;
       nodes.push(element("p", said.join(" "), named.includes(sum) ? "" : "differs"));

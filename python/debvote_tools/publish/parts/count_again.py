@@ -11,8 +11,10 @@ from debvote_tools import pages
 from debvote_tools.language import Language
 from debvote_tools.pages import link_to, paragraph, part
 from debvote_tools.publish.headings import COUNT_AGAIN as HEADING, VERIFYING
-from debvote_tools.publish.names import BALLOTS, POLL, SHEET
-from debvote_tools.publish.recounting import PACKAGE, SCRIPT
+from debvote_tools.publish.names import BALLOTS, POLL, SCRIPT, SHEET
+from debvote_tools.publish.parts import ballots, count
+from debvote_tools.publish.published import OPTION, Published
+from debvote_tools.publish.recounting import PACKAGE
 from debvote_tools.sentences import marked
 
 # where its own style and script lie
@@ -38,8 +40,8 @@ NO_SCRIPT = marked("This browser runs no script here, so there is no button. {ve
 TOO_LARGE = marked("The files are too large to be carried by this page: download them, and choose them here.")
 
 LETTER = marked(
-    "To have it compared, the sum of the poll or of the ballots from a letter that came to you: 64 signs, 0 to 9 and a to f. This may "
-    "stay empty"
+    "To have it compared, a checksum of poll or ballots from a letter that came to you, or as sha256sum prints it: 64 digits, 0 to 9 "
+    "and a to f. This may stay empty"
 )
 FROM_DISK = marked("Count files from your own disk")
 FILES = marked(
@@ -55,33 +57,36 @@ SENTENCES = {
     "no_secret_vote": marked("This is no secret vote as it is published: {why}."),
     "same": marked("The same, line for line: this count comes to {sheet}, in all its {lines} lines."),
     "differs": marked("Not the same as {sheet}: line {line} differs. There it is: {given}. By this count it is: {counted}."),
+    "with_feed": marked("{line} (with a line feed at its end)"),
+    "without_feed": marked("{line} (without a line feed at its end)"),
     "sheet_published": marked("the published sheet"),
     "sheet_of_page": marked("the sheet of this page"),
     "sheet_chosen": marked("the sheet that you chose"),
-    "tell": marked("Tell it to the other electors."),
-    "tell_if_published": marked("If the files are as they were published, tell it to the other electors."),
+    "tell": marked("Tell the other electors."),
+    "tell_if_published": marked("If the files are as they were published, tell the other electors."),
     "last": marked("This count ends with: {line}"),
     "casting": marked("The sheet has a casting vote for {option}. No count shows whose it was."),
     "page_same": marked(
-        "This page shows what its files come to: the result, by the numbers of its options, the table of votes, and the ranks of each "
-        "of the {ballots} ballots. Names and other words are not compared."
+        "This page shows what its files come to: the result, the names of the options, the table of votes, and each of the {ballots} "
+        "ballots, by its ranks and in words. Other words are not compared."
     ),
     "page_differs": marked("This page shows something else than its files come to: {where}."),
     "the_result": marked("the result"),
+    "the_names": marked("the names of title and options"),
     "the_votes": marked("the table of votes"),
     "the_ballot": marked("the ballot of {elector}"),
     "the_ballots": marked("the ballots, which are not as many"),
-    "called_sum": marked("The sum of the poll, as your letter of the call has to have it, is {sum}."),
-    "poll_sum": marked("With its last envelope, {last}, as the letter of the result has to have it, it is {sum}."),
-    "ballots_sum": marked("The sum of the ballots, as the letter of the result has to have it, is {sum}."),
+    "poll_sum": marked("The checksum of the poll, as your letter of the call has to have it, is {sum}."),
+    "ballots_sum": marked("The checksum of the ballots, as the letter of the result has to have it, is {sum}."),
+    "sealed_sum": marked("The checksum of seal.txt and the ballots, as the letter of the close has to have it, is {sum}."),
     "sum_named": marked("This page names it too."),
     "sum_not_named": marked("This page does not name it: the files are others than those from which it was made."),
     "letter_same": marked("Yours is the same."),
     "letter_other": marked(
-        "None of these is the sum that you typed. If it is that of the poll or of the ballots, and typed right, your letter speaks of "
-        "other files: ask for them. If it is that of this page: no page can make its own."
+        "None of these is the checksum that you typed. If it is that of the poll or of the ballots, and typed right, your letter speaks "
+        "of other files: ask for them. If it is that of this page: no page can make its own."
     ),
-    "no_sums": marked("This browser makes no sums of a page that did not come by https. Compare them by the commands below."),
+    "no_sums": marked("This browser makes no checksums of a page that did not come by https. Compare them by the commands below."),
     "second": marked("This was a second opinion, from the same web site as the page."),
     "whole_sheet": marked("The whole sheet by this count"),
     "choose": marked("Choose {poll} and {ballots}, by these names and one of each; {sheet} may be with them."),
@@ -91,9 +96,9 @@ SENTENCES = {
 STYLE = pages.resource(PARTS, "count_again.css")
 
 
-def count_again(files: dict[str, bytes], language: Language) -> str:
+def count_again(files: dict[str, bytes], published: Published) -> str:
     """The part. The files are those that are published, by their names."""
-    say = language.say
+    language, say = published.language, published.say
     is_carried = len(files[POLL]) + len(files[BALLOTS]) <= CARRIED_LIMIT
     of_page = paragraph(say(TOO_LARGE))
     if is_carried:
@@ -103,7 +108,7 @@ def count_again(files: dict[str, bytes], language: Language) -> str:
     button = f'<p><button id="Again-chosen" type="button">{say(BUTTON_FILES)}</button></p>'
     opened = "" if is_carried else " open"
     form = (
-        f'<div id="Again" hidden {pages.words_of(language, SENTENCES)}>\n{letter}\n{of_page}\n'
+        f'<div id="Again" hidden{seal_of(published)} {words(language)}>\n{letter}\n{of_page}\n'
         f'<progress id="Again-progress" max="1" value="0" aria-label="{say(PROGRESS)}" hidden></progress>\n'
         '<div id="Again-answer" role="status"></div>\n<div id="Again-more"></div>\n'
         f"<details{opened}>\n<summary>{say(FROM_DISK)}</summary>\n{chosen}\n{button}\n</details>\n</div>"
@@ -111,6 +116,17 @@ def count_again(files: dict[str, bytes], language: Language) -> str:
     verifying = link_to(language, VERIFYING)
     no_script = f'<p id="Again-no-script">{say(NO_SCRIPT, verifying=verifying)}</p>'
     return part(language, HEADING, paragraph(say(SAID)), paragraph(say(SECOND, verifying=verifying)), form, no_script)
+
+
+def words(language: Language) -> str:
+    """The sentences of the script, as an attribute: its own, and those with which the page says options and ballots."""
+    return pages.words_of(language, SENTENCES | {"option": OPTION, "plain_name": count.PLAIN_NAME}, **ballots.words_of(language))
+
+
+def seal_of(published: Published) -> str:
+    """The line with which the close has sealed the ballots, as an attribute."""
+    secret = published.publication.secret
+    return "" if secret is None or secret.seal is None else f' data-seal="{secret.seal}"'
 
 
 def field(name: str, label: str, kind: str) -> str:

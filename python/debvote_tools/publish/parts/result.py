@@ -5,7 +5,9 @@ from html import escape
 from debvote_tools.language import ENGLISH, Language
 from debvote_tools.pages import in_their_words, link_to, listed, paragraph, part, resource
 from debvote_tools.publish import casting_vote
-from debvote_tools.publish.headings import UNSEEN, VERIFYING
+from debvote_tools.publish.doubts import sentences_of
+from debvote_tools.publish.headings import UNSEEN
+from debvote_tools.publish.parts.why import MOST, entry, reasons
 from debvote_tools.publish.published import Published
 from debvote_tools.publish.recounting import GUIDE_LINK
 from debvote_tools.publish.texts import paragraphs_of
@@ -14,15 +16,37 @@ from debvote_tools.sentences import marked
 COUNTED = marked(
     "This is the count of the files in this folder. Whether they are what the electors sent, no count shows: {unseen}."
 )
-COMPARE_LETTER = marked("Compare it with the one in <strong>your</strong> letter.")
 
 # the style of a page that has doubts, behind that of all pages: a frame and a word mark a doubt, and not colour alone
 DOUBTS_STYLE = resource("debvote_tools.publish.parts", "doubts.css")
 
-WHY_NONE = marked("Why this is published even so, in the words of those who publish this page. The program has not checked them:")
+IN_NUMBERS = marked("In numbers: {reasons}.")
 
-HAS_IT = marked("The poll below has it.")
-HAS_IT_BUT_LAST = marked("The poll below has it, but for its last envelope.")
+WHY_NONE = marked(
+    "Why this is published all the same, in the words of those who publish this page. The program has " "not checked them:"
+)
+
+GIVEN = marked(
+    "The file that was given as the poll has the checksum (SHA-256) <code>{checksum}</code>. Here it is in another "
+    "form: a line for each key, without comments."
+)
+
+
+def result(published: Published) -> str:
+    """The part with which the page begins."""
+    marks = [doubts_list(published)] if published.doubts else []
+    because = published.publication.because
+    if published.doubts and because is not None:
+        marks.append(in_their_words(published.language, paragraphs_of(because), WHY_NONE))
+    said = [
+        f'<p class="outcome">{outcome(published)}</p>',
+        *deciding_numbers(published),
+        *casting_vote.on_page(published),
+        *marks,
+        facts(published),
+        paragraph(published.say(COUNTED, unseen=link_to(published.language, UNSEEN))),
+    ]
+    return part(published.language, "Result", *said)
 
 
 def outcome(published: Published) -> str:
@@ -36,15 +60,16 @@ def outcome(published: Published) -> str:
         said += [published.say("It is the default option.")] if option == sheet.default else []
         return " ".join(said)
     left = published.language.joined(map(published.option, sheet.final_set()))
-    outside = sheet.casting_outside()
-    if outside is None:
-        return published.say("No option has won yet: {options} are tied. The casting vote has to choose one of them.", options=left)
-    return published.say(
-        "No option has won: {options} are tied. The casting vote is for {option}, which is not one of them, and so it does not "
-        "decide.",
-        options=left,
-        option=published.option(outside),
-    )
+    return published.say("No option has won yet: {options} are tied. The casting vote has to choose one of them.", options=left)
+
+
+def deciding_numbers(published: Published) -> list[str]:
+    """Why the winner has won, or why options are tied, with the numbers; where many are tied the part `Why` alone has them."""
+    winner, left = published.sheet.winner(), published.sheet.final_set()
+    if winner is not None:
+        said = published.language.in_a_row(reasons(published, winner.option))
+        return [paragraph(published.say(IN_NUMBERS, reasons=said))]
+    return [paragraph(entry(published, option)) for option in left] if len(left) <= MOST else []
 
 
 def share(voters: int, electors: int, language: Language = ENGLISH) -> str:
@@ -57,6 +82,7 @@ def share(voters: int, electors: int, language: Language = ENGLISH) -> str:
     return language.say("{whole}.{tenths} %", whole=tenths // 10, tenths=tenths % 10)
 
 
+# ---------------------------------------------------------------- numbers
 def facts(published: Published) -> str:
     """The numbers that the sheet begins with."""
     sheet, say = published.sheet, published.say
@@ -68,12 +94,12 @@ def facts(published: Published) -> str:
             multiple=sheet.quorum_multiple,
         )
     voters = say(
-        "{voters}, which is {share} of the electors: those with a ballot that stands",
+        "{voters}, which is {share} of the electors: those with a ballot that counts",
         voters=sheet.voters,
         share=share(sheet.voters, sheet.electors, published.language),
     )
     rows = [(say("Electors"), str(sheet.electors)), (say("Voters"), voters), (say("Quorum"), quorum)]
-    if not published.further.is_secret:
+    if not published.is_secret:
         rows.append((say("Lines"), lines(published)))
     if sheet.last_envelope is not None:
         last = say("{number}: a line with a greater number is late, and is refused", number=sheet.last_envelope)
@@ -109,50 +135,18 @@ def lines(published: Published) -> str:
 
 def doubts_list(published: Published) -> str:
     """The doubts for readers, each with a word before it that says what it is."""
-    sentences = (escape(published.language.of(doubt.sentence)) for doubt in published.doubts)
+    sentences = [escape(said) for said in sentences_of(published.doubts, published.language, is_secret=published.is_secret)]
     entries = (published.say("<strong>Doubt:</strong> {doubt}", doubt=doubt) for doubt in sentences)
     guide = paragraph(published.say("{guide} says what a doubt is, and what you can ask.", guide=GUIDE_LINK))
     name = published.say("Doubts about this result")
     return f'<div class="doubts" role="note" aria-label="{name}">\n{listed("ul", entries)}\n{guide}\n</div>'
 
 
-def result(published: Published) -> str:
-    """The part with which the page begins."""
-    marks = [doubts_list(published)] if published.doubts else []
-    if published.because is not None:
-        marks.append(in_their_words(published.language, paragraphs_of(published.because), WHY_NONE))
-    in_poll = []
-    if published.labels.title is not None:
-        in_poll = [paragraph(published.say("In the poll the title is: {title}", title=escape(published.sheet.title)))]
-    counted = paragraph(published.say(COUNTED, unseen=link_to(published.language, UNSEEN)))
-    said = [
-        f'<p class="outcome">{outcome(published)}</p>',
-        *casting_vote.on_page(published.casting_vote, published.language),
-        *marks,
-        facts(published),
-        counted,
-    ]
-    return part(published.language, "Result", *in_poll, *said)
-
-
 # ---------------------------------------------------------------- what the society says of it
 def about(published: Published) -> list[str]:
-    """The part with the text that was given, and with the sum of the poll that was called; none where there is neither."""
-    blocks = [] if published.about is None else [in_their_words(published.language, paragraphs_of(published.about))]
-    if published.poll_sums.called_sum is not None:
-        blocks.append(paragraph(announced(published)))
+    """The part with the text that was given; none where there is none."""
+    text, checksum = published.publication.about, published.publication.given_checksum
+    blocks = [] if text is None else [in_their_words(published.language, paragraphs_of(text))]
+    if checksum is not None and checksum != published.publication.poll.checksum:
+        blocks.append(paragraph(published.say(GIVEN, checksum=checksum)))
     return [part(published.language, "About this vote", *blocks)] if blocks else []
-
-
-def announced(published: Published) -> str:
-    """The sum of the poll that was called, as far as the secretary's copy of the call shows it, and whether it is this poll."""
-    sums, say = published.poll_sums, published.say
-    copy = say(
-        "The secretary's copy of the call has this sum (SHA-256) of the poll: <code>{sum}</code>.",
-        sum=sums.called_sum,
-    )
-    same = say("The poll below has another one.")
-    if sums.called_sum == sums.poll_sum:
-        same = say(HAS_IT_BUT_LAST if sums.has_last_envelope else HAS_IT)
-    how = say("{part} has the command that compares them.", part=link_to(published.language, VERIFYING))
-    return f"{copy} {same} {say(COMPARE_LETTER)} {how}"

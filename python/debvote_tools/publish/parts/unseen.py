@@ -6,9 +6,9 @@ SECURITY.md has the same rows, with who could do it and who would see it.
 import dataclasses
 
 from debvote_tools.pages import link_to, listed, paragraph, part
-from debvote_tools.publish.headings import BALLOTS, REFUSED, REMAINS, UNSEEN as HEADING, VOTED
+from debvote_tools.publish.headings import REFUSED, REMAINS, UNSEEN as HEADING, VOTED
 from debvote_tools.publish.published import Published
-from debvote_tools.secret_words import FIND
+from debvote_tools.secret.words import FIND
 from debvote_tools.sentences import marked
 
 SAID = marked(
@@ -22,7 +22,7 @@ class Unseen:
 
     what: str
     check: str
-    # in a secret vote; none where `secret_words.REMAINS` says it already
+    # in a secret vote; none where `secret.words.REMAINS` says it already
     check_in_secret: str | None
 
 
@@ -35,14 +35,14 @@ KEEP_REPLY = marked(
 UNSEEN = (
     Unseen(
         marked("A ballot that came and was left out, if its elector does not look."),
-        marked("Look for your own ballot under {ballots}; if it is not there, under {refused}. Ask others to look for theirs."),
+        marked("Look for your own ballot under {find}; if it is not there, under {refused}. Ask others to look for theirs."),
         marked("Look for your own ballot under {find}. Ask others to look for theirs."),
     ),
     Unseen(
         marked("A vote in the name of an elector who did not vote."),
         marked(
-            "If you did not vote, look under {voted}: you must stand among those who did not. Ask those whom you know whether they "
-            "stand where they belong."
+            "If you did not vote, look under {voted}: you must be among those who did not. Ask those whom you know "
+            "whether they are where they belong."
         ),
         None,
     ),
@@ -52,7 +52,7 @@ UNSEEN = (
         None,
     ),
     Unseen(
-        marked("The hand that typed: a ballot on paper or in a letter may have been entered otherwise than it was sent."),
+        marked("The hand that typed: a ballot on paper or in a letter may have been entered differently from how it " "was sent."),
         KEEP_COPY,
         KEEP_COPY,
     ),
@@ -64,15 +64,13 @@ UNSEEN = (
         KEEP_REPLY,
         KEEP_REPLY,
     ),
-    Unseen(
-        marked("Another page for another reader: whoever keeps the web site can show each reader another folder."),
-        marked(
-            "Compare winner and sums with the letter of the result, the sum of the poll with your letter of the call, and the sums "
-            "of the folder with other electors."
-        ),
-        None,
-    ),
 )
+
+COMPARE = marked(
+    "Compare winner and checksums with the letter of the result, the checksum of the poll with your letter of the call, and the "
+    "checksums of the folder with other electors."
+)
+OTHER_PAGE = marked("Another page for another reader: whoever keeps the web site can show each reader another folder.")
 
 ASK_FOR_CASTING = marked("Ask the one who gave it, and others whether they have seen another result with another one.")
 # where a casting vote decides
@@ -85,12 +83,18 @@ CASTING = Unseen(
 
 def unseen(published: Published) -> str:
     """The part of the page."""
-    is_secret, say = published.further.is_secret, published.say
+    is_secret, say = published.is_secret, published.say
     winner = published.sheet.winner()
-    all_rows = [*UNSEEN, *([CASTING] if winner is not None and winner.is_by_casting else [])]
-    headings = {"ballots": BALLOTS, "refused": REFUSED, "find": FIND, "voted": VOTED, "remains": REMAINS}
+    # where the page has the part `REMAINS`, it is said there
+    has_remains = is_secret and not published.publication.has_codes
+    all_rows = [
+        *UNSEEN,
+        Unseen(OTHER_PAGE, COMPARE, None if has_remains else COMPARE),
+        *([CASTING] if winner is not None and winner.is_by_casting else []),
+    ]
+    headings = {"refused": REFUSED, "find": FIND, "voted": VOTED, "remains": REMAINS}
     links = {name: link_to(published.language, heading) for name, heading in headings.items()}
     rows = [(row.what, row.check_in_secret if is_secret else row.check) for row in all_rows]
     entries = [f"<b>{say(what)}</b> {say(check, **links)}" for what, check in rows if check is not None]
-    more = [paragraph(say("{remains} has more of them.", **links))] if is_secret else []
+    more = [paragraph(say("{remains} has more of them.", **links))] if has_remains else []
     return part(published.language, HEADING, paragraph(say(SAID)), listed("ul", entries), *more)

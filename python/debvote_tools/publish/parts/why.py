@@ -11,8 +11,8 @@ from debvote_tools.sheet import Pair, Sheet
 MOST = 3
 
 RULE = marked(
-    "An option other than the default option is dropped unless it reaches the quorum and has its majority. For the quorum so "
-    "many electors must prefer it to the default option. For the majority its ratio counts."
+    "An option other than the default option is dropped unless it reaches the quorum and has its majority. It reaches "
+    "the quorum if at least that number of electors prefer it to the default option. For the majority its ratio counts."
 )
 AT_LEAST = marked("At least the ratio times as many electors must prefer it as prefer the default option, and in any case more.")
 MORE_THAN = marked("More than the ratio times as many electors must prefer it as prefer the default option.")
@@ -32,11 +32,14 @@ def rule(published: Published) -> str:
 
 def why(published: Published) -> str:
     """The part of the page."""
-    entries = [
-        published.say("{verdict}: {reasons}.", verdict=verdict(published, option), reasons="; ".join(reasons(published, option)))
-        for option in published.sheet.names
-    ]
+    entries = [entry(published, option) for option in published.sheet.names]
     return part(published.language, "Why", paragraph(rule(published)), listed("ul", entries))
+
+
+def entry(published: Published, option: int) -> str:
+    """How it ended for an option, and why."""
+    said = published.language.in_a_row(reasons(published, option))
+    return published.say("{verdict}: {reasons}.", verdict=verdict(published, option), reasons=said)
 
 
 def verdict(published: Published, option: int) -> str:

@@ -1,10 +1,8 @@
-use Rattle.std.proofs.Common.{◌≡◌, IfOk, IfErr, length, ap, subst}
-use Rattle.std.specs.List.{All}
-use Rattle.vote_desks_box.specs.Slips.{Rises}
+use Rattle.std.proofs.Common.{◌≡◌, ◌∙◌, IfOk, IfErr, length, ap, subst}
 use Rattle.vote_desks_box.specs.Desks.{AreSlipsInOrder, SharedState}
-use Rattle.vote_desks.specs.Faults.{IsOfDesk}
+use Rattle.vote_desks.specs.Faults.{AreSheetsOf, IsOfDesk}
 use Rattle.std.proofs.lemmas.Result.{IfErr-weaker}
-use Rattle.vote_desks.proofs.BackLemmas.{gathered_rise}
+use Rattle.vote_desks.proofs.BackLemmas.{gathered_long, gathered_rise}
 use Rattle.vote_desks.proofs.StopLemmas.{found_in_such, stops_votes}
 use Rattle.vote_desks.proofs.votes.serve.Goals as goal
 
@@ -25,5 +23,6 @@ pub returns-clause-found : goal.returns-clause-found
 returns-clause-found g c =
     let back = c.in_ok-back.back in
     IfErr-weaker c.gather_and_audit.result _ _
-    (λ fault. found_in_such (AreSlipsInOrder back) (All Rises) c.args.poll.now c.args.lines.now fault (λ sheets are. gathered_rise back.items sheets are c.in_ok-back.ensures.rising))
+    (λ fault. found_in_such (AreSlipsInOrder back) (AreSheetsOf c.args.desks) c.args.poll.now c.args.lines.now fault
+    (λ sheets are. (gathered_long back.items sheets _ are c.in_ok-back.ensures.numbers ∙ c.in-Ok.ensures.len, gathered_rise back.items sheets are c.in_ok-back.ensures.rising)))
     c.gather_and_audit.ensures.found

@@ -1,4 +1,4 @@
-use Rattle.std.proofs.Common.{List, Option, ◌≡◌, ◌≢◌, ◌∙◌, ap, refl, subst, sym, true, inl, inr}
+use Rattle.std.proofs.Common.{List, [], Option, ◌≡◌, ◌≢◌, ◌∙◌, ap, refl, subst, sym, true, inl, inr}
 use Rattle.clap.proofs.OnLiterals.{clap_on_literals}
 use Rattle.clap.specs.Faults.{fault_of, is_simple_and_free}
 use Rattle.clap.specs.Kinds.{HasKind, IsAmong, Kinds}
@@ -20,12 +20,6 @@ free = refl
 simple : is_simple debvote_command ≡ true
 unfolding clap_on_literals
 simple = refl
-
-pub returns-in-Some-clause-accepted : goal.returns-in-Some-clause-accepted
-returns-in-Some-clause-accepted c =
-    let same = c.requires.app in
-    ap (λ (command : App). fault_of command (texts_of c.args.words.now)) (sym same)
-    ∙ c.in-Ok.ensures.kinds (ap is_simple_and_free same ∙ free)
 
 -- an error that asks for help is one of its kinds
 asked : (kinds : Kinds) (error : Error) → HasKind kinds error → AsksForHelp (kind_of error) → (k : ErrorKind) × AsksForHelp k × IsAmong k kinds
@@ -72,6 +66,9 @@ returns-clause-no_task c =
 pub returns-in-Some-clause-ok : goal.returns-in-Some-clause-ok
 returns-in-Some-clause-ok c =
     let same = c.requires.app in
+    let texts = texts_of c.args.words.now in
+    let accepted : fault_of debvote_command texts ≡ [] =
+    ap (λ (command : App). fault_of command texts) (sym same) ∙ c.in-Ok.ensures.kinds (ap is_simple_and_free same ∙ free) in
     let found = c.in-Ok.ensures.ok.2 (ap is_simple same ∙ simple) in
     let asks = c.in-Some.ensures.found in
-    (asks.0, sym (found.1 ∙ ap (λ (command : App). subcommand_of command (texts_of c.args.words.now)) same) ∙ asks.1, asks.2)
+    (accepted, (asks.0, sym (found.1 ∙ ap (λ (command : App). subcommand_of command texts) same) ∙ asks.1, asks.2))

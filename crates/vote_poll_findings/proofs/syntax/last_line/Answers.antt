@@ -1,6 +1,6 @@
 use Rattle.std.proofs.Common.{ap, sym, ◌∙◌}
 use Rattle.vote_poll_findings.specs.Syntax.{last_part}
-use Rattle.vote_poll_findings.proofs.AddedLines.{last_behind}
+use Rattle.vote_poll_findings.proofs.LineLaws.{last_behind}
 use Rattle.vote_poll_findings.proofs.syntax.last_line.Goals as goal
 
 pub loop-after-preserved : goal.loop-after-preserved

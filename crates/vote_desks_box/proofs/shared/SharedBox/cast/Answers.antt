@@ -1,14 +1,28 @@
-use Rattle.std.proofs.Common.{◌≡◌, ◌<◌, ◌↔◌, ◌⊎◌, Err, ap, ◌∙◌, subst}
+use Rattle.std.proofs.Common.{◌≡◌, ◌<◌, ◌↔◌, ◌⊎◌, ℕ, Result, Ok, Err, IfOk, ap, ◌∙◌, subst}
+use Rattle.std.specs.Prelude.{OnOk}
 use Rattle.std.proofs.lemmas.Result.{IfOk-weaker}
-use Rattle.vote_steps.specs.Boxes.{BoxState}
-use Rattle.vote_steps.specs.History.{reply_to}
+use Rattle.vote_poll.specs.declared.Reading.{Reading}
+use Rattle.vote_steps.specs.Boxes.{BoxState, IsLegal}
+use Rattle.vote_desks_box.specs.Answering.{CanNote}
+use Rattle.vote_desks_box.specs.declared.fault.EnterFault.{EnterFault}
+use Rattle.vote_desks_box.specs.declared.slip.Slip.{Slip}
 use Rattle.vote_desks_box.specs.declared.fault.EnterFault.TheVariants.{Sizes, SheetFull, StampRange}
-use Rattle.vote_desks_box.specs.Desks.{FitsBox, HasRoom, IsLater, SharedState}
+use Rattle.vote_desks_box.specs.Desks.{FitsBox, HasRoom, IsLater, SharedState, next_slip}
 use Rattle.vote_desks_box.proofs.shared.SharedBox.cast.Given.{Over}
 use Rattle.vote_desks_box.proofs.shared.SharedBox.cast.Goals as goal
 
 later : (g : Over) (c : goal.After-drop-lock g) → IsLater c.args.self.now.opened c.deref_mut.result.now.ballot_box
 later g c = c.enter.ensures.opened ∙ ap (λ (s : SharedState). record s.opened { steps = c.deref_mut.result.now.ballot_box.steps }) c.self.view_is
+
+-- the slip of a legal box that was opened so
+noted : (opened b : BoxState) (stamp : ℕ) (reading : Reading) (result : Result Slip EnterFault) → IsLater opened b → OnOk result (IsLegal b) → IfOk result (λ slip. slip ≡ next_slip b stamp reading)
+    → IfOk result (CanNote opened stamp reading)
+noted opened b stamp reading (Ok slip) later legal is = record {
+  steps = b.steps;
+  legal = subst IsLegal later legal;
+  noted = is ∙ ap (λ (x : BoxState). next_slip x stamp reading) later;
+}
+noted opened b stamp reading (Err fault) later legal is = tt
 
 pub returns-clause-noted : goal.returns-clause-noted
 returns-clause-noted g c = c.enter.ensures.noted
@@ -16,12 +30,9 @@ returns-clause-noted g c = c.enter.ensures.noted
 pub returns-clause-stamp : goal.returns-clause-stamp
 returns-clause-stamp g c = IfOk-weaker c.enter.result _ _ (λ slip is. ap (λ s. s.stamp) is) c.enter.ensures.slip
 
-pub returns-clause-reply : goal.returns-clause-reply
-returns-clause-reply g c =
-    let steps = c.deref_mut.result.now.ballot_box.steps in
-    IfOk-weaker c.enter.result _ _
-    (λ slip is. record { steps = steps; answered = ap (λ s. s.reply) is ∙ ap (λ (b : BoxState). reply_to b.last_in_time steps c.args.stamp c.args.reading) (later g c) })
-    c.enter.ensures.slip
+pub returns-clause-slip : goal.returns-clause-slip
+returns-clause-slip g c =
+    noted c.args.self.now.opened c.deref_mut.result.now.ballot_box c.args.stamp c.args.reading c.enter.result (later g c) c.enter.ensures.legal c.enter.ensures.slip
 
 pub returns-clause-sizes : goal.returns-clause-sizes
 returns-clause-sizes g c = subst (λ (b : BoxState). (c.enter.result ≡ Err Sizes) ↔ ¬ FitsBox b c.args.reading) (later g c) c.enter.ensures.sizes

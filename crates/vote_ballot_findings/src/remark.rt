@@ -1,0 +1,57 @@
+//! What is open in the findings: remarks, each one line of printable text.
+
+ghost use Rattle.std.specs.Prelude.{◌≡◌, IsTrue};
+ghost use Rattle.std.specs.List.{list_all};
+ghost use Rattle.vote_poll_text.specs.Names.{is_printable};
+ghost use Rattle.vote_ballot_findings.specs.Adding.{AddsSome};
+ghost use Rattle.vote_ballot_findings.specs.Explained.{AreFileLines, IsRemark};
+
+use crate::MOST_REMARK;
+use std::alloc::AllocError;
+use vote_poll_text::is_printable;
+
+/// Whether all bytes of a text are printable.
+fn are_printable(text: &[u8]) -> bool
+    ensures { result ≡ list_all is_printable text.now }
+{
+    text.iter().all(|byte| is_printable(*byte))
+}
+
+/// Whether a text is one line of printable text, and not too long.
+fn is_remark(text: &str) -> bool
+    ensures { IsTrue result → IsRemark text.now }
+{
+    text.len() <= MOST_REMARK && are_printable(text.as_bytes())
+}
+
+/// Adds a remark. What is none is left out.
+pub(crate) fn push_remark(text: &mut String, remark: &str) -> Result<(), AllocError>
+    ensures { AddsSome IsRemark result text.old text.new }
+{
+    if !is_remark(remark) {
+        return Ok(());
+    }
+    text.push_str(remark)
+}
+
+/// Adds a line with a remark on the file.
+fn push_file_line(text: &mut String, remark: &str) -> Result<(), AllocError>
+    ensures { AddsSome AreFileLines result text.old text.new }
+{
+    if !is_remark(remark) {
+        return Ok(());
+    }
+    text.push_str("the ballot file ")?;
+    text.push_str(remark)?;
+    text.push_str("\n")
+}
+
+/// Adds a line with each of these remarks on the file.
+pub(crate) fn push_file_lines(text: &mut String, remarks: &[String]) -> Result<(), AllocError>
+    ensures { AddsSome AreFileLines result text.old text.new }
+{
+    for remark in remarks {
+        push_file_line(text, remark.as_str())?;
+    }
+    Ok(())
+}

@@ -1,0 +1,404 @@
+"""The book: one SQLite database that has everything an election knows. This package alone knows SQL.
+
+An act adds rows, in one transaction, and is told only after its commit. Triggers refuse whatever would change or remove a row.
+"""
+
+import contextlib
+import dataclasses
+import datetime
+import importlib.resources
+import json
+import os
+import pathlib
+import secrets
+import sqlite3
+import subprocess
+import sys
+import urllib.parse
+from collections.abc import Iterable, Iterator, Sequence
+from typing import Any
+
+from debvote_tools.book import chain
+from debvote_tools.book.machine_note import MachineNote, Note
+from debvote_tools.faults import Fault, Status
+from debvote_tools.files import uninterrupted
+
+NAME = "election.db"
+
+# "dbvt": what tells a book from other databases of SQLite, and the version of its schema
+APPLICATION_ID, VERSION = 0x64627674, 2
+
+# how many seconds an act waits for those of others
+PATIENCE = 120
+
+SETTINGS = ("foreign_keys = ON", "recursive_triggers = ON", "journal_mode = DELETE", "synchronous = EXTRA", "trusted_schema = OFF")
+
+REFUSE = """CREATE TRIGGER {table}_{verb} BEFORE {verb} ON {table} BEGIN SELECT RAISE(ABORT, 'a book only grows'); END"""
+
+
+class Overtaken(Exception):
+    """Another act came between: what this one was decided by may have changed."""
+
+
+@dataclasses.dataclass(frozen=True)
+class DoneAct:
+    """An act of the book."""
+
+    number: int
+    time: datetime.datetime
+    name: str
+    detail: dict[str, Any]
+    digest: str
+
+
+class Act:
+    """An act while it is written. Its rows are in the book when it is committed, all or none."""
+
+    def __init__(
+        self, connection: sqlite3.Connection, number: int, time: datetime.datetime, name: str, detail: dict[str, Any]
+    ) -> None:
+        self.connection, self.number, self.time, self.name, self.detail = connection, number, time, name, detail
+
+    def insert_all(self, table: str, columns: Sequence[str], rows: Iterable[Sequence[object]]) -> None:
+        """Adds many rows of this act; the columns are those but for the act."""
+        words = f"INSERT INTO {table} (act, {', '.join(columns)}) VALUES ({self.number}, {', '.join('?' * len(columns))})"
+        self.connection.executemany(words, rows)
+
+    def insert(self, table: str, **values: object) -> int:
+        """Adds a row of this act, and returns its number."""
+        columns: dict[str, Any] = {"act": self.number, **values}
+        words = f"INSERT INTO {table} ({', '.join(columns)}) VALUES ({', '.join('?' * len(columns))})"
+        row = self.connection.execute(words, tuple(columns.values())).lastrowid
+        assert row is not None
+        return row
+
+
+class Book:
+    """An open book. `path` names the database file."""
+
+    def __init__(self, path: pathlib.Path, connection: sqlite3.Connection, *, is_read_only: bool = False) -> None:
+        self.path, self.connection, self.is_read_only = path, connection, is_read_only
+        # whether this process has tried the locks of the file system
+        self.has_tried_locks = False
+
+    # ------------------------------------------------------------ reading
+    def rows(self, words: str, *values: object) -> list[Any]:
+        """The rows that a query finds."""
+        with told_as_faults(self.path):
+            return self.connection.execute(words, values).fetchall()
+
+    def acts(self) -> list[DoneAct]:
+        """All acts, in their order."""
+        return [done(row) for row in self.rows("SELECT act, time, name, detail, digest FROM act ORDER BY act")]
+
+    def first_act(self) -> DoneAct:
+        """The act `new`."""
+        return self.acts()[0]
+
+    def last_act(self) -> DoneAct:
+        """The last act. There always is one: that of `new`."""
+        [row] = self.rows("SELECT act, time, name, detail, digest FROM act ORDER BY act DESC LIMIT 1")
+        return done(row)
+
+    def last_number(self) -> int:
+        """The number of the last act."""
+        return int(self.rows("SELECT max(act) FROM act")[0][0])
+
+    def digest_at(self, act: int) -> str | None:
+        """The digest of an act; None if the book has no such act."""
+        return next((str(digest) for digest, in self.rows("SELECT digest FROM act WHERE act = ?", act)), None)
+
+    def broken_act(self) -> int | None:
+        """The first act that is not as its digest says; None if the chain of digests is whole."""
+        with told_as_faults(self.path), self.snapshot():
+            return chain.broken_act(self.connection)
+
+    @contextlib.contextmanager
+    def snapshot(self) -> Iterator[None]:
+        """All queries within see one state of the book."""
+        with told_as_faults(self.path):
+            self.connection.execute("BEGIN")
+        try:
+            yield
+        finally:
+            with contextlib.suppress(sqlite3.Error):
+                self.connection.execute("ROLLBACK")
+
+    # ------------------------------------------------------------ acts
+    @contextlib.contextmanager
+    def act(
+        self, name: str, detail: dict[str, Any] | None = None, *, seen: int | None = None, is_move: bool = False
+    ) -> Iterator[Act]:
+        """One act: what is inserted within is committed at its end, and an exception leaves the book as it was.
+
+        `seen` is the last act when this one was decided; if others came since, `Overtaken` is raised. Nobody is asked and no program runs
+        within. An act that is a move makes this book the one that the machine knows.
+        """
+        note = self.note()
+        note.demand_writable()
+        with told_as_faults(self.path):
+            self.connection.execute("BEGIN IMMEDIATE")
+            try:
+                before = self.last_act()
+                if seen is not None and before.number != seen:
+                    raise Overtaken
+                if not is_move:
+                    self.demand_noted(note)
+                act = Act(self.connection, before.number + 1, utc_now(), name, detail or {})
+                yield act
+                with uninterrupted():
+                    digest = self.finish(act, before)
+            except BaseException:
+                with contextlib.suppress(sqlite3.Error):
+                    self.connection.execute("ROLLBACK")
+                raise
+        # a note that can't be written is one of an earlier act, as after a kill
+        with contextlib.suppress(Fault, OSError):
+            note.write(Note(act.number, digest), is_moved=is_move)
+
+    def finish(self, act: Act, before: DoneAct | None) -> str:
+        """Adds the row of the act, with its digest, and commits."""
+        detail = json.dumps(act.detail, ensure_ascii=False)
+        row = (act.number, as_text(act.time), act.name, detail, secrets.token_bytes(16))
+        digest = chain.digest_of(self.connection, before.digest if before else chain.BEGINNING, row)
+        self.connection.execute("INSERT INTO act VALUES (?, ?, ?, ?, ?, ?)", (*row, digest))
+        self.connection.execute("COMMIT")
+        return digest
+
+    # ------------------------------------------------------------ this machine's note
+    def note(self) -> MachineNote:
+        """What this machine noted of the book."""
+        first = self.digest_at(1)
+        assert first is not None
+        return MachineNote(self.path.resolve(), first)
+
+    def note_seen(self) -> None:
+        """Notes the last act, if this is the book that this machine knows: an act that was seen must not be gone later."""
+        with contextlib.suppress(Fault, OSError):
+            note, last = self.note(), self.last_act()
+            noted = note.read()
+            if noted is not None and noted.act < last.number and self.digest_at(noted.act) == noted.digest:
+                note.write(Note(last.number, last.digest))
+
+    def strangeness(self) -> str | None:
+        """Why this is not the book that this machine knows; None if it is."""
+        try:
+            noted = self.note().read()
+        except Fault as fault:
+            return str(fault.reason)
+        if noted is None:
+            return "this computer has never seen this election in this folder"
+        digest = self.digest_at(noted.act)
+        if digest is None:
+            return f"it ends with act {self.last_number()}, and this computer saw act {noted.act} already: it is an older copy"
+        if digest != noted.digest:
+            return (
+                f"its act {noted.act} is not the one that this computer saw: somebody went on from a copy, or wrote the book anew"
+            )
+        return None
+
+    def demand_noted(self, note: MachineNote) -> None:
+        """Stops if this is not the book that this machine knows."""
+        noted = note.read()
+        if noted is None or self.digest_at(noted.act) != noted.digest:
+            why = self.strangeness()
+            cure = (
+                "find out how that came; if it is the right book, as after a move to this computer or folder, give the command "
+                "--moved --because TEXT, and the page tells it"
+            )
+            raise Fault(self.path, why, cure, Status.DOUBT, "nothing was changed")
+
+    def accept(self, because: str) -> None:
+        """The act `moved`: from now on this machine takes this book for the right one."""
+        noted, last = self.note().read(), self.last_act()
+        why = self.strangeness()
+        if why is None:
+            raise Fault(
+                "--moved", "this is the book that this computer knows", "leave it out", Status.BAD_WORDS, "nothing was changed"
+            )
+        there = {"act": last.number, "digest": last.digest}
+        detail = {"why": why, "noted": dataclasses.asdict(noted) if noted else None, "there": there, "because": because}
+        with self.act("moved", detail, is_move=True):
+            pass
+
+    # ------------------------------------------------------------ the file
+    def demand_locks(self) -> None:
+        """Stops if a second process gets the lock that this one holds."""
+        if self.has_tried_locks:
+            return
+        with told_as_faults(self.path):
+            self.connection.execute("BEGIN IMMEDIATE")
+            try:
+                program = [sys.executable, "-I", "-S", "-c", SECOND_PROCESS, str(self.path)]
+                ended = subprocess.run(program, capture_output=True, stdin=subprocess.DEVNULL, text=True)
+            finally:
+                self.connection.execute("ROLLBACK")
+        if ended.stdout.strip() != "locked":
+            words = "locks do not work in this file system, as on some network shares"
+            raise Fault(self.path, words, "move the folder to a disk of this computer", Status.DOUBT, "nothing was changed")
+        self.has_tried_locks = True
+
+    def demand_alone(self) -> None:
+        """Stops if another book in the folder is no beginning of this one, as the copy that a sync tool leaves."""
+        own = self.path.stat()
+        for file in sorted(self.path.parent.iterdir()):
+            found = file.stat() if file.is_file() else None
+            if found is None or (found.st_dev, found.st_ino) == (own.st_dev, own.st_ino) or not has_our_id(file):
+                continue
+            number, digest = last_digest_of(file)
+            if number is None or self.digest_at(number) != digest:
+                words = "it is another book of this election, with acts that election.db lacks, as a sync tool leaves it"
+                cure = "find out which one is right, and move the other out of the folder"
+                raise Fault(file, words, cure, Status.DOUBT, "nothing was changed")
+
+    def back_up(self, target: pathlib.Path) -> None:
+        """Writes a copy of the book into a new file."""
+        with told_as_faults(target):
+            os.close(os.open(target, os.O_WRONLY | os.O_CREAT | os.O_EXCL, 0o600))
+            with contextlib.closing(sqlite3.connect(target)) as copy:
+                self.connection.backup(copy)
+
+
+# what the second process does, without waiting
+SECOND_PROCESS = """
+import sqlite3, sys
+connection = sqlite3.connect(sys.argv[1], timeout=0, isolation_level=None)
+try:
+    connection.execute("BEGIN IMMEDIATE")
+    print("free")
+except sqlite3.OperationalError as error:
+    print("locked" if "locked" in str(error) else error)
+"""
+
+
+# ---------------------------------------------------------------- making and opening
+def create(path: pathlib.Path, detail: dict[str, Any], final_path: pathlib.Path) -> None:
+    """Makes a new book with the act `new`. The folder is moved afterwards: `final_path` is where the book will lie."""
+    os.close(os.open(path, os.O_RDWR | os.O_CREAT | os.O_EXCL, 0o600))
+    connection = connected(path, "rw")
+    with contextlib.closing(connection), told_as_faults(path):
+        connection.execute(f"PRAGMA application_id = {APPLICATION_ID}")
+        connection.execute(f"PRAGMA user_version = {VERSION}")
+        connection.execute("BEGIN IMMEDIATE")
+        schema = importlib.resources.files("debvote_tools.book").joinpath("schema.sql").read_text()
+        for statement in schema.split(";\n"):
+            connection.execute(statement)
+        for table in (*chain.COLUMNS, "act"):
+            for verb in ("UPDATE", "DELETE"):
+                connection.execute(REFUSE.format(table=table, verb=verb))
+        book = Book(path, connection)
+        digest = book.finish(Act(connection, 1, utc_now(), "new", detail), None)
+        book.demand_locks()
+    # before the folder is moved: a kill between both leaves a note of nothing
+    MachineNote(final_path, digest).write(Note(1, digest))
+
+
+def open_book(path: pathlib.Path) -> Book:
+    """Opens the book of an election. What is no book of this version is a fault that says what it is."""
+    is_read_only = not os.access(path, os.W_OK) or not os.access(path.parent, os.W_OK)
+    with told_as_faults(path):
+        connection = connected(path, "ro" if is_read_only else "rw")
+        try:
+            [(found,)] = connection.execute("PRAGMA application_id")
+            [(version,)] = connection.execute("PRAGMA user_version")
+            connection.execute("SELECT 1 FROM sqlite_schema").fetchone()
+        except sqlite3.Error as error:
+            if is_read_only and "unable to open" in str(error) or "readonly" in str(error):
+                words = "a command was cut off in its act, and in a folder that can't be written the act can't be taken back"
+                cure = f"copy {NAME} and {NAME}-journal together into a folder of your own, and work there"
+                raise Fault(path, words, cure, Status.DOUBT) from None
+            raise
+        if found != APPLICATION_ID:
+            raise Fault(
+                path, "it is a database of another program", "name the folder of an election with --folder", Status.BAD_WORDS
+            )
+        if version != VERSION:
+            words = f"it is a book of version {version}, and this program writes version {VERSION}"
+            raise Fault(path, words, "use the debvote that began this election", Status.BAD_WORDS)
+        book = Book(path, connection, is_read_only=is_read_only)
+        if book.digest_at(1) is None:
+            raise damaged(path)
+    return book
+
+
+def connected(path: pathlib.Path, mode: str) -> sqlite3.Connection:
+    connection = sqlite3.connect(
+        f"file:{urllib.parse.quote(str(path.absolute()))}?mode={mode}", uri=True, isolation_level=None, timeout=PATIENCE
+    )
+    for setting in SETTINGS if mode == "rw" else ("trusted_schema = OFF",):
+        connection.execute(f"PRAGMA {setting}")
+    chain.prepare(connection)
+    return connection
+
+
+@contextlib.contextmanager
+def told_as_faults(path: pathlib.Path) -> Iterator[None]:
+    """What SQLite says is told as a fault of the file."""
+    try:
+        yield
+    except sqlite3.Error as error:
+        raise fault_of(path, error) from None
+
+
+def fault_of(path: pathlib.Path, error: sqlite3.Error) -> Fault:
+    """The fault for what SQLite says."""
+    kind = getattr(error, "sqlite_errorname", "").removeprefix("SQLITE_")
+    if kind.startswith("BUSY"):
+        words = "other commands have worked on it for two minutes"
+        return Fault(path, words, "wait until they are done, then run the command again", Status.BAD_OUTPUT, "nothing was changed")
+    if kind.startswith(("CORRUPT", "NOTADB", "ERROR", "CONSTRAINT", "MISMATCH", "FORMAT")):
+        return damaged(path, str(error))
+    if kind.startswith(("FULL", "IOERR")):
+        cure = "make room on the disk, or look whether it is in order, then run the command again"
+        return Fault(path, f"it can't be written ({error})", cure, Status.BAD_OUTPUT, "nothing was changed")
+    if kind.startswith(("READONLY", "CANTOPEN", "PERM", "AUTH")):
+        cure = "make file and folder writable for you, then run the command again"
+        return Fault(path, f"it can't be written ({error})", cure, Status.BAD_OUTPUT, "nothing was changed")
+    return Fault(path, str(error), "run the command again", Status.BAD_OUTPUT, "nothing was changed")
+
+
+def damaged(path: pathlib.Path, how: str = "it has no first act") -> Fault:
+    """The fault of a book that can't be read."""
+    cure = "put back the last copy that debvote-election backup made, and tell the maintainers"
+    return Fault(path, f"the book is damaged ({how})", cure, Status.DOUBT, "nothing was changed")
+
+
+# ---------------------------------------------------------------- other files
+def has_our_id(file: pathlib.Path) -> bool:
+    """Whether a file is a database of SQLite with the number of our books."""
+    try:
+        with open(file, "rb") as source:
+            head = source.read(72)
+    except OSError:
+        return False
+    return head.startswith(b"SQLite format 3\0") and head[68:72] == APPLICATION_ID.to_bytes(4, "big")
+
+
+def last_digest_of(file: pathlib.Path) -> tuple[int | None, str | None]:
+    """The last act of another book, and its digest; None if it can't be read."""
+    try:
+        with contextlib.closing(connected(file, "ro")) as connection:
+            [(number, digest)] = connection.execute("SELECT act, digest FROM act ORDER BY act DESC LIMIT 1")
+            return int(number), str(digest)
+    except (sqlite3.Error, ValueError):
+        return None, None
+
+
+# ---------------------------------------------------------------- values
+def done(row: tuple[Any, ...]) -> DoneAct:
+    number, time, name, detail, digest = row
+    return DoneAct(number, from_text(time), name, json.loads(detail), digest)
+
+
+def utc_now() -> datetime.datetime:
+    """The time by the clock of this computer, in whole seconds."""
+    return datetime.datetime.now(datetime.UTC).replace(microsecond=0)
+
+
+def as_text(time: datetime.datetime) -> str:
+    """A time as the book has it."""
+    return time.astimezone(datetime.UTC).strftime("%Y-%m-%dT%H:%M:%SZ")
+
+
+def from_text(text: str) -> datetime.datetime:
+    return datetime.datetime.fromisoformat(text)

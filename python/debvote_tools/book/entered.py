@@ -1,0 +1,108 @@
+"""What is asked of the book about lines that were entered: by which act, what stood after one, what came in files before."""
+
+import collections
+import dataclasses
+from collections.abc import Collection
+
+from debvote_tools.book.book import Book
+
+# the acts that no `undo` took back
+NOT_UNDONE = "act NOT IN (SELECT json_extract(detail, '$.act') FROM act WHERE name = 'undo')"
+
+# the late envelopes that a `reopen` entered anew as in time, and that no `undo` made late again
+ENTERED_ANEW = f"SELECT value FROM act, json_each(act.detail, '$.in_time') WHERE act.name = 'reopen' AND act.{NOT_UNDONE}"
+
+# the envelopes that came in files of lines and tables; a late line that was entered anew came once, and is known by its new envelope
+CAME_IN_FILES = f"source IS NOT NULL AND letter IS NULL AND envelope.{NOT_UNDONE} AND envelope NOT IN ({ENTERED_ANEW})"
+
+# of more electors all lines are read
+MOST_ELECTORS = 200
+
+
+def last_entering_act(book: Book) -> int | None:
+    """The last act that entered lines and that no `undo` took back; None if there is none."""
+    number = book.rows(f"SELECT max(act) FROM envelope WHERE {NOT_UNDONE}")[0][0]
+    return None if number is None else int(number)
+
+
+def lines_after(book: Book, act: int, electors: Collection[int] | None = None) -> list[tuple[int, bytes]]:
+    """Number and line of each envelope that was in time and not struck when an act was done, in their order. If electors are named, the
+    lines that the act entered are among them, whose they may be.
+    """
+    condition = "late = 0 AND (struck.act IS NULL OR struck.act > ?) AND envelope.act <= ?"
+    values: list[object] = [act, act]
+    if electors is not None and len(electors) <= MOST_ELECTORS:
+        places = ", ".join("?" * len(electors))
+        numbers = f"SELECT envelope FROM envelope WHERE elector IN ({places}) UNION SELECT envelope FROM envelope WHERE act = ?"
+        condition += f" AND envelope IN ({numbers})"
+        values += [*electors, act]
+    words = f"SELECT envelope, line FROM envelope LEFT JOIN struck USING (envelope) WHERE {condition} ORDER BY envelope"
+    return book.rows(words, *values)
+
+
+def lines_of_electors(book: Book, electors: Collection[int]) -> list[tuple[int, bytes]]:
+    """Number and line of each envelope of some electors that is in time and not struck, in their order."""
+    return lines_after(book, book.last_number(), electors)
+
+
+@dataclasses.dataclass(frozen=True, slots=True)
+class Came:
+    """An envelope that came in a file of lines or a table."""
+
+    number: int
+    elector: int | None
+    is_struck: bool
+    is_late: bool
+
+
+def entered_anew(book: Book) -> set[int]:
+    """The late envelopes that a `reopen` entered anew as in time."""
+    return {int(number) for number, in book.rows(ENTERED_ANEW)}
+
+
+def lines_that_came(book: Book) -> collections.Counter[bytes]:
+    """How often each line came in a file of lines or a table that no `undo` took back."""
+    return collections.Counter(dict(book.rows(f"SELECT line, count(*) FROM envelope WHERE {CAME_IN_FILES} GROUP BY line")))
+
+
+def came_in_files(book: Book) -> dict[bytes, list[Came]]:
+    """The envelopes that came in files of lines and tables and that no `undo` took back, by their line; those that are struck or late come last."""
+    words = f"""
+    SELECT line, envelope, elector, struck.act IS NOT NULL, late FROM envelope LEFT JOIN struck USING (envelope)
+    WHERE {CAME_IN_FILES} ORDER BY late OR struck.act IS NOT NULL, envelope
+    """
+    by_line: dict[bytes, list[Came]] = {}
+    for line, number, elector, is_struck, is_late in book.rows(words):
+        by_line.setdefault(line, []).append(Came(number, elector, bool(is_struck), bool(is_late)))
+    return by_line
+
+
+def last_numbers(book: Book) -> dict[int, tuple[int, bytes]]:
+    """Number and line of the last envelope of each elector that is in time and not struck."""
+    words = """
+    SELECT elector, max(envelope), line FROM envelope LEFT JOIN struck USING (envelope)
+    WHERE late = 0 AND struck.act IS NULL AND elector IS NOT NULL GROUP BY elector
+    """
+    return {elector: (number, line) for elector, number, line in book.rows(words)}
+
+
+def numbers_of(book: Book) -> dict[str, int]:
+    """The number of each elector, by the name on the roll."""
+    return dict(book.rows("SELECT name, elector FROM elector"))
+
+
+def size_in_time(book: Book) -> tuple[int, int]:
+    """How many lines and bytes the ballots have that are counted."""
+    words = "SELECT count(*), coalesce(sum(length(line) + 1), 0) FROM envelope LEFT JOIN struck USING (envelope)"
+    [(lines, size)] = book.rows(f"{words} WHERE late = 0 AND struck.act IS NULL")
+    return int(lines), int(size)
+
+
+def last_envelope(book: Book) -> int:
+    """The number of the last envelope; 0 if there is none."""
+    return int(book.rows("SELECT coalesce(max(envelope), 0) FROM envelope")[0][0])
+
+
+def has_sealed_since(book: Book, name: str, act: int) -> bool:
+    """Whether an act, or a later one, sealed something under a name."""
+    return bool(book.rows("SELECT EXISTS (SELECT 1 FROM sealed WHERE name = ? AND act >= ?)", name, act)[0][0])

@@ -1,0 +1,90 @@
+"""What is asked of the book about letters: what came, what acts decided of it, and what was written to electors."""
+
+import dataclasses
+import json
+from typing import Any
+
+from debvote_tools.book.book import Act, Book
+
+WAITS, ENTERED, SET_ASIDE, PUT_BACK, TAKEN_BACK, STRUCK = "waits", "entered", "set aside", "put back", "taken back", "struck"
+
+
+@dataclasses.dataclass(frozen=True)
+class KeptLetter:
+    """A letter that came. Its number is its own, which it keeps; `state` is what the last act decided."""
+
+    number: int
+    act: int
+    source: int
+    # what a copy of it has in common with it
+    identity: str
+    # what its bytes and the keyring alone decide, as JSON
+    known: str
+    state: str
+
+
+LETTERS = """
+SELECT letter, act, source, identity, known, coalesce(
+  (SELECT state FROM letter_state WHERE letter_state.letter = letter.letter ORDER BY act DESC LIMIT 1), 'waits')
+FROM letter ORDER BY letter
+"""
+
+
+def letters(book: Book) -> list[KeptLetter]:
+    """All letters that came, in the order of their numbers."""
+    return [KeptLetter(*row) for row in book.rows(LETTERS)]
+
+
+def known_digests(book: Book) -> set[tuple[str, bool]]:
+    """The digests of the letters that came, each with whether it was parted off."""
+    words = "SELECT json_extract(known, '$.digest'), json_extract(known, '$.is_parted_off') FROM letter"
+    return {(str(digest), bool(is_parted_off)) for digest, is_parted_off in book.rows(words)}
+
+
+def source_of(book: Book, source: int) -> bytes:
+    """The bytes of a letter."""
+    return bytes(book.rows("SELECT data FROM source WHERE source = ?", source)[0][0])
+
+
+def undecided(kept: list[KeptLetter]) -> list[KeptLetter]:
+    """The letters that may wait, and their copies."""
+    identities = {letter.identity for letter in kept if letter.state in (WAITS, PUT_BACK, TAKEN_BACK)}
+    return [letter for letter in kept if letter.identity in identities]
+
+
+@dataclasses.dataclass(frozen=True)
+class NewLetter:
+    """A letter that is kept: where it came from, its bytes, and what is known of it."""
+
+    where: str
+    data: bytes
+    identity: str
+    sender: str
+    arrival: str
+    known: str
+
+
+def keep_letter(act: Act, new: NewLetter) -> int:
+    """Keeps a letter, byte for byte, and returns its number."""
+    source = act.insert("source", name=new.where, data=new.data)
+    return act.insert("letter", source=source, identity=new.identity, sender=new.sender, arrival=new.arrival, known=new.known)
+
+
+def decide(act: Act, letter: int, state: str, detail: dict[str, Any] | None = None) -> None:
+    """Notes what an act decided of a letter."""
+    act.insert("letter_state", letter=letter, state=state, detail=json.dumps(detail or {}, ensure_ascii=False))
+
+
+def last_act_that_sealed(book: Book, name: str) -> int:
+    """The last act that sealed something under a name; 0 if none did."""
+    return int(book.rows("SELECT coalesce(max(act), 0) FROM sealed WHERE name = ?", name)[0][0])
+
+
+def our_message_ids(book: Book) -> dict[int, list[str]]:
+    """The Message-IDs of the letters that were written to each elector."""
+    found: dict[int, list[str]] = {}
+    words = "SELECT elector, json_extract(detail, '$.message_id') FROM sent WHERE elector IS NOT NULL"
+    for elector, message_id in book.rows(words):
+        if message_id:
+            found.setdefault(elector, []).append(message_id)
+    return found

@@ -1,0 +1,76 @@
+"""What this machine noted of a book: the number and the digest of the last act that it made or saw.
+
+The note lies outside of the election's folder. So a copy of yesterday that is put back, a book that another machine went on with, and a
+book that somebody wrote anew are noticed. The note is written after the commit, and only forward: a kill leaves it at an earlier act of
+the same book, never at one that the book lacks.
+"""
+
+import contextlib
+import dataclasses
+import hashlib
+import json
+import os
+import pathlib
+from collections.abc import Iterator
+
+from debvote_tools.faults import Fault, Status
+from debvote_tools.files import locked, write_whole
+
+
+@dataclasses.dataclass(frozen=True)
+class Note:
+    """An act of a book."""
+
+    act: int
+    digest: str
+
+
+class MachineNote:
+    """The note of one book at one path."""
+
+    def __init__(self, path: pathlib.Path, book_id: str) -> None:
+        """`book_id` is the digest of the first act."""
+        self.folder = state_folder()
+        self.path, self.book_id = str(path), book_id
+        self.file = self.folder / hashlib.sha256(f"{self.path}\n{book_id}".encode()).hexdigest()[:40]
+
+    def read(self) -> Note | None:
+        """What this machine noted; None if it has never seen this book here."""
+        try:
+            noted = json.loads(self.file.read_text())
+            return Note(int(noted["act"]), str(noted["digest"]))
+        except FileNotFoundError:
+            return None
+        except (OSError, ValueError, LookupError, TypeError) as error:
+            cure = "remove it, then give the command --moved --because TEXT"
+            raise Fault(self.file, f"this machine's note of the election can't be read ({error})", cure, Status.DOUBT) from None
+
+    def demand_writable(self) -> None:
+        """Stops if the note could not be written after an act."""
+        with self.under_lock():
+            pass
+
+    def write(self, note: Note, *, is_moved: bool = False) -> None:
+        """Notes an act, unless a later one is noted."""
+        with self.under_lock():
+            before = None if is_moved else self.read()
+            if before is None or before.act < note.act:
+                write_whole(self.file, json.dumps({"path": self.path, **dataclasses.asdict(note)}).encode(), 0o600)
+
+    @contextlib.contextmanager
+    def under_lock(self) -> Iterator[None]:
+        try:
+            self.folder.mkdir(mode=0o700, parents=True, exist_ok=True)
+            if not os.access(self.folder, os.W_OK):
+                raise PermissionError(13, os.strerror(13))
+            with locked(self.folder / "lock"):
+                yield
+        except OSError as error:
+            words = f"this machine has to note there what it did last, and can't ({error.strerror})"
+            raise Fault(self.folder, words, "make the folder writable for you, or set XDG_STATE_HOME", Status.BAD_OUTPUT) from None
+
+
+def state_folder() -> pathlib.Path:
+    """Where programs keep what has to outlast them, as the XDG base directories say."""
+    base = os.environ.get("XDG_STATE_HOME", "")
+    return (pathlib.Path(base) if os.path.isabs(base) else pathlib.Path.home() / ".local" / "state") / "debvote"

@@ -1,0 +1,100 @@
+-- The book of an election: everything that the program knows.
+--
+-- Rows are only added. What changes gets a new row with the act that changed it, and the last one holds. Each act is one transaction;
+-- its own row comes last, with a digest over all rows that it wrote. Times are UTC, as 2026-12-04T17:00:00Z.
+
+CREATE TABLE act (
+  act INTEGER PRIMARY KEY,              -- its number, from 1
+  time TEXT NOT NULL,
+  name TEXT NOT NULL,
+  detail TEXT NOT NULL,                 -- JSON
+  salt BLOB NOT NULL,                   -- 16 random bytes
+  digest TEXT NOT NULL                  -- SHA-256 over the digest before and the rows of the act
+) STRICT;
+
+CREATE TABLE elector (
+  elector INTEGER PRIMARY KEY,
+  act INTEGER NOT NULL REFERENCES act DEFERRABLE INITIALLY DEFERRED,
+  name TEXT NOT NULL UNIQUE             -- the name on the roll
+) STRICT;
+
+CREATE TABLE elector_state (
+  act INTEGER NOT NULL REFERENCES act DEFERRABLE INITIALLY DEFERRED,
+  elector INTEGER NOT NULL REFERENCES elector,
+  position INTEGER,                     -- the place in the list of members, from 1; NULL if they are not on it
+  who TEXT NOT NULL,                    -- the real name
+  mail TEXT NOT NULL,                   -- JSON: the list of addresses
+  key TEXT NOT NULL,                    -- the fingerprint of the key that signs, or empty
+  code TEXT NOT NULL,                   -- of a secret vote, or empty
+  alias TEXT NOT NULL,
+  PRIMARY KEY (elector, act)
+) STRICT;
+
+CREATE TABLE sealed (
+  act INTEGER NOT NULL REFERENCES act DEFERRABLE INITIALLY DEFERRED,
+  name TEXT NOT NULL,                   -- poll, poll with names, keyring, or a file of the folder call
+  data BLOB NOT NULL,
+  PRIMARY KEY (name, act)
+) STRICT;
+
+CREATE TABLE source (
+  source INTEGER PRIMARY KEY,
+  act INTEGER NOT NULL REFERENCES act DEFERRABLE INITIALLY DEFERRED,
+  name TEXT NOT NULL,                   -- what the file was called
+  data BLOB NOT NULL                    -- what came, byte for byte
+) STRICT;
+
+CREATE TABLE letter (
+  letter INTEGER PRIMARY KEY,           -- its number, from 1
+  act INTEGER NOT NULL REFERENCES act DEFERRABLE INITIALLY DEFERRED,
+  source INTEGER NOT NULL REFERENCES source,
+  identity TEXT NOT NULL,               -- what a copy of it has in common with it
+  sender TEXT NOT NULL,                 -- one address, or empty
+  arrival TEXT NOT NULL,                -- a time, or empty
+  known TEXT NOT NULL                   -- JSON: what its bytes and the keyring alone decide
+) STRICT;
+
+CREATE TABLE letter_state (
+  act INTEGER NOT NULL REFERENCES act DEFERRABLE INITIALLY DEFERRED,
+  letter INTEGER NOT NULL REFERENCES letter,
+  state TEXT NOT NULL,                  -- entered, set aside, put back, taken back, struck
+  detail TEXT NOT NULL,                 -- JSON
+  PRIMARY KEY (letter, act)
+) STRICT;
+
+CREATE TABLE envelope (
+  envelope INTEGER PRIMARY KEY,         -- its number, from 1, which it keeps
+  act INTEGER NOT NULL REFERENCES act DEFERRABLE INITIALLY DEFERRED,
+  elector INTEGER REFERENCES elector,   -- the elector whose name the line begins with, if there is one
+  line BLOB NOT NULL,                   -- without a line feed
+  source INTEGER REFERENCES source,     -- NULL for a line of a desk
+  letter INTEGER REFERENCES letter,
+  place TEXT NOT NULL,                  -- where in the source, as :3 or : row 3
+  time TEXT NOT NULL,                   -- the time of the ballot
+  late INTEGER NOT NULL                 -- 1 if it was entered while the vote was closed
+) STRICT;
+
+CREATE TABLE struck (
+  envelope INTEGER PRIMARY KEY REFERENCES envelope,
+  act INTEGER NOT NULL REFERENCES act DEFERRABLE INITIALLY DEFERRED
+) STRICT;
+
+CREATE TABLE sent (
+  sent INTEGER PRIMARY KEY,
+  act INTEGER NOT NULL REFERENCES act DEFERRABLE INITIALLY DEFERRED,
+  elector INTEGER REFERENCES elector,
+  kind TEXT NOT NULL,                   -- call, receipt, reminder, closed, result
+  state TEXT NOT NULL,                  -- written, begun, taken, refused, postponed
+  detail TEXT NOT NULL                  -- JSON: Message-ID, address, what it was about
+) STRICT;
+
+CREATE INDEX elector_state_by_act ON elector_state (act);
+CREATE INDEX envelope_by_act ON envelope (act);
+CREATE INDEX envelope_by_elector ON envelope (elector);
+CREATE INDEX envelope_by_letter ON envelope (letter) WHERE letter IS NOT NULL;
+CREATE INDEX source_by_act ON source (act);
+CREATE INDEX letter_by_act ON letter (act);
+CREATE INDEX letter_state_by_act ON letter_state (act);
+CREATE INDEX sent_by_act ON sent (act);
+CREATE INDEX letter_by_identity ON letter (identity);
+CREATE INDEX struck_by_act ON struck (act);

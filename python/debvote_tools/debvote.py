@@ -1,0 +1,164 @@
+"""The program debvote: where it is, and what it writes."""
+
+import dataclasses
+import os
+import pathlib
+import re
+import shutil
+import subprocess
+
+from debvote_tools.faults import Fault, Status, other_format
+from debvote_tools.files import BALLOTS_LIMIT, LINES_LIMIT, OWN_FILES, POLL_LIMIT, in_memory
+from debvote_tools.sheet import Sheet, sheet_in
+
+
+@dataclasses.dataclass(frozen=True)
+class Answer:
+    """What a run of debvote wrote on standard output and on standard error, and its exit status."""
+
+    text: str
+    faults: str
+    status: int
+
+
+@dataclasses.dataclass(frozen=True)
+class Finding:
+    """What `explain` says of a line: the number of its envelope, the word of `steps`, and the hint."""
+
+    envelope: int
+    word: str
+    hint: str
+
+
+@dataclasses.dataclass(frozen=True)
+class Totals:
+    """The last line of `explain`. Late lines are among the refused ones."""
+
+    lines: int
+    valid: int
+    refused: int
+    late: int
+    voters: int
+    electors: int
+
+
+@dataclasses.dataclass(frozen=True)
+class Findings:
+    """What `explain` says of a poll in order and its ballots."""
+
+    refused: list[Finding]
+    totals: Totals
+
+
+class Debvote:
+    """The program debvote, which runs in a folder: the files that it is given are named from there."""
+
+    def __init__(self, folder: pathlib.Path, program_folder: pathlib.Path | None = None) -> None:
+        """`program_folder` is that of the program that runs it: debvote may lie beside it."""
+        path = (shutil.which("debvote", path=str(program_folder)) if program_folder else None) or shutil.which("debvote")
+        if path is None:
+            words = "the program is neither beside this one nor in the PATH"
+            raise Fault("debvote", words, "install the package debvote", Status.NOT_FOUND)
+        self.path = os.path.abspath(path)
+        self.folder = folder
+
+    def run(self, *words: str | os.PathLike[str], given: bytes | None = None) -> Answer:
+        """Runs debvote with these words, and with these bytes as its standard input."""
+        if given is not None and not os.path.isdir(OWN_FILES):
+            raise Fault(
+                OWN_FILES,
+                "it is not there, and debvote is given its input by it",
+                "have /proc mounted, then run the command again",
+                Status.BAD_OUTPUT,
+                "nothing was counted",
+            )
+        try:
+            ended = self.run_in_folder([self.path, *(os.fspath(word) for word in words)], given)
+        except OSError as error:
+            raise Fault(
+                self.path,
+                f"it can't be started ({error.strerror})",
+                "run the command again",
+                Status.BAD_OUTPUT,
+                "nothing was counted, and no file was changed by it",
+            ) from None
+        status = ended.returncode if ended.returncode >= 0 else 128 - ended.returncode
+        return Answer(ended.stdout.decode("ascii", "replace"), ended.stderr.decode("utf-8", "replace"), status)
+
+    def run_in_folder(self, words: list[str], given: bytes | None) -> subprocess.CompletedProcess[bytes]:
+        """How a program ended that was run in the folder. Raises OSError where it can't be started."""
+        if given is None:
+            return subprocess.run(words, cwd=self.folder, capture_output=True, stdin=subprocess.DEVNULL)
+        return subprocess.run(words, cwd=self.folder, capture_output=True, input=given)
+
+    # ------------------------------------------------------------ about a poll and ballots that are in memory
+    def answer(self, task: str, poll_bytes: bytes, ballots_bytes: bytes = b"", *words: str) -> Answer:
+        """What debvote writes about a poll and these ballots. Stops if it refuses them as a whole."""
+        with in_memory(poll_bytes) as poll_path:
+            answer = self.run(task, "--poll", poll_path, "--ballots", "/dev/stdin", *words, given=ballots_bytes)
+        if answer.text or not answer.faults:
+            return answer
+        raise refusal(answer)
+
+    def replies(self, poll_bytes: bytes, ballots_bytes: bytes) -> list[str]:
+        """The reply of the box to each line, that to line i at index i - 1."""
+        return replies_in(self.answer("steps", poll_bytes, ballots_bytes).text)
+
+    def findings(self, poll_bytes: bytes, ballots_bytes: bytes) -> "Findings":
+        """What `explain` says of a poll in order and these ballots."""
+        return findings_in(self.answer("explain", poll_bytes, ballots_bytes).text)
+
+    def standing(self, poll_bytes: bytes, ballots_bytes: bytes) -> dict[str, str]:
+        """The ranks of the ballot that stands, by the name of its elector, in the order of the roll."""
+        return standing_in(self.answer("standing", poll_bytes, ballots_bytes).text)
+
+    def sheet(self, poll_bytes: bytes, ballots_bytes: bytes = b"") -> Sheet:
+        """The result sheet without a casting vote."""
+        return sheet_in(self.answer("count", poll_bytes, ballots_bytes).text)
+
+    def version(self) -> str:
+        """The line of `--version`, as `debvote 1.1.0`."""
+        return self.run("--version").text.strip()
+
+
+def refusal(answer: Answer) -> Fault:
+    """The fault of an answer without a text: what debvote said, and its status."""
+    said = answer.faults.strip().removeprefix("debvote: ") or f"it ended with status {answer.status}"
+    cures = {
+        Status.BAD_POLL: f"a poll has at most {POLL_LIMIT} bytes; what is wrong with it says debvote-election check",
+        Status.BAD_BALLOTS: f"there can be at most {LINES_LIMIT} lines and {BALLOTS_LIMIT} bytes of ballots: add less",
+    }
+    cure = cures.get(Status(answer.status), "run the command again") if answer.status in set(Status) else "run the command again"
+    return Fault("debvote", said, cure, answer.status, "nothing was changed")
+
+
+def casting_words(name: str | None) -> list[str]:
+    """The words of a casting vote. A name that begins with a hyphen would be read as another option."""
+    if name is None:
+        return []
+    return [f"--casting={name}"] if name.startswith("-") else ["--casting", name]
+
+
+# ---------------------------------------------------------------- answers, read by FORMATS
+FINDING = re.compile(r"ballots:(\d+): (late|bad shape|bad rank count|bad not on roll): (.*)")
+TOTALS = re.compile(r"(\d+) lines: (\d+) valid, (\d+) refused, (\d+) of them late; (\d+) of (\d+) electors have a ballot")
+
+
+def findings_in(text: str) -> Findings:
+    """What `explain` wrote of a poll in order with its ballots."""
+    lines = text.splitlines()
+    totals = TOTALS.fullmatch(lines[-1]) if lines else None
+    if totals is None:
+        raise other_format("what this debvote explains")
+    refused = [Finding(int(parts[1]), parts[2], parts[3]) for parts in map(FINDING.fullmatch, lines) if parts]
+    return Findings(refused, Totals(*map(int, totals.groups())))
+
+
+def replies_in(text: str) -> list[str]:
+    """The replies that `steps` wrote, that of envelope i at i - 1."""
+    return [line.partition(" ")[2] for line in text.splitlines()]
+
+
+def standing_in(text: str) -> dict[str, str]:
+    """The ranks of the ballot that stands, by the name of its elector, in the order of the roll."""
+    return dict(line.split(" ", 1) for line in text.splitlines())

@@ -1,0 +1,77 @@
+"""`export`: the poll, the ballots and all that came, as files."""
+
+import argparse
+import dataclasses
+import os
+import pathlib
+import re
+import shutil
+
+from debvote_tools.arguments import arguments_of
+from debvote_tools.book import queries
+from debvote_tools.console import tell
+from debvote_tools.election.commands.log import demand_whole
+from debvote_tools.election.commands.status import tell_strangeness
+from debvote_tools.election.election import Election
+from debvote_tools.faults import Fault, Status
+from debvote_tools.files import sync_folder, temporary_folder, write_whole
+
+HELP = "Write the poll, the ballots and all that came into a new folder, which only you can read"
+
+# what a file name keeps of the name under which something came
+UNSAFE = re.compile(r"[^A-Za-z0-9._-]+")
+LONGEST_NAME = 100
+
+
+@dataclasses.dataclass(frozen=True)
+class Arguments:
+    """The command's options."""
+
+    target_folder: str
+
+
+def add_arguments(parser: argparse.ArgumentParser) -> None:
+    parser.add_argument("target_folder", metavar="FOLDER", help="The folder to make")
+
+
+def run(election: Election, namespace: argparse.Namespace) -> int:
+    arguments = arguments_of(Arguments, namespace)
+    tell_strangeness(election)
+    demand_whole(election.book)
+    target_folder = pathlib.Path(arguments.target_folder)
+    if os.path.lexists(target_folder):
+        raise Fault(target_folder, "it is there already", "name a new folder", Status.BAD_WORDS, "nothing was written")
+    election.demand_private(target_folder)
+    with election.book.snapshot():
+        files = files_of(election)
+    write(target_folder, files)
+    tell(f"Made the folder {target_folder}: poll.toml, ballots.txt, late.txt, and in came/ all that came. Only you can read it.")
+    return Status.DONE
+
+
+def files_of(election: Election) -> dict[str, bytes]:
+    """The files of the folder, by their names; what came has its number before its name."""
+    book = election.book
+    files = {"poll.toml": election.sealed().counted.as_bytes()}
+    files["ballots.txt"] = queries.ballots_of(queries.lines_in_time(book))
+    files["late.txt"] = queries.ballots_of(queries.late_lines(book))
+    return files | {f"came/{number:05}-{safe_name(name)}": data for number, name, data in queries.sources(book)}
+
+
+def safe_name(name: str) -> str:
+    """A name that is no path and has no characters that a shell reads."""
+    return UNSAFE.sub("-", name.rpartition("/")[2])[-LONGEST_NAME:].strip(".") or "file"
+
+
+def write(target_folder: pathlib.Path, files: dict[str, bytes]) -> None:
+    """Writes the folder beside its place, and moves it there when all is in it."""
+    made = temporary_folder(target_folder.absolute().parent)
+    try:
+        (made / "came").mkdir(mode=0o700)
+        for name, data in files.items():
+            write_whole(made / name, data, 0o600)
+        made.rename(target_folder)
+        sync_folder(target_folder.absolute().parent)
+    except BaseException:
+        shutil.rmtree(made, ignore_errors=True)
+        raise

@@ -1,0 +1,117 @@
+"""`reopen`: the vote is open again after a close, for what had come in time."""
+
+import argparse
+import dataclasses
+import datetime
+from collections.abc import Sequence
+
+from debvote_tools.arguments import arguments_of
+from debvote_tools.book import entered, queries
+from debvote_tools.book.book import Book
+from debvote_tools.book.queries import Envelope, NewEnvelope
+from debvote_tools.console import is_terminal, tell, typed
+from debvote_tools.election import acting
+from debvote_tools.election.commands.strike import without_code
+from debvote_tools.election.election import Election
+from debvote_tools.election.history import History
+from debvote_tools.election.reporting import act_time, count_of
+from debvote_tools.faults import Fault, Status, stop_at
+
+HELP = "Open the vote again after a close, for ballots that had come in time; the page of the result tells it"
+
+
+@dataclasses.dataclass(frozen=True)
+class Arguments:
+    """The command's options."""
+
+    in_time: list[int] | None
+    force: bool
+    moved: bool
+    because: str | None
+
+
+def add_arguments(parser: argparse.ArgumentParser) -> None:
+    in_time = "The envelopes of late lines that had come before the first close: they are entered anew, and count"
+    parser.add_argument("--in-time", metavar="NUMBER", type=int, nargs="*", help=in_time)
+    parser.add_argument("--force", action="store_true", help="Enter them although their electors have later ballots in time")
+    acting.add_arguments(parser)
+
+
+def run(election: Election, namespace: argparse.Namespace) -> int:
+    arguments = arguments_of(Arguments, namespace)
+    because = acting.demand_reason(arguments.because, "reopen")
+    election.sealed()
+    book = acting.acting(election, moved=arguments.moved, because=because)
+    history = election.history()
+    demand_closed(election, history)
+    has_codes = bool(history.announced("codes_on_roll"))
+    offered = chosen(book, arguments.in_time, has_codes=has_codes)
+    older = older_ones(book, offered)
+    if not arguments.force:
+        stop_at(older)
+    detail = {"because": because, "in_time": [envelope.number for envelope in offered]} | ({"force": True} if older else {})
+    with book.act("reopen", detail, seen=history.last.number) as act:
+        new = [NewEnvelope(late.elector, late.line, late.source, late.place, late.time, late.letter) for late in offered]
+        numbers = queries.enter(act, new, is_late=False)
+    tell(f"The vote is open again; the close at {act_time(history.closes[-1].time)} stays in the log, and the page tells it.")
+    for number, envelope in zip(numbers, offered):
+        tell(f"{number} entered, which was late as {envelope.number}: {without_code(envelope.line, has_codes=has_codes)}")
+    tell("Only what arrived before the first close goes in as in time: add and desk ask.")
+    tell(f"Next: {election.command('add', 'FILE')}, then {election.command('close')}")
+    return Status.DONE
+
+
+def demand_closed(election: Election, history: History) -> None:
+    """Stops if the vote is open, or if codes of the roll are published with its result: then everybody could vote for everybody."""
+    if not history.is_closed:
+        raise Fault(None, "the vote is not closed", f"see {election.command('status')}", Status.DOUBT, "nothing was changed")
+    if history.announced("codes_on_roll") and history.named("publish"):
+        words = "the result has the codes of the roll, so now everybody could vote for everybody"
+        raise Fault(None, words, "hold the vote anew, with new codes", Status.DOUBT, "nothing was changed")
+
+
+def chosen(book: Book, in_time: list[int] | None, *, has_codes: bool) -> list[Envelope]:
+    """The late envelopes that had come in time, as the secretary says, in the order of their times."""
+    late = {envelope.number: envelope for envelope in queries.envelopes(book, "late = 1 AND struck.act IS NULL")}
+    entered_before = entered.entered_anew(book)
+    if in_time is None and is_terminal():
+        in_time = asked([envelope for number, envelope in late.items() if number not in entered_before], has_codes=has_codes)
+    numbers = in_time or []
+    if unknown := [str(number) for number in numbers if number not in late]:
+        words = f"envelope {', '.join(unknown)} is not one of the late lines"
+        cure = "status tells how many are late, and show NAME which"
+        raise Fault("--in-time", words, cure, Status.BAD_WORDS, "nothing was changed")
+    if again := [str(number) for number in numbers if number in entered_before]:
+        words = f"envelope {', '.join(again)} was entered as in time by an earlier reopen"
+        raise Fault("--in-time", words, "leave it out", Status.DOUBT, "nothing was changed")
+    return sorted((late[number] for number in set(numbers)), key=order)
+
+
+def asked(late: Sequence[Envelope], *, has_codes: bool) -> list[int]:
+    """The numbers that are typed at a terminal, where the late envelopes are listed; none if there are none."""
+    if not late:
+        return []
+    lines = (f"  {envelope.number} {without_code(envelope.line, has_codes=has_codes)}" for envelope in late)
+    tell(f"{count_of(len(late), 'line')} came late:", *lines)
+    answer = typed("Which of them had come before the first close? Their numbers, or Enter for none: ") or b""
+    return [int(number) for number in answer.split() if number.isdigit()]
+
+
+def order(envelope: Envelope) -> tuple[datetime.datetime, int]:
+    """What decides which of two ballots is the later one: their times, and within a second the numbers of their envelopes."""
+    return envelope.time, envelope.number
+
+
+def older_ones(book: Book, offered: Sequence[Envelope]) -> list[Fault]:
+    """The envelopes that would replace a later ballot of their elector, since the last one that is entered counts."""
+    last = {late.elector: late for late in offered if late.elector is not None}
+    faults = []
+    for elector, late in last.items():
+        newest = max(queries.envelopes(book, f"elector = ? AND {queries.IN_TIME}", elector), key=order, default=late)
+        if order(newest) > order(late):
+            words = (
+                f"envelope {late.number} would replace envelope {newest.number}, a later one of the same elector that is in time"
+            )
+            cure = "leave it out; or if it has to count all the same, repeat it with --force"
+            faults.append(Fault("--in-time", words, cure, Status.DOUBT, "nothing was changed"))
+    return faults

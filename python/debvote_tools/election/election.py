@@ -1,0 +1,111 @@
+"""An election in its folder: the book, and debvote."""
+
+import dataclasses
+import functools
+import os
+import pathlib
+import shlex
+
+from debvote_tools.book import queries
+from debvote_tools.book.book import NAME, Book, open_book
+from debvote_tools.debvote import Debvote
+from debvote_tools.election.history import History
+from debvote_tools.faults import Fault, Status
+from debvote_tools.language import Language, language_of
+from debvote_tools.sealed_poll import SealedPoll, read_plain
+
+POLL_FILE, MEMBERS_FILE, TEXTS = "poll.toml", "members.csv", "texts"
+CALL, LETTERS, RESULT, PRIVATE = "call", "letters", "result", "private"
+
+# the names under which the book has the sealed polls: that of the call, and in a secret vote the one that has names
+POLL, POLL_WITH_NAMES = "poll", "poll with names"
+
+# what an election of version 1 has in its folder
+OF_VERSION_1 = ("journal", "ballots", "received")
+
+
+@dataclasses.dataclass(frozen=True)
+class Sealed:
+    """The poll as it was called: what everybody sees, and what the ballots are counted by. Both differ if ballots are published under
+    aliases."""
+
+    public: SealedPoll
+    counted: SealedPoll
+
+    @property
+    def is_aliased(self) -> bool:
+        return self.public != self.counted
+
+
+class Election:
+    """An election in a folder. What it says of the book is read anew each time, since others may work on it."""
+
+    def __init__(self, folder: pathlib.Path, program_folder: pathlib.Path | None) -> None:
+        self.folder, self.program_folder = folder, program_folder
+        # how a user names the folder in a command
+        self.folder_words = [] if folder == pathlib.Path() else ["--folder", str(folder)]
+
+    def path(self, name: str) -> pathlib.Path:
+        """Where a file or folder of the election is."""
+        return self.folder / name
+
+    @functools.cached_property
+    def debvote(self) -> Debvote:
+        return Debvote(self.folder, self.program_folder)
+
+    @functools.cached_property
+    def book(self) -> Book:
+        """The book, opened once a run."""
+        if not self.path(NAME).is_file():
+            raise no_book(self.folder)
+        book = open_book(self.path(NAME))
+        book.note_seen()
+        return book
+
+    @functools.cached_property
+    def language(self) -> Language:
+        return language_of(str(self.book.first_act().detail["language"]))
+
+    def history(self) -> History:
+        """The acts as they are now."""
+        return History.of(self.book.acts())
+
+    def sealed(self) -> Sealed:
+        """The poll as it was called. Stops before the call."""
+        call = self.history().call
+        if call is None:
+            raise self.not_called()
+        polls = {name: queries.sealed_at(self.book, name, call.number) for name in (POLL, POLL_WITH_NAMES)}
+        public = read_plain(polls[POLL] or b"")
+        return Sealed(public, read_plain(polls[POLL_WITH_NAMES] or polls[POLL] or b""))
+
+    def demand_private(self, target: pathlib.Path) -> None:
+        """Stops if what is written there would be in a folder for electors or the web site."""
+        place = target.absolute().resolve()
+        for name in (CALL, LETTERS, RESULT, PRIVATE):
+            if place.is_relative_to(self.path(name).absolute().resolve()):
+                words = f"it would be in the folder {name}, which is made from the book and goes elsewhere"
+                raise Fault(target, words, "name a place outside of it", Status.BAD_WORDS, "nothing was written")
+
+    def not_called(self) -> Fault:
+        """The fault of a command that comes after the call."""
+        return Fault(
+            None, "the election is not called yet", f"run {self.command('call')} first", Status.DOUBT, "nothing was changed"
+        )
+
+    def command(self, *words: str) -> str:
+        """A command on this election, as a user types it."""
+        return shlex.join(["debvote-election", *words[:1], *self.folder_words, *words[1:]])
+
+
+def no_book(folder: pathlib.Path) -> Fault:
+    """The fault of a folder without a book: what it is instead, as far as that can be seen."""
+    if not folder.is_dir():
+        return Fault(folder, "there is no such folder", "name the folder of the election with --folder", Status.BAD_WORDS)
+    if (folder.absolute().parent / NAME).is_file() and folder.absolute().name in (CALL, LETTERS, RESULT, PRIVATE, TEXTS):
+        return Fault(folder, "the election is one folder up", "go there with cd .., then run the command again", Status.BAD_WORDS)
+    if any(os.path.lexists(folder / name) for name in OF_VERSION_1):
+        words = "it is an election of debvote-election 1.x, and is finished with 1.x"
+        return Fault(folder, words, "install the version that began it, or begin anew in another folder", Status.BAD_WORDS)
+    words = f"there is no {NAME} in it, so it is no election"
+    return Fault(folder, words, "go to the folder of the election, or name it with --folder; new makes one", Status.BAD_WORDS)

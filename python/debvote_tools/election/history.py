@@ -1,0 +1,97 @@
+"""What the acts of the book say of the election as a whole: whether it is called, until when, and whether it is closed."""
+
+import dataclasses
+import datetime
+import enum
+import itertools
+from collections.abc import Iterable
+from typing import Any
+
+from debvote_tools.book.book import DoneAct, from_text
+
+
+class Stage(enum.StrEnum):
+    """How far the election is. After `reopen` it is called again."""
+
+    NEW = "new"
+    CALLED = "called"
+    CLOSED = "closed"
+    PUBLISHED = "published"
+
+
+@dataclasses.dataclass(frozen=True)
+class History:
+    """The acts of a book, in their order."""
+
+    acts: tuple[DoneAct, ...]
+
+    @classmethod
+    def of(cls, acts: Iterable[DoneAct]) -> "History":
+        return cls(tuple(acts))
+
+    def named(self, *names: str) -> list[DoneAct]:
+        """The acts of these names."""
+        return [act for act in self.acts if act.name in names]
+
+    def since_call(self, *names: str) -> list[DoneAct]:
+        """The acts of these names since the call that holds; none before it."""
+        call = self.call
+        return [] if call is None else [act for act in self.named(*names) if act.number >= call.number]
+
+    @property
+    def last(self) -> DoneAct:
+        return self.acts[-1]
+
+    @property
+    def clock_went_back(self) -> list[DoneAct]:
+        """The acts with an earlier time than the act before them."""
+        return [after for before, after in itertools.pairwise(self.acts) if after.time < before.time]
+
+    # ------------------------------------------------------------ the call
+    @property
+    def call(self) -> DoneAct | None:
+        """The first call that was not taken back."""
+        taken_back = max((act.number for act in self.named("take back")), default=0)
+        return next((act for act in self.named("call") if act.number > taken_back), None)
+
+    def announced(self, key: str) -> Any:
+        """What the call, or a later act that adds to it, says last of something, as `address`; None if it does not say it."""
+        said = (
+            act.detail[key] for act in reversed(self.since_call("call", "extend", "announce")) if act.detail.get(key) is not None
+        )
+        return next(said, None)
+
+    @property
+    def ends(self) -> list[datetime.datetime]:
+        """The times until which one could vote, as they were announced one after the other; the last one holds."""
+        return [from_text(act.detail["until"]) for act in self.since_call("call", "extend") if act.detail.get("until")]
+
+    @property
+    def until(self) -> datetime.datetime | None:
+        """Until when one can vote, with the offset in which it was announced; None if no time was."""
+        return self.ends[-1] if self.ends else None
+
+    # ------------------------------------------------------------ the close
+    @property
+    def closes(self) -> list[DoneAct]:
+        """The closes since the call that holds: those of a call that was taken back are over."""
+        return self.since_call("close")
+
+    @property
+    def is_closed(self) -> bool:
+        """Whether the vote is closed now."""
+        acts = self.since_call("close", "reopen")
+        return bool(acts) and acts[-1].name == "close"
+
+    @property
+    def is_reopened(self) -> bool:
+        """Whether the vote was closed once and is open again."""
+        return bool(self.closes) and not self.is_closed
+
+    @property
+    def stage(self) -> Stage:
+        if self.call is None:
+            return Stage.NEW
+        if not self.is_closed:
+            return Stage.CALLED
+        return Stage.PUBLISHED if any(act.number > self.closes[-1].number for act in self.since_call("publish")) else Stage.CLOSED

@@ -1,0 +1,101 @@
+"""What is told of letters: what goes in, what waits and why, and a letter line by line."""
+
+import datetime
+from collections.abc import Iterator, Sequence
+
+from debvote_tools.ballots import ranks_in_words
+from debvote_tools.election.batch_words import IS_CODE
+from debvote_tools.election.letters_in import LetterNow
+from debvote_tools.election.reporting import act_time, count_of
+from debvote_tools.letters.judge import JudgedLetter, Outcome
+from debvote_tools.letters.reasons import for_secretary
+from debvote_tools.letters.sources import PassedOver
+from debvote_tools.terminal_text import shown_line, shown_text
+
+
+def time_words(time: datetime.datetime | None) -> str:
+    return "at a time that is not known" if time is None else act_time(time)
+
+
+def who_and_when(letter: LetterNow) -> str:
+    """A letter by its number, its sender, and when it arrived."""
+    judged = letter.judged.letter
+    number = f"letter {letter.number}" if letter.number else shown_text(judged.where)
+    return f"{number}, from {shown_text(judged.shown_sender) or 'nobody'}, {time_words(judged.arrived)}"
+
+
+def ballot_words(ballot: str, names: Sequence[str]) -> str:
+    """A ballot in words."""
+    name, _, ranks = ballot.partition(" ")
+    return f"{name}: {ranks_in_words(ranks, names)}"
+
+
+def going_in(letter: LetterNow, names: Sequence[str], *, is_late: bool) -> Iterator[str]:
+    """A letter whose ballot goes in."""
+    judged = letter.judged
+    ballot = judged.ballots[0]
+    yield f"{who_and_when(letter)}: goes in{', and is late' if is_late else ''}"
+    written = judged.letter.shown_lines[ballot.number - 1]
+    if written.strip() != ballot.ballot:
+        yield f"  `{shown_line(written.encode())}` is read as `{ballot.ballot}`"
+    yield f"  {ballot_words(ballot.ballot, names)}"
+    if judged.other_words:
+        yield f"  other words: {judged.other_words}"
+    if judged.shared_with:
+        yield f"  the address is that of {', '.join(judged.shared_with)}, too"
+    yield from code_words(letter)
+
+
+def waiting(letter: LetterNow) -> Iterator[str]:
+    """A letter that waits, and why."""
+    judged = letter.judged
+    reason = "it goes in when you add it again" if judged.reason is None else for_secretary(judged.reason)
+    since = "; has voted since" if judged.has_voted_since else ""
+    yield f"{who_and_when(letter)}: {reason}{since}"
+    yield from (f"  {line}" for line in near_words(judged))
+    if judged.other_words:
+        yield f"  other words: {judged.other_words}"
+    yield from code_words(letter)
+
+
+def code_words(letter: LetterNow) -> Iterator[str]:
+    """The lines of a letter that have what looks like a code."""
+    yield from (f"  line {number}{IS_CODE}" for number in letter.code_lines)
+
+
+def near_words(judged: JudgedLetter) -> Iterator[str]:
+    """The lines of a letter that are a ballot, or near to one."""
+    for line in (*judged.ballots, *judged.offered):
+        yield f"line {line.number}: {line.ballot}"
+    for near in judged.near:
+        within = ", within other words" if near.is_within else ""
+        yield f"line {near.number}, `{shown_text(near.ballot)}`{within}: {near.answer or 'a ballot, but not alone on its line'}"
+
+
+def passed_over_words(passed_over: Sequence[PassedOver]) -> Iterator[str]:
+    """What is no letter, and what to do about it."""
+    for one in passed_over:
+        yield f"{shown_text(one.where)}: {one.why.what}, and is passed over; {one.why.cure}"
+
+
+def whole(letter: LetterNow) -> Iterator[str]:
+    """A letter line by line, each with the number by which it can be entered."""
+    judged = letter.judged
+    yield who_and_when(letter)
+    yield f"  subject: {shown_text(judged.letter.subject)}"
+    for number, line in enumerate(judged.letter.shown_lines, start=1):
+        yield f"{number:4}  {shown_line(line.encode())}"
+    if judged.outcome is Outcome.ENTERED:
+        yield "It was entered."
+    elif judged.reason is not None:
+        yield f"It {'waits' if letter.waits else 'does not wait'}: {for_secretary(judged.reason)}"
+    yield from near_words(judged)
+    yield from code_words(letter)
+
+
+def counts(letters: Sequence[LetterNow], entered: int) -> str:
+    """How many letters went in and how many wait."""
+    copies = sum(letter.judged.outcome is Outcome.COPY for letter in letters)
+    waits = sum(letter.judged.outcome is Outcome.WAITS for letter in letters)
+    parts = [f"{count_of(entered, 'ballot')} of letters went in", f"{count_of(waits, 'letter waits', 'letters wait')}"]
+    return "; ".join([*parts, *([f"{count_of(copies, 'copy', 'copies')} passed over"] if copies else [])]) + "."

@@ -1,0 +1,286 @@
+"""Letters that come: they are kept as they came, judged by what the book says now, and those that are plainly ballots go in.
+
+1. `read` reads mailboxes and folders whole; `keep` keeps the letters that are new, before anything is shown of them.
+2. `judged` judges all letters that the book has, by list, time and book as they are.
+3. `plan_of` says which go in; after the secretary's yes `enter` enters them, if it is still the same plan.
+"""
+
+import dataclasses
+import pathlib
+from collections.abc import Collection, Mapping, Sequence
+
+from debvote_tools import times
+from debvote_tools.book import entered, letters, queries
+from debvote_tools.book.book import Act, Book, as_text
+from debvote_tools.book.letters import KeptLetter, NewLetter
+from debvote_tools.book.queries import NewEnvelope
+from debvote_tools.debvote import Debvote
+from debvote_tools.election.adding import KEYRING
+from debvote_tools.election.batch import OFFER
+from debvote_tools.election.batch_words import CODE
+from debvote_tools.election.came import NOTHING_ADDED, CameFile, safe
+from debvote_tools.election.election import Election
+from debvote_tools.election.history import History
+from debvote_tools.faults import Fault, Status
+from debvote_tools.files import LINES_LIMIT, sha256_of
+from debvote_tools.letters.judge import Ballot, Circumstances, Decision, JudgedLetter, Outcome, judge_all
+from debvote_tools.letters.reasons import Reason
+from debvote_tools.letters.parse import ParsedLetter, as_json, from_json, parse
+from debvote_tools.letters.signatures import find_gpgv, verified
+from debvote_tools.letters.sources import PassedOver, RawLetter, letters_of_file, letters_of_folder
+from debvote_tools.lines import ballot_file
+from debvote_tools.secret.codes import looks_like_code
+
+DECISIONS = {
+    letters.ENTERED: Decision.ENTERED,
+    letters.SET_ASIDE: Decision.SET_ASIDE,
+    letters.PUT_BACK: Decision.PUT_BACK,
+    letters.TAKEN_BACK: Decision.TAKEN_BACK,
+    letters.STRUCK: Decision.STRUCK,
+}
+
+
+@dataclasses.dataclass(frozen=True)
+class LetterNow:
+    """A letter that the book has, and what becomes of it now. One that is only looked at has the number 0."""
+
+    number: int
+    judged: JudgedLetter
+    # the lines, from 1, with what looks like a code or an alias, in a secret vote with names on the roll
+    code_lines: tuple[int, ...] = ()
+
+    @property
+    def waits(self) -> bool:
+        """Whether it waits for the secretary: to be agreed to, or to be looked at."""
+        return self.judged.outcome in (Outcome.GOES_IN, Outcome.WAITS)
+
+
+class LinesByDebvote:
+    """Asks debvote about lines of letters, all of one kind at once. Where the roll has codes, no name near to one is offered."""
+
+    def __init__(self, debvote: Debvote, poll_bytes: bytes, *, has_codes: bool = False) -> None:
+        self.debvote, self.poll_bytes, self.has_codes = debvote, poll_bytes, has_codes
+
+    def answers(self, lines: Sequence[bytes]) -> Mapping[bytes, str | None]:
+        """What debvote says of each line, as `bad rank count: ..`; None of a valid ballot."""
+        answers: dict[bytes, str | None] = dict.fromkeys(lines)
+        for start in range(0, len(lines), LINES_LIMIT):
+            part = lines[start : start + LINES_LIMIT]
+            for finding in self.debvote.findings(self.poll_bytes, ballot_file(part)).refused:
+                hint = OFFER.sub("", finding.hint) if self.has_codes else finding.hint
+                answers[part[finding.envelope - 1]] = f"{finding.word}: {hint}"
+        return answers
+
+
+# ---------------------------------------------------------------- what came
+def read(files: Mapping[str, CameFile | None]) -> tuple[list[RawLetter], list[PassedOver]]:
+    """The letters of mailboxes, files and folders, each read whole, and what is passed over. A folder is None."""
+    found, passed_over = [], []
+    for path, file in files.items():
+        try:
+            source = letters_of_folder(pathlib.Path(path)) if file is None else letters_of_file(safe(file.name), file.data)
+        except OSError as error:
+            raise Fault(path, error.strerror, "name letters that you may read", Status.BAD_BALLOTS, NOTHING_ADDED) from None
+        found += source.letters
+        passed_over += source.passed_over
+    return found, passed_over
+
+
+def parsed(election: Election, raws: Sequence[RawLetter]) -> list[ParsedLetter]:
+    """What letters say, with their signatures if letters have to be signed."""
+    found = [parse(raw) for raw in raws]
+    keyring = keyring_of(election)
+    return found if keyring is None or not found else verified(raws, found, keyring, find_gpgv())
+
+
+def keyring_of(election: Election) -> bytes | None:
+    """The keyring that holds; None if letters need no signature."""
+    call = election.history().call
+    if call is None or not entered.has_sealed_since(election.book, KEYRING, call.number):
+        return None
+    return queries.sealed(election.book, KEYRING)
+
+
+def new_of(election: Election, raws: Sequence[RawLetter]) -> tuple[list[RawLetter], list[ParsedLetter]]:
+    """The letters that did not come before."""
+    known = letters.known_digests(election.book)
+    # of the same bytes the first letter, but rather one that is not parted off
+    chosen: dict[str, RawLetter] = {}
+    for raw in raws:
+        digest = sha256_of(raw.data)
+        if digest not in chosen or chosen[digest].is_parted_off > raw.is_parted_off:
+            chosen[digest] = raw
+    new = [raw for digest, raw in chosen.items() if is_new(digest, raw.is_parted_off, known)]
+    return new, parsed(election, new)
+
+
+def is_new(digest: str, is_parted_off: bool, known: Collection[tuple[str, bool]]) -> bool:
+    """Whether a letter did not come before, byte for byte. One that was parted off comes anew as a letter of its own."""
+    return (digest, False) not in known and not (is_parted_off and (digest, True) in known)
+
+
+def keep(book: Book, raws: Sequence[RawLetter], found: Sequence[ParsedLetter]) -> None:
+    """The act that keeps letters as they came."""
+    if not raws:
+        return
+    with book.act("letters", {"letters": len(raws)}) as act:
+        known = letters.known_digests(book)
+        for raw, letter in zip(raws, found):
+            # another command may have kept it meanwhile
+            if is_new(letter.digest, letter.is_parted_off, known):
+                arrival = "" if letter.arrived is None else as_text(letter.arrived)
+                new = NewLetter(safe(raw.where), raw.data, letter.identity, letter.sender, arrival, as_json(letter))
+                letters.keep_letter(act, new)
+
+
+# ---------------------------------------------------------------- how they are judged
+def waiting_now(election: Election, history: History) -> list[LetterNow]:
+    """The letters that wait for the secretary."""
+    kept = letters.letters(election.book)
+    # where letters have to be signed, what was signed says which are copies, which the book may not have known when they came
+    if keyring_of(election) is None:
+        kept = letters.undecided(kept)
+    return [letter for letter in judged(election, history, kept) if letter.waits]
+
+
+def judged(
+    election: Election, history: History, kept: Sequence[KeptLetter], looked_at: Sequence[ParsedLetter] = ()
+) -> list[LetterNow]:
+    """Letters that came, as they are judged now, in the order of their times; and others that are only looked at."""
+    found = kept_letters(election, kept)
+    numbers = {letter.key: kept_letter.number for letter, kept_letter in zip(found, kept)}
+    if not kept and not looked_at:
+        return []
+    poll = election.sealed()
+    has_codes = bool(history.announced("codes_on_roll"))
+    reader = LinesByDebvote(election.debvote, poll.counted.as_bytes(), has_codes=has_codes)
+    circumstances = circumstances_of(election, history, list(zip(found, kept)))
+    no_codes_expected = poll.counted.secret and not has_codes
+    return [
+        LetterNow(numbers.get(one.letter.key, 0), one, code_lines(one.letter) if no_codes_expected else ())
+        for one in judge_all([*found, *looked_at], circumstances, reader)
+    ]
+
+
+def code_lines(letter: ParsedLetter) -> tuple[int, ...]:
+    """The lines of a letter, from 1, with what looks like a code or an alias."""
+    lines = enumerate(letter.shown_lines, start=1)
+    return tuple(number for number, line in lines if looks_like_code(line) or CODE.search(line.lower().encode("utf-8", "replace")))
+
+
+def kept_letters(election: Election, kept: Sequence[KeptLetter]) -> list[ParsedLetter]:
+    """What is known of the letters; of those that came before the keyring that holds, or that gpgv was too slow for, their
+    signatures are checked anew."""
+    found = [from_json(letter.known) for letter in kept]
+    sealed = letters.last_act_that_sealed(election.book, KEYRING)
+    old = [index for index, letter in enumerate(kept) if letter.act < sealed or was_slow(found[index])]
+    if old:
+        raws = [
+            RawLetter(found[index].where, letters.source_of(election.book, kept[index].source), found[index].is_parted_off)
+            for index in old
+        ]
+        for index, letter in zip(old, parsed(election, raws)):
+            found[index] = letter
+    return found
+
+
+def was_slow(letter: ParsedLetter) -> bool:
+    """Whether gpgv did not answer in time, which the bytes of a letter do not decide."""
+    return letter.why_unsigned is not None and letter.why_unsigned.reason is Reason.SLOW_SIGNATURE
+
+
+def circumstances_of(election: Election, history: History, found: Sequence[tuple[ParsedLetter, KeptLetter]]) -> Circumstances:
+    """All that letters are judged by, as it is now."""
+    call, sealed, electors = history.call, election.sealed(), queries.electors(election.book)
+    assert call is not None
+    by_number = {elector.number: elector.name for elector in electors}
+    ballots: dict[str, list[Ballot]] = {}
+    for envelope in queries.envelopes(election.book, "elector IS NOT NULL AND struck.act IS NULL"):
+        if envelope.elector in by_number:
+            line = envelope.line.decode("ascii", "replace")
+            ballots.setdefault(by_number[envelope.elector], []).append(Ballot(envelope.time, line))
+    ids = letters.our_message_ids(election.book)
+    return Circumstances(
+        mark=sealed.public.mark,
+        roll=frozenset(sealed.counted.roll),
+        language=election.language.code,
+        addresses={elector.name: elector.addresses for elector in electors},
+        real_names={elector.name: elector.who for elector in electors},
+        called=call.time,
+        end=history.until,
+        first_close=history.closes[0].time if history.closes else None,
+        now=times.now(),
+        our_letters={elector.name: ids.get(elector.number, []) for elector in electors},
+        ballots=ballots,
+        keys={elector.name: elector.key for elector in electors} if keyring_of(election) is not None else None,
+        decisions={letter.key: DECISIONS[kept.state] for letter, kept in found if kept.state in DECISIONS},
+    )
+
+
+# ---------------------------------------------------------------- what goes in
+@dataclasses.dataclass(frozen=True)
+class Plan:
+    """Which letters go in, each with its ballot, and all others as they are now."""
+
+    seen: int = dataclasses.field(compare=False)
+    is_late: bool
+    going_in: tuple[tuple[int, str], ...]
+    letters: tuple[LetterNow, ...] = dataclasses.field(compare=False)
+
+    @property
+    def waiting(self) -> list[LetterNow]:
+        """The letters that wait after this."""
+        return [letter for letter in self.letters if letter.judged.outcome is Outcome.WAITS]
+
+
+def plan_of(election: Election, looked_at: Sequence[ParsedLetter] = ()) -> Plan:
+    """What goes in now."""
+    history = election.history()
+    found = judged(election, history, letters.letters(election.book), looked_at)
+    going_in = [letter for letter in found if letter.judged.outcome is Outcome.GOES_IN]
+    pairs = tuple((letter.number, letter.judged.ballots[0].ballot) for letter in going_in)
+    return Plan(history.last.number, history.is_closed, pairs, tuple(found))
+
+
+def enter(election: Election, book: Book, plan: Plan) -> range:
+    """The act: the ballots go in. Raises `Overtaken` if another act came between."""
+    by_number = {letter.number: letter.judged for letter in plan.letters}
+    electors, kept = entered.numbers_of(book), {letter.number: letter for letter in letters.letters(book)}
+    detail = {"letters": len(plan.going_in), "lines": len(plan.going_in)}
+    with book.act("add", detail, seen=plan.seen) as act:
+        new = [new_envelope(kept[number], ballot, electors, by_number[number]) for number, ballot in plan.going_in]
+        numbers = queries.enter(act, new, is_late=plan.is_late)
+        for number, _ in plan.going_in:
+            letters.decide(act, number, letters.ENTERED)
+    return numbers
+
+
+def new_envelope(kept: KeptLetter, ballot: str, electors: Mapping[str, int], judged_letter: JudgedLetter) -> NewEnvelope:
+    """The envelope of a ballot that came in a letter."""
+    time = judged_letter.time or times.now()
+    return NewEnvelope(electors.get(ballot.partition(" ")[0]), ballot.encode(), kept.source, "", time, kept.number)
+
+
+def is_late(history: History, letter: JudgedLetter) -> bool:
+    """Whether what is entered of a letter now is late: the vote is closed, or was reopened for what had arrived before the first close."""
+    arrived = letter.letter.arrived
+    if history.is_reopened and (arrived is None or arrived > history.closes[0].time):
+        return True
+    return history.is_closed
+
+
+def arrived_in_time(letter: LetterNow) -> bool:
+    """Whether a letter arrived before the end and before the close, as far as that is known."""
+    reason = letter.judged.reason
+    return reason is None or reason.reason not in (Reason.AFTER_END, Reason.AFTER_CLOSE)
+
+
+def decide(act: Act, numbers: Sequence[int], state: str) -> None:
+    """Notes what the secretary decided of letters."""
+    for number in numbers:
+        letters.decide(act, number, state)
+
+
+def waiting_words(count: int, held: str) -> str:
+    """How many letters wait."""
+    return f"{count} letter{' waits' if count == 1 else 's wait'} until you have looked: {held}"

@@ -1,0 +1,147 @@
+"""The list of members: a table as spreadsheets save it. It is read, and never written."""
+
+import dataclasses
+import pathlib
+import re
+import unicodedata
+
+from debvote_tools.election.csv_tables import BadTable, Row, Table, read_table
+from debvote_tools.faults import Fault, Status
+from debvote_tools.files import TABLE_LIMIT, read_at_most
+from debvote_tools.plain_names import ELECTOR_LIMIT, is_elector_name
+from debvote_tools.terminal_text import shown_text, steering
+
+REQUIRED, OPTIONAL = ("who", "mail"), ("name", "key")
+COLUMNS = (*REQUIRED, *OPTIONAL)
+
+# the file that `new` writes
+NEW_MEMBERS = "who,mail\n"
+
+AGAIN = "then run debvote-election roll again"
+BELONGS = "the real names belong under `who`, the addresses under `mail`; a column `name` has the names on the roll, and one can leave it out"
+
+# the fingerprint of a key of OpenPGP
+FINGERPRINT = re.compile(r"[0-9A-F]{40}")
+
+# several addresses of one member have spaces, commas or semicolons between; a mail program writes one within < and >
+ADDRESS = re.compile(r'[^\s<>@,;:"()\[\]\\]+@[^\s<>@,;:"()\[\]\\]+')
+IN_BRACKETS = re.compile(r"<([^<>]*)>")
+BETWEEN_ADDRESSES = re.compile(r"[\s,;]+")
+
+
+@dataclasses.dataclass(frozen=True)
+class MemberRow:
+    """A row of the list. A cell that is empty or missing is an empty text."""
+
+    line: int
+    name: str
+    who: str
+    addresses: tuple[str, ...]
+    # a fingerprint in capital letters
+    key: str
+
+
+@dataclasses.dataclass(frozen=True)
+class Members:
+    """The rows of a list in its order, and all that is wrong with it."""
+
+    file: object
+    rows: tuple[MemberRow, ...]
+    faults: tuple[Fault, ...] = ()
+
+
+def members_in(file: pathlib.Path) -> Members:
+    """Reads the list of members in a file."""
+    cure = f"the list of members is a CSV file, as a spreadsheet saves it: put it there, {AGAIN}"
+    try:
+        if file.exists() and not file.is_file():
+            return refused(file, Fault(file, "it is no file", cure, Status.BAD_WORDS))
+        data = read_at_most(file, TABLE_LIMIT)
+    except OSError as error:
+        return refused(file, Fault(file, error.strerror, cure, Status.BAD_WORDS))
+    if len(data) > TABLE_LIMIT:
+        return refused(file, bad_list(file, "it is too long for a list of members", cure))
+    return members_of(data, file)
+
+
+def members_of(data: bytes, file: object = "members.csv") -> Members:
+    """The members of a list, and all that is wrong with it."""
+    try:
+        table = read_table(data, COLUMNS, skips_spaces=True)
+    except BadTable as bad:
+        return refused(file, Fault(bad.where(file), bad.reason, f"{bad.cure}, {AGAIN}", Status.DOUBT))
+    head_faults = faults_of_head(table, file)
+    if head_faults:
+        return refused(file, *head_faults)
+    indices = {column: table.heads.index(column) for column in COLUMNS if column in table.heads}
+    rows, faults = [], []
+    for row in table.rows:
+        if not row.is_blank:
+            rows.append(member_of(row, indices))
+            faults += faults_of_row(row, rows[-1], table, file)
+    if not rows:
+        faults.append(bad_list(file, "there is nobody on it", f"write a line for each member below the head line, {AGAIN}"))
+    return Members(file, tuple(rows), tuple(faults))
+
+
+def refused(file: object, *faults: Fault) -> Members:
+    """A list of which no row can be read."""
+    return Members(file, (), faults)
+
+
+def bad_list(file: object, reason: str, cure: str, line: int | None = None) -> Fault:
+    """A fault of the list, or of a line of it."""
+    return Fault(file if line is None else f"{file}:{line}", reason, cure, Status.DOUBT)
+
+
+def faults_of_head(table: Table, file: object) -> list[Fault]:
+    """Which columns are missing, and which are there twice."""
+    faults = []
+    missing = [f"`{column}`" for column in REQUIRED if column not in table.heads]
+    if missing:
+        reason = f"the head line has no column {' and no column '.join(missing)}, it has {table.heads_in_words}; {BELONGS}"
+        faults.append(bad_list(file, reason, f"name the columns so, {AGAIN}", table.head.line))
+    for column in COLUMNS:
+        if table.heads.count(column) > 1:
+            cure = f"name one of them otherwise, {AGAIN}"
+            faults.append(bad_list(file, f"the head line has the column `{column}` twice", cure, table.head.line))
+    return faults
+
+
+def member_of(row: Row, indices: dict[str, int]) -> MemberRow:
+    """The member of a row, with each cell on one line."""
+    cells = {column: unicodedata.normalize("NFC", " ".join(row.cell(index).split())) for column, index in indices.items()}
+    key = "".join(cells.get("key", "").split()).upper()
+    return MemberRow(row.line, cells.get("name", ""), cells["who"], addresses_in(cells["mail"]), key)
+
+
+def addresses_in(cell: str) -> tuple[str, ...]:
+    """The addresses of a cell, each once."""
+    parts = IN_BRACKETS.findall(cell) or BETWEEN_ADDRESSES.split(cell)
+    return tuple(dict.fromkeys(part.strip().removeprefix("mailto:") for part in parts if part.strip()))
+
+
+def faults_of_row(row: Row, member: MemberRow, table: Table, file: object) -> list[Fault]:
+    """All that is wrong with a row by itself."""
+    found: list[tuple[str, str]] = []
+    beyond = row.cells_after(table.width)
+    if beyond:
+        reason = f"`{shown_text(beyond[0])}` is after the last column of the head line"
+        found.append((reason, "put a cell that has the delimiter in it into quotation marks"))
+    if not member.who and not member.name:
+        found.append(("it has no `who`", "write who it is, or take the line out"))
+    if steering(member.who) is not None:
+        reason = f"`{shown_text(member.who)}` has the character {steering(member.who)}, which steers a terminal or turns the text"
+        found.append((reason, "take it out"))
+    if member.name and not is_elector_name(member.name):
+        reason = f"`{shown_text(member.name)}` can't be a name on the roll"
+        found.append((reason, f"write 1 to {ELECTOR_LIMIT} of a to z, 0 to 9, point and hyphen under `name`, or leave it empty"))
+    for address in member.addresses:
+        if not ADDRESS.fullmatch(address) or steering(address) is not None:
+            found.append((f"`{shown_text(address)}` is no mail address", "put it right, or take it out"))
+    if member.key and not FINGERPRINT.fullmatch(member.key):
+        reason = f"`{shown_text(member.key)}` is no fingerprint of a key"
+        found.append(
+            (reason, "write all 40 digits of it (0 to 9 and A to F; spaces may be between), as gpg --fingerprint shows them")
+        )
+    return [bad_list(file, reason, f"{cure}, {AGAIN}", row.line) for reason, cure in found]

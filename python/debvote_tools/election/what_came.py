@@ -1,0 +1,118 @@
+"""All that came of each elector, and what became of it: what receipts and reminders are about."""
+
+import collections
+import dataclasses
+import datetime
+from collections.abc import Mapping, Sequence
+
+from debvote_tools.book import letters, queries
+from debvote_tools.book.queries import Elector, Envelope
+from debvote_tools.election import letters_in
+from debvote_tools.election.election import Election
+from debvote_tools.election.history import History
+from debvote_tools.election.letters_in import LetterNow
+from debvote_tools.letters.judge import Outcome
+from debvote_tools.letters.parse import address_key
+from debvote_tools.letters_out.compose import Became, Came
+from debvote_tools.sealed_poll import SealedPoll
+
+
+@dataclasses.dataclass(frozen=True)
+class WhatCame:
+    """All that came of each elector, in the order of its times, and the electors whose ballot stands."""
+
+    by_elector: Mapping[int, Sequence[Came]]
+    standing: Mapping[str, str]
+
+
+def what_came(election: Election, history: History, *, is_over: bool) -> WhatCame:
+    """Judges all letters and all lines as they are now. debvote is started three times."""
+    book, counted = election.book, election.sealed().counted
+    envelopes, kept = queries.envelopes(book, "1"), letters.letters(book)
+    found = letters_in.judged(election, history, kept)
+    electors = queries.electors(book)
+    by_name, by_address = {elector.name: elector for elector in electors}, by_address_of(electors)
+    lines = LinesNow(election, counted, history, envelopes, is_over=is_over)
+    came: dict[int, list[Came]] = {elector.number: [] for elector in electors}
+    senders = {letter.number: by_address.get(letter.judged.letter.sender) for letter in found}
+    for envelope in envelopes:
+        number = envelope.elector or senders.get(envelope.letter or 0)
+        if number in came:
+            came[number].append(lines.came_of(envelope))
+    entered_of = {(envelope.letter, envelope.elector) for envelope in envelopes}
+    kept_at = {letter.number: history.acts[letter.act - 1].time for letter in kept}
+    for letter in found:
+        for elector in (by_name[name] for name in letter.judged.electors if name in by_name):
+            if (letter.number, elector.number) not in entered_of:
+                came[elector.number] += came_of_letter(letter, elector, kept_at[letter.number])
+    ordered = {number: sorted(items, key=lambda one: one.time) for number, items in came.items()}
+    return WhatCame(ordered, lines.standing)
+
+
+def by_address_of(electors: Sequence[Elector]) -> dict[str, int]:
+    """The electors by their addresses, but for addresses that several have."""
+    pairs = [(key, elector.number) for elector in electors for key in set(map(address_key, elector.addresses))]
+    counts = collections.Counter(key for key, _ in pairs)
+    return {key: number for key, number in pairs if counts[key] == 1}
+
+
+class LinesNow:
+    """What became of the lines that were entered."""
+
+    def __init__(
+        self, election: Election, counted: SealedPoll, history: History, envelopes: Sequence[Envelope], *, is_over: bool
+    ) -> None:
+        self.history, self.is_over = history, is_over
+        lines = [envelope.line for envelope in envelopes]
+        poll = counted.as_bytes()
+        self.answers = (
+            letters_in.LinesByDebvote(election.debvote, poll, has_codes=bool(history.announced("codes_on_roll"))).answers(lines)
+            if lines
+            else {}
+        )
+        in_time = [(one.number, one.line) for one in envelopes if one.struck is None and not one.is_late]
+        self.standing = election.debvote.standing(poll, queries.ballots_of(in_time)) if in_time else {}
+        # the last valid line of each elector stands
+        self.last = {one.elector: one.number for one in envelopes if self.is_counted(one)}
+
+    def is_counted(self, envelope: Envelope) -> bool:
+        """Whether a line is a ballot in time."""
+        return envelope.struck is None and not envelope.is_late and self.answers[envelope.line] is None
+
+    def came_of(self, envelope: Envelope) -> Came:
+        """What became of a line."""
+        answer, key, became = self.answers[envelope.line], f"envelope {envelope.number}", self.became(envelope)
+        key = f"{key} struck" if envelope.struck is not None else key
+        ranks = "" if answer is not None else envelope.line.decode("ascii").partition(" ")[2]
+        return Came(key, became, envelope.time, ranks=ranks, answer=answer or "")
+
+    def became(self, envelope: Envelope) -> Became:
+        if envelope.struck is not None:
+            return Became.TAKEN_BACK if self.history.acts[envelope.struck - 1].name == "undo" else Became.STRUCK
+        if envelope.is_late:
+            return Became.LATE
+        if self.answers[envelope.line] is not None:
+            return Became.REFUSED
+        if self.last[envelope.elector] != envelope.number:
+            return Became.REPLACED
+        return Became.COUNTS_AT_THE_END if self.is_over else Became.COUNTS
+
+
+def came_of_letter(letter: LetterNow, elector: Elector, kept: datetime.datetime) -> list[Came]:
+    """What became of a letter of which no line was entered for this elector. A copy is the letter that it copies."""
+    judged = letter.judged
+    if judged.outcome not in (Outcome.WAITS, Outcome.GOES_IN, Outcome.SET_ASIDE):
+        return []
+    is_own = judged.letter.sender in map(address_key, elector.addresses)
+    # a program would answer, and be answered
+    if is_own and judged.letter.is_automatic:
+        return []
+    key, time, is_aside = f"letter {letter.number}", judged.letter.arrived or kept, judged.outcome is Outcome.SET_ASIDE
+    if not is_own:
+        return [Came(key, Became.ELSEWHERE_SET_ASIDE if is_aside else Became.ELSEWHERE, time)]
+    return [Came(key, Became.SET_ASIDE if is_aside else Became.WAITS, time, because=judged.reason, near=judged.near)]
+
+
+def waits_of(came: Sequence[Came]) -> list[Came]:
+    """The letters of an elector that wait."""
+    return [one for one in came if one.became in (Became.WAITS, Became.ELSEWHERE)]

@@ -1,0 +1,1 @@
+"""Letters that come: which there are, what each says, and what becomes of it."""

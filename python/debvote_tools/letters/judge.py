@@ -1,0 +1,425 @@
+"""What becomes of letters. One goes in by itself if all rules hold; else it waits, with the first reason that does not.
+
+The rules say what a letter has to be. What is wrong with letters nobody can list, so no rule looks for it.
+"""
+
+import bisect
+import collections
+import dataclasses
+import datetime
+import enum
+import functools
+from collections.abc import Callable, Collection, Mapping, Sequence
+
+from debvote_tools.letters.greeting import is_quoted, paragraphs_of, why_not_first
+from debvote_tools.letters.parse import Body, ParsedLetter, address_key, marks_of
+from debvote_tools.letters.readings import MAX_BALLOTS, BallotLine, Elector, LineReader, Near, Readings, first_ballot, readings_of
+from debvote_tools.letters.reasons import Because, Reason
+from debvote_tools.terminal_text import shown_text
+
+# so much may the clock of a mail server or of an elector be ahead
+AHEAD = datetime.timedelta(minutes=10)
+
+
+class Decision(enum.Enum):
+    """What an act decided of a letter."""
+
+    ENTERED = "entered"
+    TAKEN_BACK = "taken back"
+    PUT_BACK = "put back"
+    SET_ASIDE = "set aside"
+    STRUCK = "struck"
+
+
+class Outcome(enum.Enum):
+    """What becomes of a letter."""
+
+    GOES_IN = "goes in"
+    WAITS = "waits"
+    # it is another letter once more, and is passed over
+    COPY = "copy"
+    # as an act decided; a letter whose envelope was struck is set aside, too
+    ENTERED = "entered"
+    SET_ASIDE = "set aside"
+
+
+# what an act decided holds, whatever the rules say
+DECIDED: dict[Decision, tuple[Outcome, Because | None]] = {
+    Decision.ENTERED: (Outcome.ENTERED, None),
+    Decision.TAKEN_BACK: (Outcome.WAITS, Reason.TAKEN_BACK()),
+    Decision.PUT_BACK: (Outcome.WAITS, Reason.PUT_BACK()),
+    Decision.SET_ASIDE: (Outcome.SET_ASIDE, Reason.SET_ASIDE()),
+    Decision.STRUCK: (Outcome.SET_ASIDE, Reason.STRUCK()),
+}
+
+
+@dataclasses.dataclass(frozen=True)
+class Ballot:
+    """A ballot that is in and not struck: its time, in whole seconds, and its line."""
+
+    time: datetime.datetime
+    line: str
+
+
+@dataclasses.dataclass(frozen=True)
+class Circumstances:
+    """All that a letter is judged by, beside itself, as it is now. Times have a zone."""
+
+    # of the poll: the mark, the roll and the language
+    mark: str
+    roll: frozenset[str]
+    language: str
+    # of each elector: the addresses as the list has them, and the real name
+    addresses: Mapping[str, Sequence[str]]
+    real_names: Mapping[str, str]
+    # the first call that was not taken back; the end as it is now; the first close
+    called: datetime.datetime
+    end: datetime.datetime | None
+    first_close: datetime.datetime | None
+    now: datetime.datetime
+    # the Message-IDs of the letters that were written to each elector
+    our_letters: Mapping[str, Collection[str]]
+    # the ballots of each elector that are in and not struck
+    ballots: Mapping[str, Sequence[Ballot]]
+    # the fingerprint of each elector's key; None where letters need no signature
+    keys: Mapping[str, str] | None
+    # what acts decided, by the keys of the letters
+    decisions: Mapping[str, Decision]
+
+    @functools.cached_property
+    def electors_by_address(self) -> dict[str, list[str]]:
+        """The electors who have an address, by its form without case."""
+        found: dict[str, list[str]] = collections.defaultdict(list)
+        for elector, addresses in self.addresses.items():
+            for key in dict.fromkeys(map(address_key, addresses)):
+                found[key].append(elector)
+        return dict(found)
+
+    def elector_of(self, letter: ParsedLetter) -> Elector | None:
+        """The one elector whose address the sender of a letter has."""
+        electors = self.electors_by_address.get(letter.sender, []) if letter.sender else []
+        return Elector(electors[0], self.real_names.get(electors[0], "")) if len(electors) == 1 else None
+
+
+@dataclasses.dataclass(frozen=True)
+class JudgedLetter:
+    """What becomes of a letter, and why."""
+
+    letter: ParsedLetter
+    outcome: Outcome
+    # why it waits or was set aside
+    reason: Because | None
+    # the time of its ballot: that of the signature where letters have to be signed, else that of the arrival
+    time: datetime.datetime | None
+    # the lines that read as ballots; the first is the one that goes in. Each may be entered by its number, as may those that are offered
+    ballots: tuple[BallotLine, ...]
+    # ranks without a name, with that of the elector who seems to have sent them
+    offered: tuple[BallotLine, ...]
+    near: tuple[Near, ...]
+    # whose it is: the electors on its ballots, or near to one; else the one who has the sender's address
+    electors: tuple[str, ...]
+    # the other electors who have the sender's address
+    shared_with: tuple[str, ...]
+    other_words: str
+    has_voted_since: bool
+
+
+def judge_all(letters: Sequence[ParsedLetter], circumstances: Circumstances, reader: LineReader) -> list[JudgedLetter]:
+    """Judges letters in the order of their times; those without a time come last, in their order."""
+    found = [
+        readings_of(letter, circumstances.roll, circumstances.elector_of(letter), circumstances.language) for letter in letters
+    ]
+    asked = dict.fromkeys(line.encode() for readings in found for line in readings.asked())
+    answers = reader.answers(list(asked)) if asked else {}
+    cases = [Case(letter, readings.answered(answers), circumstances) for letter, readings in zip(letters, found)]
+    ordered = sorted(cases, key=lambda case: (case.time is None, case.time or circumstances.now))
+    return Judge(circumstances, ordered).judged()
+
+
+class Case:
+    """A letter while it is judged, with what its lines read as."""
+
+    def __init__(self, letter: ParsedLetter, readings: Readings, circumstances: Circumstances) -> None:
+        self.letter, self.readings = letter, readings
+        self.time = letter.signature.time if circumstances.keys is not None and letter.signature is not None else letter.arrived
+        self.decision = circumstances.decisions.get(letter.key)
+        text = letter.body.text
+        self.index = first_ballot(text.lines, readings.views[0])
+        self.joined_index = first_ballot(text.joined, readings.views[1]) if len(readings.views) > 1 else None
+        self.ballot = None if self.index is None else readings.views[0][self.index]
+        # without `why_not_latest`, by which a letter depends on others
+        self.why_by_itself = next(filter(None, (rule(self, circumstances) for rule in RULES)), None)
+        self.outcome: Outcome | None = None
+        self.reason: Because | None = None
+
+    @property
+    def elector(self) -> str:
+        """The elector on its ballot."""
+        return "" if self.ballot is None else self.ballot.elector
+
+    def ballot_lines(self) -> list[BallotLine]:
+        """The lines that read as ballots, the one that may go in first; a line that reads as one by itself and joined is one."""
+        lines = [*([] if self.ballot is None else [self.ballot]), *self.readings.lines()]
+        return list(dict.fromkeys(lines))
+
+
+Rule = Callable[[Case, Circumstances], Because | None]
+
+
+# ---------------------------------------------------------------- the rules
+def can_be_read(case: Case, circumstances: Circumstances) -> Because | None:
+    letter, text = case.letter, case.letter.body.text
+    if letter.is_parted_off:
+        return Reason.PARTED_OFF()
+    if letter.is_automatic:
+        return Reason.AUTOMATIC()
+    if letter.body.trouble is not None:
+        return letter.body.trouble
+    if case.readings.crowd:
+        return Reason.TOO_LONG(length=case.readings.crowd, what="lines that may be ballots", limit=MAX_BALLOTS)
+    is_odd = text.is_html and case.index is not None and case.index >= text.plain_lines
+    return Reason.HTML(element=text.first_other) if is_odd else None
+
+
+def arrived_in_time(case: Case, circumstances: Circumstances) -> Because | None:
+    arrived, end, close = case.letter.arrived, circumstances.end, circumstances.first_close
+    if arrived is None:
+        return Reason.NO_ARRIVAL()
+    if arrived <= circumstances.called:
+        return Reason.BEFORE_CALL(called=circumstances.called)
+    if end is not None and arrived > end:
+        return Reason.AFTER_END(end=end)
+    if close is not None and arrived > close:
+        return Reason.AFTER_CLOSE(close=close)
+    return Reason.IN_FUTURE(arrived=arrived) if arrived > circumstances.now + AHEAD else None
+
+
+def is_sent_by_its_elector(case: Case, circumstances: Circumstances) -> Because | None:
+    sender, listed = case.letter.sender, circumstances.addresses.get(case.elector, ())
+    if not sender:
+        return Reason.NO_SENDER(sender=case.letter.shown_sender)
+    if case.ballot is None or sender in map(address_key, listed):
+        return None
+    if not listed:
+        return Reason.NO_ADDRESS(elector=case.elector)
+    return Reason.OTHER_SENDER(sender=sender, listed=" and ".join(listed), elector=case.elector)
+
+
+def is_signed_by_its_elector(case: Case, circumstances: Circumstances) -> Because | None:
+    """Where letters have to be signed. It comes before the rules about the text: what is read as the text is what was signed."""
+    letter, signature = case.letter, case.letter.signature
+    if circumstances.keys is None or case.ballot is None:
+        return None
+    if signature is None:
+        return letter.why_unsigned or Reason.NOT_SIGNED()
+    key = circumstances.keys.get(case.elector, "")
+    if not key:
+        return Reason.NO_KEY(elector=case.elector)
+    if signature.fingerprint != key:
+        return Reason.OTHER_KEY(key=signature.fingerprint, listed=key, elector=case.elector)
+    if signature.time <= circumstances.called:
+        return Reason.SIGNED_BEFORE_CALL(time=signature.time)
+    if letter.arrived is None or signature.time > letter.arrived + AHEAD:
+        return Reason.SIGNED_AHEAD(time=signature.time)
+    has_mark = any(line.strip() == f"[{circumstances.mark}]" for line in letter.body.text.lines)
+    return None if has_mark else Reason.NO_MARK(mark=circumstances.mark)
+
+
+def has_one_ballot(case: Case, circumstances: Circumstances) -> Because | None:
+    """No other line reads as a ballot that differs. It comes before the rule about the greeting, whose reason would say less."""
+    lines = case.ballot_lines()
+    if len({line.ballot for line in lines}) <= 1:
+        return None
+    electors = sorted({line.elector for line in lines})
+    return Reason.SEVERAL_ELECTORS(electors=", ".join(electors)) if len(electors) > 1 else Reason.TWO_BALLOTS()
+
+
+def ballot_is_first(case: Case, circumstances: Circumstances) -> Because | None:
+    """Of the lines as they stand, and joined if the letter says that they flow."""
+    text = case.letter.body.text
+    if case.ballot is None or case.index is None:
+        if case.joined_index is not None:
+            return Reason.JOINED()
+        elsewhere = case.ballot_lines()
+        if elsewhere:
+            return Reason.ELSEWHERE(number=elsewhere[0].number)
+        return Reason.NO_NAME() if case.readings.offered else Reason.NO_BALLOT()
+    why = placed(case, circumstances, text.lines, case.index)
+    if why is not None or not text.joined:
+        return why
+    joined_ballot = None if case.joined_index is None else case.readings.views[1][case.joined_index]
+    if case.joined_index is None or joined_ballot is None or joined_ballot.ballot != case.ballot.ballot:
+        return Reason.JOINED()
+    return placed(case, circumstances, text.joined, case.joined_index)
+
+
+def placed(case: Case, circumstances: Circumstances, lines: Sequence[str], index: int) -> Because | None:
+    """Why the ballot is not the first of these lines."""
+    answered = case.letter.in_reply_to
+    is_answer = bool(answered) and answered in circumstances.our_letters.get(case.elector, ())
+    return why_not_first(
+        lines, index, is_answer=is_answer, is_html=case.letter.body.text.is_html, passed_over=passed_over_in(circumstances)
+    )
+
+
+def passed_over_in(circumstances: Circumstances) -> tuple[str, ...]:
+    """The lines that may be anywhere: where letters have to be signed, the mark of the poll."""
+    return () if circumstances.keys is None else (f"[{circumstances.mark}]",)
+
+
+def is_of_this_vote(case: Case, circumstances: Circumstances) -> Because | None:
+    """Where letters have to be signed, the marks in what is signed count, too."""
+    signed = () if circumstances.keys is None else case.letter.shown_lines
+    marks = [*case.letter.marks, *(mark for line in signed for mark in marks_of(line))]
+    other = next((mark for mark in marks if mark != circumstances.mark), None)
+    return None if other is None else Reason.OTHER_MARK(mark=other)
+
+
+RULES: tuple[Rule, ...] = (
+    can_be_read,
+    arrived_in_time,
+    is_sent_by_its_elector,
+    is_signed_by_its_elector,
+    has_one_ballot,
+    ballot_is_first,
+    is_of_this_vote,
+)
+
+
+# ---------------------------------------------------------------- one letter beside the others
+class Box:
+    """The ballots that are in, by their electors and times."""
+
+    def __init__(self, ballots: Mapping[str, Sequence[Ballot]]) -> None:
+        self.times: dict[str, list[datetime.datetime]] = collections.defaultdict(list)
+        self.lines: dict[tuple[str, datetime.datetime], set[str]] = collections.defaultdict(set)
+        for elector, own in ballots.items():
+            for ballot in own:
+                self.add(elector, ballot)
+
+    def add(self, elector: str, ballot: Ballot) -> None:
+        bisect.insort(self.times[elector], ballot.time)
+        self.lines[elector, ballot.time].add(ballot.line)
+
+    def last(self, elector: str) -> datetime.datetime | None:
+        """The time of the last ballot of an elector."""
+        times = self.times[elector]
+        return times[-1] if times else None
+
+    def has_later(self, elector: str, time: datetime.datetime | None) -> bool:
+        last = self.last(elector)
+        return last is not None and (time is None or last > time)
+
+    def has_between(self, elector: str, after: datetime.datetime, until: datetime.datetime) -> bool:
+        times = self.times[elector]
+        return bisect.bisect_right(times, after) < bisect.bisect_right(times, until)
+
+
+@dataclasses.dataclass
+class Copies:
+    """The letters with one identity that were judged so far: whether one hides the others, and the earliest time of those that do; and the
+    reasons for which some wait, each with the body of the letter.
+    """
+
+    is_hidden: bool = False
+    first_time: datetime.datetime | None = None
+    waiting: set[tuple[Because | None, Body]] = dataclasses.field(default_factory=set)
+
+    def hide(self, time: datetime.datetime | None) -> None:
+        self.is_hidden = True
+        self.first_time = min(filter(None, (self.first_time, time)), default=None)
+
+
+class Judge:
+    """Judges letters in the order of their times, and adds the ballots that go in to those that are in."""
+
+    def __init__(self, circumstances: Circumstances, cases: Sequence[Case]) -> None:
+        self.circumstances, self.cases = circumstances, cases
+        self.box = Box(circumstances.ballots)
+        self.copies: dict[str, Copies] = collections.defaultdict(Copies)
+        # the ballots that may go in, by elector and time
+        self.at_once: dict[tuple[str, datetime.datetime], set[str]] = collections.defaultdict(set)
+        for case in cases:
+            if case.decision is not None:
+                self.note_decided(case, case.decision)
+            elif case.why_by_itself is None and case.ballot is not None and case.time is not None:
+                self.at_once[case.elector, case.time].add(case.ballot.ballot)
+
+    def note_decided(self, case: Case, decision: Decision) -> None:
+        """Copies of a letter are passed over if it went in or may have gone in. One that waits by a rule hides no other, whatever an act
+        decided of it.
+        """
+        copies = self.copies[case.letter.identity]
+        if decision in (Decision.ENTERED, Decision.TAKEN_BACK, Decision.STRUCK) or case.why_by_itself is None:
+            copies.hide(case.time)
+        copies.waiting.add((case.why_by_itself, case.letter.body))
+
+    def judged(self) -> list[JudgedLetter]:
+        for case in self.cases:
+            case.outcome, case.reason = DECIDED[case.decision] if case.decision is not None else self.outcome_of(case)
+        # one that waits is a copy, too, of one that came later and goes in
+        for case in self.cases:
+            if case.outcome is Outcome.WAITS and case.decision is None and self.copies[case.letter.identity].is_hidden:
+                case.outcome, case.reason = self.as_copy(case)
+        return [self.judged_letter(case) for case in self.cases]
+
+    def outcome_of(self, case: Case) -> tuple[Outcome, Because | None]:
+        """What becomes of a letter, after those before it."""
+        copies = self.copies[case.letter.identity]
+        if copies.is_hidden:
+            return self.as_copy(case)
+        why = case.why_by_itself or self.why_not_latest(case)
+        if why is None and case.ballot is not None and case.time is not None:
+            self.box.add(case.elector, Ballot(case.time, case.ballot.ballot))
+            copies.hide(case.time)
+            return Outcome.GOES_IN, None
+        if (why, case.letter.body) in copies.waiting:
+            return Outcome.COPY, None
+        copies.waiting.add((why, case.letter.body))
+        return Outcome.WAITS, why
+
+    def as_copy(self, case: Case) -> tuple[Outcome, Because | None]:
+        """A copy is passed over, unless another ballot of its elector came between."""
+        first, arrived = self.copies[case.letter.identity].first_time, case.letter.arrived
+        if case.ballot is not None and first is not None and arrived is not None:
+            if self.box.has_between(case.elector, first, arrived):
+                return Outcome.WAITS, Reason.CAME_BEFORE(elector=case.elector)
+        return Outcome.COPY, None
+
+    def why_not_latest(self, case: Case) -> Because | None:
+        """Its time is later than that of every ballot of its elector; at the same time it is the same ballot."""
+        assert case.ballot is not None and case.time is not None
+        elector, time, last = case.elector, case.time, self.box.last(case.elector)
+        if last is not None and last > time:
+            return Reason.LATER_BALLOT(elector=elector, time=last)
+        same_time = self.box.lines[elector, time] | self.at_once[elector, time]
+        return Reason.SAME_TIME(elector=elector, time=time) if same_time - {case.ballot.ballot} else None
+
+    # ---------------------------------------------------------------- what is shown of it
+    def judged_letter(self, case: Case) -> JudgedLetter:
+        assert case.outcome is not None
+        letter, sender = case.letter, self.circumstances.elector_of(case.letter)
+        ballots = case.ballot_lines()
+        named = [line.elector for line in (*ballots, *case.readings.offered)]
+        named += [name for near in case.readings.near if (name := near.ballot.partition(" ")[0]) in self.circumstances.roll]
+        electors = list(dict.fromkeys(named)) or ([] if sender is None else [sender.name])
+        sharing = self.circumstances.electors_by_address.get(letter.sender, []) if letter.sender else []
+        return JudgedLetter(
+            letter=letter,
+            outcome=case.outcome,
+            reason=case.reason,
+            time=case.time,
+            ballots=tuple(ballots),
+            offered=case.readings.offered,
+            near=() if ballots else case.readings.near,
+            electors=tuple(electors),
+            shared_with=tuple(name for name in sharing if name not in electors),
+            other_words=self.other_words_of(case),
+            has_voted_since=any(self.box.has_later(elector, case.time) for elector in electors),
+        )
+
+    def other_words_of(self, case: Case) -> str:
+        """The beginning of the sender's own words beside their ballots."""
+        lines, view = case.letter.body.text.lines, case.readings.views[0]
+        own = [index for paragraph in paragraphs_of(lines, passed_over_in(self.circumstances)) for index in paragraph]
+        return shown_text(" ".join(lines[index] for index in own if view[index] is None and not is_quoted(lines[index])))

@@ -1,0 +1,229 @@
+"""Why a letter waits, as data; and the sentences that say it, one for the secretary and one for the elector.
+
+A reason is computed anew whenever a letter is looked at, so a sentence may change and nothing else does. What an elector reads names no
+other elector, no address, and repeats no line: an answer that quotes it must not read as a ballot.
+"""
+
+import dataclasses
+import datetime
+import enum
+
+from debvote_tools.sentences import Sentence, marked, sentence
+from debvote_tools.terminal_text import shown_text
+
+Value = str | int | datetime.datetime
+
+
+@dataclasses.dataclass(frozen=True)
+class Because:
+    """A reason with its values, such as the address that a letter came from."""
+
+    reason: "Reason"
+    values: tuple[tuple[str, Value], ...]
+
+
+class Reason(enum.Enum):
+    """Why a letter waits. A call gives it its values: `Reason.AFTER_END(end=..)`."""
+
+    # the secretary decided
+    TAKEN_BACK = "taken back"
+    PUT_BACK = "put back"
+    SET_ASIDE = "set aside"
+    STRUCK = "struck"
+    # it can't be read with certainty
+    PARTED_OFF = "parted off"
+    TOO_LONG = "too long"
+    TOO_MANY_PARTS = "too many parts"
+    AMBIGUOUS = "ambiguous"
+    DEFECT = "defect"
+    ENCRYPTED = "encrypted"
+    NO_PLAIN_TEXT = "no plain text"
+    CHARSET = "charset"
+    LINE_END = "line end"
+    HTML = "html"
+    AUTOMATIC = "automatic"
+    # when it arrived
+    NO_ARRIVAL = "no arrival"
+    BEFORE_CALL = "before the call"
+    AFTER_END = "after the end"
+    AFTER_CLOSE = "after the close"
+    IN_FUTURE = "in the future"
+    # who sent it
+    NO_SENDER = "no sender"
+    NO_ADDRESS = "no address"
+    OTHER_SENDER = "other sender"
+    # where the ballot is
+    NO_BALLOT = "no ballot"
+    NO_NAME = "no name"
+    ELSEWHERE = "elsewhere"
+    QUOTED = "quoted"
+    NOT_FIRST = "not first"
+    MUCH_ABOVE = "much above"
+    JOINED = "joined"
+    # other ballots
+    TWO_BALLOTS = "two ballots"
+    SEVERAL_ELECTORS = "several electors"
+    # another vote
+    OTHER_MARK = "other mark"
+    # the ballots of the elector that are in
+    LATER_BALLOT = "later ballot"
+    SAME_TIME = "same time"
+    CAME_BEFORE = "came before"
+    # its signature
+    NOT_SIGNED = "not signed"
+    NOT_WHOLE = "not whole"
+    ODD_LINES = "odd lines"
+    BAD_SIGNATURE = "bad signature"
+    UNREAD_SIGNATURE = "unread signature"
+    SLOW_SIGNATURE = "slow signature"
+    EXPIRED_SIGNATURE = "expired signature"
+    EXPIRED_KEY = "expired key"
+    REVOKED_KEY = "revoked key"
+    UNKNOWN_KEY = "unknown key"
+    WEAK_DIGEST = "weak digest"
+    NO_KEY = "no key"
+    OTHER_KEY = "other key"
+    SIGNED_BEFORE_CALL = "signed before the call"
+    SIGNED_AHEAD = "signed ahead"
+    NO_MARK = "no mark"
+
+    def __call__(self, **values: Value) -> Because:
+        return Because(self, tuple(values.items()))
+
+
+# ---------------------------------------------------------------- for the secretary
+FOR_SECRETARY = {
+    Reason.TAKEN_BACK: "its ballot was taken back",
+    Reason.PUT_BACK: "it was put back to wait",
+    Reason.SET_ASIDE: "it was set aside",
+    Reason.STRUCK: "its ballot was struck",
+    Reason.PARTED_OFF: "it may be text of the letter above it in the mailbox, and no letter of its own",
+    Reason.TOO_LONG: "it has {length} {what}, and {limit} are the most",
+    Reason.TOO_MANY_PARTS: "it has too many parts or lines, or parts too deep within each other",
+    Reason.AMBIGUOUS: "it describes a part in a way that programs read differently: {field}",
+    Reason.DEFECT: "it is damaged: {defect}",
+    Reason.ENCRYPTED: "it is encrypted",
+    Reason.NO_PLAIN_TEXT: "it does not begin with plain text, nor is it HTML alone",
+    Reason.CHARSET: "its text is not plain text in the character set that it names: {charset}",
+    Reason.LINE_END: "its text has a character that ends a line in some programs and not in others: {character}",
+    Reason.HTML: "it is HTML that may look different than it reads: {element}",
+    Reason.AUTOMATIC: "a program wrote it: an answer of somebody who is away, or a letter that came back",
+    Reason.NO_ARRIVAL: "no line Received says when it arrived",
+    Reason.BEFORE_CALL: "it arrived before the call for votes, which was at {called}",
+    Reason.AFTER_END: "it arrived after the end of the vote, {end}",
+    Reason.AFTER_CLOSE: "it arrived after the vote was closed, {close}",
+    Reason.IN_FUTURE: "it arrived later than the clock of this computer says",
+    Reason.NO_SENDER: "it does not come from one address alone: {sender}",
+    Reason.NO_ADDRESS: "the list of members has no address for {elector}",
+    Reason.OTHER_SENDER: "it came from {sender}, and the list has {listed} for {elector}",
+    Reason.NO_BALLOT: "no ballot found",
+    Reason.NO_NAME: "the ranks have no name before them",
+    Reason.ELSEWHERE: "line {number} is a ballot, but is below the end of its text, or in another part",
+    Reason.QUOTED: "the ballot is in a quotation, or below one, and the letter is no answer to one of ours",
+    Reason.NOT_FIRST: "line {number} is no greeting, and is above the ballot or beside it",
+    Reason.MUCH_ABOVE: "more is above the ballot than a greeting",
+    Reason.JOINED: "its lines say that they belong together, and then the ballot is another, or none",
+    Reason.TWO_BALLOTS: "two ballots that differ",
+    Reason.SEVERAL_ELECTORS: "ballots of several electors: {electors}",
+    Reason.OTHER_MARK: "it has the mark of another vote: [{mark}]",
+    Reason.LATER_BALLOT: "a later ballot of {elector} is in already, of {time}",
+    Reason.SAME_TIME: "another ballot of {elector} has the same time, {time}",
+    Reason.CAME_BEFORE: "came before; {elector} has voted since",
+    Reason.NOT_SIGNED: "not signed",
+    Reason.NOT_WHOLE: "more is in the letter than what is signed",
+    Reason.ODD_LINES: "what is signed has a control character, or a line of more than 998 bytes",
+    Reason.BAD_SIGNATURE: "its signature is not that of this text",
+    Reason.UNREAD_SIGNATURE: "gpgv can't check its signature",
+    Reason.SLOW_SIGNATURE: "gpgv did not answer about its signature in time",
+    Reason.EXPIRED_SIGNATURE: "its signature has expired",
+    Reason.EXPIRED_KEY: "signed with a key that has expired: {key}",
+    Reason.REVOKED_KEY: "signed with a key that was revoked: {key}",
+    Reason.UNKNOWN_KEY: "signed with a key that is not in the keyring: {key}",
+    Reason.WEAK_DIGEST: "its signature uses a digest that is too weak, number {digest} of OpenPGP",
+    Reason.NO_KEY: "the list of members has no key for {elector}",
+    Reason.OTHER_KEY: "signed with the key {key}, and the list has {listed} for {elector}",
+    Reason.SIGNED_BEFORE_CALL: "signed at {time}, before the call for votes",
+    Reason.SIGNED_AHEAD: "signed at {time}, which was not yet when it arrived",
+    Reason.NO_MARK: "no line of what is signed is the mark of this vote, [{mark}]",
+}
+
+
+def for_secretary(because: Because) -> str:
+    """The reason as the secretary reads it, as a part of a sentence."""
+    values = {name: shown_value(value) for name, value in because.values}
+    return FOR_SECRETARY[because.reason].format(**values)
+
+
+def shown_value(value: Value) -> str:
+    if isinstance(value, datetime.datetime):
+        return f"{value.astimezone(datetime.UTC):%Y-%m-%d %H:%M:%S} UTC"
+    return str(value) if isinstance(value, int) else shown_text(value)
+
+
+# ---------------------------------------------------------------- for the elector
+UNCERTAIN = marked("The reason: its head or its parts can't be read with certainty. Send plain text alone.")
+LOOKED_AT = marked("The reason: the secretary has to look at it.")
+SIGNATURE_UNREAD = marked("The reason: its signature can't be checked.")
+ALONE = marked("The reason: the ballot is not the first line of it. Send the ballot alone, in a letter of its own.")
+
+FOR_ELECTOR = {
+    Reason.TAKEN_BACK: LOOKED_AT,
+    Reason.PUT_BACK: LOOKED_AT,
+    Reason.SET_ASIDE: marked("The reason: the secretary has looked at it, and set it aside."),
+    Reason.STRUCK: marked("The reason: the secretary has taken its ballot out again."),
+    Reason.PARTED_OFF: marked("The reason: it may be part of the letter before it."),
+    Reason.TOO_LONG: marked("The reason: it is too long. Send plain text alone."),
+    Reason.TOO_MANY_PARTS: UNCERTAIN,
+    Reason.AMBIGUOUS: UNCERTAIN,
+    Reason.DEFECT: UNCERTAIN,
+    Reason.ENCRYPTED: marked("The reason: it is encrypted, or packed so that it is not read."),
+    Reason.NO_PLAIN_TEXT: marked("The reason: it does not begin with plain text, and attachments are not read."),
+    Reason.CHARSET: marked("The reason: its charset is unknown. Send plain text in UTF-8."),
+    Reason.LINE_END: marked("The reason: nobody can tell where its lines end. Send plain text alone."),
+    Reason.HTML: marked("The reason: it has formats (HTML) with which it may look different than it reads. Send plain text alone."),
+    Reason.AUTOMATIC: marked("The reason: a program wrote it."),
+    Reason.NO_ARRIVAL: marked("The reason: nothing says when it arrived."),
+    Reason.BEFORE_CALL: marked("The reason: it arrived before the call for votes."),
+    Reason.AFTER_END: marked("The reason: it arrived after the end of the vote."),
+    Reason.AFTER_CLOSE: marked("The reason: it arrived after the vote was closed."),
+    Reason.IN_FUTURE: marked("The reason: the time of its arrival is in the future."),
+    Reason.NO_SENDER: marked("The reason: it does not come from one address alone."),
+    Reason.NO_ADDRESS: marked("The reason: the list of members has no address for the name on the ballot."),
+    Reason.OTHER_SENDER: marked("The reason: the list of members has another address for the name on the ballot."),
+    Reason.NO_BALLOT: marked("The reason: no line of it is a ballot of this vote."),
+    Reason.NO_NAME: marked("The reason: the ranks have no name before them."),
+    Reason.ELSEWHERE: ALONE,
+    Reason.QUOTED: ALONE,
+    Reason.NOT_FIRST: ALONE,
+    Reason.MUCH_ABOVE: ALONE,
+    Reason.JOINED: ALONE,
+    Reason.TWO_BALLOTS: marked("The reason: it has two ballots that differ."),
+    Reason.SEVERAL_ELECTORS: marked("The reason: it has ballots of several electors."),
+    Reason.OTHER_MARK: marked("The reason: it has the mark of another vote."),
+    Reason.LATER_BALLOT: marked("The reason: a later ballot of this elector is in already."),
+    Reason.SAME_TIME: marked("The reason: another ballot of this elector has the same time."),
+    Reason.CAME_BEFORE: marked("The reason: it came before, and another ballot of this elector has come since."),
+    Reason.NOT_SIGNED: marked("The reason: not signed."),
+    Reason.NOT_WHOLE: marked("The reason: it has more than what is signed."),
+    Reason.ODD_LINES: SIGNATURE_UNREAD,
+    Reason.BAD_SIGNATURE: marked("The reason: its signature is not that of this text."),
+    Reason.UNREAD_SIGNATURE: SIGNATURE_UNREAD,
+    Reason.SLOW_SIGNATURE: SIGNATURE_UNREAD,
+    Reason.EXPIRED_SIGNATURE: marked("The reason: its signature has expired."),
+    Reason.EXPIRED_KEY: marked("The reason: it is signed with a key that has expired."),
+    Reason.REVOKED_KEY: marked("The reason: it is signed with a key that was revoked."),
+    Reason.UNKNOWN_KEY: marked("The reason: it is signed with a key that the secretary does not have."),
+    Reason.WEAK_DIGEST: marked("The reason: its signature uses a digest that is too weak."),
+    Reason.NO_KEY: marked("The reason: the list of members has no key for the name on the ballot."),
+    Reason.OTHER_KEY: marked("The reason: it is signed with another key than the list of members has for the name on the ballot."),
+    Reason.SIGNED_BEFORE_CALL: marked("The reason: signed before the call for votes."),
+    Reason.SIGNED_AHEAD: marked("The reason: signed at a time that was not yet when it arrived."),
+    Reason.NO_MARK: marked(
+        "The reason: no line of what is signed is the mark of this vote, which is in the subject of the call, in square brackets."
+    ),
+}
+
+
+def for_elector(because: Because) -> Sentence:
+    """The reason as the elector reads it: a sentence of its own, to be translated."""
+    return sentence(FOR_ELECTOR[because.reason])

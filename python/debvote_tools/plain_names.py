@@ -1,0 +1,192 @@
+"""Plain names, by which debvote counts: made from names in any language. And which names people can't tell apart."""
+
+import collections
+import dataclasses
+import itertools
+import re
+import unicodedata
+from collections.abc import Collection, Mapping, Sequence
+
+from debvote_tools.terminal_text import LINE_ENDS, number_of, odd_sign, shown_text
+
+# how long a plain name may be, in bytes, and a name as people read it, in characters
+TITLE_LIMIT, OPTION_LIMIT, ELECTOR_LIMIT = 80, 40, 32
+SHOWN_LIMIT = 200
+
+PLAIN = re.compile(r"[!-~](?:[ -~]*[!-~])?")
+ELECTOR = re.compile(r"[a-z0-9.-]{1,%d}" % ELECTOR_LIMIT)
+
+# how each language spells letters that it has no accents on
+SPELLINGS: Mapping[str, Mapping[str, str]] = {"de": {"ä": "ae", "ö": "oe", "ü": "ue"}}
+
+# letters that Unicode does not take apart into a letter and its accent
+LETTERS = {"ß": "ss", "ø": "o", "ł": "l", "đ": "d", "ð": "d", "þ": "th", "æ": "ae", "œ": "oe", "ı": "i", "ħ": "h", "ŧ": "t"}
+
+# punctuation that ASCII has in another form
+PUNCTUATION = {
+    **dict.fromkeys("\u201c\u201d\u201e\u00ab\u00bb", '"'),
+    **dict.fromkeys("\u2018\u2019\u201a\u2039\u203a\u02bc\u00b4", "'"),
+    **dict.fromkeys("\u2010\u2011\u2012\u2013\u2014\u2212", "-"),
+    **{"\u00d7": "x", "\u2044": "/", "\u20ac": "EUR"},
+}
+
+# what nobody sees, beside format characters (Cf): fillers, joiners and the marks that choose the form of a character
+UNSEEN = {"\u034f", "\u115f", "\u1160", "\u17b4", "\u17b5", "\u2800", "\u3164", "\uffa0"}
+UNSEEN |= {chr(number) for number in (*range(0xFE00, 0xFE10), *range(0xE0100, 0xE01F0))}
+
+# these make another letter in Japanese, and are no accents
+VOICED = "\u3099\u309a"
+
+# what turns the text around it, beside the characters that no plain text has
+REFUSED = f"{LINE_ENDS}\ufff9\ufffa\ufffb"
+
+
+# ---------------------------------------------------------------- plain text
+def without_accents(text: str, language: str) -> str:
+    """The text with plain letters for those with accents, as the language spells them. Letters of other scripts stay.
+
+    `find.js` does the same with the real name that an elector types.
+    """
+    if text.isascii():
+        return text
+    table = {**PUNCTUATION, **LETTERS, **SPELLINGS.get(language, {})}
+    parts = unicodedata.normalize("NFKD", spelled_by(table, unicodedata.normalize("NFC", text)))
+    return spelled_by(table, "".join(part for part in parts if not unicodedata.category(part).startswith("M")))
+
+
+def spelled_by(table: Mapping[str, str], text: str) -> str:
+    """The text with the letters of the table spelled as it says: Ä is Ae, and AE within capital letters."""
+    around = zip(f" {text}", text, f"{text[1:]} ")
+    return "".join(spelling(table, *letters) if letters[1].lower() in table else letters[1] for letters in around)
+
+
+def spelling(table: Mapping[str, str], before: str, letter: str, after: str) -> str:
+    """How a letter of the table is spelled between two others."""
+    spelled = table[letter.lower()]
+    if not letter.isupper():
+        return spelled
+    is_in_capitals = after.isupper() or (before.isupper() and not after.isalpha())
+    return spelled.upper() if is_in_capitals else spelled.capitalize()
+
+
+def is_plain(text: str, limit: int) -> bool:
+    """Whether debvote takes a text as a name of at most this many bytes."""
+    return len(text) <= limit and PLAIN.fullmatch(text) is not None
+
+
+def plain_text(text: str, language: str, limit: int) -> str:
+    """The text as it is where it is plain already, or its plain form; empty if no letter and no digit is left."""
+    if is_plain(text, limit):
+        return text
+    words = re.sub(r"[^!-~]+", " ", without_accents(text, language)).strip()
+    return words[:limit].strip() if re.search(r"[A-Za-z0-9]", words[:limit]) else ""
+
+
+def made_different(bases: Sequence[str], taken: Collection[str], limit: int, joint: str) -> list[str]:
+    """A name for each base, none of which looks like another or one that is taken.
+
+    Of equal bases each gets a number: a ballot for the bare name could be meant for either.
+    """
+    used = {alike(name) for name in taken}
+    several = {form for form, count in collections.Counter(map(alike, bases)).items() if count > 1}
+    # next to one who has the bare name already comes the second
+    numbers = {form: itertools.count(2 if form in used else 1) for form in {*map(alike, bases)}}
+    names = []
+    for base in bases:
+        name, form = base, alike(base)
+        while alike(name) in used or (name == base and form in several):
+            name = with_number(base, next(numbers[form]), limit, joint)
+        used.add(alike(name))
+        names.append(name)
+    return names
+
+
+def with_number(base: str, number: int, limit: int, joint: str) -> str:
+    """The base with a number at its end, cut to the limit."""
+    end = f"{joint}{number}"
+    return base[: limit - len(end)].rstrip(" -") + end
+
+
+# ---------------------------------------------------------------- the poll
+def plain_title(title: str, language: str) -> str:
+    """The plain form of a title. An empty one stays empty, so that it is refused."""
+    return plain_text(title, language, TITLE_LIMIT) or ("Vote" if title else "")
+
+
+def plain_options(names: Sequence[str], language: str) -> list[str]:
+    """The plain names of all options, the default last. An empty name stays empty, so that it is refused."""
+    is_kept = [not name or is_plain(name, OPTION_LIMIT) for name in names]
+    bases = [
+        plain_text(name, language, OPTION_LIMIT) or f"Option {number}"
+        for number, name in enumerate(names, start=1)
+        if not is_kept[number - 1]
+    ]
+    kept = [name for name, keeps in zip(names, is_kept) if keeps]
+    made = iter(made_different(bases, kept, OPTION_LIMIT, " "))
+    return [name if keeps else next(made) for name, keeps in zip(names, is_kept)]
+
+
+# ---------------------------------------------------------------- electors
+def elector_name(text: str, language: str) -> str:
+    """A name as a roll allows it, or an empty text where nothing is left."""
+    letters = re.sub(r"[^a-z0-9.-]+", "-", without_accents(text, language).lower())
+    name = letters.strip("-")[:ELECTOR_LIMIT].strip("-")
+    return name if re.search(r"[a-z0-9]", name) else ""
+
+
+def is_elector_name(name: str) -> bool:
+    return ELECTOR.fullmatch(name) is not None
+
+
+# ---------------------------------------------------------------- names that people read
+@dataclasses.dataclass(frozen=True)
+class BadName:
+    """Why a name is refused as people would read it. Options are numbered from 1; the title is 0."""
+
+    number: int
+    name: str
+    reason: str
+
+
+def alike(text: str) -> str:
+    """The text without case, accents, blanks and unseen characters: names with one such form look alike."""
+    if text.isascii():
+        return "".join(text.split()).lower()
+    characters = unicodedata.normalize("NFKD", text.casefold())
+    return "".join(filter(is_told_apart, characters)).casefold()
+
+
+def is_told_apart(character: str) -> bool:
+    """Whether people tell names apart by this character."""
+    if character.isspace() or unicodedata.category(character) == "Cf" or character in UNSEEN:
+        return False
+    return not unicodedata.combining(character) or character in VOICED
+
+
+def bad_title(title: str) -> list[BadName]:
+    return [BadName(0, title, reason) for reason in bad_characters(title)]
+
+
+def bad_options(names: Sequence[str], plain_names: Sequence[str]) -> list[BadName]:
+    """Which names of options people can't read or tell apart. That two plain names are equal debvote says itself."""
+    found = [BadName(number, name, reason) for number, name in enumerate(names, start=1) for reason in bad_characters(name)]
+    options = [(number, *pair) for number, pair in enumerate(zip(names, plain_names), start=1)]
+    for (first, first_name, first_plain), (second, second_name, second_plain) in itertools.combinations(options, 2):
+        like = {alike(first_plain): "the plain name of ", alike(first_name): ""}.get(alike(second_name))
+        if like is not None and alike(second_name) and first_plain != second_plain:
+            reason = f"it looks like {like}option {first}, `{shown_text(first_name)}`, but for case, accents, blanks or unseen characters"
+            found.append(BadName(second, second_name, reason))
+    return found
+
+
+def bad_characters(name: str) -> list[str]:
+    """What is wrong with a name by itself, in words."""
+    reasons = []
+    odd = odd_sign(name, refused=REFUSED)
+    if odd is not None:
+        reasons.append(f"it has the character {number_of(odd)}, which steers a terminal or turns the direction of a text")
+    if len(name) > SHOWN_LIMIT:
+        reasons.append(f"it has {len(name)} characters, {SHOWN_LIMIT} are the most")
+    if name and not alike(name):
+        reasons.append("it has no character that one sees")
+    return reasons

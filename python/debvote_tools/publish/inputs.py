@@ -1,0 +1,185 @@
+"""What a published folder is made from beside the answers of debvote: one value, made of two files or of the book of an election."""
+
+import dataclasses
+import datetime
+from collections.abc import Mapping
+from html import escape
+
+from debvote_tools.language import ENGLISH, Language
+from debvote_tools.publish.doubts import Doubt
+from debvote_tools.sealed_poll import SealedPoll
+
+
+@dataclasses.dataclass(frozen=True)
+class CastingVote:
+    """The plain name of the option that it chooses; whose it was, and the day on which it was given, where that is said."""
+
+    option: str
+    by: str | None = None
+    on: datetime.date | None = None
+
+
+# ---------------------------------------------------------------- acts
+@dataclasses.dataclass(frozen=True)
+class Act:
+    """Something that was done in an election, at a time by the clock of the secretary's computer."""
+
+    time: datetime.datetime
+
+
+@dataclasses.dataclass(frozen=True)
+class Called(Act):
+    until: datetime.datetime | None
+
+
+@dataclasses.dataclass(frozen=True)
+class TakenBack(Act):
+    """The call before this act was taken back."""
+
+
+@dataclasses.dataclass(frozen=True)
+class Extended(Act):
+    until: datetime.datetime
+
+
+@dataclasses.dataclass(frozen=True)
+class KeyringChanged(Act):
+    """Newer keys of the electors were taken."""
+
+
+@dataclasses.dataclass(frozen=True)
+class RollChanged(Act):
+    """After the call this many electors got other addresses or keys."""
+
+    electors: int
+
+
+@dataclasses.dataclass(frozen=True)
+class Struck(Act):
+    """An envelope was struck. The reason is None where it is not published."""
+
+    envelope: int
+    because: str | None
+
+
+@dataclasses.dataclass(frozen=True)
+class Closed(Act):
+    """A close: the lines in time, and the checksum that it fixed.
+
+    `waiting` are the letters that had arrived in time and were left waiting, `after_end` those that had arrived after the end. `came` and `struck` are the lines that came in or were struck since the close before, where there was one.
+    """
+
+    lines: int
+    checksum: str
+    is_early: bool = False
+    waiting: int = 0
+    after_end: int = 0
+    because: str | None = None
+    came: int | None = None
+    struck: int | None = None
+
+
+@dataclasses.dataclass(frozen=True)
+class Reopened(Act):
+    because: str | None
+
+
+@dataclasses.dataclass(frozen=True)
+class Moved(Act):
+    """The book was taken for the right one, though this computer knew another. None of `noted`: it knew none."""
+
+    noted: int | None
+    there: int
+    because: str | None
+
+
+@dataclasses.dataclass(frozen=True)
+class ClockWentBack(Act):
+    """The act before has a later time."""
+
+    before: datetime.datetime
+
+
+# ---------------------------------------------------------------- the one value
+@dataclasses.dataclass(frozen=True)
+class Chronicle:
+    """What the book of an election says of its course."""
+
+    acts: tuple[Act, ...]
+    # the end as it is, with the offset in which it was announced; None if none was
+    until: datetime.datetime | None = None
+    # lines that came after the end, and count since the vote was not closed
+    after_the_end: int = 0
+
+
+@dataclasses.dataclass(frozen=True)
+class SecretVote:
+    """What is known of a secret vote, and is not published as it is."""
+
+    # the codes beside the names, of which none gets into the folder
+    codes: frozenset[str]
+    # the random line of the last close, if it made one
+    seal: str | None
+    # the sheet of the private files, and how many lines were entered after the close
+    sheet_text: str
+    late: int
+    # the electors whose votes a comparison with the last publication would show
+    compared: tuple[str, ...] = ()
+
+
+@dataclasses.dataclass(frozen=True)
+class Publication:
+    """All that a published folder is made from, beside what debvote says of poll and ballots."""
+
+    poll: SealedPoll
+    # the lines in time
+    ballots: bytes
+    language: Language = ENGLISH
+    casting: CastingVote | None = None
+    desks: int = 1
+    # of two files: the checksum of the file that was given as the poll
+    given_checksum: str | None = None
+    # None of two files
+    chronicle: Chronicle | None = None
+    # in a vote that is not secret: the lines that were entered after the close
+    late: bytes | None = None
+    # the letter of the last close
+    closed: bytes | None = None
+    # the real names by the names on the roll, where they are published
+    real_names: Mapping[str, str] = dataclasses.field(default_factory=dict)
+    # texts of those who publish
+    about: str | None = None
+    because: str | None = None
+    # whether the doubts are published, and those that are known before the count
+    is_forced: bool = False
+    doubts: tuple[Doubt, ...] = ()
+    secret: SecretVote | None = None
+    # whether the names on the roll are codes, of which nobody has a list
+    has_codes: bool = False
+
+    @property
+    def is_secret(self) -> bool:
+        """Whether the ballots stand under aliases or codes."""
+        return self.poll.secret
+
+    @property
+    def casting_option(self) -> str | None:
+        return None if self.casting is None else self.casting.option
+
+    @property
+    def default(self) -> int:
+        """The number of the default option."""
+        return len(self.poll.names)
+
+    def title(self) -> str:
+        """What the election is called on the page, in HTML."""
+        return shown(self.poll.name, self.poll.title)
+
+    def name(self, option: int) -> str:
+        """What an option is called on the page, in HTML."""
+        return shown(self.poll.names[option - 1], self.poll.plain_names[option - 1])
+
+
+def shown(name: str, plain_name: str) -> str:
+    """A name in HTML. One that is not plain may be written from right to left, and turns nothing around it."""
+    return escape(name) if name == plain_name else f"<bdi>{escape(name)}</bdi>"

@@ -1,0 +1,42 @@
+"""What the public sees of a secret vote: aliases in place of names, and the ballots under them.
+
+An alias follows from the name and the code of its elector, so the elector finds it again, and nobody else does.
+"""
+
+import hmac
+import secrets
+from collections.abc import Mapping
+
+from debvote_tools.ballots import in_normal_form
+from debvote_tools.files import sha256_of
+from debvote_tools.sealed_poll import SealedPoll, with_roll
+
+ALIAS_LENGTH = 32
+
+
+def alias_of(code: str, name: str) -> str:
+    """The alias of an elector: the first 32 hex digits of HMAC-SHA-256, with the code's text as key and the name as message."""
+    return hmac.new(code.encode(), name.encode(), "sha256").hexdigest()[:ALIAS_LENGTH]
+
+
+def aliased_poll(poll: SealedPoll, aliases: Mapping[str, str]) -> SealedPoll:
+    """The poll with aliases on its roll, in the order of their bytes, so that the order tells no name."""
+    return with_roll(poll, sorted(aliases[name] for name in poll.roll))
+
+
+def aliased_ballots(standing: Mapping[str, str], aliases: Mapping[str, str]) -> bytes:
+    """The ballots that stand, in the order of the aliases, with their ranks in normal form.
+
+    `standing` has the ranks by name. Ranks such as 17,33,99 would be a mark by which a buyer of votes finds the ballot again.
+    """
+    return "".join(sorted(f"{aliases[name]} {in_normal_form(ranks)}\n" for name, ranks in standing.items())).encode()
+
+
+def seal_line() -> str:
+    """Draws the line that keeps the checksum of the close from telling the ballots: without it, few ballots could be guessed."""
+    return secrets.token_hex(16)
+
+
+def sealed_checksum(seal: str, ballots: bytes) -> str:
+    """The checksum that the close tells: that of the line of the seal, followed by the ballots."""
+    return sha256_of(seal.encode() + b"\n" + ballots)

@@ -1,0 +1,39 @@
+"""How an elector checks in a secret vote, and what a secret vote cannot hide: the page, the slips and the call say the same."""
+
+from debvote_tools.sentences import marked
+
+# what an elector types to find their alias; the first asks for both, so that no history of commands keeps the code
+BY_PYTHON = "python3 -I -c \"import hmac; print(hmac.new(input('Code: ').replace(' ', '').encode(), input('Name: ').encode(), 'sha256').hexdigest()[:32])\""
+BY_OPENSSL = "printf %s NAME | openssl dgst -sha256 -hmac CODE -r | cut -c1-32"
+
+# the part of the page of the result where an elector types name and code
+FIND = marked("Find your ballot")
+
+ALIAS = marked(
+    "An alias is made of the name and the secret code of its elector: it is the first 32 digits of HMAC-SHA-256, with the text "
+    "of the code as key and the name as message."
+)
+
+REMAINS = (
+    marked("The secretary knows how each elector voted, since ballots came with names."),
+    marked("With few voters, or where all are of one mind, the numbers of the sheet alone tell how somebody voted."),
+    marked(
+        "Whoever shows their code shows their vote. Of the ranks their order alone is published: 17,33,99 becomes 1,2,3. What is left "
+        "to know a ballot by is the order, which options are equal, and which are not ranked: where an elector tells somebody "
+        "beforehand of an unusual order of many options, that ballot is found."
+    ),
+    marked(
+        "Two electors who have each a name of their own cannot take one ballot for theirs: an alias is made of the "
+        "name. So look whether the name on your slip is yours alone: one that could be somebody else's may be on two "
+        "slips."
+    ),
+    marked(
+        "Ballots come without the codes, so a code does not show who sent a ballot. Whoever votes in the name of another is found "
+        "out where that elector looks."
+    ),
+    marked(
+        "Whoever keeps the web site can show each reader another folder: compare the checksum of ballots.txt with other electors, or "
+        "with one that the secretary sends by letter."
+    ),
+    marked("That there is a person behind each alias is not seen here: compare the number of electors with the list of members."),
+)

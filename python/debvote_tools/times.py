@@ -1,0 +1,141 @@
+"""Times and dates in words, and the time that `call --until` is given."""
+
+import datetime
+import re
+import zoneinfo
+
+from debvote_tools.faults import Fault, Status
+from debvote_tools.language import ENGLISH, Language
+from debvote_tools.sentences import marked
+
+DAYS = (
+    marked("Monday"),
+    marked("Tuesday"),
+    marked("Wednesday"),
+    marked("Thursday"),
+    marked("Friday"),
+    marked("Saturday"),
+    marked("Sunday"),
+)
+MONTHS = (
+    marked("January"),
+    marked("February"),
+    marked("March"),
+    marked("April"),
+    marked("May"),
+    marked("June"),
+    marked("July"),
+    marked("August"),
+    marked("September"),
+    marked("October"),
+    marked("November"),
+    marked("December"),
+)
+
+# what --until takes: a date, a time of day, and an offset if the zone is not given otherwise
+TIME = re.compile(r"(\d{4}-\d\d-\d\d)[ T]+(\d\d:\d\d(?::\d\d)?)\s*(Z|UTC|[+-]\d\d:?\d\d)?", re.ASCII)
+HOW = 'write it as "2026-12-04 18:00", as "2026-12-04 18:00 +01:00", or with --zone Europe/Berlin'
+
+
+def now() -> datetime.datetime:
+    """The time by the clock of this computer, in whole seconds."""
+    return datetime.datetime.now(datetime.UTC).replace(microsecond=0)
+
+
+# ---------------------------------------------------------------- in words
+def time_in_words(time: datetime.datetime, language: Language = ENGLISH) -> str:
+    """A time with its offset, as `Friday, 4 December 2026, 18:00 (UTC+01:00)`. The seconds are left out if they are 0."""
+    return language.say(
+        "{weekday}, {date}, {clock} ({offset})",
+        weekday=language.say(DAYS[time.weekday()]),
+        date=date_in_words(time, language),
+        clock=time.strftime("%H:%M:%S" if time.second else "%H:%M"),
+        offset=offset_in_words(time),
+    )
+
+
+def minute_in_words(time: datetime.datetime, zone: datetime.tzinfo | None) -> str:
+    """A time to the minute, as the clock of a zone shows it: it stands beside another time of that zone."""
+    return time_in_words(time.astimezone(zone).replace(second=0))
+
+
+def date_in_words(date: datetime.date, language: Language = ENGLISH) -> str:
+    """A day, as `4 December 2026`. Some languages have another form for the first of a month."""
+    month = language.say(MONTHS[date.month - 1])
+    if date.day == 1:
+        return language.say("1 {month} {year}", month=month, year=date.year)
+    return language.say("{day} {month} {year}", day=date.day, month=month, year=date.year)
+
+
+def offset_in_words(time: datetime.datetime) -> str:
+    """The offset of a time, as `UTC+01:00`."""
+    offset = time.strftime("%z")
+    return "UTC" if not time.utcoffset() else f"UTC{offset[:3]}:{offset[3:5]}"
+
+
+# ---------------------------------------------------------------- --until
+def parse_until(text: str, zone: str | None) -> datetime.datetime:
+    """The time that `--until` and `--zone` name. Its offset is its own, that of the zone, or that of this computer.
+
+    Raises `Fault` if it has another form, if there is no such time, or if that clock shows it twice on that day.
+    """
+    parts = TIME.fullmatch(text.strip())
+    if parts is None:
+        raise refused("it has to be a time", HOW)
+    date, clock, offset = parts.groups()
+    try:
+        plain = datetime.datetime.fromisoformat(f"{date} {clock}")
+        return in_zone(plain, zone) if offset is None else with_offset(plain, offset, zone)
+    except (ValueError, OverflowError):
+        raise refused("there is no such day or time of day (a day goes from 00:00 to 23:59)", HOW) from None
+
+
+def demand_future(time: datetime.datetime, now: datetime.datetime) -> None:
+    """Raises `Fault` if the time is over."""
+    if time <= now:
+        clock = minute_in_words(now, time.tzinfo)
+        reason = f"{time_in_words(time)} is over: by the clock of this computer it is {clock}"
+        raise refused(reason, "write a time that is to come")
+
+
+def with_offset(plain: datetime.datetime, offset: str, zone: str | None) -> datetime.datetime:
+    """The time with the offset that is written after it."""
+    if zone is not None:
+        reason = "the time has an offset already"
+        raise Fault("--zone", reason, "leave out one of the two", Status.BAD_WORDS, "nothing was changed")
+    return plain.replace(tzinfo=datetime.UTC if offset in ("Z", "UTC") else datetime.datetime.strptime(offset, "%z").tzinfo)
+
+
+def in_zone(plain: datetime.datetime, name: str | None) -> datetime.datetime:
+    """The time of a clock in a zone, or of the clock of this computer. The clock has to show it just once."""
+    zone = None if name is None else zone_of(name)
+    first, second = (aware(plain.replace(fold=fold), zone) for fold in (0, 1))
+    is_shown = any(time.astimezone(datetime.UTC).astimezone(zone).replace(tzinfo=None) == plain for time in (first, second))
+    where = "where this computer is" if name is None else f"in {name}"
+    if not is_shown:
+        raise refused(f"{where} there is no such time: on that day clocks are put forward over it", "write another time")
+    if first.utcoffset() != second.utcoffset():
+        offsets = [offset_in_words(time).removeprefix("UTC") or "UTC" for time in (first, second)]
+        both = " or ".join(f'"{plain:%Y-%m-%d %H:%M} {offset}"' for offset in offsets)
+        raise refused(f"{where} this time comes twice, since on that day clocks are put back", f"write {both}")
+    # a fixed offset in place of the zone: what is written down says the same on each computer
+    return datetime.datetime.fromisoformat(first.isoformat(timespec="seconds"))
+
+
+def aware(plain: datetime.datetime, zone: datetime.tzinfo | None) -> datetime.datetime:
+    """The time of a clock in a zone; without a zone, in that of this computer."""
+    return plain.astimezone() if zone is None else plain.replace(tzinfo=zone)
+
+
+def zone_of(name: str) -> zoneinfo.ZoneInfo:
+    """A time zone by its name."""
+    try:
+        return zoneinfo.ZoneInfo(name)
+    except (zoneinfo.ZoneInfoNotFoundError, ValueError, OSError):
+        reason = "this computer knows no time zone of this name"
+        cure = "write one as Europe/Berlin, or give the offset in the time, as +01:00"
+        raise Fault("--zone", reason, cure, Status.BAD_WORDS, "nothing was changed") from None
+
+
+def refused(reason: str, cure: str) -> Fault:
+    return Fault("--until", reason, cure, Status.BAD_WORDS, "nothing was changed")

@@ -1,0 +1,237 @@
+"""Secret votes by their parts: codes and aliases, what is published under aliases, the seal of the close, the slips and the table."""
+
+import csv
+import dataclasses
+import datetime
+import hashlib
+import html
+import io
+import pathlib
+import re
+import shutil
+import subprocess
+import sys
+import tempfile
+import unittest
+import unittest.mock
+
+from at_browser import BROWSER, Window
+
+sys.path.insert(0, str(pathlib.Path(__file__).resolve().parents[2] / "python"))
+
+from debvote_tools.language import LANGUAGES, language_of  # noqa: E402
+from debvote_tools.sealed_poll import SealedPoll, read_plain  # noqa: E402
+from debvote_tools.secret.aliases import alias_of, aliased_ballots, aliased_poll, seal_line, sealed_checksum  # noqa: E402
+from debvote_tools.secret.codes import NUMBER, CodeRow, codes_csv, looks_like_code, new_code  # noqa: E402
+from debvote_tools.secret.slips import Slip, SlipsData, slips  # noqa: E402
+from debvote_tools.secret.words import BY_OPENSSL, BY_PYTHON  # noqa: E402
+
+ROLL = ("ada", "ben", "cleo", "dan")
+CODES = {name: f"{number:x}" * 32 for number, name in enumerate(ROLL, start=10)}
+ALIASES = {name: alias_of(code, name) for name, code in CODES.items()}
+POLL = SealedPoll(
+    title="Where we meet",
+    options=("At the lake", "72 Euro"),
+    ratios=(1, 3),
+    default="None of the above",
+    quorum=1,
+    roll=ROLL,
+    deadline="2026-12-04T18:00:00+01:00",
+    secret=True,
+    explanations=("Nice", ""),
+)
+UNTIL = datetime.datetime(2026, 12, 4, 18, tzinfo=datetime.timezone(datetime.timedelta(hours=1)))
+SLIPS = SlipsData(language_of("en"), POLL, [Slip(name, f"{name.title()} L.", CODES[name]) for name in ROLL], UNTIL, "v@example.org")
+WITH_CODES = dataclasses.replace(SLIPS, slips=[Slip(code, "", code) for code in CODES.values()], is_codes_on_roll=True)
+
+
+def run(*words: str, given: str = "") -> str:
+    """What a command answers that has to end well."""
+    return subprocess.run(words, input=given, capture_output=True, text=True, check=True).stdout
+
+
+class Codes(unittest.TestCase):
+    def test_the_alias_is_the_one_that_an_elector_finds(self) -> None:
+        for name, code in CODES.items():
+            command = BY_OPENSSL.replace("NAME", name).replace("CODE", code)
+            self.assertEqual(run("sh", "-c", command), ALIASES[name] + "\n")
+            spaced = " ".join(re.findall("....", code))
+            self.assertEqual(run("sh", "-c", BY_PYTHON, given=f"{spaced}\n{name}\n"), f"Code: Name: {ALIASES[name]}\n")
+        self.assertNotEqual(alias_of(CODES["ada"], "ben"), ALIASES["ada"])
+
+    def test_codes_are_sixteen_bytes_of_the_generator_that_nobody_can_guess(self) -> None:
+        with unittest.mock.patch("secrets.token_hex", return_value="c" * 32) as drawn:
+            self.assertEqual(new_code("ada"), "c" * 32)
+        drawn.assert_called_once_with(16)
+        codes = [new_code() for _ in range(50)]
+        self.assertEqual(len({code[start : start + 8] for code in codes for start in range(0, 32, 8)}), 200)
+        self.assertTrue(all(re.fullmatch("[0-9a-f]{32}", code) for code in codes))
+
+    def test_no_code_and_no_alias_can_be_taken_for_a_number(self) -> None:
+        good = "a" * 32
+        for bad in ("1" * 32, "1234e567" + "0" * 24):
+            with unittest.mock.patch("secrets.token_hex", side_effect=[bad, good]):
+                self.assertEqual(new_code("ada"), good)
+        with unittest.mock.patch("debvote_tools.secret.codes.alias_of", side_effect=["2" * 32, "12e" + "4" * 29, "b" * 32]) as made:
+            code = new_code("ada")
+        self.assertEqual([call.args[1] for call in made.call_args_list], ["ada"] * 3)
+        self.assertEqual(made.call_args.args[0], code)
+        self.assertFalse(NUMBER.fullmatch("12a4"))
+
+    def test_what_looks_like_a_code(self) -> None:
+        for code in ("0123456789abcdef" * 2, "0123 4567 89AB CDEF " * 2, "a" * 16 + "-\n" + "B" * 16, ALIASES["ada"]):
+            self.assertTrue(looks_like_code(code), code)
+        for other in ("", "ada", "a" * 31, "a" * 33, "g" * 32, "a" * 32 + "_", "\u0661" * 32, f"{'a' * 32} 1,2,3"):
+            self.assertFalse(looks_like_code(other), other)
+
+
+class Published(unittest.TestCase):
+    """What is published under aliases."""
+
+    def test_the_poll_has_aliases_in_an_order_that_tells_no_name(self) -> None:
+        poll = aliased_poll(POLL, ALIASES | {"eve": "0" * 32})
+        self.assertEqual(poll.roll, tuple(sorted(ALIASES.values())))
+        self.assertNotEqual(list(poll.roll), list(ALIASES.values()))
+        self.assertEqual(dataclasses.replace(poll, roll=ROLL), POLL)
+        self.assertEqual(read_plain(poll.as_bytes()), poll)
+        self.assertEqual([text for text in (*ROLL, *CODES.values()) if text in poll.as_bytes().decode()], [])
+        with self.assertRaises(KeyError):
+            aliased_poll(POLL, {"ada": ALIASES["ada"]})
+
+    def test_the_ballots_are_in_normal_form_and_in_the_order_of_aliases(self) -> None:
+        standing = {"ada": "17,33,99", "dan": "2,-,2", "ben": "-,-,-", "cleo": "3,1,2"}
+        wanted = {"ada": "1,2,3", "dan": "1,-,1", "ben": "-,-,-", "cleo": "3,1,2"}
+        lines = aliased_ballots(standing, ALIASES).decode().splitlines(keepends=True)
+        self.assertEqual(lines, sorted(f"{ALIASES[name]} {ranks}\n" for name, ranks in wanted.items()))
+        # whoever has no ballot has no line, and each line is of its own elector
+        self.assertEqual(aliased_ballots({"ben": "2,1,3"}, ALIASES), f"{ALIASES['ben']} 2,1,3\n".encode())
+        self.assertEqual(aliased_ballots({}, ALIASES), b"")
+
+    def test_the_seal(self) -> None:
+        seals = {seal_line() for _ in range(20)}
+        self.assertEqual(len(seals), 20)
+        self.assertTrue(all(re.fullmatch("[0-9a-f]{32}", seal) for seal in seals))
+        ballots, seal = aliased_ballots({"ben": "2,1,3", "ada": "1,2,3"}, ALIASES), seals.pop()
+        self.assertEqual(sealed_checksum(seal, ballots), hashlib.sha256(f"{seal}\n".encode() + ballots).hexdigest())
+        # as a reader types it
+        with tempfile.TemporaryDirectory(prefix="debvote-seal-") as name:
+            folder = pathlib.Path(name)
+            (folder / "seal.txt").write_text(f"{seal}\n")
+            (folder / "ballots.txt").write_bytes(ballots)
+            answer = run("sh", "-c", f"cd {folder} && cat seal.txt ballots.txt | sha256sum")
+        self.assertEqual(answer, f"{sealed_checksum(seal, ballots)}  -\n")
+        self.assertNotEqual(sealed_checksum(seals.pop(), ballots), sealed_checksum(seal, ballots))
+
+
+class Slips(unittest.TestCase):
+    def each(self, data: SlipsData) -> list[str]:
+        """The slips as they are read, each blank as one space."""
+        page = slips(data).decode()
+        self.assertEqual(slips(data), page.encode())
+        parts = page.split('<section class="slip">')[1:]
+        return [" ".join(html.unescape(re.sub("<[^>]*>", "", part.partition("</section>")[0])).split()) for part in parts]
+
+    def test_each_has_what_is_of_its_elector_and_nothing_of_another(self) -> None:
+        for slip, text in zip(SLIPS.slips, self.each(SLIPS), strict=True):
+            for part in (f"{slip.who} Where we meet Name{slip.name} Code{slip.code} ", f"{slip.name} _,_,_", BY_PYTHON):
+                self.assertIn(part, text)
+            others = [other for other in SLIPS.slips if other != slip]
+            found = [word for other in others for word in dataclasses.astuple(other) if re.search(rf"\b{re.escape(word)}\b", text)]
+            self.assertEqual(found, [])
+            self.assertEqual([alias for alias in ALIASES.values() if alias in text], [])
+
+    def test_what_all_have(self) -> None:
+        said = "Until whenFriday, 4 December 2026, 18:00 (UTC+01:00) Send your ballot tov@example.org "
+        options = "The options: Option 1: At the lake; Option 2: 72 Euro; Option 3: None of the above."
+        example = "For example, the ranks 2,1,3 say: 72 Euro, then At the lake, then None of the above."
+        for text in self.each(SLIPS):
+            for part in (said, options, example, "The code is no part of your ballot", "Whoever sees your code can see how you voted."):
+                self.assertIn(part, text)
+        for text in self.each(dataclasses.replace(SLIPS, at="https://example.org/vote/")):
+            self.assertIn(f"{said}The page of the votehttps://example.org/vote/ ", text)
+        for text in self.each(dataclasses.replace(SLIPS, until=None, to=None)):
+            self.assertIn("Until whenas the call for votes says Send your ballot toas the call for votes says", text)
+        shown = dataclasses.replace(POLL, shown_title="Wohin?", shown_options=("Am See", "72 \u20ac", "Keine"))
+        for text in self.each(dataclasses.replace(SLIPS, poll=shown)):
+            self.assertIn("Option 1: Am See; Option 2: 72 \u20ac; Option 3: Keine.", text)
+            self.assertIn("L. Wohin? Name", text)
+            self.assertIn("the ranks 2,1,3 say: 72 \u20ac, then Am See, then Keine.", text)
+
+    def test_with_codes_on_the_roll_nobody_has_a_name(self) -> None:
+        for code, text in zip(CODES.values(), self.each(WITH_CODES), strict=True):
+            self.assertIn(f"Where we meet Code{code} Until when", text)
+            self.assertIn(f"{code} _,_,_", text)
+            self.assertIn("your ballot in it under your code", text)
+            self.assertNotRegex(text, r"(?i)\bname\b|alias|hmac")
+            self.assertEqual([other for other in CODES.values() if other in text], [code])
+        self.assertIn("let each elector draw one", slips(WITH_CODES).decode())
+        # a slip without a real name has the name on the roll in its place
+        bare = dataclasses.replace(SLIPS, slips=[Slip("ada", "", CODES["ada"])])
+        self.assertTrue(self.each(bare)[0].startswith("ada Where we meet Nameada Code"))
+
+    def test_hostile_texts_are_texts(self) -> None:
+        texts = ["<script>alert(1)</script>", '" onload="x', "\u05d0\u05d1 & {title} %s </bdi></section>"]
+        poll = dataclasses.replace(POLL, shown_title=texts[0], shown_options=tuple(texts))
+        for code in LANGUAGES:
+            data = dataclasses.replace(SLIPS, language=language_of(code), poll=poll)
+            data = dataclasses.replace(data, slips=[Slip(name, who, CODES[name]) for name, who in zip(ROLL, texts)])
+            page = slips(data).decode()
+            self.assertIn(f'<html lang="{code}">', page)
+            self.assertNotRegex(page, r"<script| onload=\"x|%s </bdi></section>")
+            self.assertEqual(page.count("<section"), 3)
+            for who in texts:
+                self.assertIn(f"<h2><bdi>{html.escape(who).replace('&quot;', '&#34;')}</bdi></h2>", page)
+            if shutil.which("tidy"):
+                ended = subprocess.run(["tidy", "-q", "-e"], input=page.encode(), capture_output=True)
+                self.assertEqual((ended.stderr.decode(), ended.returncode), ("", 0))
+
+    @unittest.skipUnless(BROWSER, "chromium is not installed")
+    def test_they_fit_a_narrow_window_and_no_slip_is_printed_over_two_pages(self) -> None:
+        with tempfile.TemporaryDirectory(prefix="debvote-slips-") as folder, Window(390, 800) as window:
+            for code in LANGUAGES:
+                for data in (SLIPS, WITH_CODES):
+                    file = pathlib.Path(folder) / f"{code}-{data.is_codes_on_roll}.html"
+                    file.write_bytes(slips(dataclasses.replace(data, language=language_of(code))))
+                    window.open(file)
+                    self.assertEqual(window.ask("document.documentElement.scrollWidth"), 390)
+            style = "getComputedStyle(document.querySelector('.slip'))"
+            self.assertEqual(window.ask(f"{style}.breakInside"), "avoid")
+            # the code is one word where it is copied
+            copied = "(() => { getSelection().selectAllChildren(document.querySelector('.code')); return String(getSelection()); })()"
+            self.assertEqual(window.ask(copied), CODES["ada"])
+
+
+class Table(unittest.TestCase):
+    """The table of codes."""
+
+    def cells(self, row: CodeRow) -> list[str]:
+        head, cells = csv.reader(io.StringIO(codes_csv([row]).decode(), newline=""))
+        self.assertEqual(head, ["name", "who", "mail", "code", "alias"])
+        return cells
+
+    def test_each_elector_has_a_row(self) -> None:
+        rows = [CodeRow(name, f'{name.title()} "\u00c9", jr.', "", CODES[name], ALIASES[name]) for name in ROLL]
+        found = list(csv.DictReader(io.StringIO(codes_csv(iter(rows)).decode())))
+        self.assertEqual(found, [dataclasses.asdict(row) for row in rows])
+        self.assertEqual(codes_csv([]), b"name,who,mail,code,alias\n")
+
+    def test_a_spreadsheet_runs_no_cell(self) -> None:
+        for cell in ("=1+1", "@SUM(A1)", "+cmd|'/c calc'!A0", "-2+3", "\t=1", "\u200b\ufeff=1", "\uff1dHYPERLINK(1)", "\uff0b1+a", "\uff20x", "  =x"):
+            with self.subTest(cell=cell):
+                found = self.cells(CodeRow("ada", cell, f"a{cell}", CODES["ada"], ALIASES["ada"]))
+                # behind a tab a cell may begin, for a spreadsheet that splits there
+                self.assertTrue(found[1].startswith("'"), found)
+                self.assertEqual(found[1].replace("'", ""), cell.replace("'", ""))
+        for cell, wanted in {
+            "Ada;=1": "Ada;'=1", "Ada,@x": "Ada,'@x", "Ada|=1": "Ada|'=1", "Ada\t-x": "Ada\t'-x", "=1;=2": "'=1;'=2", "Ada\n=1": "Ada =1",
+            "Ada\r\n;=1": "Ada ;'=1", "=": "'=", "-x;1": "'-x;1",
+        }.items():  # fmt: skip
+            self.assertEqual(self.cells(CodeRow("ada", cell, "", "", ""))[1], wanted)
+
+    def test_what_is_harmless_stays(self) -> None:
+        for cell in ("Ada", "+49 (0) 30 / 12-34", "-", "a=b", "a@b.org", "O'Neil", "a-b", "\u00c9ve", "+49 30;+49 40"):
+            self.assertEqual(self.cells(CodeRow("ada", cell, "", "", ""))[1], cell)
+
+
+if __name__ == "__main__":
+    unittest.main()

@@ -1,0 +1,432 @@
+"""What goes out with a call: the files of its folder, the letter of an extension, and what no text of them may be taken for."""
+
+import base64
+import dataclasses
+import datetime
+import hashlib
+import html
+import html.parser
+import itertools
+import pathlib
+import re
+import shutil
+import subprocess
+import sys
+import tempfile
+import unittest
+import urllib.parse
+
+from at_browser import BROWSER, Window
+
+sys.path.insert(0, str(pathlib.Path(__file__).resolve().parents[2] / "python"))
+
+from debvote_tools.call.data import CallData, demand_mail_address, demand_web_address  # noqa: E402
+from debvote_tools.call.files import call_files  # noqa: E402
+from debvote_tools.call.letter import call_letter, extension_letter  # noqa: E402
+from debvote_tools.faults import Fault, Status  # noqa: E402
+from debvote_tools.language import LANGUAGES, language_of  # noqa: E402
+from debvote_tools.lines import changed  # noqa: E402
+from debvote_tools.sealed_poll import SealedPoll, read_plain, with_roll  # noqa: E402
+
+BERLIN = datetime.timezone(datetime.timedelta(hours=1))
+FIRST, LATER = (datetime.datetime(2026, 12, day, 18, tzinfo=BERLIN) for day in (4, 6))
+FIRST_WORDS, LATER_WORDS = "Friday, 4 December 2026, 18:00 (UTC+01:00)", "Sunday, 6 December 2026, 18:00 (UTC+01:00)"
+ADDRESS, PAGE = "vote+club@example.org", "https://example.org/vote/"
+ROLL = ("ada", "ben", "cleo", "dan")
+CODES = tuple(f"{number:x}" * 32 for number in range(10, 14))
+POLL = SealedPoll(
+    title="Where we meet",
+    options=("At the lake", "72 Euro", "Sell the house"),
+    ratios=(1, 1, 3),
+    default="None of the above",
+    quorum=1,
+    roll=ROLL,
+    deadline=FIRST.isoformat(),
+    address=ADDRESS,
+)
+CALL = CallData(language_of("en"), POLL, 2, until=FIRST, to=ADDRESS, at=PAGE)
+SECRET = dataclasses.replace(CALL, poll=dataclasses.replace(with_roll(POLL, CODES), secret=True), is_secret=True)
+WITH_CODES = dataclasses.replace(SECRET, is_secret=False, is_codes_on_roll=True)
+KINDS = {"open": CALL, "secret": SECRET, "codes": WITH_CODES, "signed": dataclasses.replace(CALL, is_signed=True, has_form=True)}
+
+HOSTILE = ['</title><script>document.title = "x"</script>', '" autofocus onfocus="x', "{title} %s \u05d0\u05d1 & &amp; </bdi></b>"]
+
+
+def sha256_of(data: bytes) -> str:
+    return hashlib.sha256(data).hexdigest()
+
+
+def texts_of(data: CallData) -> dict[str, str]:
+    """Page and letter as they are read, each blank as one space."""
+    files = call_files(data)
+    body = files["index.html"].decode().partition("<body>")[2].partition("<script>")[0]
+    page = html.unescape(re.sub("<[^>]*>", " ", re.sub("</?(?:b|bdi|code|a)[^>]*>", "", body)))
+    texts = {"index.html": page, "call.txt": files["call.txt"].decode()}
+    return {name: " ".join(text.split()) for name, text in texts.items()}
+
+
+class Elements(html.parser.HTMLParser):
+    """The elements of a page, each with its attributes and the text within it."""
+
+    def __init__(self, page: bytes) -> None:
+        super().__init__()
+        self.found: list[tuple[str, dict[str, str | None]]] = []
+        self.open: list[str] = []
+        self.texts: dict[str, list[str]] = {}
+        self.feed(page.decode())
+
+    def handle_starttag(self, tag: str, attributes: list[tuple[str, str | None]]) -> None:
+        self.found.append((tag, dict(attributes)))
+        if tag not in ("meta", "input", "br"):
+            self.open.append(tag)
+
+    def handle_endtag(self, tag: str) -> None:
+        if self.open.pop() != tag:
+            raise AssertionError(f"{tag} ends, and is not the last that began")
+
+    def handle_data(self, data: str) -> None:
+        if self.open:
+            self.texts.setdefault(self.open[-1], []).append(data)
+
+    def attributes_of(self, name: str) -> dict[str, str | None]:
+        """Those of the element with an id."""
+        return next(attributes for _, attributes in self.found if attributes.get("id") == name)
+
+
+class Files(unittest.TestCase):
+    """The files of the folder."""
+
+    maxDiff = None
+
+    def test_the_poll_is_the_sealed_one_and_its_checksum_is_said(self) -> None:
+        for kind, data in KINDS.items():
+            with self.subTest(kind=kind):
+                files = call_files(data)
+                self.assertEqual(files, call_files(data))
+                checksums = dict(line.split("  ")[::-1] for line in files["SHA256SUMS"].decode().splitlines())
+                self.assertEqual(checksums, {name: sha256_of(files[name]) for name in files if name != "SHA256SUMS"})
+                if kind != "codes":
+                    self.assertEqual(read_plain(files["poll.toml"]), data.poll)
+                    self.assertEqual(files["poll.toml"], data.poll.as_bytes())
+                checksum = sha256_of(data.poll.as_bytes())
+                for text in (*texts_of(data).values(), " ".join(extension_letter(data).split())):
+                    self.assertIn(checksum, text)
+                    self.assertNotRegex(text, "grep|extended_to|last_envelope")
+                for text in texts_of(data).values():
+                    self.assertIn("answer the same checksum: sha256sum poll.toml ", text)
+                    self.assertIn(f"The first 16 digits of the checksum are the mark of this vote: {checksum[:16]}", text)
+                self.assertIn(f"\n  {checksum}\n", files["call.txt"].decode())
+
+    def test_until_when(self) -> None:
+        said = {"at first": CALL, "extended": dataclasses.replace(CALL, until=LATER)}
+        said["late"] = dataclasses.replace(CALL, poll=dataclasses.replace(POLL, deadline=None), until=LATER)
+        said["never"] = dataclasses.replace(said["late"], until=None)
+        more = f"The time was extended. The call said at first: {FIRST_WORDS}"
+        wanted = {
+            "at first": f"Until when: {FIRST_WORDS} The page",
+            "extended": f"Until when: {LATER_WORDS} {more} The page",
+            "late": f"Until when: {LATER_WORDS} The call did not say it at first. The page",
+            "never": "You can vote until the time that the secretary announces. The page",
+        }
+        for kind, data in said.items():
+            for text in texts_of(data).values():
+                self.assertIn(wanted[kind], text)
+            if kind in ("extended", "late"):
+                letter = f"You have more time to vote. Nothing else that the call says has changed. {wanted[kind]}"
+                self.assertIn(letter, " ".join(extension_letter(data).split()))
+                self.assertIn("If you have voted, you need not vote again", extension_letter(data))
+        # after a second extension, too, it is the end that the call said at first
+        again = dataclasses.replace(said["extended"], until=LATER + datetime.timedelta(days=2))
+        for text in (*texts_of(again).values(), " ".join(extension_letter(again).split())):
+            self.assertIn(f"Until when: Tuesday, 8 December 2026, 18:00 (UTC+01:00) {more} ", text)
+            self.assertNotIn(LATER_WORDS, text)
+        # the same moment in another zone is the same end
+        self.assertFalse(dataclasses.replace(CALL, until=FIRST.astimezone(datetime.UTC)).is_extended)
+
+    def test_an_extension_changes_no_poll(self) -> None:
+        extended = dataclasses.replace(CALL, until=LATER)
+        self.assertEqual(call_files(extended)["poll.toml"], call_files(CALL)["poll.toml"])
+
+    def test_where_to(self) -> None:
+        for data, wanted in {
+            CALL: f"on which the result will be: {PAGE} Send your ballot to: {ADDRESS} ",
+            dataclasses.replace(CALL, at=None, to=None): f"{FIRST_WORDS} Send your ballot as the secretary announces. ",
+        }.items():
+            for text in texts_of(data).values():
+                self.assertIn(wanted, text)
+
+    def test_subjects_end_with_the_mark(self) -> None:
+        mark = f"[{POLL.mark}]"
+        page = Elements(call_files(CALL)["index.html"])
+        links = [attributes["href"] or "" for tag, attributes in page.found if tag == "a" and "href" in attributes]
+        letters = [urllib.parse.urlsplit(link) for link in links if link.startswith("mailto:")]
+        self.assertEqual({letter.path for letter in letters}, {"vote%2Bclub@example.org"})
+        self.assertEqual([urllib.parse.parse_qs(letter.query)["subject"] for letter in letters], [[f"Ballot: Where we meet {mark}"]] * 2)
+        self.assertEqual(page.attributes_of("ballot")["data-mark"], mark)
+        for text in (*texts_of(CALL).values(), " ".join(extension_letter(CALL).split())):
+            self.assertIn(f"Let the subject of your letter end with {mark}, which is the mark of this vote", text)
+        for text in texts_of(KINDS["signed"]).values():
+            self.assertIn(f"your ballot, and below it the mark of this vote, {mark}, so that", text)
+            self.assertIn("In a web form an empty field is a hyphen", text)
+
+    def test_options_have_their_numbers_and_what_they_need(self) -> None:
+        shown = dataclasses.replace(POLL, shown_title="Wohin?", shown_options=("Am See", "72 \u20ac", "Verkaufen", "Keine"))
+        for poll, names in ((POLL, POLL.plain_names), (shown, shown.shown_options)):
+            files = texts_of(dataclasses.replace(CALL, poll=poll))
+            numbered = [f"Option {number}: {name}" for number, name in enumerate(names, start=1)]
+            ratios = [f"majority ratio {ratio}" for ratio in (1, 1, 3)] + ["the default option"]
+            said = f"This ballot says: {numbered[1]}, then {numbered[0]}, then {numbered[3]}; not ranked, and so behind all others: {numbered[2]}."
+            rules = "Majority ratio 3: at least three times as many electors", "The quorum is 2 votes: at least 2 electors", "The roll has 4 electors."
+            page = Elements(call_files(dataclasses.replace(CALL, poll=poll))["index.html"])
+            self.assertIn(f"Ballot%3A%20{urllib.parse.quote(poll.name)}%20%5B{poll.mark}%5D", str(page.found))
+            self.assertEqual((page.texts["title"], page.texts["h1"]), ([f"Vote: {poll.name}"], [poll.name]))
+            for name, form in (("index.html", "{}, {}"), ("call.txt", "{} ({})")):
+                for part in (*map(form.format, numbered, ratios), said, *rules, f"The default option is {numbered[3]}."):
+                    self.assertIn(part, files[name])
+                self.assertIn("(name 2,1,-,3)", files[name])
+        more_than = dataclasses.replace(CALL, poll=dataclasses.replace(POLL, wording="more_than", quorum=0))
+        for text in texts_of(more_than).values():
+            self.assertIn("Majority ratio 3: more than three times as many electors", text)
+            self.assertIn("There is no quorum. The roll has 4 electors.", text)
+
+    def test_texts_of_options(self) -> None:
+        poll = dataclasses.replace(POLL, explanations=("First line\nsecond <b>line</b>\n\nand more\n", "", "Sell \u05d0\u05d1\n \n\nit"))
+        data = dataclasses.replace(CALL, poll=poll)
+        files = call_files(data)
+        frames = re.findall(r'<div class="given" role="note".*?</div>', files["index.html"].decode(), re.DOTALL)
+        self.assertEqual(len(frames), 2)
+        self.assertIn("About Option 1: <bdi>At the lake</bdi>, in the words of those who publish this page.", frames[0])
+        self.assertEqual(re.findall('"about"><bdi>(.*?)</bdi>', frames[0], re.DOTALL), ["First line\nsecond &lt;b&gt;line&lt;/b&gt;", "and more"])
+        self.assertEqual(re.findall('"about"><bdi>(.*?)</bdi>', frames[1], re.DOTALL), ["Sell \u05d0\u05d1", "it"])
+        letter = files["call.txt"].decode()
+        self.assertIn("in the words of those who send this letter.", letter)
+        self.assertIn("\n\nFirst line\nsecond <b>line</b>\n\nand more\n\nAbout Option 3: Sell the house, in", letter)
+        self.assertIn("\n\nSell \u05d0\u05d1\n\nit\n\nMajority", letter)
+        self.assertNotIn("About Option", call_files(CALL)["call.txt"].decode())
+
+    def test_the_roll(self) -> None:
+        listed = "".join(f"<li><code>{name}</code></li>\n" for name in ROLL)
+        self.assertIn(listed, call_files(CALL)["index.html"].decode())
+        self.assertIn("\n  ada, ben, cleo, dan\n", call_files(CALL)["call.txt"].decode())
+        names = dataclasses.replace(CALL, names_published=True, real_names={"ada": "Ada <i>", "dan": ""})
+        page = call_files(names)["index.html"].decode()
+        self.assertIn("<li><code>ada</code> <bdi>Ada &lt;i&gt;</bdi></li>\n<li><code>ben</code></li>\n", page)
+        # real names are shown only where they will be published
+        hidden = call_files(dataclasses.replace(names, names_published=False))
+        self.assertNotIn(b"Ada", b"".join(hidden.values()))
+        for count, in_page, in_letter in ((200, True, True), (201, True, False), (2_000, True, False), (2_001, False, False)):
+            data = dataclasses.replace(CALL, poll=with_roll(POLL, [f"e{number:04}" for number in range(count)]))
+            files = call_files(data)
+            self.assertEqual(("e0100" in files["index.html"].decode(), "e0100" in files["call.txt"].decode()), (in_page, in_letter))
+            for text, is_listed in zip(texts_of(data).values(), (in_page, in_letter), strict=True):
+                self.assertEqual("The names on the roll are in the file poll.toml." in text, not is_listed)
+
+    def test_what_will_be_public(self) -> None:
+        real = "Your real name will be published, too"
+        wanted = {
+            "open": "each with its elector's name on the roll",
+            "secret": "The vote is secret. After it each ballot that counts is published under an alias",
+            "codes": "Each elector votes under a code, and nobody has a list of who has which.",
+        }
+        for kind, part in wanted.items():
+            for names_published in (False, True):
+                for text in texts_of(dataclasses.replace(KINDS[kind], names_published=names_published)).values():
+                    self.assertEqual([other for other in wanted.values() if other in text], [part])
+                    self.assertEqual(real in text, kind == "open" and names_published)
+
+    def test_each_kind_says_its_own(self) -> None:
+        receipts = ["a letter that says how your ballot was read", "a letter that says that your ballot has come"]
+        polls = ["ratios, quorum and roll. It", "ratios, quorum, and an alias for each elector. It"]
+        compared = ["Now, and again when the result is published, everybody can", "When the result is published, everybody can"]
+        fields = ["as it is on the roll.", "as it is on the slip with your code.", "your code as it is on your slip."]
+        for kind, own in {"open": (0, 0, 0, 0), "secret": (1, 1, 0, 1), "codes": (1, 0, 1, 2), "signed": (0, 0, 0, 0)}.items():
+            for text in texts_of(KINDS[kind]).values():
+                with self.subTest(kind=kind):
+                    for sentences, wanted in zip((receipts, polls, compared), own):
+                        self.assertEqual([sentence in text for sentence in sentences].index(True), wanted)
+                        self.assertEqual(sum(sentence in text for sentence in sentences), 1)
+            words = Elements(call_files(KINDS[kind])["index.html"]).attributes_of("ballot")["data-words"] or ""
+            self.assertEqual([sentence in words for sentence in fields].index(True), own[3])
+
+    def test_parts_have_their_headings(self) -> None:
+        names = ["What is voted on", "The roll", "How a ballot is written", "What will be public", "The poll"]
+        page, letter = (call_files(CALL)[name].decode() for name in ("index.html", "call.txt"))
+        self.assertEqual(re.findall("<h2[^>]*>(.*?)</h2>", page), [names[0], "Your ballot", *names[1:]])
+        in_letter = [names[place].upper() for place in (0, 2, 1, 3, 4)]
+        self.assertEqual([line for line in letter.splitlines() if line.isupper() and not line.startswith("  ")], in_letter)
+        self.assertNotIn("\n\n\n", letter)
+        self.assertLessEqual(max(map(len, letter.splitlines())), 72)
+
+    def test_a_secret_call_shows_no_roll_and_one_with_codes_no_poll(self) -> None:
+        for data in (SECRET, WITH_CODES):
+            files = call_files(dataclasses.replace(data, real_names=dict.fromkeys(CODES, "Ada L."), names_published=True))
+            for name in files.keys() - {"poll.toml"}:
+                self.assertEqual([text for text in (*CODES, "Ada L.") if text in files[name].decode()], [])
+            self.assertNotIn('id="roll"', files["index.html"].decode())
+        self.assertEqual(set(call_files(SECRET)), {"index.html", "call.txt", "poll.toml", "SHA256SUMS"})
+        self.assertEqual(set(call_files(WITH_CODES)), {"index.html", "call.txt", "SHA256SUMS"})
+        for text in texts_of(SECRET).values():
+            self.assertIn("your name as it is on the slip with your code", text)
+            self.assertIn("This file never changes: the result has the same one, byte for byte.", text)
+        for text in texts_of(WITH_CODES).values():
+            self.assertIn("A ballot is one line: your code, a space", text)
+            self.assertIn("It has all codes, so it is published with the result.", text)
+            self.assertIn("(code 2,1,-,3)", text)
+            self.assertNotIn("your name", text.lower())
+        self.assertNotIn('href="poll.toml"', call_files(WITH_CODES)["index.html"].decode())
+
+
+class Hostile(unittest.TestCase):
+    """Texts that would be markup, or turn what stands around them, in each place where a text can be."""
+
+    def test_they_are_texts(self) -> None:
+        plain = Elements(call_files(self.hostile(["x"] * 3))["index.html"])
+        for language in LANGUAGES:
+            data = dataclasses.replace(self.hostile(HOSTILE), language=language_of(language))
+            page = Elements(call_files(data)["index.html"])
+            # the same elements as with harmless texts, each with the same attributes
+            found = [(tag, sorted(attributes)) for tag, attributes in page.found]
+            self.assertEqual(found, [(tag, sorted(attributes)) for tag, attributes in plain.found])
+            self.assertEqual((page.open, page.texts["h1"], page.attributes_of("ballot")["data-title"]), ([], [HOSTILE[0]], HOSTILE[0]))
+            self.assertEqual([page.attributes_of(f"rank-{number}")["data-name"] for number in (1, 2, 3)], [HOSTILE[1], HOSTILE[2], HOSTILE[0]])
+            # each stands by itself, so that one from right to left turns nothing around it
+            self.assertTrue(set(HOSTILE) <= set(page.texts["bdi"]))
+            for text in HOSTILE:
+                self.assertIn(" ".join(text.split()), " ".join(call_letter(data).split()))
+
+    def hostile(self, texts: list[str]) -> CallData:
+        poll = dataclasses.replace(POLL, shown_title=texts[0], shown_options=(texts[1], texts[2], texts[0], texts[2] + "."))
+        poll = dataclasses.replace(poll, explanations=(texts[0], texts[1], texts[2]))
+        return dataclasses.replace(CALL, poll=poll, names_published=True, real_names=dict(zip(ROLL, [*texts, "Dan"], strict=True)))
+
+    def test_the_page_runs_its_own_script_alone(self) -> None:
+        page = call_files(self.hostile(HOSTILE))["index.html"].decode()
+        style, script = page.partition("<style>")[2].partition("</style>")[0], page.rpartition("<script>")[2].partition("</script>")[0]
+        sources = [f"'sha256-{base64.b64encode(hashlib.sha256(text.encode()).digest()).decode()}'" for text in (script, style)]
+        policy = f"default-src 'none'; script-src {sources[0]}; style-src {sources[1]}; base-uri 'none'; form-action 'none'"
+        self.assertIn(f'<meta http-equiv="Content-Security-Policy" content="{policy}">', page)
+        self.assertNotRegex(script, r"innerHTML|outerHTML|insertAdjacentHTML|document\.write|eval\(|fetch\(|XMLHttpRequest")
+        self.assertNotRegex(script.lower(), r"</script|<!--|<script")
+
+    @unittest.skipUnless(shutil.which("tidy"), "tidy is not installed")
+    def test_tidy(self) -> None:
+        for data in (self.hostile(HOSTILE), *KINDS.values()):
+            ended = subprocess.run(["tidy", "-q", "-e"], input=call_files(data)["index.html"], capture_output=True)
+            self.assertEqual((ended.stdout, ended.stderr.decode(), ended.returncode), (b"", "", 0))
+
+
+class NoBallot(unittest.TestCase):
+    """No line of what goes out reads as a ballot, however its words are put on lines, and whatever names are on the roll."""
+
+    def assert_no_ballot(self, text: str) -> None:
+        words = text.split()
+        lines = {" ".join(words[start : start + size]) for size in range(1, 9) for start in range(len(words))}
+        # the shortest ballot has two ranks
+        for line in (changed(line.encode()) for line in lines if "," in line and any(map(str.isdigit, line))):
+            self.assertNotRegex(line, rb"^[a-z0-9.-]{1,32} (?:-|[1-9][0-9]?)(?:,(?:-|[1-9][0-9]?))+$")
+
+    def test_of_calls_and_extensions(self) -> None:
+        for code, (kind, data), count in itertools.product(LANGUAGES, KINDS.items(), (1, 2, 3, 7)):
+            options = (*POLL.options, "D", "E", "F", "G")[:count]
+            poll = dataclasses.replace(data.poll, options=options, ratios=(1,) * count)
+            call = dataclasses.replace(data, poll=poll, language=language_of(code), until=LATER)
+            for text in (call_letter(call), extension_letter(call)):
+                with self.subTest(language=code, kind=kind, options=count):
+                    self.assert_no_ballot(text)
+
+    def test_the_test_finds_one(self) -> None:
+        with self.assertRaises(AssertionError):
+            self.assert_no_ballot("So write ada 1,2,3 and send it.")
+
+
+class Addresses(unittest.TestCase):
+    def test_web_addresses(self) -> None:
+        for good in (PAGE, "http://x", "https://example.org:8443/a/b?c=d", "https://xn--bcher-kva.example/", "http://[::1]:80/", "https://127.0.0.1/~ada/"):
+            demand_web_address(good)
+        for bad in (
+            "", "example.org", "ftp://example.org/", "javascript:alert(1)", "https://", "https:///x", "https://bank.example@evil.example/", PAGE + "#a", PAGE + "\n",
+            "https://example.org/ x", 'https://example.org/"', "https://example.org/<b>", "https://b\u00fccher.example/", "https://example.org:0/", "https://example.org:x/",
+            "https://example.org:99999/", "https://[::1", "https://a\\b/", "https://example.org/" + "x" * 500, "https://?x", "https://-/", " " + PAGE,
+        ):  # fmt: skip
+            with self.subTest(bad=bad), self.assertRaisesRegex(Fault, "^.*--at: it has to be the address of a page, as https://") as caught:
+                demand_web_address(bad)
+            self.assertEqual(caught.exception.status, Status.BAD_WORDS)
+
+    def test_mail_addresses(self) -> None:
+        for good in (ADDRESS, "a@b", "_x@example.org"):
+            demand_mail_address(good)
+        for bad in ("", "a", "a@b@c", "Ada <a@b.org>", "a@b.org\n", "a b@c.org", "a@b..c", "a,b@c.org", "\u00e4@b.org", "a@" + "b" * 253):
+            with self.subTest(bad=bad), self.assertRaisesRegex(Fault, "--to: it has to be one mail address"):
+                demand_mail_address(bad)
+
+
+# what the page shows once a name is typed and ranks are chosen
+CHOOSE = """((name, ranks) => {
+  const tell = (node, value) => { node.value = value; node.dispatchEvent(new Event("input", { bubbles: true })); };
+  tell(document.getElementById("name"), name);
+  [...document.querySelectorAll("select")].forEach((select, place) => tell(select, ranks[place]));
+  const text = (id) => document.getElementById(id).textContent;
+  return { line: text("line"), said: text("name-said"), missing: text("missing"), letter: document.getElementById("letter").getAttribute("href"),
+    words: [...document.querySelectorAll("#words li")].map((item) => item.textContent), wide: document.documentElement.scrollWidth };
+})"""
+
+
+@unittest.skipUnless(BROWSER, "chromium is not installed")
+class InBrowser(unittest.TestCase):
+    """The page on a telephone of 390 px."""
+
+    def setUp(self) -> None:
+        self.folder = pathlib.Path(self.enterContext(tempfile.TemporaryDirectory(prefix="debvote-call-")))
+
+    def window(self, data: CallData) -> Window:
+        (self.folder / "index.html").write_bytes(call_files(data)["index.html"])
+        window = self.enterContext(Window(390, 800))
+        window.open(self.folder / "index.html")
+        window.ask("document.querySelectorAll('details').forEach((node) => { node.open = true; })")
+        return window
+
+    def chosen(self, window: Window, name: str, ranks: str) -> dict[str, object]:
+        return window.ask(f"{CHOOSE}({name!r}, {ranks!r})")
+
+    def test_a_ballot_in_each_language(self) -> None:
+        long_names = dataclasses.replace(POLL, shown_options=("\u05d0\u05d1 " * 60, "Donaudampfschifffahrt" * 9, "72 \u20ac", "{name} $& $1"))
+        for code in LANGUAGES:
+            data = dataclasses.replace(CALL, poll=long_names, language=language_of(code), has_form=True)
+            found = self.chosen(self.window(data), " Ada", "21-3")
+            with self.subTest(language=code):
+                self.assertEqual((found["line"], found["missing"], found["wide"]), ("ada 2,1,-,3", "", 390))
+                option = data.language.say("Option {number}: {name}", number=4, name="@").replace("@", "{name} $& $1")
+                self.assertIn(option, found["words"][1])
+                query = urllib.parse.parse_qs(str(found["letter"]).partition("?")[2])
+                subject = f"{data.language.say('Ballot: {title}', title='Where we meet')} [{long_names.mark}]"
+                self.assertEqual(query, {"subject": [subject], "body": ["ada 2,1,-,3\r\n"]})
+
+    def test_a_letter_that_is_to_be_signed_has_the_mark_below_the_ballot(self) -> None:
+        found = self.chosen(self.window(KINDS["signed"]), "ada", "1234")
+        self.assertEqual(urllib.parse.parse_qs(str(found["letter"]).partition("?")[2])["body"], [f"ada 1,2,3,4\r\n[{POLL.mark}]\r\n"])
+
+    def test_codes_and_names(self) -> None:
+        gaps = " ".join(["AAAA"] * 8)
+        window = self.window(SECRET)
+        found = self.chosen(window, gaps, "1234")
+        self.assertEqual(found["line"], "")
+        self.assertIn("This looks like a code. Type the name that is beside it", str(found["said"]))
+        self.assertEqual(self.chosen(window, "ada", "1234")["line"], "ada 1,2,3,4")
+        window = self.window(WITH_CODES)
+        found = self.chosen(window, gaps, "1234")
+        self.assertEqual(found["line"], f"{'a' * 32} 1,2,3,4")
+        self.assertIn("The gaps of the code are left out.", str(found["said"]))
+        for typed in ("ada", "a" * 31, "g" * 32, "a" * 33):
+            found = self.chosen(window, typed, "1234")
+            self.assertEqual((found["line"], str(found["said"]).startswith("A code has 32 digits, 0 to 9 and a to f.")), ("", True))
+        self.assertEqual(self.chosen(window, "", "1234")["missing"], "Type your code as it is on your slip.")
+        names = {"ben": "Zo\u00eb \u00c5ngstr\u00f6m", "cleo": "Zoe Angstr\u00f6mer"}
+        window = self.window(dataclasses.replace(CALL, names_published=True, real_names=names))
+        self.assertIn("Did you mean ben?", str(self.chosen(window, "Zoe Angstrom", "1234")["said"]))
+        self.assertIn("Did you mean ben or cleo?", str(self.chosen(window, "Zoe", "1234")["said"]))
+        found = self.chosen(window, "eve", "1234")
+        self.assertEqual((found["line"], found["said"]), ("", "eve is not on the roll of this poll; the names on the roll are below."))
+
+
+if __name__ == "__main__":
+    unittest.main()

@@ -1,0 +1,95 @@
+"""The time that `--until` names, and times in words."""
+
+import datetime
+import os
+import pathlib
+import sys
+import time
+import unittest
+import unittest.mock
+
+sys.path.insert(0, str(pathlib.Path(__file__).resolve().parents[2] / "python"))
+
+from debvote_tools.faults import Fault, Status  # noqa: E402
+from debvote_tools.language import language_of  # noqa: E402
+from debvote_tools.times import date_in_words, demand_future, minute_in_words, now, parse_until, time_in_words  # noqa: E402
+
+EXAMPLE = 'write it as "2026-12-04 18:00", as "2026-12-04 18:00 \\+01:00", or with --zone Europe/Berlin'
+
+
+class Until(unittest.TestCase):
+    def in_zone(self, name: str) -> None:
+        """From now on this computer is in a zone."""
+        self.enterContext(unittest.mock.patch.dict(os.environ, {"TZ": name}))
+        self.addCleanup(time.tzset)
+        time.tzset()
+
+    def assert_refused(self, text: str, zone: str | None, said: str) -> None:
+        with self.subTest(text=text, zone=zone), self.assertRaisesRegex(Fault, said) as caught:
+            parse_until(text, zone)
+        self.assertEqual((caught.exception.status, caught.exception.done), (Status.BAD_WORDS, "nothing was changed"))
+
+    def test_forms(self) -> None:
+        for text, zone, here, wanted in [
+            ("2026-12-04 18:00 +01:00", None, "UTC", "2026-12-04T18:00:00+01:00"),
+            ("2026-12-04 18:00", "Europe/Berlin", "UTC", "2026-12-04T18:00:00+01:00"),
+            ("2026-12-04 18:00", None, "Europe/Berlin", "2026-12-04T18:00:00+01:00"),
+            ("2027-07-04 18:00", None, "Europe/Berlin", "2027-07-04T18:00:00+02:00"),
+            (" 2026-12-04T18:00Z ", None, "Asia/Tokyo", "2026-12-04T18:00:00+00:00"),
+            ("2026-12-04 18:00 UTC", None, "Asia/Tokyo", "2026-12-04T18:00:00+00:00"),
+            ("2026-12-04 18:00:30 -0330", None, "UTC", "2026-12-04T18:00:30-03:30"),
+        ]:
+            with self.subTest(text=text, zone=zone, here=here):
+                self.in_zone(here)
+                self.assertEqual(parse_until(text, zone).isoformat(), wanted)
+
+    def test_other_words(self) -> None:
+        for text in ("tomorrow", "Friday, 4 December 2026", "2026-12-04", "18:00", "4.12.2026 18:00", "2026-12-04 6pm", "", "2026-12-04 18:00 sharp", "\u0662026-12-04 18:00"):
+            self.assert_refused(text, None, f"^.*--until: it has to be a time; nothing was changed: {EXAMPLE}")
+        for text in ("2026-02-30 18:00", "2026-12-04 24:00", "2026-12-04 18:60", "2026-12-04 18:00 +99:00", "0000-01-01 10:00", "9999-12-31 23:59"):
+            self.assert_refused(text, "America/New_York" if text.startswith("9") else None, "there is no such day or time of day")
+        for name in ("Europe/Nowhere", "../../etc/passwd", "", "a\u202eb", "/etc/passwd"):
+            self.assert_refused("2026-12-04 18:00", name, "--zone: this computer knows no time zone of this name")
+        self.assert_refused("2026-12-04 18:00 +01:00", "Europe/Berlin", "--zone: the time has an offset already")
+
+    def test_clocks_that_are_put_forward_or_back(self) -> None:
+        for zone, here, where in (("Europe/Berlin", "UTC", "in Europe/Berlin"), (None, "Europe/Berlin", "where this computer is")):
+            self.in_zone(here)
+            self.assert_refused("2027-03-28 02:30", zone, f"{where} there is no such time: on that day clocks are put forward over it")
+            both = r'write "2027-10-31 02:30 \+02:00" or "2027-10-31 02:30 \+01:00"'
+            self.assert_refused("2027-10-31 02:30", zone, f"{where} this time comes twice.*{both}")
+        self.assert_refused("2027-10-31 01:30", "Europe/London", r'write "2027-10-31 01:30 \+01:00" or "2027-10-31 01:30 UTC"')
+        for again in ("2027-10-31 02:30 +01:00", "2027-10-31 01:30 UTC"):
+            self.assertEqual(parse_until(again, None).astimezone(datetime.UTC).hour, 1)
+
+    def test_a_time_that_is_over(self) -> None:
+        clock = datetime.datetime(2026, 11, 26, 10, 0, 30, tzinfo=datetime.UTC)
+        for text in ("2026-11-26 11:00:30 +01:00", "2026-11-26 11:00 +01:00"):
+            said = r"\(UTC\+01:00\) is over: by the clock of this computer it is Thursday, 26 November 2026, 11:00 \(UTC\+01:00\); nothing was"
+            with self.assertRaisesRegex(Fault, said):
+                demand_future(parse_until(text, None), clock)
+        demand_future(parse_until("2026-11-26 11:00:31 +01:00", None), clock)
+
+
+class InWords(unittest.TestCase):
+    def test_in_each_language(self) -> None:
+        first = datetime.datetime(2027, 1, 1, 8, 5, 0, tzinfo=datetime.UTC)
+        later = datetime.datetime(2026, 12, 4, 18, 0, 30, tzinfo=datetime.timezone(-datetime.timedelta(hours=3, minutes=30)))
+        for code, wanted in {
+            "en": ("Friday, 1 January 2027, 08:05 (UTC)", "Friday, 4 December 2026, 18:00:30 (UTC-03:30)"),
+            "de": ("Freitag, 1. Januar 2027, 08:05 (UTC)", "Freitag, 4. Dezember 2026, 18:00:30 (UTC-03:30)"),
+            "fr": ("vendredi 1er janvier 2027, 08:05 (UTC)", "vendredi 4 d\u00e9cembre 2026, 18:00:30 (UTC-03:30)"),
+            "es": ("viernes, 1 de enero de 2027, 08:05 (UTC)", "viernes, 4 de diciembre de 2026, 18:00:30 (UTC-03:30)"),
+        }.items():
+            language = language_of(code)
+            self.assertEqual((time_in_words(first, language), time_in_words(later, language)), wanted)
+            self.assertIn(date_in_words(first.date(), language), wanted[0])
+        self.assertEqual(minute_in_words(later, datetime.UTC), "Friday, 4 December 2026, 21:30 (UTC)")
+
+    def test_now_is_in_whole_seconds(self) -> None:
+        self.assertEqual((now().microsecond, now().utcoffset()), (0, datetime.timedelta(0)))
+        self.assertLess(abs(now().timestamp() - time.time()), 5)
+
+
+if __name__ == "__main__":
+    unittest.main()

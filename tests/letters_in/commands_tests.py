@@ -1,0 +1,210 @@
+"""Letters in an election: `add`, `held`, `undo`, `strike`, `close`, `status` as a secretary meets them."""
+
+import json
+import pathlib
+import shutil
+import sys
+import unittest
+
+sys.path[:0] = [str(pathlib.Path(__file__).resolve().parent.parent / "election")]
+
+import support  # noqa: E402
+from terminal import Terminal  # noqa: E402
+
+RANKS, OTHER = "1,2,4,3", "2,1,4,3"
+LAKE = "At the lake, then In the town hall, then Further discussion, then Sell the house and meet there"
+
+
+def letter(name: str, text: str, arrived: str = "Mon, 23 Nov 2026 10:00:00 +0000", sender: str = "", number: int = 1) -> str:
+    """A letter with this text, which a mail server took in at this time."""
+    return (
+        f"Received: from mail.example by mx.club.example; {arrived}\n"
+        f"From: {name.title()} <{sender or f'{name}@club.example'}>\n"
+        f"Subject: my ballot\nMessage-ID: <{name}.{number}@mail.example>\n\n{text}\n"
+    )
+
+
+def mailbox(*letters: str) -> str:
+    return "".join(f"From x@club.example Mon Nov 23 10:00:00 2026\n{one}\n" for one in letters)
+
+
+class LettersTest(support.ElectionTest):
+    def setUp(self) -> None:
+        super().setUp()
+        self.set_clock("2026-11-25T09:00:00+00:00")
+
+    def begin(self) -> None:
+        """The call is older than the letters."""
+        self.clock = {}
+        super().begin()
+
+    def made(self) -> pathlib.Path:
+        self.set_clock("2026-11-20T09:00:00+00:00")
+        return super().made()
+
+    def add(self, *letters: str, words: tuple[str, ...] = ("--yes",)) -> support.Ended:
+        self.write("inbox.mbox", mailbox(*letters))
+        return self.election("add", *words, "inbox.mbox")
+
+    def numbers(self) -> dict[str, object]:
+        return json.loads(self.done("status", "--json").output)
+
+    def exported(self) -> tuple[str, str]:
+        out = self.scratch / "out"
+        shutil.rmtree(out, ignore_errors=True)
+        self.done("export", out)
+        return (out / "ballots.txt").read_text(), (out / "late.txt").read_text()
+
+
+class Adding(LettersTest):
+    def test_plain_ballots_go_in_and_others_wait(self) -> None:
+        ended = self.add(letter("ada", f"ada {RANKS}"), letter("ben", "I vote for the lake."), letter("cleo", f"cleo {OTHER}"))
+        self.assertEqual(ended.status, 0, ended)
+        self.assertIn(f"1 counted  ada: {LAKE}\n", ended.output)
+        self.assertIn("letter 2, from Ben <ben@club.example>, 2026-11-23 10:00:00 UTC: no ballot found", ended.output)
+        self.assertEqual(self.exported()[0], f"ada {RANKS}\ncleo {OTHER}\n")
+        self.assertEqual(self.numbers()["waiting"], 1)
+        self.assertIn("1 letter waits", self.done("status").output)
+
+    def test_what_came_is_kept_as_it_came(self) -> None:
+        text = letter("ada", f"ada {RANKS}")
+        self.add(text)
+        self.exported()
+        [kept] = (self.scratch / "out" / "came").iterdir()
+        self.assertEqual(kept.read_text().rstrip("\n"), text.rstrip("\n"))
+
+    def test_a_mailbox_that_grew(self) -> None:
+        first, second = letter("ada", f"ada {RANKS}"), letter("ben", f"ben {RANKS}")
+        self.add(first)
+        ended = self.add(first, second)
+        self.assertIn("1 new letter; 1 came before.", ended.output)
+        self.assertEqual(self.exported()[0], f"ada {RANKS}\nben {RANKS}\n")
+
+    def test_look_keeps_nothing(self) -> None:
+        before = self.contents()
+        ended = self.add(letter("ada", f"ada {RANKS}"), words=("--look",))
+        self.assertEqual(ended.status, 0, ended)
+        self.assertIn("Nothing was changed", ended.output)
+        (self.folder / "inbox.mbox").unlink()
+        self.assertEqual(self.contents(), before)
+
+    def test_asked_elsewhere_than_at_a_terminal(self) -> None:
+        ended = self.add(letter("ada", f"ada {RANKS}"), words=())
+        self.assert_fault(ended, 9, "--yes", "the letters are kept")
+        self.assertEqual(self.exported()[0], "")
+        self.assertEqual(self.numbers()["waiting"], 1)
+        self.assertIn("1 counted", self.add(letter("ada", f"ada {RANKS}")).output)
+
+    def test_another_act_between_question_and_answer(self) -> None:
+        self.write("inbox.mbox", mailbox(letter("ada", f"ada {RANKS}"), letter("ben", f"ben {RANKS}")))
+        desk = Terminal(self, "add", "inbox.mbox")
+        desk.until("Enter 2 ballots?")
+        self.done("desk", given=f"ada {OTHER}\n")
+        desk.type("y\n")
+        self.assertIn("a later ballot of ada is in already", desk.until("Enter 1 ballot?"))
+        desk.type("y\n")
+        desk.end()
+        self.assertEqual(self.exported()[0], f"ada {OTHER}\nben {RANKS}\n")
+
+    def test_the_order_is_that_of_the_arrivals(self) -> None:
+        later = letter("ada", f"ada {OTHER}", "Mon, 23 Nov 2026 12:00:00 +0000", number=2)
+        self.add(later, letter("ada", f"ada {RANKS}"))
+        self.assertEqual(self.exported()[0], f"ada {RANKS}\nada {OTHER}\n")
+
+    def test_older_letter_after_a_ballot_at_the_desk(self) -> None:
+        self.done("desk", given=f"ada {OTHER}\n")
+        self.assertIn("a later ballot of ada is in already", self.add(letter("ada", f"ada {RANKS}")).output)
+
+    def test_a_stranger_and_a_member_without_address(self) -> None:
+        ended = self.add(letter("ada", f"ada {RANKS}", sender="stranger@elsewhere.example"))
+        self.assertIn("it came from stranger@elsewhere.example, and the list has ada@club.example for ada", ended.output)
+        self.assertEqual(self.exported()[0], "")
+
+    def test_letters_and_lines_are_added_apart(self) -> None:
+        self.write("lines", f"ada {RANKS}\n")
+        self.write("inbox.mbox", mailbox(letter("ben", f"ben {RANKS}")))
+        before = self.contents()
+        self.assertEqual(self.election("add", "--yes", "lines", "inbox.mbox").status, 2)
+        self.assertEqual(self.contents(), before)
+
+    def test_an_extension_judges_anew(self) -> None:
+        self.set_clock("2026-11-20T10:00:00+00:00")
+        self.done("call", "--until", "2026-11-23 09:00", "--zone", "UTC")
+        self.set_clock("2026-11-23T11:00:00+00:00")
+        self.assertIn("after the end of the vote", self.add(letter("ada", f"ada {RANKS}")).output)
+        self.done("call", "--until", "2026-11-24 09:00", "--zone", "UTC")
+        self.assertIn("1 counted", self.add(letter("ada", f"ada {RANKS}")).output)
+
+
+class Held(LettersTest):
+    def setUp(self) -> None:
+        super().setUp()
+        self.add(letter("ada", f"Dear Anna,\n\nI thought about it for 3 days:\n\nada {RANKS}\n"), letter("ben", "hello"))
+
+    def test_listed_shown_and_entered(self) -> None:
+        listed = self.done("held").output
+        self.assertIn("letter 1, from Ada <ada@club.example>", listed)
+        self.assertIn(f"line 5: ada {RANKS}", listed)
+        self.assertIn("2 letters wait.", listed)
+        self.assertIn(f"   5  ada {RANKS}\n", self.done("held", "1").output)
+        self.assert_fault(self.election("held", "1", "--enter", "3"), 9, "line 3 of letter 1 is no ballot", "5")
+        self.assertIn(f"1 counted  ada: {LAKE}", self.done("held", "1", "--enter", "5").output)
+        self.assertEqual(self.exported()[0], f"ada {RANKS}\n")
+        self.assertEqual(self.numbers()["waiting"], 1)
+        self.assert_fault(self.election("held", "1", "--enter", "5"), 9, "it was entered")
+        self.assert_fault(self.election("held", "1", "--set-aside"), 9, "was entered")
+
+    def test_set_aside_and_again(self) -> None:
+        self.assertIn("No letter waits.", self.done("held", "1", "2", "--set-aside").output)
+        self.assertIn("Set aside: 1, 2", self.done("held").output)
+        self.assertIn("1 letter waits.", self.done("held", "1", "--wait").output)
+        self.assertIn("it was put back to wait", self.done("held").output)
+
+    def test_voted_since(self) -> None:
+        self.done("desk", given=f"ada {OTHER}\n")
+        self.assertIn("has voted since", self.done("held").output)
+        self.assert_fault(self.election("held", "1", "--enter", "5"), 9, "has voted since", "--force")
+        self.done("held", "1", "--enter", "5", "--force")
+        self.assertEqual(self.exported()[0], f"ada {OTHER}\nada {RANKS}\n")
+
+    def test_close_names_them(self) -> None:
+        self.assert_fault(self.election("close"), 9, "letters wait that arrived in time: 1, 2", "--force --because")
+        self.done("close", "--force", "--because", "neither is a ballot")
+        self.done("held", "1", "--enter", "5")
+        self.assertEqual(self.exported(), ("", f"ada {RANKS}\n"))
+
+    def test_wrong_words(self) -> None:
+        for words in (("--set-aside",), ("1", "2", "--enter", "5"), ("1", "--enter", "5", "--wait"), ("9",)):
+            with self.subTest(words):
+                self.assertEqual(self.election("held", *words).status, 2)
+
+
+class TakenBack(LettersTest):
+    def test_undo_and_strike(self) -> None:
+        box = (letter("ada", f"ada {RANKS}"), letter("ben", f"ben {RANKS}"))
+        self.add(*box)
+        self.done("undo", "--yes")
+        self.assertEqual(self.exported()[0], "")
+        self.assertIn("its ballot was taken back", self.done("held").output)
+        self.assertIn("0 ballots of letters went in; 2 letters wait", self.add(*box).output)
+        self.done("held", "1", "--enter", "1")
+        self.done("strike", "3", "--because", "she asked for it")
+        self.assertIn("Set aside: 1", self.done("held").output)
+        self.assertIn("its ballot was struck", self.done("held", "1").output)
+
+
+class Family(LettersTest):
+    def test_each_elector_has_one_entered(self) -> None:
+        self.write("members.csv", support.members_of(support.NAMES).replace("ben@", "ada@"))
+        self.done("roll", "--yes")
+        self.add(letter("ada", f"ada {RANKS}\nben {OTHER}"))
+        self.assertIn("ballots of several electors: ada, ben", self.done("held").output)
+        self.done("held", "1", "--enter", "1")
+        self.assertEqual(self.numbers()["waiting"], 1)
+        self.done("held", "1", "--enter", "2", "--force")
+        self.assertEqual(self.numbers()["waiting"], 0)
+        self.assertEqual(self.exported()[0], f"ada {RANKS}\nben {OTHER}\n")
+
+
+if __name__ == "__main__":
+    unittest.main()

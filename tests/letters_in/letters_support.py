@@ -1,0 +1,168 @@
+"""What the tests of letters that come share: letters, the circumstances in which they are judged, and debvote, which is asked about lines."""
+
+import dataclasses
+import datetime
+import os
+import pathlib
+import re
+import subprocess
+import sys
+from collections.abc import Mapping, Sequence
+
+ROOT = pathlib.Path(__file__).resolve().parent.parent.parent
+PROGRAM = pathlib.Path(os.environ.get("DEBVOTE", ROOT / "crates" / "debvote" / "out" / "debvote"))
+SAMPLES = ROOT / "tests" / "letters"
+sys.path.insert(0, str(ROOT / "python"))
+
+from debvote_tools.letters.judge import Circumstances, JudgedLetter, Outcome, judge_all  # noqa: E402
+from debvote_tools.letters.parse import ParsedLetter, as_json, from_json, parse  # noqa: E402
+from debvote_tools.letters.sources import RawLetter  # noqa: E402
+
+NAMES = ("ada", "ben", "cleo", "dan", "eve", "fay", "gus", "hal", "ida")
+POLL = f"""title = "Where we meet in spring"
+options = ["At the lake", "In the town hall", "Sell the house and meet there"]
+ratios = [1, 1, 3]
+default = "Further discussion"
+quorum = 1
+roll = {str(list(NAMES)).replace("'", '"')}
+"""
+RANKS, OTHER_RANKS = "1,2,4,3", "2,1,4,3"
+MARK = "1ac5041b936c7fc1"
+
+TEN = "Mon, 23 Nov 2026 10:00:00 +0000"
+CALLED = datetime.datetime(2026, 11, 20, 9, tzinfo=datetime.UTC)
+NOW = datetime.datetime(2026, 11, 25, 9, tzinfo=datetime.UTC)
+# what was written to each elector
+OURS = {name: {f"<call.{name}@club.example>"} for name in NAMES}
+
+
+def at(hour: int, minute: int = 0, day: int = 23) -> datetime.datetime:
+    return datetime.datetime(2026, 11, day, hour, minute, tzinfo=datetime.UTC)
+
+
+def demand_program() -> None:
+    """Ends the tests where there is no program to be asked."""
+    if not PROGRAM.exists():
+        sys.exit(f"{PROGRAM} is not there: make build proves and builds it")
+
+
+class DebvoteReader:
+    """Asks debvote about lines, each once a process, and counts how often it is asked."""
+
+    known: dict[bytes, str | None] = {}
+
+    def __init__(self) -> None:
+        self.runs = 0
+
+    def answers(self, lines: Sequence[bytes]) -> Mapping[bytes, str | None]:
+        self.runs += 1
+        new = [line for line in dict.fromkeys(lines) if line not in self.known]
+        if new:
+            self.known.update(self.asked(new))
+        return {line: self.known[line] for line in lines}
+
+    def asked(self, lines: Sequence[bytes]) -> dict[bytes, str | None]:
+        handle = os.memfd_create("poll")
+        os.write(handle, POLL.encode())
+        words = [PROGRAM, "explain", "--poll", f"/proc/{os.getpid()}/fd/{handle}", "--ballots", "/dev/stdin"]
+        given = b"".join(line + b"\n" for line in lines)
+        text = subprocess.run(words, input=given, capture_output=True, check=False).stdout.decode("ascii")
+        os.close(handle)
+        count = re.search(r"(?m)^(\d+) lines: ", text)
+        assert count is not None and int(count[1]) == len(lines), text
+        found: dict[bytes, str | None] = dict.fromkeys(lines)
+        for number, answer in re.findall(r"(?m)^ballots:(\d+): (.*)$", text):
+            found[lines[int(number) - 1]] = answer
+        return found
+
+
+def circumstances(**other: object) -> Circumstances:
+    """Those of a vote that was called three days ago and has no end."""
+    usual: dict[str, object] = {
+        "mark": MARK,
+        "roll": frozenset(NAMES),
+        "language": "en",
+        "addresses": {name: (f"{name}@club.example",) for name in NAMES},
+        "real_names": {name: name.capitalize() for name in NAMES},
+        "called": CALLED,
+        "end": None,
+        "first_close": None,
+        "now": NOW,
+        "our_letters": OURS,
+        "ballots": {},
+        "keys": None,
+        "decisions": {},
+    }
+    return Circumstances(**{**usual, **other})  # type: ignore[arg-type]
+
+
+def letter(
+    name: str,
+    text: str,
+    *,
+    number: int | str = 1,
+    time: str | None = TEN,
+    sender: str | None = None,
+    head: str = "",
+    kind: str = "text/plain; charset=utf-8",
+) -> bytes:
+    """A letter of an elector."""
+    received = "" if time is None else f"Received: from a by b; {time}\n"
+    fields = f"From: {sender or f'{name}@club.example'}\nTo: vote@club.example\nMessage-ID: <{number}.{name}@mail.example>\n"
+    return f"{received}{fields}{head}Content-Type: {kind}\n\n{text}".encode("utf-8", "surrogateescape")
+
+
+def answer(name: str, text: str, **how: object) -> bytes:
+    """A letter of an elector that answers the call."""
+    return letter(name, text, head=f"In-Reply-To: <call.{name}@club.example>\n", **how)  # type: ignore[arg-type]
+
+
+def alternatives(name: str, plain: str, marked: str, **how: object) -> bytes:
+    """A letter in plain text and in HTML."""
+    text = f"--b\nContent-Type: text/plain\n\n{plain}\n--b\nContent-Type: text/html\n\n{marked}\n--b--\n"
+    return letter(name, text, kind="multipart/alternative; boundary=b", **how)  # type: ignore[arg-type]
+
+
+def mailbox(*letters: bytes) -> bytes:
+    """An mbox."""
+    return b"".join(b"From somebody Mon Nov 23 10:00:00 2026\n" + data.rstrip(b"\n") + b"\n\n" for data in letters)
+
+
+def parsed(data: bytes, where: str = "letter", *, is_parted_off: bool = False) -> ParsedLetter:
+    """A letter that was read, as the book gives it back."""
+    found = parse(RawLetter(where, data, is_parted_off))
+    kept = from_json(as_json(found))
+    assert kept == found, (kept, found)
+    return kept
+
+
+def judged(*letters: bytes | ParsedLetter, reader: DebvoteReader | None = None, **other: object) -> list[JudgedLetter]:
+    """What becomes of letters, in the order of their times."""
+    given = [
+        one if isinstance(one, ParsedLetter) else parsed(one, f"letter {number}") for number, one in enumerate(letters, start=1)
+    ]
+    reader = reader or DebvoteReader()
+    found = judge_all(given, circumstances(**other), reader)
+    assert reader.runs <= 1 and len(found) == len(given)
+    return found
+
+
+def outcome(one: JudgedLetter) -> str:
+    """What becomes of a letter, in a word and the ballot or the reason."""
+    if one.outcome is Outcome.GOES_IN:
+        return f"in: {one.ballots[0].ballot}"
+    return one.outcome.value if one.reason is None else f"{one.outcome.value}: {one.reason.reason.value}"
+
+
+def outcomes(*letters: bytes | ParsedLetter, **other: object) -> list[str]:
+    """The same of several, in the order of their times."""
+    return [outcome(one) for one in judged(*letters, **other)]
+
+
+def lines_in(*letters: bytes | ParsedLetter, **other: object) -> list[str]:
+    """The ballots that go in, in their order."""
+    return [one.ballots[0].ballot for one in judged(*letters, **other) if one.outcome is Outcome.GOES_IN]
+
+
+def with_time(one: ParsedLetter, time: datetime.datetime) -> ParsedLetter:
+    return dataclasses.replace(one, arrived=time)

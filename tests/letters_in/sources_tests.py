@@ -1,0 +1,206 @@
+"""What letters come in: by what is in it, and not by its name."""
+
+import os
+import pathlib
+import tempfile
+import time
+import unittest
+
+from letters_support import RANKS, answer, letter, mailbox, outcomes, parsed
+
+
+from debvote_tools.letters.sources import MAX_LETTER, NotRead, Source, are_letters, letters_of_file, letters_of_folder
+
+LINE = b"From somebody Mon Nov 23 10:00:00 2026\n"
+ADA, BEN = letter("ada", f"ada {RANKS}\n"), letter("ben", f"ben {RANKS}\n")
+
+
+def outcome_of(found: Source) -> list[str]:
+    return outcomes(*(parsed(raw.data, raw.where, is_parted_off=raw.is_parted_off) for raw in found.letters))
+
+
+class Files(unittest.TestCase):
+    def test_one_message(self) -> None:
+        for data in (ADA, b"\n\n" + ADA, b"\xef\xbb\xbf" + ADA, b"From ben\n" + ADA):
+            found = letters_of_file("x", data)
+            self.assertEqual([(raw.where, raw.data, raw.is_parted_off) for raw in found.letters], [("x", ADA, False)], data[:10])
+
+    def test_a_mailbox(self) -> None:
+        for line in (
+            LINE,
+            b"From - Mon Nov 23 10:00:00 2026\n",
+            b"From 17@xxx Mon Nov 23 10:00:00 +0000 2026\n",
+            b"From x Mon, 2 Nov 2026 9:00\n",
+        ):
+            box = mailbox(ADA, BEN).replace(LINE, line)
+            for data in (box, box.replace(b"\n", b"\r\n")):
+                found = letters_of_file("box", data)
+                self.assertEqual([raw.where for raw in found.letters], ["box, message 1", "box, message 2"])
+                self.assertEqual([raw.data.replace(b"\r", b"") for raw in found.letters], [ADA, BEN], line)
+                self.assertEqual(outcome_of(found), [f"in: ada {RANKS}", f"in: ben {RANKS}"])
+
+    def test_lines_that_part_nothing(self) -> None:
+        text = f"ada {RANKS}\n\nFrom Monday on\n\n>From x Mon Nov 23 10:00:00 2026\n\nfrom x Mon Nov 23 10:00:00 2026\n\nFrom 10:00 on\n"
+        found = letters_of_file("box", mailbox(letter("ada", text), BEN))
+        self.assertEqual(len(found.letters), 2)
+
+    def test_what_may_be_text_of_the_letter_above(self) -> None:
+        carrier = letter("mallory", "hello\n")
+        length = f"Content-Length: {len(LINE) + len(BEN) + 8}\n".encode()
+        cases = {
+            "no empty line": LINE + carrier + LINE + BEN,
+            "within the length": LINE + length + carrier + b"\n" + LINE + BEN,
+            "within the parts": LINE + letter("x", "--b\n\nhi\n", kind="multipart/mixed; boundary=b") + b"\n" + LINE + BEN,
+            "within the parts of the second of two": LINE
+            + letter("x", "--b--\n\n--c\n\nhi\n", kind="a/b; boundary=b; boundary=c")
+            + b"\n"
+            + LINE
+            + BEN,
+        }
+        for what, box in cases.items():
+            found = letters_of_file("box", box)
+            self.assertEqual([raw.is_parted_off for raw in found.letters], [False, True], what)
+            self.assertEqual(outcome_of(found)[1], "waits: parted off", what)
+        # each that is within the length, whatever those between say; and none after it
+        inner = b"Content-Length: 1\n" + BEN
+        body = b"hello\n\n" + LINE + inner + b"\n" + LINE + BEN
+        box = (
+            LINE
+            + f"Content-Length: {len(body)}\n".encode()
+            + letter("mallory", "").rstrip(b"\n")
+            + b"\n\n"
+            + body
+            + b"\n"
+            + LINE
+            + ADA
+        )
+        self.assertEqual([raw.is_parted_off for raw in letters_of_file("box", box).letters], [False, True, True, False])
+
+    def test_parts_that_end_part_nothing_off(self) -> None:
+        box = LINE + letter("x", "--b\n\nhi\n--b--\n", kind="multipart/mixed; boundary=b") + b"\n" + LINE + BEN
+        self.assertEqual([raw.is_parted_off for raw in letters_of_file("box", box).letters], [False, False])
+
+    def test_a_long_letter_is_named_and_the_others_are_read(self) -> None:
+        long = letter("ada", "x" * MAX_LETTER)
+        found = letters_of_file("box", mailbox(long, BEN))
+        self.assertEqual([(one.where, one.why) for one in found.passed_over], [("box, message 1", NotRead.TOO_LONG)])
+        self.assertEqual([raw.data for raw in found.letters], [BEN])
+        self.assertEqual(letters_of_file("x", long).passed_over[0].why, NotRead.TOO_LONG)
+
+    def test_what_is_no_letter_is_named(self) -> None:
+        names = "__properties_version1.0".encode("utf-16-le")
+        cases = {
+            b"\xd0\xcf\x11\xe0rest" + names: NotRead.OUTLOOK_LETTER, b"!BDNrest": NotRead.OUTLOOK_MAILBOX, b"PK\x03\x04": NotRead.ZIP,
+            b"%PDF-1.7": NotRead.PDF, b"hello\n": NotRead.NO_LETTER, b"": NotRead.NO_LETTER,
+        }  # fmt: skip
+        for data, why in cases.items():
+            found = letters_of_file("x", data)
+            self.assertEqual(([(one.where, one.why) for one in found.passed_over], found.letters), ([("x", why)], []))
+            self.assertTrue(why.what and why.cure)
+
+    def test_a_file_of_lines_is_none(self) -> None:
+        for data in (
+            b"ada: 1,2\nben: 1,2\n",
+            b"From: ada 1\n",
+            b"From Monday on\n\nada 1,2\n",
+            b"",
+            b"To be or not: x\n",
+            LINE + b"ada 1,2\n",
+        ):
+            self.assertFalse(are_letters(data), data)
+
+    def test_many_lines_take_a_time_that_grows_with_their_number(self) -> None:
+        began = time.process_time()
+        for data in (
+            LINE * 100_000,
+            b"From Mon Mon Mon " * 50 * 5_000,
+            (b"From " + b"Mon " * 200 + b"\n") * 10_000,
+            mailbox(*[ADA] * 20_000),
+        ):
+            letters_of_file("box", LINE + b"From: x\n" + data)
+        # no second is promised, but a time that grows with the square of the length would be minutes
+        self.assertLess(time.process_time() - began, 60)
+
+
+class Folders(unittest.TestCase):
+    def setUp(self) -> None:
+        self.folder = pathlib.Path(self.enterContext(tempfile.TemporaryDirectory(prefix="debvote-letters-")))
+
+    def write(self, name: str, data: bytes) -> None:
+        file = self.folder / name
+        file.parent.mkdir(parents=True, exist_ok=True)
+        file.write_bytes(data)
+
+    def found(self) -> tuple[list[str], dict[str, NotRead]]:
+        found = letters_of_folder(self.folder)
+        place = f"{self.folder}{os.sep}"
+        return [raw.where.removeprefix(place) for raw in found.letters], {
+            one.where.removeprefix(place): one.why for one in found.passed_over
+        }
+
+    def test_a_folder_of_messages(self) -> None:
+        for name, data in {
+            "b.eml": ADA,
+            "a.eml": BEN,
+            "list.txt": b"hello",
+            ".hidden.eml": ADA,
+            "more/c.eml": ADA,
+            "d.zip": b"PK\x03\x04",
+        }.items():
+            self.write(name, data)
+        os.mkfifo(self.folder / "pipe")
+        wanted = {
+            "list.txt": NotRead.NO_LETTER,
+            ".hidden.eml": NotRead.HIDDEN,
+            "more": NotRead.FOLDER,
+            "d.zip": NotRead.ZIP,
+            "pipe": NotRead.NO_LETTER,
+        }
+        self.assertEqual(self.found(), (["a.eml", "b.eml"], wanted))
+
+    def test_a_maildir(self) -> None:
+        for place in ("cur/2.host:2,S", "new/1.host", "tmp/3.host", ".Sent/cur/4.host", "cur/deep/5", "dovecot-uidlist"):
+            self.write(place, ADA if "host" in place else b"x")
+        wanted = {".Sent": NotRead.FOLDER, "cur/deep": NotRead.FOLDER, "dovecot-uidlist": NotRead.NO_LETTER}
+        self.assertEqual(self.found(), (["new/1.host", "cur/2.host:2,S"], wanted))
+
+    def test_a_file_of_a_folder_is_never_parted(self) -> None:
+        """Several letters may be in it, so it waits."""
+        self.write("box.eml", mailbox(ADA, BEN))
+        self.write("one.eml", LINE + ADA)
+        found = letters_of_folder(self.folder)
+        self.assertEqual([(raw.is_parted_off, raw.data[:9]) for raw in found.letters], [(True, ADA[:9]), (False, ADA[:9])])
+        self.assertEqual(sorted(outcome_of(found)), [f"in: ada {RANKS}", "waits: parted off"])
+        inner = letter("ada", f"ada {RANKS}\n\n{LINE.decode()}{BEN.decode()}")
+        self.write("box.eml", inner)
+        self.assertEqual(letters_of_folder(self.folder).letters[0].data, inner)
+
+    def test_a_folder_without_letters(self) -> None:
+        self.assertEqual(self.found(), ([], {}))
+
+
+class Answers(unittest.TestCase):
+    def test_ids(self) -> None:
+        """They are plain, or none: what is written into a letter that goes out has no line of its own."""
+        data = answer("ada", f"ada {RANKS}\n")
+        self.assertEqual(parsed(data).in_reply_to, "<call.ada@club.example>")
+        self.assertEqual(parsed(data).message_id, "<1.ada@mail.example>")
+        for value in (
+            "=?utf-8?q?=3Cx=0ABcc=3A_y=40z=3E?=",
+            "<x y@z>",
+            "<\xff\xfe@z>",
+            "<a@b> <c@d>",
+            "<a\n b@c>",
+            f"<{'x' * 300}@y>",
+            "x",
+            "",
+        ):
+            changed = data.replace(b"<1.ada@mail.example>", value.encode("latin-1"))
+            self.assertEqual(parsed(changed).message_id, "", value)
+            self.assertEqual(outcomes(changed), [f"in: ada {RANKS}"], value)
+
+    def test_heads_as_they_are_shown(self) -> None:
+        head = "Subject: =?utf-8?b?R3LDvMOfZQ==?= =?x-none?q?x?=\nSubject: \udcff\n"
+        found = parsed(letter("ada", "x", sender="=?utf-8?q?a=0ABcc:?= <ada@club.example>", head=head))
+        self.assertNotIn("\n", found.shown_sender + found.subject)
+        self.assertTrue(found.subject.startswith("Grüße"), found.subject)

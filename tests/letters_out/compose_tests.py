@@ -1,0 +1,198 @@
+"""What letters say, and their bytes: each outcome in each language, names and titles that try to do harm, and lines that read as ballots."""
+
+import dataclasses
+import datetime
+import unittest
+
+from out_support import one_line, parsed
+
+from debvote_tools.call.data import CallData
+from debvote_tools.language import LANGUAGES, language_of
+from debvote_tools.letters.readings import Near
+from debvote_tools.letters.reasons import Reason
+from debvote_tools.letters_out import compose
+from debvote_tools.letters_out.compose import Became, Came, Kind, Receiver, Result, Vote, without_ballots
+from debvote_tools.letters_out.message import Envelope, is_address, message_of, new_message_id
+from debvote_tools.publish.inputs import CastingVote
+from debvote_tools.sealed_poll import SealedPoll
+
+TIME = datetime.datetime(2026, 11, 23, 10, tzinfo=datetime.UTC)
+POLL = SealedPoll("Spring", ("Lake", "Hall"), (1, 1), "None", 1, ("ada", "ben"))
+ADA = Receiver("ada", "Ada L.")
+
+
+def vote(code: str = "en", *, is_over: bool = False, **how: object) -> Vote:
+    data = CallData(language_of(code), POLL, 1, to="vote@club.example", at="https://club.example/vote/")
+    return Vote(dataclasses.replace(data, **how), is_over)  # type: ignore[arg-type]
+
+
+def all_that_came() -> list[Came]:
+    """Something of each kind, with each fault that a line may have."""
+    near = (
+        Near(1, "ada 1,2", False, "bad rank count: 2 ranks, the poll has 3 options"),
+        Near(2, "bob 1,2,3", True, "bad not on roll: bob is not on the roll"),
+        Near(3, "ada 1;2;x", False, 'bad shape: column 9: "x"'),
+        Near(4, "ada one", False, "bad shape: it is odd"),
+        Near(5, "ada 1,2,3", False, None),
+        Near(6, "ada 1,2,3", True, None),
+    )
+    found = []
+    for became in Became:
+        is_ballot = became.name in ("COUNTS", "COUNTS_AT_THE_END", "REPLACED", "LATE", "STRUCK", "TAKEN_BACK")
+        is_letter = became.name in ("WAITS", "SET_ASIDE")
+        because = Reason.NO_BALLOT() if is_letter else None
+        answer = "bad rank count: 1 ranks, the poll has 3 options" if became is Became.REFUSED else ""
+        found.append(Came(became.name, became, TIME, "1,2,3" if is_ballot else "", answer, because, near if is_letter else ()))
+    return [*found, Came("shape", Became.REFUSED, TIME, answer='bad shape: column 2: "!"')]
+
+
+RESULT = Result(
+    winner=1,
+    is_by_casting=True,
+    casting=CastingVote("Lake", "the chair", datetime.date(2026, 11, 24)),
+    left=(1, 2),
+    at="https://club.example/vote/",
+    checksums={"poll.toml": "a" * 64, "ballots.txt": "b" * 64, "index.html": "c" * 64},
+    doubts=("DOUBT",),
+    because="BECAUSE",
+    acts=("ACT",),
+)
+
+
+def texts(now: Vote) -> list[str]:
+    """A letter of each kind."""
+    return [
+        compose.call_text(now, dataclasses.replace(ADA, code="c0de"), "CALL\n"),
+        compose.reminder_text(now, ADA, all_that_came()[:1]),
+        compose.reminder_text(now, ADA, []),
+        compose.receipt_text(now, ADA, all_that_came()),
+        compose.closed_text(now, ADA, "CLOSED\n"),
+        compose.result_text(now, ADA, RESULT, has_ballot=True),
+        compose.result_text(now, ADA, dataclasses.replace(RESULT, winner=None, close_command="COMMAND"), has_ballot=False),
+    ]
+
+
+class Texts(unittest.TestCase):
+    def test_each_language_says_all_in_its_own_words(self) -> None:
+        english = {line for text in texts(vote()) for line in text.splitlines() if len(line.split()) > 4}
+        for code in LANGUAGES:
+            for now in (vote(code), vote(code, is_secret=True), vote(code, is_over=True), vote(code, is_signed=True)):
+                for text in texts(now):
+                    self.assertNotRegex(text, r"[{}]")
+                    self.assertNotIn("\n\n\n", text)
+                    same = english & set(text.splitlines())
+                    commands = {line for line in same if "python3" in line or "sha256sum" in line}
+                    self.assertEqual(same - commands if code != "en" else set(), set(), code)
+
+    def test_a_secret_vote_repeats_no_ranks(self) -> None:
+        self.assertIn("(ada 1,2,3)", compose.receipt_text(vote(), ADA, all_that_came()))
+        self.assertNotRegex(compose.receipt_text(vote(is_secret=True), ADA, all_that_came()), r"\d,\d|In words|Lake, then")
+
+    def test_the_mark_ends_each_subject(self) -> None:
+        for code in LANGUAGES:
+            for kind in Kind:
+                self.assertTrue(vote(code).subject(kind).endswith(f"Spring [{POLL.mark}]"), (code, kind))
+
+    def test_a_signed_vote_asks_for_a_signature(self) -> None:
+        text = " ".join(compose.reminder_text(vote(is_signed=True), ADA, []).split())
+        self.assertIn("has to be signed with OpenPGP", text)
+        self.assertNotIn("send the line alone", text)
+        self.assertNotIn("OpenPGP", compose.reminder_text(vote(), ADA, []))
+
+    def test_of_a_result(self) -> None:
+        text = " ".join(compose.result_text(vote(), ADA, RESULT, has_ballot=True).split())
+        for part in (
+            "Winner: Option 1: Lake by casting vote",
+            "given on 24 November 2026",
+            "- DOUBT",
+            "BECAUSE",
+            "- ACT",
+            "vote/#ada",
+        ):
+            self.assertIn(part, text)
+        plain = dataclasses.replace(RESULT, is_by_casting=False, doubts=(), because=None, acts=())
+        text = " ".join(compose.result_text(vote(is_secret=True), ADA, plain, has_ballot=True).split())
+        self.assertNotRegex(text, r"casting|doubt|WHAT WAS DONE|#|secretary")
+        self.assertIn("find it with your name, ada, and your code", text)
+
+
+class NoBallot(unittest.TestCase):
+    def test_lines_that_read_as_ballots_get_brackets(self) -> None:
+        for line in (
+            "ada 1,2,3",
+            "  Ada: 1, 2, 3.",
+            "\u201cada 1,-,3\u201d",
+            "*ada* 1;2;3",
+            "who 1,2,\u2013",
+            "Zo\u00eb Maier 1,2,3",
+        ):
+            self.assertEqual(without_ballots(f"x\n{line}\ny", 3), f"x\n({line.strip()})\ny")
+        for line in ("ada 1,2", "ada 1,2,3,4", "ada _,_,_", "(ada 1,2,3)", "ada, ben, cleo", "3 of 4, 5 of 6, 7 of 8"):
+            self.assertEqual(without_ballots(f"x\n{line}\ny", 3), f"x\n{line}\ny")
+
+
+class Bytes(unittest.TestCase):
+    def message(self, text: str, **how: object) -> bytes:
+        usual = Envelope(
+            "vote@club.example", "", "ada@club.example", "Vote: Fr\u00fchling [0123456789abcdef]", "<1@club.example>", TIME
+        )
+        return message_of(dataclasses.replace(usual, **how), text, is_draft=False)  # type: ignore[arg-type]
+
+    def test_texts_come_through_as_they_are(self) -> None:
+        for text in (
+            "a\n",
+            "\u00e4\n",
+            "From me\n>From you\n.\n",
+            "x" * 2000 + "\n",
+            "\u00e4 " * 500 + "\n",
+            "a\n\nFrom \u00fc\n",
+            " \n\t\n",
+            "=20\n",
+        ):
+            data = self.message(text)
+            self.assertEqual(parsed(data).get_content(), text)
+            self.assertTrue(data.isascii())
+            body = data.partition(b"\n\n")[2]
+            self.assertNotRegex(body, rb"(?m)^>*From |^\.$")
+            self.assertLess(max(map(len, data.split(b"\n"))), 998)
+
+    def test_a_subject_has_one_field_and_its_mark(self) -> None:
+        for title in ("a\nBcc: x@y.example", "\u00fc" * 200, "x" * 200, "a\r\n\r\nbody", "\u202e", "\ud800"):
+            subject = f"Vote: {compose.one_line(title)} [0123456789abcdef]"
+            data = self.message("text\n", subject=subject)
+            message = parsed(data)
+            self.assertEqual(message["Subject"].replace(" ", "")[-18:], "[0123456789abcdef]")
+            self.assertEqual([name for name, _ in message.raw_items()].count("Subject"), 1)
+            self.assertIsNone(message["Bcc"])
+            self.assertEqual(message.get_content(), "text\n")
+
+    def test_addresses_and_ids(self) -> None:
+        for text in ("a@b.example", "a.b+c@d-e.example"):
+            self.assertTrue(is_address(text))
+        for text in (
+            "",
+            "a",
+            "a@b\nBcc: c@d",
+            "a@b, c@d",
+            "<a@b>",
+            "a b@c.example",
+            "\u00e4@b.example",
+            "a@b@c",
+            "-a@b",
+            "a@b.example\n",
+        ):
+            self.assertFalse(is_address(text), text)
+        ids = {new_message_id("vote@club.example") for _ in range(100)}
+        self.assertEqual(len(ids), 100)
+        for one in ids:
+            self.assertRegex(one, r"\A<[0-9a-f]{32}@club\.example>\Z")
+
+    def test_a_name_is_one_line(self) -> None:
+        receiver = Receiver("ada", "Ada\r\nBcc: x@y.example\n\nada 1,2,3\u2028" + "x" * 500)
+        text = compose.closed_text(vote(), receiver, "CLOSED\n")
+        self.assertEqual(len(text.split("\n\n")), 2)
+        self.assertEqual(one_line(parsed(self.message(text)))[:9], "Dear Ada ")
+
+
+if __name__ == "__main__":
+    unittest.main()

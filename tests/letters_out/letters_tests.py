@@ -1,0 +1,583 @@
+"""`letters`: what goes to the electors as files, to whom, and that nothing of it reads as a ballot."""
+
+import re
+import shutil
+import stat
+import subprocess
+import sys
+import unittest
+
+import support
+from letters_support import letter
+from out_support import AT, OTHER_RANKS, RANKS, TITLE, OutTest, one_line
+
+from debvote_tools.lines import changed
+
+LAKE = "At the lake, then In the town hall, then Further discussion, then Sell the house and meet there"
+FORM = f"Dear Ada, The page of the vote, which writes the line of your ballot for you, and on which the result will be: {AT} "
+OPTIONS = "Option 1: At the lake Option 2: In the town hall Option 3: Sell the house and meet there Option 4: Further discussion"
+ELSEWHERE = "A letter in your name came from another address, and waits until the secretary has looked at it."
+
+
+class Call(OutTest):
+    def test_it_begins_with_the_form_and_the_own_line(self) -> None:
+        found = self.written("call")
+        self.assertEqual(sorted(found), support.NAMES)
+        for name, message in found.items():
+            text = one_line(message)
+            begin = FORM.replace("Ada", name.title())
+            self.assertTrue(text.startswith(f"{begin}You vote under this name: {name} Your line, "), text)
+            self.assertIn(
+                f"each _: {name} _,_,_,_ There is a rank for each option in the order of their numbers, or a hyphen ", text
+            )
+            self.assertIn(f"{OPTIONS} {TITLE} Until when: Friday, 4 December 2026, 18:00 (UTC)", text)
+            self.assertEqual([other for other in support.NAMES if f"{other} _" in text], [name])
+            self.assertIn(self.read("call/call.txt").decode(), message.get_content())
+
+    def test_head_and_modes(self) -> None:
+        found = self.written("call")
+        mark = re.search(r"\[[0-9a-f]{16}\]", self.read("call/call.txt").decode())
+        assert mark is not None
+        ids = set()
+        for name, message in found.items():
+            self.assertEqual(message["To"], f"{name}@club.example")
+            self.assertEqual(message["Subject"], f"Vote: {TITLE} {mark[0]}")
+            self.assertEqual(
+                (message["From"], message["Auto-Submitted"], message["X-Unsent"]), ("vote@club.example", "auto-generated", "1")
+            )
+            self.assertEqual((message["In-Reply-To"], message["Reply-To"], message["Cc"], message["Bcc"]), (None,) * 4)
+            self.assertRegex(message["Message-ID"], r"^<[0-9a-f]{32}@club\.example>$")
+            ids.add(message["Message-ID"])
+        self.assertEqual(len(ids), 9)
+        for path in [*self.files("call"), *self.files("call")[0].parents[:3]]:
+            mode = stat.S_IMODE(path.stat().st_mode)
+            self.assertEqual(mode, 0o700 if path.is_dir() else 0o600, path)
+
+    def test_again_it_makes_the_same_files_and_no_act(self) -> None:
+        self.written("call")
+        before = {file: file.read_bytes() for file in self.files("call")}
+        last = self.book().last_number()
+        for file in before:
+            file.unlink()
+        self.set_clock("2026-11-24T11:00:00+00:00")
+        self.written("call")
+        self.assertEqual({file: file.read_bytes() for file in self.files("call")}, before)
+        self.assertEqual(self.book().last_number(), last)
+
+    def test_an_answer_to_it_goes_in(self) -> None:
+        """Its Message-ID is the elector's alone: it lets them put the ballot above an unmarked quotation with digits, and nobody else."""
+        found = self.written("call")
+        quoted = "\n".join(f"{line}" for line in found["ada"].get_content().splitlines()[:12])
+        for name, other in (("ada", "ada"), ("ben", "ada")):
+            head = f"In-Reply-To: {found[other]['Message-ID']}\nSubject: Re: {found[other]['Subject']}\n"
+            text = f"On 23 November 2026 you wrote:\n\n{name} {RANKS}\n\n> {quoted}\n"
+            self.add_letters(letter(name, text, head=head, time="Mon, 23 Nov 2026 09:59:00 +0000", number=name))
+        self.assertIn("ada", self.debvote_standing())
+        self.assertNotIn("ben", self.debvote_standing())
+
+    def debvote_standing(self) -> str:
+        self.done("export", "out")
+        text = (self.folder / "out" / "ballots.txt").read_text()
+        for file in (self.folder / "out").rglob("*"):
+            if file.is_file():
+                file.unlink()
+        self.run_program("rm", "-r", "out")
+        return text
+
+    def test_after_an_extension_those_who_have_the_call_get_its_letter(self) -> None:
+        self.written("call")
+        self.done("call", "--until", "2026-12-06 12:00", "--zone", "UTC")
+        texts = self.texts("call")
+        for name, text in texts.items():
+            self.assertIn("You have more time to vote.", text)
+            self.assertIn("Until when: Sunday, 6 December 2026, 12:00 (UTC)", text)
+            self.assertIn(f"{name} _,_,_,_", text)
+        self.done("call", "--until", "2026-12-08 12:00", "--zone", "UTC")
+        self.assertIn("Until when: Tuesday, 8 December 2026, 12:00 (UTC)", self.texts("call")["ada"])
+
+    def test_after_the_end_nobody_is_invited(self) -> None:
+        self.set_clock("2026-12-04T18:00:01+00:00")
+        for kind in ("call", "reminders"):
+            self.assert_fault(self.election("letters", kind), 9, "the time to vote is over")
+        self.done("close")
+        for kind in ("call", "reminders"):
+            self.assert_fault(self.election("letters", kind), 9, "the time to vote is over")
+        self.assertEqual((self.rows("call"), self.rows("reminder")), ([], []))
+
+
+class Refused(OutTest):
+    call_words = None
+
+    def test_before_the_call(self) -> None:
+        for kind in ("call", "receipts", "reminders", "closed", "result"):
+            self.assertEqual(self.election("letters", kind, "--from", "vote@club.example").status, 9)
+
+    def test_a_call_without_addresses(self) -> None:
+        self.done("call")
+        self.assert_fault(self.election("letters", "call"), 2, "--from: the call names no address")
+        found = self.written("call", "--from", "vote@other.example")
+        text = one_line(found["ada"])
+        self.assertTrue(text.startswith("Dear Ada, You vote under this name: ada "), text)
+        self.assertEqual(found["ada"]["From"], "vote@other.example")
+        self.assertIn(
+            "A ballot of yours looks like this, with your own ranks: ada _,_,_,_",
+            self.texts("reminders", "--from", "v@x.example")["ada"],
+        )
+
+
+class CodesOnRoll(OutTest):
+    poll = support.POLL + "secret = true\n"
+    call_words = None
+
+    def test_nobody_knows_whose_a_code_is(self) -> None:
+        self.done("codes", "--on-roll")
+        self.done("call", "--to", "vote@club.example")
+        for kind in ("call", "receipts", "reminders"):
+            self.assert_fault(self.election("letters", kind), 9, "codes are on the roll", "call/call.txt")
+
+
+class Paper(OutTest):
+    names = ["ada", "ben"]
+
+    def made(self) -> object:  # type: ignore[override]
+        original = support.members_of
+        support.members_of = lambda names: 'who,mail\n"Ada <script>alert(1)</script> & Söhne",\nBen,ben@club.example\nEve,\n'
+        try:
+            return super().made()
+        finally:
+            support.members_of = original
+
+    def test_who_has_no_address_gets_a_page(self) -> None:
+        ended = self.done("letters", "call")
+        name = re.search(r"Without an address: (\S+), eve\. Print (letters/call/\d+/to-print\.html)\.\n", ended.output)
+        assert name is not None, ended
+        self.assertIn("Wrote 1 letter: ", ended.output)
+        page = self.read(name[2]).decode()
+        self.assertIn("<bdi>Ada &lt;script&gt;alert(1)&lt;/script&gt; &amp; Söhne</bdi>", page)
+        self.assertNotIn("<script>alert", page)
+        self.assertIn(f"{name[1]} _,_,_,_", page)
+        self.assertIn("eve _,_,_,_", page)
+        self.assertNotIn("ben _,_", page)
+        self.assertEqual([state for _, state in self.rows("call")], ["written"] * 3)
+
+
+class Receipts(OutTest):
+    def test_each_has_its_own_reply(self) -> None:
+        """A line that counts, one that is replaced, one that is refused, one that is struck, one that is taken back, and a late one."""
+        self.add_lines(f"ada {RANKS}", f"ben {RANKS}", f"ben {OTHER_RANKS}", "cleo 1,2", f"dan {RANKS}")
+        self.done("strike", 5, "--because", "it was a mistake")
+        self.add_lines(f"eve {RANKS}")
+        self.done("undo")
+        texts = self.texts("receipts")
+        self.assertEqual(sorted(texts), ["ada", "ben", "cleo", "dan", "eve"])
+        self.assertIn("has arrived. It counts unless you send a later one.", texts["ada"])
+        self.assertIn(f"It was read as: (ada {RANKS}) In words: {LAKE}. If you have not sent this", texts["ada"])
+        self.assertRegex(
+            texts["ben"], r"has arrived\. A later ballot of yours counts instead\. .* It counts unless you send a later one"
+        )
+        self.assertIn(f"It was read as: (ben {OTHER_RANKS}) In words: In the town hall, then", texts["ben"])
+        self.assertIn(
+            "It is not a valid ballot of this vote, so it does not count. It has 2 ranks, and the vote has 4 options.",
+            texts["cleo"],
+        )
+        self.assertIn("was entered, and the secretary has struck it. It does not count.", texts["dan"])
+        self.assertIn(
+            "was entered, and the secretary has taken it back. It does not count unless it is entered again.", texts["eve"]
+        )
+        # a receipt that refuses begins with the form and the right line, another has neither
+        self.assertTrue(texts["cleo"].startswith(FORM.replace("Ada", "Cleo") + "You can send a right line now"), texts["cleo"])
+        self.assertIn("cleo _,_,_,_", texts["cleo"])
+        for name in ("ada", "ben", "dan", "eve"):
+            self.assertNotIn("_,_", texts[name])
+        for name, text in texts.items():
+            self.assertNotRegex(text, r"(?i)envelope|number \d")
+            self.assertFalse([other for other in support.NAMES if other != name and re.search(rf"\b{other}\b", text)], text)
+        self.assertEqual(self.texts("receipts"), {})
+
+    def test_late_and_after_the_close(self) -> None:
+        self.add_lines(f"ada {RANKS}")
+        self.done("close", "--early")
+        self.add_lines(f"ben {RANKS}", "cleo 1,2")
+        texts = self.texts("receipts")
+        self.assertIn("has arrived, and it counts. It was read as", texts["ada"])
+        self.assertIn("It was entered after the close, so it is late and does not count. It was read as: (ben", texts["ben"])
+        self.assertIn("so it is late and does not count.", texts["cleo"])
+        for text in texts.values():
+            self.assertNotRegex(text, r"_,_|unless you|You can send")
+
+    def test_a_ballot_that_is_struck_later_is_told(self) -> None:
+        self.add_lines(f"ada {RANKS}", f"ben {RANKS}")
+        self.assertEqual(sorted(self.texts("receipts")), ["ada", "ben"])
+        self.done("strike", 1, "--because", "not hers")
+        texts = self.texts("receipts")
+        self.assertEqual(list(texts), ["ada"])
+        self.assertIn("the secretary has struck it", texts["ada"])
+
+    def test_letters(self) -> None:
+        self.add_letters(
+            letter("ada", f"Ada: {RANKS}.\n"),
+            letter("ben", "ben 1,2\n"),
+            letter("cleo", f"dan {RANKS}\n"),
+            letter("eve", f"eve {RANKS}\n", sender="stranger@x.example"),
+            letter("fay", "away\n", head="Auto-Submitted: auto-replied\n"),
+            letter("gus", "I want the lake.\n"),
+            letter("hal", "Hello\nI vote hal 1,2,3,4, of course\n"),
+        )
+        texts = self.texts("receipts")
+        self.assertEqual(sorted(texts), ["ada", "ben", "dan", "eve", "gus", "hal"])
+        self.assertIn(f"(ada {RANKS})", texts["ada"])
+        waits = "has arrived. No ballot from it is entered yet: the secretary has to look at it first. The reason: "
+        self.assertIn(
+            f"{waits}no line of it is a ballot of this vote. Line 1 of its text has 2 ranks, and the vote has 4", texts["ben"]
+        )
+        self.assertIn(ELSEWHERE, texts["dan"])
+        self.assertIn(ELSEWHERE, texts["eve"])
+        self.assertNotIn("stranger", texts["eve"] + texts["dan"])
+        self.assertIn(f"{waits}no line of it is a ballot of this vote. If you", texts["gus"])
+        self.assertIn("Line 2 of its text has a ballot within other words; it has to be there alone.", texts["hal"])
+        self.assertEqual(self.texts("receipts"), {})
+        # one that waited and is entered now
+        self.done("held", 3, "--enter", 1)
+        texts = self.texts("receipts")
+        self.assertEqual(list(texts), ["dan"])
+        self.assertIn(f"It counts unless you send a later one. It was read as: (dan {RANKS})", texts["dan"])
+
+    def test_a_copy_is_the_letter_that_it_copies(self) -> None:
+        first = letter("ada", f"ada {RANKS}\n")
+        self.add_letters(
+            first,
+            first.replace(b"Received: from a", b"Received: from c"),
+            letter("ben", "hi\n"),
+            b"X-Y: z\n" + letter("ben", "hi\n"),
+        )
+        texts = self.texts("receipts")
+        self.assertEqual({name: text.count("has arrived") for name, text in texts.items()}, {"ada": 1, "ben": 1})
+
+    def test_an_address_that_is_written_in_capitals(self) -> None:
+        self.add_letters(letter("ada", "hi\n", sender="ADA@Club.Example"))
+        self.assertIn("Your letter of", self.texts("receipts")["ada"])
+
+    def test_one_that_was_set_aside_before_the_receipt(self) -> None:
+        self.add_letters(letter("ada", "hello\n"), letter("ben", f"ben {RANKS}\n", sender="x@x.example"))
+        self.done("held", 1, 2, "--set-aside")
+        texts = self.texts("receipts")
+        self.assertIn("No ballot from it was entered. The reason: the secretary has looked at it, and set it aside.", texts["ada"])
+        self.assertIn("A letter in your name came from another address. The secretary has set it aside.", texts["ben"])
+
+    def test_one_for_each_elector_and_run(self) -> None:
+        self.add_letters(
+            letter("ada", f"ada {RANKS}\n", number=1, time="Mon, 23 Nov 2026 08:00:00 +0000"),
+            letter("ada", f"ada {OTHER_RANKS}\n", number=2, time="Mon, 23 Nov 2026 09:00:00 +0000"),
+            letter("ada", "thanks\n", number=3, time="Mon, 23 Nov 2026 09:30:00 +0000"),
+        )
+        [text] = self.texts("receipts").values()
+        places = [
+            text.index(part)
+            for part in ("08:00 (UTC) has arrived. A later", "09:00 (UTC) has arrived. It counts", "09:30 (UTC) has arrived. No")
+        ]
+        self.assertEqual(places, sorted(places))
+
+    def test_the_next_one_goes_to_the_old_address_too(self) -> None:
+        self.write("members.csv", support.members_of(support.NAMES).replace("ada@club", "ada@new"))
+        self.done("roll", "--yes")
+        self.add_lines(f"ada {RANKS}", f"ben {RANKS}")
+        found = self.written("receipts")
+        self.assertEqual(
+            sorted(message["To"] for message in found.values()), ["ada@club.example", "ada@new.example", "ben@club.example"]
+        )
+        self.add_lines(f"ada {OTHER_RANKS}")
+        self.assertEqual([message["To"] for message in self.written("receipts").values()], ["ada@new.example"])
+
+    def test_heads_that_came_add_no_line(self) -> None:
+        evil = (
+            "<a@b>\n Bcc: everybody@x.example",
+            "=?utf-8?q?=3Ca=40b=3E=0D=0ABcc=3A_all=40x.example?=",
+            "<\xff\xfe@b>",
+            "<" + "a" * 5000 + "@b>",
+            "",
+        )
+        letters = [
+            letter(
+                "ada",
+                "no ballot\n",
+                number=f"{number}@x>\nX-Old: <{number}",
+                head=f"References: {text}\nSubject: {text}\nReply-To: {text}\n",
+                sender=f'"=?utf-8?q?Ada=0ABcc:_x=40y.example?=" <ada@club.example>' if number % 2 else "ada@club.example",
+            )
+            for number, text in enumerate(evil)
+        ]
+        self.add_letters(*letters)
+        [message] = self.written("receipts").values()
+        self.assertEqual(message["To"], "ada@club.example")
+        names = [name for name, _ in message.raw_items()]
+        self.assertEqual(
+            names,
+            [
+                "From",
+                "To",
+                "Subject",
+                "Date",
+                "Message-ID",
+                "X-Unsent",
+                "Auto-Submitted",
+                "MIME-Version",
+                "Content-Type",
+                "Content-Transfer-Encoding",
+            ],
+        )
+
+
+class FullDisk(OutTest):
+    """A disk that is full at any write: receipts are noted if their files are there, and the next run writes the others."""
+
+    names = ["ada", "ben", "cleo"]
+
+    def setUp(self) -> None:
+        super().setUp()
+        if shutil.which("strace") is None:
+            self.skipTest("strace is not installed")
+
+    def full_at(self, call: str, count: int) -> support.Ended:
+        """Writes receipts on a disk that is full at one of these system calls."""
+        words = ["strace", "-f", "-o", "/dev/null", "-e", f"inject={call}:error=ENOSPC:when={count}"]
+        env = support.environment() | self.clock | {"XDG_STATE_HOME": str(self.state)}
+        words += [sys.executable, str(support.ELECTION), "letters", "receipts"]
+        ended = subprocess.run(words, cwd=self.folder, env=env, capture_output=True, timeout=support.SECONDS)
+        return support.Ended(ended.stdout.decode(), ended.stderr.decode(), ended.returncode)
+
+    def test_it_loses_no_receipt(self) -> None:
+        failures = 0
+        for call, counts in (
+            ("write", range(1, 7)),
+            ("pwrite64", range(2, 20, 4)),
+            ("mkdir", range(1, 4)),
+            ("rename", range(1, 3)),
+        ):
+            for count in counts:
+                with self.subTest(call=call, count=count):
+                    number = len(self.book().acts())
+                    for name in self.names:
+                        self.add_lines(f"{name} {1 + number % 90},{1 + number // 90},-,1")
+                    before = len(self.rows("receipt"))
+                    ended = self.full_at(call, count)
+                    failures += ended.status != 0
+                    noted = [name for name, _ in self.rows("receipt")[before:]]
+                    there = [file.stem for file in self.files("receipts")]
+                    self.assertIn(noted, ([], self.names))
+                    if noted:
+                        self.assertEqual(there, self.names)
+                    else:
+                        self.assertNotEqual(ended.status, 0)
+                        self.assertEqual(sorted(self.texts("receipts")), self.names)
+                    left = [file.name for file in (self.folder / "letters" / "receipts").iterdir() if not file.name.isdigit()]
+                    self.assertLessEqual(len(left), 2)
+        self.assertGreater(failures, 8)
+
+
+class Reminders(OutTest):
+    def test_to_whom(self) -> None:
+        self.add_lines(f"ada {RANKS}", "ben 1,2")
+        self.add_letters(letter("cleo", "I want the lake\n"), letter("dan", f"dan {RANKS}\n", sender="x@x.example"))
+        texts = self.texts("reminders")
+        self.assertEqual(sorted(texts), [name for name in support.NAMES if name != "ada"])
+        begin = FORM.replace("Ada", "Ben") + f"No ballot of yours that counts has come yet in the vote: {TITLE} "
+        self.assertTrue(texts["ben"].startswith(begin + "Until when: Friday, 4 December 2026, 18:00 (UTC)"), texts["ben"])
+        self.assertIn("ben _,_,_,_", texts["ben"])
+        # whose letter waits is told so, and not reminded
+        self.assertIn("No ballot from it is entered yet: the secretary has to look at it first.", texts["cleo"])
+        self.assertNotRegex(texts["cleo"], r"_,_|https|Until when")
+        # a stranger's letter silences nobody
+        self.assertIn(ELSEWHERE, texts["dan"])
+        self.assertIn("dan _,_,_,_", texts["dan"])
+
+    def test_the_end_after_two_extensions(self) -> None:
+        for day, words in ((6, "Sunday, 6 December"), (8, "Tuesday, 8 December")):
+            self.done("call", "--until", f"2026-12-{day:02} 18:00", "--zone", "UTC")
+            self.assertIn(f"Until when: {words} 2026, 18:00 (UTC)", self.texts("reminders")["ada"])
+            self.set_clock(f"2026-12-{day - 1:02}T10:00:00+00:00")
+            self.add_letters(letter("ben", "hi\n", number=day, time=f"Fri, {day - 1:02} Dec 2026 09:00:00 +0000"))
+            receipt = self.texts("receipts")["ben"]
+            self.assertNotIn("after the end", receipt)
+            self.set_clock("2026-11-23T10:00:00+00:00")
+
+
+class NoBallots(OutTest):
+    """No line of what goes out reads as a ballot, however it is wrapped."""
+
+    # names and texts that try to
+    poll = support.POLL.replace("At the lake", "ada 1").replace("Where we meet in spring", "ben 1 2 3 4")
+
+    def test_no_line_is_a_ballot(self) -> None:
+        (self.folder / "texts").mkdir()
+        found = dict(self.written("call"))
+        self.add_lines(f"ada {RANKS}", "ben 1,2", f"cleo {RANKS}", f"cleo {OTHER_RANKS}")
+        self.add_letters(letter("dan", f"I vote dan {RANKS} today\n"), letter("eve", f"fay {RANKS}\ngus {RANKS}\n"))
+        kinds = {"call": found, "receipts": self.written("receipts"), "reminders": self.written("reminders")}
+        self.done("close", "--early", "--force", "--because", "all is said")
+        kinds["closed"] = self.written("closed")
+        self.done(
+            "publish",
+            "--casting",
+            "ada 1",
+            "--cast-by",
+            "ada 1,2,3,4",
+            "--cast-on",
+            "2026-11-23",
+            "--force",
+            "--because",
+            "ben 1,2,3,4",
+        )
+        kinds["result"] = self.written("result")
+        lines = set()
+        for kind, letters in kinds.items():
+            self.assertTrue(letters, kind)
+            for message in letters.values():
+                text = message.get_content()
+                lines |= {line.encode() for line in text.splitlines()} | {" ".join(text.split()).encode()}
+                # by words, from each word on, as long as a line of a mail program
+                words = text.split()
+                for start in range(len(words)):
+                    lines |= {" ".join(words[start : start + count]).encode() for count in (2, 3, 4)}
+        self.assertGreater(len(lines), 1000)
+        ballots = [changed(line) for line in lines]
+        self.write("lines", b"".join(line.replace(b"\n", b" ") + b"\n" for line in ballots if line.strip()))
+        steps = self.debvote("steps", "--poll", "call/poll.toml", "--ballots", "lines")
+        replies = {line.partition(" ")[2] for line in steps.output.splitlines()}
+        self.assertLessEqual(replies, {"bad shape", "bad rank count", "bad not on roll"})
+        # a ballot among them is seen
+        self.write("lines", self.read("lines") + f"ada {RANKS}\n".encode())
+        self.assertIn("counted", self.debvote("steps", "--poll", "call/poll.toml", "--ballots", "lines").output)
+
+
+class Closed(OutTest):
+    def test_it_has_the_checksum(self) -> None:
+        self.add_lines(f"ada {RANKS}")
+        self.assert_fault(self.election("letters", "closed"), 9, "the vote is not closed")
+        self.done("close", "--early")
+        text = self.read("letters/closed.txt").decode()
+        found = self.written("closed")
+        self.assertEqual(sorted(found), support.NAMES)
+        for message in found.values():
+            self.assertIn(text, message.get_content())
+            self.assertRegex(message["Subject"], r"^Vote closed: Where we meet in spring \[[0-9a-f]{16}\]$")
+
+
+class Result(OutTest):
+    def published(self, *words: object) -> None:
+        self.add_lines(f"ada {RANKS}", f"ben {RANKS}")
+        self.done("close", "--early")
+        self.done("publish", *words)
+
+    def test_an_open_vote(self) -> None:
+        self.assert_fault(self.election("letters", "result"), 9, "nothing is published")
+        self.published()
+        texts = self.texts("result")
+        self.assertEqual(sorted(texts), support.NAMES)
+        self.assertIn(f"Dear Ada, {TITLE} Winner: Option 1: At the lake The result is published at: {AT} ", texts["ada"])
+        self.assertIn(f"Your own ballot, in words: {AT}#ada What was done", texts["ada"].replace("WHAT WAS DONE", "What was done"))
+        self.assertIn(f"{AT}#ben", texts["ben"])
+        self.assertIn("No ballot of yours that counts is there.", texts["cleo"])
+        self.assertNotIn("#", texts["cleo"])
+        for name in ("poll.toml", "ballots.txt", "index.html"):
+            [checksum] = re.findall(rf"(?m)^([0-9a-f]{{64}})  {name}$", self.read("result/SHA256SUMS").decode())
+            for text in texts.values():
+                self.assertIn(f"{checksum} {name}", text)
+        self.assertIn("sha256sum poll.toml ballots.txt index.html", texts["ada"])
+        self.assertIn("open the index.html that you downloaded and compared, and read that file", texts["ada"])
+        # each act that the page tells
+        self.assertIn("That was before the time until which one could vote.", texts["ada"])
+
+    def test_of_the_last_publication(self) -> None:
+        self.add_lines(f"ada {RANKS}", f"ben {OTHER_RANKS}")
+        self.done("strike", 2, "--because", "a mistake of 'ours' & <yours>")
+        self.add_lines("ben 2,1,-,3")
+        self.done("close", "--early")
+        self.assertEqual(self.election("publish").status, 1)
+        text = self.texts("result")["ada"]
+        self.assertIn("Tie: Option 1: At the lake and Option 2: In the town hall", text)
+        words = ["--cast-by", "the chair", "--cast-on", "2026-11-23"]
+        self.done("publish", "--casting", "In the town hall", *words)
+        text = self.texts("result")["ada"]
+        self.assertIn("Winner: Option 2: In the town hall by casting vote", text)
+        self.assertIn('The secretary says that the casting vote was the one of "the chair", given on 23 November 2026.', text)
+        self.assertIn(
+            "The secretary struck envelope 2: its line does not count. The reason, in the secretary's words: “a mistake of 'ours' & <yours>”",
+            text,
+        )
+
+    def test_doubts(self) -> None:
+        self.write("lines", f"ada {RANKS}\nben 1\ncleo 1\n")
+        self.done("add", "--yes", "--force", "lines")
+        self.done("close", "--early")
+        self.done("publish", "--force", "--because", "they were asked")
+        text = self.texts("result")["ada"]
+        self.assertIn(
+            "What is doubtful about this result: - More than half of the lines of the ballot file are refused: 2 of 3.", text
+        )
+        self.assertIn("Why it was published all the same, in the secretary's words: they were asked", text)
+
+
+class ResultAt(OutTest):
+    call_words = ("--to", "vote@club.example")
+
+    def test_the_address_is_an_act(self) -> None:
+        self.add_lines(f"ada {RANKS}")
+        self.done("close")
+        self.done("publish")
+        self.assert_fault(self.election("letters", "result"), 2, "--at: the letter has to say where the result is published")
+        self.assert_fault(self.election("letters", "result", "--at", "ftp://x"), 2, "it has to be the address of a page")
+        self.assertIn("https://x.example/r/#ada", self.texts("result", "--at", "https://x.example/r/")["ada"])
+        acts = [(act.name, act.detail) for act in self.book().acts()]
+        self.assertEqual(acts.count(("announce", {"at": "https://x.example/r/"})), 1)
+        self.assertIn("https://x.example/r/#ada", self.texts("result")["ada"])
+
+
+class Secret(OutTest):
+    poll = support.POLL + "secret = true\n"
+
+    def codes(self) -> dict[str, str]:
+        return dict(self.book().rows("SELECT name, code FROM elector JOIN elector_state USING (elector) WHERE code <> ''"))
+
+    def test_each_letter_of_the_call_has_the_code_of_its_own_elector(self) -> None:
+        codes = self.codes()
+        for name, message in self.written("call").items():
+            text = message.get_content()
+            self.assertEqual([other for other, code in codes.items() if code in text], [name])
+        # folders that others may read are closed again
+        folders = self.files("call")[0].parents[:3]
+        for folder in folders:
+            folder.chmod(0o755)
+        self.written("call")
+        self.assertEqual({stat.S_IMODE(folder.stat().st_mode) for folder in folders}, {0o700})
+        self.assertEqual({stat.S_IMODE(file.stat().st_mode) for file in self.files("call")}, {0o600})
+        # that there is more time is told without the code
+        self.done("call", "--until", "2026-12-06 12:00", "--zone", "UTC")
+        for message in self.written("call").values():
+            self.assertFalse([code for code in codes.values() if code in message.get_content()])
+
+    def test_nothing_else_has_codes_or_ranks(self) -> None:
+        codes = self.codes()
+        self.add_lines(f"ada {RANKS}", "ben 1,2")
+        self.add_letters(letter("cleo", f"{codes['cleo']} {RANKS}\n"), letter("dan", f"dan {RANKS}\n{codes['dan']}\n"))
+        found = [*self.written("receipts").values(), *self.written("reminders").values()]
+        self.done("call", "--until", "2026-12-06 12:00", "--zone", "UTC")
+        self.done("close", "--early", "--force", "--because", "x")
+        found += self.written("closed").values()
+        aliases = [alias for alias, in self.book().rows("SELECT alias FROM elector_state WHERE alias <> ''")]
+        self.done("publish", "--yes")
+        private = self.run_program("sh", "-c", "cd out && sha256sum *").output if self.done("export", "out") else ""
+        results = self.texts("result")
+        self.assertIn("find it with your name, ada, and your code, under", results["ada"])
+        self.assertNotIn("#", results["ada"])
+        self.assertIn("cat seal.txt ballots.txt | sha256sum", results["ada"])
+        texts = [one_line(message) for message in found] + list(results.values())
+        for text in texts:
+            self.assertFalse([code for code in [*codes.values(), *aliases] if code in text])
+            self.assertNotRegex(text, r"[a-z]+ \d,\d,\d,\d")
+            self.assertNotIn("In words", text)
+            for checksum in re.findall(r"(?m)^([0-9a-f]{64})", private):
+                self.assertNotIn(checksum, text)
+
+
+if __name__ == "__main__":
+    unittest.main()

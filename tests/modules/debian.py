@@ -1,0 +1,32 @@
+"""What the programs and their tests need of Debian: it is installed where nothing stands against it, or one line says what to type."""
+
+import importlib.util
+import os
+import shutil
+import subprocess
+import sys
+
+# what cannot be left out: the modules of /usr/bin/python3 and the programs, by their packages
+MODULES = {"python3-jinja2": "jinja2", "python3-babel": "babel"}
+PROGRAMS = {"gpgv": "gpgv", "gpg": "gpg"}
+
+
+def missing() -> list[str]:
+    """The packages that are not installed."""
+    modules = [package for package, module in MODULES.items() if importlib.util.find_spec(module) is None]
+    return modules + [package for package, program in PROGRAMS.items() if shutil.which(program) is None]
+
+
+def demand() -> None:
+    """Installs what is missing; whoever may not do that is told what to type, before anything is built."""
+    packages = missing()
+    if not packages:
+        return
+    install = ["apt-get", "install", "-y", *packages]
+    if os.geteuid() == 0 and shutil.which("apt-get"):
+        print(f"installing {', '.join(packages)}", flush=True)
+        environment = {**os.environ, "DEBIAN_FRONTEND": "noninteractive"}
+        if any(subprocess.run(words, env=environment).returncode for words in (["apt-get", "update"], install)):
+            sys.exit(f"{', '.join(packages)} could not be installed")
+        return
+    sys.exit(f"type this first: sudo {' '.join(install)}")

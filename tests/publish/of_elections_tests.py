@@ -1,0 +1,486 @@
+"""What debvote-election publishes of its book: the files, what was done, doubts, casting votes, secret votes, and the same bytes again."""
+
+import contextlib
+import datetime
+import email.utils
+import hashlib
+import json
+import os
+import re
+import shutil
+import sqlite3
+import sys
+import unittest.mock
+
+import page as pages
+import support
+
+sys.path.append(str(support.ROOT / "python"))
+
+from debvote_tools.book import letters, queries  # noqa: E402
+from debvote_tools.book.book import open_book  # noqa: E402
+from debvote_tools.election.commands import publish as command  # noqa: E402
+from debvote_tools.election.election import Election  # noqa: E402
+from debvote_tools.letters import parse  # noqa: E402
+from debvote_tools.letters.sources import RawLetter  # noqa: E402
+from debvote_tools.publish.result_folder import Made  # noqa: E402
+
+ELECTION = support.ROOT / "bin" / "debvote-election"
+
+POLL = """title = "Wo wir uns treffen: Größe"
+options = ["72 Euro", "Größe"]
+ratios = [1, 1]
+default = "Nichts davon"
+quorum = 0
+"""
+MEMBERS = "who,mail,name\nAda <Lovelace>,ada@x.example,\nZoë Müller,zoe@x.example,\nCleo,cleo@x.example,cleo\nDan,,dan\n"
+TIE = "ada-lovelace 1,2,3\nzoe-mueller 2,1,3\n"
+NOTHING_DONE = "nothing was published"
+TEXT = "Who certifies this: <b>Anna</b>.\n"
+
+
+class OfElections(support.PublishTest):
+    """An election in a folder of its own for each test."""
+
+    poll = POLL
+
+    def setUp(self):
+        self.folder = self.scratch / self.id().rpartition(".")[2]
+        self.state = self.scratch / "state"
+        self.say("new", str(self.folder), "--language", "de", cwd=self.scratch)
+        (self.folder / "poll.toml").write_text(self.poll)
+        (self.folder / "members.csv").write_text(MEMBERS)
+        self.say("roll")
+        if "secret" in self.poll:
+            self.say("codes")
+
+    def run_words(self, *words, cwd=None, path=support.PATH, **how):
+        environment = {**os.environ, "PATH": path, "XDG_STATE_HOME": str(self.state)}
+        ended = support.forks.run(
+            [sys.executable, str(ELECTION), *words],
+            capture_output=True,
+            text=True,
+            timeout=support.SECONDS,
+            cwd=cwd or self.folder,
+            env=environment,
+            **how,
+        )
+        return ended.stdout, ended.stderr, ended.returncode
+
+    def state_of_this(self):
+        """This process finds the programs, and its notes of books."""
+        return unittest.mock.patch.dict(os.environ, {"XDG_STATE_HOME": str(self.state), "PATH": support.PATH})
+
+    def say(self, *words, status=0, **how):
+        """Runs a command, which has to end so, and returns what it printed."""
+        output, faults, found = self.run_words(*words, **how)
+        self.assertEqual(found, status, (words, output, faults))
+        return output
+
+    def stops(self, *words, said=(), status=9, folder="result"):
+        """Runs a command that has to stop with these words; it makes no folder and no act."""
+        acts, before = len(self.acts()), (self.folder / folder).exists()
+        output, faults, found = self.run_words(*words)
+        self.expect(f"{words}: {faults}", (output, [text for text in said if text not in faults], found), ("", [], status))
+        self.expect(f"{words}: nothing is made", (len(self.acts()), (self.folder / folder).exists()), (acts, before))
+
+    def add(self, lines, **how):
+        (self.folder / "lines").write_text(lines)
+        return self.say("add", "lines", **how)
+
+    def acts(self):
+        book = open_book(self.folder / "election.db")
+        with contextlib.closing(book.connection):
+            return book.acts()
+
+    def sections(self, folder="result"):
+        return pages.sections_of((self.folder / folder / "index.html").read_text())
+
+    def doubts(self):
+        return pages.doubts_of((self.folder / "result" / "index.html").read_text())
+
+    def files(self, folder="result"):
+        return {file.name: file.read_bytes() for file in (self.folder / folder).iterdir()}
+
+    def checksums_of_letters(self, files, ballots):
+        """The checksums of the page are those of the letters, each in its place."""
+        answers = re.findall(r"<pre><code>([0-9a-f]{64})  (\S+)</code></pre>", files["index.html"].decode())
+        shown = {name: checksum for checksum, name in answers}
+        letters = {name: re.findall(r"(?m)^  ([0-9a-f]{64})$", files[name].decode()) for name in ("letter.txt", "closed.txt")}
+        called = re.findall(r"\b[0-9a-f]{64}\b", (self.folder / "call" / "call.txt").read_text())
+        page = hashlib.sha256(files["index.html"]).hexdigest()
+        self.expect("the letter of the result", letters["letter.txt"], [shown["poll.toml"], shown["ballots.txt"], page])
+        self.expect("the letter of the call", set(called), {shown["poll.toml"]})
+        self.expect("the letter of the close", letters["closed.txt"][:2], [shown["poll.toml"], shown[ballots]])
+
+    def whole(self, folder="result"):
+        """The folder is what its checksums say, and can be read by all."""
+        files = self.files(folder)
+        sums = dict(reversed(line.split("  ")) for line in files.pop("SHA256SUMS").decode().splitlines())
+        self.expect("checksums", sums, {name: hashlib.sha256(data).hexdigest() for name, data in files.items()})
+        modes = {file.stat().st_mode & 0o777 for file in (self.folder / folder).iterdir()}
+        self.expect("modes", ((self.folder / folder).stat().st_mode & 0o777, modes), (0o755, {0o644}))
+
+
+class OfOpenVotes(OfElections):
+    def test_the_files(self):
+        self.say("call", "--names")
+        self.add("ada-lovelace 1,2,3\nno-one 1,2,3\nzoe-mueller 1,-,3\ncleo 2,1,3\n")
+        self.say("strike", "3", "--because", "Zoë has sent it <b>twice</b>")
+        self.say("close")
+        self.add("dan 3,2,1\n")
+        (self.folder / "about").write_text(TEXT)
+        said = self.say("publish", "--about", "about", "--language", "en", status=1)
+        self.expect("what is said", said.splitlines()[:3], ["Tie: 1 2", "verified", "Made the folder result."])
+        self.whole()
+        self.say("export", "exported")
+        files = self.files()
+        names = {"poll.toml", "ballots.txt", "late.txt", "sheet.txt", "standing.txt", "result.json", "votes.csv", "recount.py"}
+        names |= {"recount.js", "letter.txt", "closed.txt", "READING-A-SHEET.md", "SHA256SUMS", "index.html"}
+        self.expect("the files", set(files), names | ({"picture.svg"} if support.HAS_PICTURES else set()))
+        for name, source in [
+            ("poll.toml", "call/poll.toml"),
+            ("poll.toml", "exported/poll.toml"),
+            ("ballots.txt", "exported/ballots.txt"),
+            ("late.txt", "exported/late.txt"),
+            ("closed.txt", "letters/closed.txt"),
+        ]:
+            self.expect(f"{name} is {source}", files[name], (self.folder / source).read_bytes())
+        self.expect("the lines in time that are not struck", files["ballots.txt"], b"ada-lovelace 1,2,3\nno-one 1,2,3\ncleo 2,1,3\n")
+        self.expect("late lines", files["late.txt"], b"dan 3,2,1\n")
+        label = json.loads(files["result.json"])["options"][1]
+        self.expect("names as data", (label["name"], label["label"]), ("Groesse", "Größe"))
+        sections = self.sections()
+        voted = [item.text() for item in sections["Who-voted"].all("li")]
+        self.expect("real names", voted, ["ada-lovelace Ada <Lovelace>", "cleo Cleo", "zoe-mueller Zoë Müller", "dan Dan"])
+        refused = [item.text() for item in sections["Refused-lines"].all("li")]
+        self.expect("refused and late lines", (len(refused), refused[-1]), (2, "line 1: dan 3,2,1"))
+        self.expect("about", TEXT.strip() in sections["About-this-vote"].text(), True)
+        done = [item.text().partition("): ")[2] for item in sections["What-was-done"].all("li")]
+        struck = "The secretary struck envelope 3: its line does not count. The reason, in the secretary's words: Zoë has sent it <b>twice</b>"
+        self.expect("what was done", done[:2], ["The call was made; it named no time until which one could vote.", struck])
+        checksum = hashlib.sha256(files["ballots.txt"]).hexdigest()
+        self.expect("the close", done[2:], [f"The vote was closed. Lines in time: 3. Checksum: {checksum}."])
+        self.checksums_of_letters(files, "ballots.txt")
+        last = self.acts()[-1]
+        self.expect("the act", (last.name, last.detail["checksums"]["ballots.txt"]), ("publish", checksum))
+
+    def test_the_same_bytes_again(self):
+        self.say("call", "--until", "2099-12-04 18:00", "--zone", "Europe/Berlin")
+        self.add("ada-lovelace 1,2,3\n")
+        self.say("close", "--early")
+        (self.folder / "about").write_text(TEXT)
+        self.say("publish", "--about", "about")
+        files, acts = self.files(), len(self.acts())
+        (self.folder / "about").unlink()
+        umask = os.umask(0o077)
+        try:
+            said = self.say("publish")
+        finally:
+            os.umask(umask)
+        self.expect("no act", (len(self.acts()), "again, as it was published" in said), (acts, True))
+        self.whole()
+        shutil.rmtree(self.folder / "result")
+        self.say("publish", "elsewhere")
+        self.expect("the same bytes", (self.files("elsewhere") == files, (self.folder / "result").exists()), (True, False))
+        self.expect("still no act", len(self.acts()), acts)
+        self.say("publish", "--language", "fr")
+        self.expect("other words are an act", (len(self.acts()), self.files() == files), (acts + 1, False))
+        self.expect("nothing is left beside it", [name for name in os.listdir(self.folder) if name.startswith(".")], [])
+        self.expect("real names are not published", "Lovelace" in (self.folder / "elsewhere" / "index.html").read_text(), False)
+
+    def test_another_folder_stays(self):
+        self.say("call")
+        self.add("ada-lovelace 1,2,3\n")
+        self.say("close")
+        (self.folder / "result").mkdir()
+        self.say("publish")
+        (self.folder / "result" / "notes").write_text("mine")
+        self.stops("publish", "--language", "en", said=["result: it is there already, and is no published folder"], status=2)
+        (self.folder / "mine").mkdir()
+        (self.folder / "mine" / "a").write_text("b")
+        self.stops("publish", "mine", said=["mine: it is there already"], status=2, folder="mine")
+        self.stops("publish", "members.csv", said=["members.csv: it is there already"], status=2)
+
+    def test_doubts_are_told_at_once(self):
+        self.say("call")
+        self.add("no-one 1,2,3\n")
+        told = ["no elector has a ballot that counts", "more than half of the lines are refused, 1 of 1", "the vote is not closed"]
+        self.stops("publish", said=[*told, "--force --because"])
+        self.stops("publish", "--force", said=told)
+        self.say("publish", "--force", "--because", "A <test>.\n\nNo more.", "--language", "en")
+        nobody = "No elector has a ballot that counts: nobody's vote has decided this."
+        refused = "More than half of the lines of the ballot file are refused: 1 of 1."
+        self.expect("doubts", self.doubts(), [nobody, refused, "The vote was not closed when this page was made: more ballots may come in."])
+        given = [text.text() for text in self.sections()["Result"].one("div", "given").all("p")]
+        self.expect("the reason", given[1:], ["A <test>.", "No more."])
+        self.expect("it is in the act", [doubt["kind"] for doubt in self.acts()[-1].detail["doubts"]], ["no ballot", "mostly refused", "not closed"])
+        self.add("ada-lovelace 1,2,3\n")
+        self.say("close")
+        self.say("publish", "--force", "--because", "nothing", "--language", "en")
+        self.expect("force where nothing stops", (self.doubts(), "nothing" in self.sections()["Result"].text()), ([], False))
+
+    def test_what_was_done_after_the_close(self):
+        self.say("call", "--until", "2099-12-04 18:00", "--zone", "Europe/Berlin")
+        self.say("call", "--until", "2099-12-05 18:00", "--zone", "Europe/Berlin")
+        self.add("ada-lovelace 1,2,3\n")
+        self.say("close", "--early")
+        self.add("zoe-mueller 1,2,3\ncleo 1,2,3\n")
+        self.say("reopen", "--because", "Zoë's letter lay in the <hall>", "--in-time", "2")
+        self.say("strike", "1", "--because", "wrong hand")
+        self.say("close", "--early")
+        self.say("publish", "--language", "en")
+        done = [item.text().partition("): ")[2] for item in self.sections()["What-was-done"].all("li")]
+        sums = [act.detail["checksum"] for act in self.acts() if act.name == "close"]
+        early = "That was before the time until which one could vote."
+        because = "The reason, in the secretary's words:"
+        wanted = [
+            "The call was made; one could vote until Friday, 4 December 2099, 18:00 (UTC+01:00).",
+            "The time was extended: one could vote until Saturday, 5 December 2099, 18:00 (UTC+01:00).",
+            f"The vote was closed. Lines in time: 1. Checksum: {sums[0]}. {early}",
+            f"The vote was opened again, for what had come before the first close. {because} Zoë's letter lay in the <hall>",
+            f"The secretary struck envelope 1: its line does not count. {because} wrong hand",
+            f"The vote was closed. Lines in time: 1. Checksum: {sums[1]}. {early} Since the close before this one, lines that came in: 1; lines that were struck: 1.",
+        ]
+        self.expect("what was done", done, wanted)
+        self.expect("the late ones stay late", (self.folder / "result" / "late.txt").read_bytes(), b"zoe-mueller 1,2,3\ncleo 1,2,3\n")
+        self.expect("the times are in one zone", self.sections()["What-was-done"].text().count("(UTC+01:00): "), 6)
+
+    def test_a_moved_book_and_a_clock_that_went_back(self):
+        self.say("call")
+        self.add("ada-lovelace 1,2,3\n")
+        self.say("close")
+        self.state = self.scratch / "other computer"
+        self.stops("publish", said=["this computer has never seen this election"])
+        self.say("publish", "--moved", "--because", "a new <laptop>", "--language", "en")
+        done = self.sections()["What-was-done"].text()
+        self.expect("moved", ("that did not know it yet. The reason, in the secretary's words: a new <laptop>" in done), True)
+        with self.changed_book() as connection:
+            last = connection.execute("SELECT max(act) FROM act").fetchone()[0]
+            connection.execute("UPDATE act SET detail = '{}' WHERE act = ?", (last - 2,))
+        self.stops("publish", said=["is not as its digest says"])
+
+    @contextlib.contextmanager
+    def changed_book(self):
+        """The book, in which another program changes what it likes."""
+        with contextlib.closing(sqlite3.connect(self.folder / "election.db")) as connection:
+            for (name,) in connection.execute("SELECT name FROM sqlite_master WHERE type = 'trigger'").fetchall():
+                connection.execute(f"DROP TRIGGER {name}")
+            yield connection
+            connection.commit()
+
+    def test_late_letters(self):
+        self.say("call")
+        self.add("ada-lovelace 1,2,3\n")
+        self.say("close")
+        book = open_book(self.folder / "election.db")
+        close = book.last_act().time
+        with self.state_of_this(), contextlib.closing(book.connection), book.act("add") as act:
+            for minutes, line in [(-1, b"zoe-mueller 1,2,3"), (1, b"cleo 1,2,3"), (0, b"dan 2,1,3")]:
+                time = close + datetime.timedelta(minutes=minutes)
+                data = b"Received: by mx; %s\nFrom: x@x.example\n\n%s\n" % (email.utils.format_datetime(time).encode(), line)
+                known = parse.as_json(parse.parse(RawLetter("letter.eml", data)))
+                letter = letters.keep_letter(act, letters.NewLetter("letter.eml", data, "", "", "", known))
+                letters.decide(act, letter, "entered")
+                queries.enter(act, [queries.NewEnvelope(None, line, None, "", time, letter)], is_late=True)
+        self.stops("publish", said=["the ballot of letter 1 is late", "the ballot of letter 3 is late"])
+        self.say("publish", "--force", "--because", "so be it", "--language", "en")
+        self.expect("doubts", [text.partition("before")[0].partition("at ")[0] for text in self.doubts()], ["A letter arrived "] * 2)
+        self.say("reopen", "--because", "they were in time", "--in-time", "2", "4")
+        self.say("close")
+        self.say("publish", "--language", "en")
+        self.expect("entered in time", (self.doubts(), (self.folder / "result" / "late.txt").read_text().count("\n")), ([], 3))
+
+    def test_bad_texts(self):
+        self.say("call")
+        self.add("ada-lovelace 1,2,3\n")
+        self.say("close")
+        for data, said in [
+            (b"Anna\nM\xfcller\n", "about:2: it is not in UTF-8"),
+            (b"A\n\x1b[1m", "about:2: it has the character U+001B, which no plain text has"),
+            ("\u202eA".encode(), "about:1: it has the character U+202E"),
+            (b" \n", "about: it is empty"),
+            (b"x" * 65_537, "about: it is longer than 65536 bytes"),
+        ]:
+            (self.folder / "about").write_bytes(data)
+            self.stops("publish", "--about", "about", said=[said], status=2)
+        self.stops("publish", "--about", "none", said=["none: No such file or directory"], status=2)
+        for text, said in [("a\u202eb", "the text has the character U+202E"), ("x" * 2001, "the text has 2001 characters, 2000 are the most")]:
+            self.stops("publish", "--force", "--because", text, said=[f"--because: {said}"], status=2)
+        (self.folder / "about").write_bytes(b"\xef\xbb\xbfOne\r\n\r\n\xd7\x93 <i>two</i>\r\n")
+        self.say("publish", "--about", "about", "--language", "en")
+        about = [text.text() for text in self.sections()["About-this-vote"].all("p", "about")]
+        self.expect("the paragraphs of a text", about, ["One", "\u05d3 <i>two</i>"])
+
+    def test_casting_votes(self):
+        self.say("call")
+        self.add(TIE)
+        self.say("close")
+        self.expect("a tie", self.say("publish", status=1).splitlines()[0], "Tie: 1 2")
+        cast = ("--cast-by", "Anna <b>", "--cast-on", "2026-11-20")
+        for words, said, status in [
+            (("--casting", "72 Euro"), "it was given; nothing was published: say it with --cast-by", 2),
+            (("--casting", "72 Euro", "--cast-by", "A", "--cast-on", "2999-01-01"), "2999-01-01 is to come", 2),
+            (("--casting", "72 Euro", "--cast-by", "A", "--cast-on", "1.1.2026"), "`1.1.2026` is no day", 2),
+            (("--casting", "72 Euro", "--cast-by", 'A "b', "--cast-on", "2026-01-01"), "without quotation marks", 2),
+            (cast, "give --casting too", 2),
+            (("--casting", "Größe", *cast), "no option has this name", 8),
+            (("--casting", "Nichts davon", *cast), "no casting vote can choose Nichts davon, which is not left; left are 1 72 Euro", 8),
+        ]:
+            self.stops("publish", *words, said=[said], status=status)
+        self.say("publish", "--casting", "72 Euro", *cast, "--language", "en")
+        said = 'The secretary says that the casting vote was the one of "Anna <b>", given on 20 November 2026. No count can show this.'
+        self.expect("on the page", said in self.sections()["Result"].text(), True)
+        self.expect("in the letter", said in (self.folder / "result" / "letter.txt").read_text().replace("\n", " "), True)
+        said = "Winner: Option 1: 72 Euro by casting vote"
+        self.expect("so does the letter say who has won", said in (self.folder / "result" / "letter.txt").read_text(), True)
+        self.stops("publish", "--casting", "Groesse", *cast, said=["an earlier publication has a casting vote for 72 Euro"])
+        self.say("publish", "--casting", "Groesse", *cast, "--force", "--because", "She had meant this", "--language", "en")
+        earlier = ["An earlier result of this vote was published with another casting vote, for 72 Euro."]
+        self.expect("another casting vote", self.doubts(), earlier)
+        files = self.files()
+        self.say("publish")
+        self.expect("and again", self.files() == files, True)
+
+    def test_a_kill_between_act_and_folder(self):
+        self.say("call")
+        self.add("ada-lovelace 1,2,3\n")
+        self.say("close")
+        election = Election(self.folder, support.PROGRAM.parent)
+        arguments = command.Arguments(None, None, None, None, "en", False, False, None, False, None)
+        killed = unittest.mock.patch.object(Made, "take_place", side_effect=KeyboardInterrupt)
+        with self.state_of_this(), killed, self.assertRaises(KeyboardInterrupt):
+            command.publish(election, arguments)
+        election.book.connection.close()
+        acts = self.acts()
+        self.expect("the book knows it, and no folder is there", (acts[-1].name, (self.folder / "result").exists()), ("publish", False))
+        self.say("publish")
+        sums = {name: hashlib.sha256((self.folder / "result" / name).read_bytes()).hexdigest() for name in acts[-1].detail["checksums"]}
+        self.expect("the same folder, and no act", (sums, len(self.acts())), (acts[-1].detail["checksums"], len(acts)))
+
+    def test_a_folder_that_is_counted_otherwise_takes_no_place(self):
+        self.say("call")
+        self.add("ada-lovelace 1,2,3\nzoe-mueller 1,2,3\n")
+        self.say("close")
+        self.say("publish")
+        files, acts = self.files(), len(self.acts())
+        program = self.folder / "bin"
+        program.mkdir()
+        for task, answer in [("verify", 'echo "differs at line 1"; exit 9'), ("standing", 'echo "ada-lovelace 3,2,1"')]:
+            (program / "debvote").write_text(f'#!/bin/sh\ncase $1 in {task}) {answer} ;; *) exec {support.PROGRAM} "$@" ;; esac\n')
+            (program / "debvote").chmod(0o755)
+            path = os.pathsep.join([str(program), support.PATH])
+            output, faults, status = self.run_words("publish", "--language", "es", path=path)
+            self.expect(f"{task}: {faults}", (status, NOTHING_DONE in faults), (9, True))
+            self.expect(f"{task}: nothing was changed", (self.files() == files, len(self.acts())), (True, acts))
+        starts = self.folder / "starts"
+        (program / "debvote").write_text(f'#!/bin/sh\necho $1 >> {starts}\nexec {support.PROGRAM} "$@"\n')
+        self.run_words("publish", "--language", "es", path=path)
+        self.expect("debvote is started at most eight times", len(starts.read_text().splitlines()) <= 8, True)
+
+    def test_count(self):
+        self.say("call")
+        self.add(TIE)
+        sheet, said, status = self.run_words("count")
+        self.expect("a sheet alone", (sheet.startswith("Poll: Wo wir uns treffen: Groesse\n"), sheet.endswith("Tie: 1 2\n"), status), (True, True, 1))
+        cast = "--cast-by WHO --cast-on DATE"
+        first = f"debvote-election publish --casting '72 Euro' {cast} or debvote-election publish --casting Groesse {cast}"
+        over = "this is no result yet: when the vote is over debvote-election close, then"
+        choose = f"it is a tie between '72 Euro', Groesse; who has the casting vote chooses one of them: {first}"
+        self.expect("what comes next", said, f"Next: {over} {choose}\n")
+        self.say("close")
+        output, said, status = self.run_words("count", "--casting", "Groesse")
+        self.expect("a casting vote", (output.splitlines()[-1], status), ("Winner: 2 Groesse by casting vote", 0))
+        self.expect("and then", said, f"Next: debvote-election publish --casting Groesse {cast}\n")
+        self.expect("an option that is not left", self.run_words("count", "--casting", "Nichts davon")[2], 8)
+        self.stops("count", "--casting", "x", said=["no option has this name", "'72 Euro', Groesse, 'Nichts davon'"], status=8)
+
+
+class OfSecretVotes(OfElections):
+    poll = POLL + "secret = true\n"
+
+    def called(self):
+        self.say("call")
+        self.add("ada-lovelace 3,2,9\nzoe-mueller 2,1,3\nada-lovelace 17,33,99\nno-one 1,2,3\ncleo 1,2,x\n")
+
+    def secrets(self):
+        book = open_book(self.folder / "election.db")
+        with contextlib.closing(book.connection):
+            return queries.electors(book)
+
+    def test_nothing_before_the_close(self):
+        self.called()
+        for words in (("count",), ("publish",), ("publish", "--force", "--because", "x", "--yes")):
+            self.stops(*words, said=["the vote is secret, and it is counted after the close alone"])
+
+    def test_the_files(self):
+        self.called()
+        self.say("strike", "1", "--because", "private reason")
+        self.say("close")
+        self.add("dan 3,2,1\n")
+        self.say("publish", "--language", "en", status=1)
+        self.whole()
+        files, electors = self.files(), self.secrets()
+        aliases = {elector.name: elector.alias for elector in electors}
+        ballots = sorted([f"{aliases['ada-lovelace']} 1,2,3\n", f"{aliases['zoe-mueller']} 2,1,3\n"])
+        self.expect("the poll of the call", files["poll.toml"], (self.folder / "call" / "poll.toml").read_bytes())
+        self.expect("ballots in normal form, under aliases", files["ballots.txt"], "".join(ballots).encode())
+        self.expect("no late lines", ("late.txt" in files, "closed.txt" in files), (False, True))
+        sealed = hashlib.sha256(files["seal.txt"] + files["ballots.txt"]).hexdigest()
+        self.expect("what the close has sealed", sealed in files["closed.txt"].decode(), True)
+        self.checksums_of_letters(files, "-")
+        for name, data in files.items():
+            text = data.decode("utf-8", "replace").lower()
+            words = [elector.code for elector in electors] + ["lovelace", "müller", "zoe-mueller", "no-one", "1,2,x", "17,33", "private reason"]
+            # an example, which the guide and the page have
+            words = [word for word in words if not (word == "17,33" and name in ("index.html", "READING-A-SHEET.md"))]
+            self.expect(f"{name} tells nothing", [word for word in words if word.lower() in text], [])
+        private = self.run_words("count")[0]
+        public = files["sheet.txt"].decode()
+        self.expect("the sheet from Voters on", public.partition("\nVoters")[2], private.partition("\nVoters")[2])
+        sections = self.sections()
+        self.expect("numbers alone", "3 lines that came were refused: 2 as no valid ballot, and 1 since" in sections["Refused-lines"].text(), True)
+        struck = "The secretary struck an envelope: its line does not count."
+        self.expect("a strike without number and reason", [struck in item.text() for item in sections["What-was-done"].all("li")].count(True), 1)
+        self.expect("who voted is not told", "Who-voted" in sections, False)
+
+    def test_texts_are_asked_for(self):
+        self.called()
+        self.say("close")
+        (self.folder / "about").write_text(TEXT)
+        self.stops("publish", "--about", "about", said=["texts for the page may tell who voted what", "--yes"])
+        self.say("publish", "--about", "about", "--yes", status=1)
+        files, acts = self.files(), len(self.acts())
+        self.say("publish", status=1)
+        self.expect("the same again is not asked for", (self.files() == files, len(self.acts())), (True, acts))
+        code = self.secrets()[0].code
+        (self.folder / "about").write_text(f"x {code}\n")
+        self.stops("publish", "--about", "about", "--yes", said=["index.html would have the code of an elector in it"])
+
+    def test_two_results_that_can_be_compared(self):
+        self.called()
+        self.say("close")
+        self.say("publish", status=1)
+        self.add("cleo 1,2,3\n")
+        self.say("reopen", "--because", "Cleo's letter", "--in-time", "6")
+        self.say("close")
+        self.stops("publish", said=["a comparison with the earlier result shows how these voted: cleo"])
+        self.say("publish", "--yes")
+        self.expect("cleo counts", len((self.folder / "result" / "ballots.txt").read_text().splitlines()), 3)
+        self.expect("the reason stays in the log", "Cleo" in (self.folder / "result" / "index.html").read_text(), False)
+
+    def test_a_sheet_that_is_not_that_of_the_votes(self):
+        self.called()
+        self.say("close")
+        program = self.folder / "bin"
+        program.mkdir()
+        # answers for the private files that are not theirs
+        for task, change, said in [
+            ("standing", "s/2,1,3/1,2,3/", "the ballots have the checksum"),
+            ("count", "s/Voters: 2/Voters: 3/", "the sheet under aliases is not that of the votes as they came"),
+        ]:
+            other = f'case "$*" in "{task} "*/dev/stdin*) {support.PROGRAM} "$@" | sed "{change}" ;; *) exec {support.PROGRAM} "$@" ;; esac'
+            (program / "debvote").write_text(f"#!/bin/sh\n{other}\n")
+            (program / "debvote").chmod(0o755)
+            output, faults, status = self.run_words("publish", path=os.pathsep.join([str(program), support.PATH]))
+            self.expect(f"{task}: {faults}", (said in faults, status, (self.folder / "result").exists()), (True, 9, False))

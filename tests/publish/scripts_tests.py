@@ -1,0 +1,186 @@
+"""The scripts of a page in a browser: finding one's own ballot, and counting again; also on pages that somebody has changed."""
+
+import base64
+import hashlib
+import hmac
+import json
+import pathlib
+import re
+import unittest
+
+import at_browser
+import support
+from support import FILES, plain_room, publish
+
+NEEDS_BROWSER = unittest.skipUnless(at_browser.BROWSER, "chromium is not installed")
+
+# names that people read, and recasts, a refused line and an elector who did not vote
+POLL = support.PLAIN_POLL + 'shown_title = "Größe"\nshown_options = ["72 Euro", "<i>B</i> & \\"C\\"", "N"]\n'
+BALLOTS = "ada 1,2,3\nben -,1,1\nada 2,1,-\nzoe 1,2,3\ncleo -,-,-\n"
+LETTER_OTHER = "None of these is the checksum that you typed."
+
+
+def alias_of(code, name):
+    return hmac.new(code.encode(), name.encode(), "sha256").hexdigest()[:32]
+
+
+class Page(at_browser.Window):
+    """A page, with what a reader does on it."""
+
+    def __init__(self):
+        super().__init__(800, 900)
+
+    def find(self, name, code=None):
+        """What the page says after a name, and a code, were typed."""
+        self.ask(f"document.getElementById('name').value = {json.dumps(name)}")
+        if code is not None:
+            self.ask(f"document.getElementById('code').value = {json.dumps(code)}")
+        self.ask("document.getElementById('answer').replaceChildren(); document.getElementById('show').click()")
+        self.until("document.getElementById('answer').textContent !== ''")
+        return self.found()
+
+    def found(self):
+        return self.ask("[...document.querySelectorAll('#answer p')].map((node) => node.textContent)")
+
+    def count_again(self, letter="", files=None):
+        """What the page says after a press of the button, or of that for files from the disk."""
+        chosen = {name: base64.b64encode(data).decode() for name, data in (files or {}).items()}
+        self.ask(f"""(() => {{
+          document.getElementById("Again-letter").value = {json.dumps(letter)};
+          const chosen = new DataTransfer();
+          for (const [name, data] of Object.entries({json.dumps(chosen)})) {{
+            chosen.items.add(new File([Uint8Array.from(atob(data), (sign) => sign.charCodeAt(0))], name));
+          }}
+          document.getElementById("Again-files").files = chosen.files;
+          document.getElementById("Again-answer").replaceChildren();
+          document.getElementById("{'Again-chosen' if files else 'Again-button'}").click();
+        }})()""")
+        self.until("document.getElementById('Again-progress').hidden && document.getElementById('Again-answer').textContent !== ''")
+        return self.ask("[...document.querySelectorAll('#Again-answer p')].map((node) => node.textContent)")
+
+
+class ScriptsTest(support.PublishTest):
+    """A vote that is not secret, and one that is, each on its page."""
+
+    code = "0123456789abcdef" * 2
+
+    @classmethod
+    def setUpClass(cls):
+        super().setUpClass()
+        cls.room = plain_room(cls.scratch / "open", POLL, BALLOTS)
+        cls.told = publish(cls.room, *FILES, "result")
+        roll = [alias_of(cls.code, name) for name in ("ada", "zoe-muller", "ben", "cleo")]
+        poll = re.sub(r"roll = .*", f"roll = {json.dumps(sorted(roll))}", support.PLAIN_POLL) + "secret = true\n"
+        ballots = sorted(f"{alias} {ranks}\n" for alias, ranks in zip(roll, ["1,2,3", "2,1,-", "1,1,1"]))
+        cls.secret = plain_room(cls.scratch / "secret", poll, "".join(ballots))
+        cls.told_in_secret = publish(cls.secret, *FILES, "result")
+
+    def page_of(self, window, change=None, room=None):
+        """Opens the page, or what a change makes of it."""
+        text = ((room or self.room) / "result" / "index.html").read_text()
+        changed = text if change is None else change(text)
+        self.assertEqual(changed != text, change is not None)
+        # a changed page would not run, since its policy names its scripts
+        file = pathlib.Path(self.scratch) / "page.html"
+        file.write_text(changed)
+        window.open(file)
+
+    def test_the_folders_are_made(self):
+        self.expect("open", self.told, ("Winner: 2 B\nverified\n", "", 0))
+        self.expect("secret", self.told_in_secret[1:], ("", 1))
+
+    @NEEDS_BROWSER
+    def test_finding_a_ballot(self):
+        with Page() as window:
+            self.page_of(window)
+            ballot = 'ada 2,1,-: Option 2: <i>B</i> & "C"; then Option 1: 72 Euro; not ranked: Option 3: N'
+            for name in ("ada", " Ada ", "ÁDA"):
+                self.expect(name, window.find(name)[1:], [ballot])
+            self.expect("equal ranks", window.find("ben")[1], 'ben -,1,1: equally Option 2: <i>B</i> & "C" and Option 3: N; not ranked: Option 1: 72 Euro')
+            self.expect("hyphens alone", window.find("cleo")[1], "cleo -,-,-: nothing is preferred")
+            self.expect("no ballot", window.find("dan"), ["dan is on the roll, and no ballot counts for this name."])
+            self.expect("nobody", window.find("Zoë"), ["No elector has the name zoë. Type it as it is on the roll."])
+            self.expect("a place of the page", window.find("Votes"), ["No elector has the name votes. Type it as it is on the roll."])
+            self.expect("nothing typed", window.find(" "), ["Type your name."])
+            window.ask("location.hash = '#ben'")
+            window.until("document.getElementById('answer').textContent.includes('ben')")
+            self.expect("the address names an elector", window.found()[0], "This ballot counts for ben:")
+            others = ["This page shows other ballots than its files have. Tell the other electors."]
+            for what, change in [
+                ("other ranks", lambda text: text.replace("<code>2,1,-</code>", "<code>1,2,-</code>")),
+                ("no entry", lambda text: text.replace('<li id="ada">', '<li id="eva">')),
+            ]:
+                self.page_of(window, change)
+                self.expect(what, window.find("ada"), others)
+
+    @NEEDS_BROWSER
+    def test_finding_a_ballot_of_a_secret_vote(self):
+        with Page() as window:
+            self.page_of(window, room=self.secret)
+            alias = alias_of(self.code, "zoe-muller")
+            wanted = [f"{alias} 2,1,-: Option 2: B; then Option 1: A; not ranked: Option 3: N"]
+            for name in ("zoe-muller", "Zoë Müller", "  ZOE  MÜLLER "):
+                self.expect(name, window.find(name, f" {self.code[:16].upper()} {self.code[16:]}")[1:], wanted)
+            none = window.find("cleo", self.code)
+            self.expect("no ballot", none, [f"Your alias is {alias_of(self.code, 'cleo')}. It is on the roll, and no ballot counts under it."])
+            other = f"No elector of this vote has the alias {alias_of('f' * 32, 'ada')}. Type name and code as they are on your slip."
+            self.expect("another code", window.find("ada", "f" * 32), [other])
+            short = "A code has 32 digits, 0 to 9 and a to f. Type yours as it is on your slip."
+            self.expect("a short code", window.find("ada", "f" * 31), [short])
+            line = f"{alias} 2,1,-\n"
+            for what, before, after, said in [
+                ("a line twice", line, line * 2, "replaced"),
+                ("a line that does not count", line, f"{line}x\n", "bad shape"),
+                ("a line of nobody", line, f"{line}{'0' * 32} 1,2,3\n", "bad not on roll"),
+                ("a last envelope", "]\nsecret = true", "]\nlast_envelope = 3\nsecret = true", "last_envelope"),
+            ]:
+                self.page_of(window, lambda text, before=before, after=after: text.replace(before, after), room=self.secret)
+                odd = window.find("ada", self.code)[0]
+                self.expect(f"{what}: {odd}", (odd.startswith("This is no secret vote as it is published: "), said in odd), (True, True))
+
+    @NEEDS_BROWSER
+    def test_counting_again(self):
+        folder = self.room / "result"
+        sums = {name: hashlib.sha256((folder / name).read_bytes()).hexdigest() for name in ("poll.toml", "ballots.txt", "index.html")}
+        with Page() as window:
+            self.page_of(window)
+            rows = window.count_again()
+            lines = (folder / "sheet.txt").read_text().count("\n")
+            self.expect("the sheet", rows[0], f"The same, line for line: this count comes to the published sheet, in all its {lines} lines.")
+            self.expect("the page", rows[2].startswith("This page shows what its files come to: "), True)
+            for typed in (sums["poll.toml"], f"{sums['poll.toml'].upper()}  poll.toml", f"\\{sums['poll.toml']} *a\\nb", f" {sums['ballots.txt']}\n"):
+                said = " ".join(window.count_again(typed))
+                self.expect(f"typed {typed}", ("Yours is the same." in said, LETTER_OTHER in said), (True, False))
+            for typed in (sums["index.html"], sums["poll.toml"][:-1]):
+                self.expect(f"typed {typed}", LETTER_OTHER in " ".join(window.count_again(typed)), True)
+
+    @NEEDS_BROWSER
+    def test_counting_again_on_changed_pages(self):
+        changes = {
+            "the result": ('class="outcome"><b data-option="2">Option 2', 'class="outcome"><b data-option="1">Option 1'),
+            "the names of title and options": ("<h1><bdi>Größe", "<h1><bdi>Grösse"),
+            "the names of title and options ": ("plain name, on the result sheet: A)", "plain name, on the result sheet: B)"),
+            "the table of votes": ("<td>0</td>", "<td>1</td>"),
+            "the ballot of ben": ('<li id="ben"><b>ben</b> <code>-,1,1', '<li id="ben"><b>ben</b> <code>-,1,2'),
+            "the ballot of ada": ("</bdi>; then Option 1: <bdi>72 Euro</bdi>; not", "</bdi>; then Option 1: <bdi>73 Euro</bdi>; not"),
+        }
+        with Page() as window:
+            for what, (before, after) in changes.items():
+                self.page_of(window, lambda text, before=before, after=after: text.replace(before, after, 1))
+                said = [row for row in window.count_again() if row.startswith("This page shows something else than its files come to: ")]
+                self.expect(f"changed: {what}", [what.strip() in row for row in said], [True])
+
+    @NEEDS_BROWSER
+    def test_files_from_the_disk(self):
+        folder = self.room / "result"
+        files = {name: (folder / name).read_bytes() for name in ("poll.toml", "ballots.txt", "sheet.txt")}
+        with Page() as window:
+            self.page_of(window)
+            self.expect("the same", window.count_again(files=files)[0].startswith("The same, line for line"), True)
+            cut = window.count_again(files=files | {"sheet.txt": files["sheet.txt"].removesuffix(b"\n")})[0]
+            feeds = (
+                "There it is: Winner: 2 B (without a line feed at its end). By this count it is: Winner: 2 B (with a line feed at its end)."
+            )
+            self.expect(f"no line feed at the end: {cut}", feeds in cut, True)
+            toml = window.count_again(files=files | {"poll.toml": b"# a comment\n" + files["poll.toml"]})[0]
+            self.expect(f"another form of TOML: {toml}", "not in plain form, as the poll.toml of a result is" in toml, True)
