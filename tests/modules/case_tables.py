@@ -5,21 +5,25 @@
 
     [NAME]
     about = "What the case shows."
+    args = ["count", "--poll", "poll.toml", ..]
     poll = ".."
     ballots = ".."
+    sheet = ".."
+    stdin = ".."
     stdout = ".."
     stderr = ".."
     status = 9
 
-What `about` says is the first line of the poll file too, behind `# `. The command is run on the files poll.toml and ballots, or on
-poll.toml alone where a case has no ballots. A text that is missing is empty, and a missing status is 0.
+What `about` says is the first line of the poll file too, after `# `. Without `args` the command is run on the files poll.toml and ballots,
+or on poll.toml alone if a case has no ballots. A file that is missing is not there; a text that is missing is empty, and a missing
+status is 0.
 """
 
 import pathlib
 import tomllib
 from dataclasses import dataclass
 
-POLL, BALLOTS = "poll.toml", "ballots"
+POLL, BALLOTS, SHEET = "poll.toml", "ballots", "sheet"
 
 
 @dataclass
@@ -28,27 +32,32 @@ class Row:
 
     command: str
     about: str | None
-    poll: str
+    poll: str | None
     ballots: str | None
     stdout: str = ""
     stderr: str = ""
     status: int = 0
+    args: list[str] | None = None
+    sheet: str | None = None
+    stdin: str = ""
 
     def words(self) -> list[str]:
         """The words of the command line."""
+        if self.args is not None:
+            return self.args
         return [self.command, "--poll", POLL, *([] if self.ballots is None else ["--ballots", BALLOTS])]
 
     def files(self) -> dict[str, bytes]:
         """The files that the program reads, by their names."""
         head = "" if self.about is None else f"# {self.about}\n"
-        files = {POLL: (head + self.poll).encode()}
-        return files if self.ballots is None else files | {BALLOTS: self.ballots.encode()}
+        texts = {POLL: self.poll and head + self.poll, BALLOTS: self.ballots, SHEET: self.sheet}
+        return {name: text.encode() for name, text in texts.items() if text is not None}
 
 
 def read_table(file: pathlib.Path) -> dict[str, Row]:
     """The cases of a table, by their names."""
     table = tomllib.loads(file.read_bytes().decode())
-    given = {"command": table.pop("command"), "about": None, "poll": table.pop("poll", ""), "ballots": None}
+    given = {"command": table.pop("command"), "about": None, "poll": table.pop("poll", None), "ballots": None}
     return {name: Row(**given | row) for name, row in table.items()}
 
 
@@ -79,18 +88,20 @@ def rewrite(file: pathlib.Path, name: str, stdout: str, stderr: str, status: int
 
 
 def write_table(file: pathlib.Path, rows: dict[str, Row], comment: str = "") -> None:
-    """Writes a table of one command; the poll that most cases have stands once, at its top."""
+    """Writes a table of one command; the poll that most cases have is at its top, unless a case has none."""
     (command,) = {row.command for row in rows.values()}
     polls = [row.poll for row in rows.values()]
     most = max(polls, key=polls.count)
-    shared = most if polls.count(most) > 1 else None
+    shared = most if polls.count(most) > 1 and None not in polls else None
     parts = [comment, f"command = {written(command)}\n" + ("" if shared is None else f"poll = {written(shared)}\n")]
     for name, row in rows.items():
         lines = [f"[{name}]"]
         lines += [] if row.about is None else [f"about = {written(row.about)}"]
-        lines += [f"poll = {written(row.poll)}"] if row.poll != (shared or "") else []
-        lines += [] if row.ballots is None else [f"ballots = {written(row.ballots)}"]
-        lines += [f"{part} = {written(getattr(row, part))}" for part in ("stdout", "stderr") if getattr(row, part)]
+        lines += [] if row.args is None else [f"args = [{', '.join(map(written, row.args))}]"]
+        lines += [f"poll = {written(row.poll)}"] if row.poll not in (shared, None) else []
+        texts = {"ballots": row.ballots, "sheet": row.sheet}
+        lines += [f"{part} = {written(text)}" for part, text in texts.items() if text is not None]
+        lines += [f"{part} = {written(getattr(row, part))}" for part in ("stdin", "stdout", "stderr") if getattr(row, part)]
         lines += [f"status = {row.status}"] if row.status else []
         parts.append("\n".join(lines) + "\n")
     file.write_bytes("\n".join(part for part in parts if part).encode())
