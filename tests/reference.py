@@ -8,7 +8,9 @@ Options are numbered from 1, the default option as the last; electors from 0; en
 """
 
 import argparse
+import functools
 import itertools
+import operator
 import re
 import sys
 import tomllib
@@ -58,6 +60,8 @@ def has_a_number_too_large(value):
     return is_of_kind(value, int) and not -(2**63) <= value < 2**63
 
 
+# a run asks for the same poll and ballots again, so what was read last is kept
+@functools.lru_cache(1)
 def toml_of(data):
     """Poll file: its table. (Python reads TOML 1.0. The program reads 1.1, which allows a little more.)"""
     try:
@@ -115,6 +119,7 @@ def faults_of(table):
         yield "wording"
 
 
+@functools.lru_cache(1)
 def poll_in(data):
     """Poll file: the poll that its bytes mean, or the first of its faults."""
     table = toml_of(data)
@@ -137,15 +142,14 @@ def lines_of(text):
 
 
 def reading(poll, line):
-    """Ballot file: a line's voter, by number, and ranks (None for a hyphen), or the words for what is bad about the line."""
+    """Ballot file: a line's voter, by number, and ranks as they are written, or the words for what is bad about the line."""
     shape = LINE.fullmatch(line)
     if shape is None or len(line) > 200:
         return "bad shape"
-    ranks = [None if rank == b"-" else int(rank) for rank in shape[2].split(b",")]
-    if len(ranks) != len(poll.names):
+    if shape[2].count(b",") + 1 != len(poll.names):
         return "bad rank count"
     voter = poll.voters.get(shape[1].decode())
-    return "bad not on roll" if voter is None else (voter, ranks)
+    return "bad not on roll" if voter is None else (voter, shape[2])
 
 
 def replies_and_last_ballots(poll, lines):
@@ -161,19 +165,33 @@ def replies_and_last_ballots(poll, lines):
             voter, ranks = read
             replies.append("replaced" if voter in last_ballots else "counted")
             last_ballots[voter] = ranks
-    return replies, last_ballots
+    return replies, {voter: ranks_in(ranks) for voter, ranks in last_ballots.items()}
 
 
-def prefers(ranks, a, b):
-    """A.5.1: the ballot ranks a, and leaves b unranked or gives it a greater rank."""
-    rank_a, rank_b = ranks[a - 1], ranks[b - 1]
-    return rank_a is not None and (rank_b is None or rank_a < rank_b)
+def ranks_in(text):
+    """The ranks of a valid line, None for a hyphen."""
+    return [None if rank == b"-" else int(rank) for rank in text.split(b",")]
+
+
+@functools.lru_cache(1)
+def all_replies_and_last_ballots(poll, ballots):
+    """The same of a whole ballot file."""
+    return replies_and_last_ballots(poll, lines_of(ballots))
 
 
 def votes_of(poll, last_ballots):
-    """A.5.3: V(A,B), the number of voters who prefer A to B, for each two options."""
+    """A.5.1, A.5.3: V(A,B), the number of voters who prefer A to B, for each two options.
+
+    A ballot prefers A to B if it ranks A, and leaves B unranked or gives it a greater rank. So no rank counts as one that is
+    greater than all others.
+    """
+    ranks_of = {option: [] for option in poll.options}
+    for ranks in last_ballots.values():
+        for option, rank in zip(poll.options, ranks):
+            ranks_of[option].append(100 if rank is None else rank)
     pairs = itertools.permutations(poll.options, 2)
-    return {(a, b): sum(prefers(ranks, a, b) for ranks in last_ballots.values()) for a, b in pairs}
+    # two options have their ranks on one ballot at the same place
+    return {(a, b): sum(map(operator.lt, ranks_of[a], ranks_of[b])) for a, b in pairs}
 
 
 # ---------------------------------------------------------------- the count
@@ -307,7 +325,7 @@ def text_of(lines):
 
 def sheet_but_decision(poll, ballots):
     """Result sheet, 1 to 12: its lines, and the final set. A casting vote changes neither."""
-    replies, last_ballots = replies_and_last_ballots(poll, lines_of(ballots))
+    replies, last_ballots = all_replies_and_last_ballots(poll, ballots)
     votes = votes_of(poll, last_ballots)
     dropped = dropped_options(poll, votes)
     kept = [option for option in poll.options if option not in dropped]
@@ -330,14 +348,14 @@ def count(poll_data, ballots, casting_name=None):
 def steps(poll_data, ballots):
     """Lines of `steps`: the number of each envelope, and its reply."""
     poll = poll_in(poll_data)
-    replies, _ = replies_and_last_ballots(poll, lines_of(ballots))
+    replies, _ = all_replies_and_last_ballots(poll, ballots)
     return text_of(f"{envelope} {reply}" for envelope, reply in enumerate(replies, start=1))
 
 
 def standing(poll_data, ballots):
     """Ballots that stand: of each voter, in the order of the roll, the last valid ballot."""
     poll = poll_in(poll_data)
-    _, last_ballots = replies_and_last_ballots(poll, lines_of(ballots))
+    _, last_ballots = all_replies_and_last_ballots(poll, ballots)
     lines = [(poll.roll[voter], last_ballots[voter]) for voter in sorted(last_ballots)]
     return text_of(f"{name} {','.join('-' if rank is None else str(rank) for rank in ranks)}" for name, ranks in lines)
 
@@ -363,7 +381,7 @@ def wrong_in_secret(poll_data, ballots):
     for key in ("last_envelope", "extended_to"):
         if key in table:
             return f"the poll of a secret vote is published without {key}, and this one has it"
-    replies, _ = replies_and_last_ballots(poll_in(poll_data), lines_of(ballots))
+    replies, _ = all_replies_and_last_ballots(poll_in(poll_data), ballots)
     envelope = next((envelope for envelope, reply in enumerate(replies, start=1) if reply != "counted"), None)
     if envelope is None:
         return None
@@ -408,9 +426,10 @@ def answer(words):
     ballots = read_file(asked.ballots, BALLOTS_LIMIT, "ballots")
     if asked.command == "steps":
         return steps(poll_data, ballots), 0
-    text, status = standing(poll_data, ballots), 0
     if asked.command == "count":
         text, status = count(poll_data, ballots, asked.casting)
+    else:
+        text, status = standing(poll_data, ballots), 0
     wrong = wrong_in_secret(poll_data, ballots)
     if wrong is not None:
         raise Fault(f"this is no published secret vote, and nothing is counted: {wrong}", 9)

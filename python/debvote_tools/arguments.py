@@ -49,6 +49,11 @@ def add_arguments(parser: argparse.ArgumentParser, kind: type[Any]) -> None:
                 target.add_argument(how.pop("name", f"--{field.replace('_', '-')}"), dest=field, **how)
 
 
+def given(arguments: Any, *names: str) -> list[str]:
+    """Which of these options were given."""
+    return [f"--{name.replace('_', '-')}" for name in names if getattr(arguments, name) not in (None, False)]
+
+
 def arguments_of(kind: type[Arguments], namespace: argparse.Namespace) -> Arguments:
     """The values of the options; from there on they have their types, and nothing changes them."""
     assert dataclasses.is_dataclass(kind)

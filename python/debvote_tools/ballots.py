@@ -1,11 +1,15 @@
 """A ballot in words, from its ranks as `standing` and the ballot file spell them, such as `1,2,-,3`."""
 
 import dataclasses
+import functools
 from collections.abc import Sequence
 
 from debvote_tools.language import ENGLISH, Language
 
 UNRANKED = "-"
+
+# what can be in the place of an option, in the order of preference
+NUMBERS = {str(rank): rank for rank in range(1, 100)} | {UNRANKED: 100}
 
 
 @dataclasses.dataclass(frozen=True)
@@ -27,10 +31,10 @@ def preferences(ranks: str) -> Preferences:
 
 def in_normal_form(ranks: str) -> str:
     """The ranks 1, 2 and so on that say the same: equal ones stay equal, and what is not ranked stays so."""
-    preferred = preferences(ranks)
-    rank_of = {option: str(rank) for rank, step in enumerate(preferred.steps, start=1) for option in step}
-    rank_of |= dict.fromkeys(preferred.unranked, UNRANKED)
-    return ",".join(rank_of[option] for option in sorted(rank_of))
+    given = ranks.split(",")
+    in_order = enumerate(sorted({*given} - {UNRANKED}, key=int), start=1)
+    normal = {UNRANKED: UNRANKED} | {rank: str(number) for number, rank in in_order}
+    return ",".join(normal[rank] for rank in given)
 
 
 def ranks_in_words(ranks: str, names: Sequence[str], language: Language = ENGLISH) -> str:
@@ -38,24 +42,25 @@ def ranks_in_words(ranks: str, names: Sequence[str], language: Language = ENGLIS
 
     The names are those of the options in the order of their numbers, the default option last.
     """
-    found = preferences(ranks)
-    if not found.steps:
+    # `add` says 100,000 ballots in words: `preferences` would take twice the time
+    numbers = [NUMBERS[rank] for rank in ranks.split(",")]
+    steps: dict[int, tuple[str, ...]] = {}
+    for option in sorted(range(len(numbers)), key=numbers.__getitem__):
+        number = numbers[option]
+        steps[number] = (*steps[number], names[option]) if number in steps else (names[option],)
+    unranked = steps.pop(NUMBERS[UNRANKED], ())
+    if not steps:
         return language.say("no option is ranked, so nothing is preferred")
-    steps = [step_in_words(step, names, language) for step in found.steps]
-    said = language.between("{before}, then {step}").join(steps)
-    if not found.unranked:
+    listed = [step[0] if len(step) == 1 else equally(step, language) for step in steps.values()]
+    said = language.between("{before}, then {step}").join(listed)
+    if not unranked:
         return said
-    unranked = named(found.unranked, names, language)
-    return language.say("{ranked}; not ranked, and so behind all others: {unranked}", ranked=said, unranked=unranked)
+    others = language.joined(unranked)
+    return language.say("{ranked}; not ranked, and so behind all others: {unranked}", ranked=said, unranked=others)
 
 
-def step_in_words(step: list[int], names: Sequence[str], language: Language) -> str:
+# many ballots have few groups of options that are equal
+@functools.lru_cache(4096)
+def equally(names: tuple[str, ...], language: Language) -> str:
     """The options that have one rank."""
-    if len(step) == 1:
-        return names[step[0] - 1]
-    return language.say("{options} equally", options=named(step, names, language))
-
-
-def named(options: list[int], names: Sequence[str], language: Language) -> str:
-    """The names of some options, as they stand in a sentence."""
-    return language.joined(names[option - 1] for option in options)
+    return language.say("{options} equally", options=language.joined(names))

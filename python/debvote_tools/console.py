@@ -1,6 +1,6 @@
 """What both programs say and ask: the one place that writes to standard output and standard error, and that reads an answer.
 
-No text that is told has a sign that steers a terminal (`terminal_text.written`), but for what debvote wrote, which has none.
+No text that is told has a character that steers a terminal (`terminal_text.written`), but for what debvote wrote, which has none.
 """
 
 import io
@@ -11,8 +11,7 @@ from typing import TextIO
 from debvote_tools.faults import Fault, Status
 from debvote_tools.terminal_text import written
 
-
-# what is said where a question is answered otherwise
+# what is said to any other answer
 YES_OR_NO = "Type y for yes, or n for no."
 
 
@@ -26,7 +25,7 @@ class OutputFailed(Fault):
 
 
 def prepare() -> None:
-    """Before anything is told: a sign that the terminal can't show is no reason to stop."""
+    """Before anything is told: a character that the terminal can't show is no reason to stop."""
     if isinstance(sys.stdout, io.TextIOWrapper):
         sys.stdout.reconfigure(errors="backslashreplace")
 
@@ -105,8 +104,8 @@ def typed(question: str) -> bytes | None:
     return line or None
 
 
-def is_yes(question: str, how: str) -> bool | None:
-    """Whether a question is answered with yes or no; none at the end of the input. To any other answer it says how to answer."""
+def is_yes(question: str, how: str = YES_OR_NO) -> bool | None:
+    """Whether the answer is yes or no; None at the end of the input. To any other answer it says how to answer."""
     while (answer := typed(f"{question} [y/n] ")) is not None:
         word = answer.strip().lower()
         if word in (b"y", b"yes"):

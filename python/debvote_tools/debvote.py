@@ -58,38 +58,25 @@ class Debvote:
         path = (shutil.which("debvote", path=str(program_folder)) if program_folder else None) or shutil.which("debvote")
         if path is None:
             words = "the program is neither beside this one nor in the PATH"
-            raise Fault("debvote", words, "install the package debvote", Status.NOT_FOUND)
+            raise Fault("debvote", words, "install the package debvote", Status.NOT_FOUND, None)
         self.path = os.path.abspath(path)
         self.folder = folder
 
     def run(self, *words: str | os.PathLike[str], given: bytes | None = None) -> Answer:
         """Runs debvote with these words, and with these bytes as its standard input."""
         if given is not None and not os.path.isdir(OWN_FILES):
-            raise Fault(
-                OWN_FILES,
-                "it is not there, and debvote is given its input by it",
-                "have /proc mounted, then run the command again",
-                Status.BAD_OUTPUT,
-                "nothing was counted",
-            )
+            reason = "it is not there, and debvote is given its input by it"
+            cure = "have /proc mounted, then run the command again"
+            raise Fault(OWN_FILES, reason, cure, Status.BAD_OUTPUT, "nothing was counted")
+        command = [self.path, *(os.fspath(word) for word in words)]
         try:
-            ended = self.run_in_folder([self.path, *(os.fspath(word) for word in words)], given)
+            ended = subprocess.run(command, cwd=self.folder, capture_output=True, input=given or b"")
         except OSError as error:
-            raise Fault(
-                self.path,
-                f"it can't be started ({error.strerror})",
-                "run the command again",
-                Status.BAD_OUTPUT,
-                "nothing was counted, and no file was changed by it",
-            ) from None
+            done = "nothing was counted, and no file was changed by it"
+            reason = f"it can't be started ({error.strerror})"
+            raise Fault(self.path, reason, "run the command again", Status.BAD_OUTPUT, done) from None
         status = ended.returncode if ended.returncode >= 0 else 128 - ended.returncode
         return Answer(ended.stdout.decode("ascii", "replace"), ended.stderr.decode("utf-8", "replace"), status)
-
-    def run_in_folder(self, words: list[str], given: bytes | None) -> subprocess.CompletedProcess[bytes]:
-        """How a program ended that was run in the folder. Raises OSError where it can't be started."""
-        if given is None:
-            return subprocess.run(words, cwd=self.folder, capture_output=True, stdin=subprocess.DEVNULL)
-        return subprocess.run(words, cwd=self.folder, capture_output=True, input=given)
 
     # ------------------------------------------------------------ about a poll and ballots that are in memory
     def answer(self, task: str, poll_bytes: bytes, ballots_bytes: bytes = b"", *words: str) -> Answer:
@@ -129,7 +116,7 @@ def refusal(answer: Answer) -> Fault:
         Status.BAD_BALLOTS: f"there can be at most {LINES_LIMIT} lines and {BALLOTS_LIMIT} bytes of ballots: add less",
     }
     cure = cures.get(Status(answer.status), "run the command again") if answer.status in set(Status) else "run the command again"
-    return Fault("debvote", said, cure, answer.status, "nothing was changed")
+    return Fault("debvote", said, cure, answer.status)
 
 
 def casting_words(name: str | None) -> list[str]:

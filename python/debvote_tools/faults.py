@@ -22,13 +22,14 @@ class Status(enum.IntEnum):
 
 
 class Fault(Exception):
-    """What ends the run: the file that it is about, the reason, the cure, and the exit status.
+    """What ends the run: the file that it is about, if any, the reason, the cure, the exit status, and what was done or was not.
 
-    What is about no file, as an output that failed, names none. `done` says what was done all the same, or what was not; where
-    it is empty, the reason says it.
+    Most faults stop a command until a person has looked, before it has changed anything. `done` is None where the reason says it.
     """
 
-    def __init__(self, file: object, reason: object, cure: str, status: int, done: str | None = None) -> None:
+    def __init__(
+        self, file: object, reason: object, cure: str, status: int = Status.DOUBT, done: str | None = "nothing was changed"
+    ) -> None:
         behind = "; " if done is None else f"; {done}: " if done else ": "
         words = f"{reason}{behind}{cure}" if file is None else f"{file}: {reason}{behind}{cure}"
         super().__init__(words, status)
@@ -37,12 +38,12 @@ class Fault(Exception):
         self.file, self.reason, self.cure, self.done = file, reason, cure, done
 
     def with_done(self, done: str) -> "Fault":
-        """The same fault, where this was done, too."""
+        """The same fault, if this was done, too."""
         return Fault(self.file, self.reason, self.cure, self.status, "; ".join(filter(None, [self.done, done])))
 
 
 class Several(Fault):
-    """Several faults that stop one act, so that they are put right at once. The exit status is the first one's."""
+    """Several faults that stop one act, all told at once. The exit status is the first one's."""
 
     def __init__(self, faults: Sequence[Fault]) -> None:
         Exception.__init__(self, faults)
@@ -59,19 +60,14 @@ def stop_at(faults: Sequence[Fault]) -> None:
 
 
 class Told(Fault):
-    """What ends the run where the lines are told already, by debvote or as doubts, or where debvote says them itself."""
+    """What ends the run after debvote has said why."""
 
-    def __init__(self, status: int, words: str | None = None) -> None:
-        Exception.__init__(self, words, status)
-        self.words = words
-        self.status = status
-
-    def with_done(self, done: str) -> "Told":
-        """The same: of what is told already, nothing more is said."""
-        return self
+    def __init__(self, status: int) -> None:
+        Exception.__init__(self, status)
+        self.status, self.words = status, None
 
 
 def other_format(what: str) -> Fault:
-    """The fault of what debvote writes, where it can't be read by its format."""
+    """The fault of what debvote writes, if it can't be read by its format."""
     cure = "install debvote and these programs from one package"
-    return Fault(None, f"{what} has another format", cure, Status.BAD_SHEET)
+    return Fault(None, f"{what} has another format", cure, Status.BAD_SHEET, None)

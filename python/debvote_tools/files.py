@@ -1,15 +1,17 @@
-"""Files that are written whole or not at all, and the lock of a folder."""
+"""Files that are read up to a limit, and written whole or not at all; and the lock of a folder."""
 
 import contextlib
 import fcntl
 import hashlib
 import os
 import pathlib
+import shutil
 import signal
 import tempfile
-from collections.abc import Iterable, Iterator
+from collections.abc import Iterator
 
 from debvote_tools.faults import Fault, Status
+from debvote_tools.terminal_text import number_of, odd_sign
 
 # in bytes; one more is read of a longer file, so that debvote says that it is too long
 POLL_LIMIT, BALLOTS_LIMIT = 1_048_576, 33_554_432
@@ -42,6 +44,38 @@ def read_at_most(file: pathlib.Path | str, limit: int) -> bytes:
         return source.read(limit + 1)
 
 
+def read_whole(file: pathlib.Path | str, limit: int, unread: str, then: str = "") -> bytes:
+    """The bytes of a file. `unread` is the cure if it can't be read; `then` follows each cure."""
+    try:
+        data = read_at_most(file, limit)
+    except OSError as error:
+        raise Fault(file, error.strerror, unread + then, Status.BAD_WORDS, None) from None
+    if len(data) > limit:
+        raise Fault(file, f"it is longer than {limit} bytes", f"shorten it{then}", Status.BAD_WORDS, None)
+    return data
+
+
+def plain_text(data: bytes, file: pathlib.Path | str, empty: str, then: str = "", refused: str = "") -> str:
+    """The text of a file in UTF-8, without its byte-order mark and with a line feed at the end of each line.
+
+    `empty` is the cure of an empty one; `then` follows each cure. Refused are characters that no plain text has, and these.
+    """
+    try:
+        text = data.decode().removeprefix("\ufeff").replace("\r\n", "\n")
+    except UnicodeDecodeError as error:
+        line = data.count(b"\n", 0, error.start) + 1
+        cure = f"save it as plain text in UTF-8{then}"
+        raise Fault(f"{file}:{line}", "it is not in UTF-8", cure, Status.BAD_WORDS, None) from None
+    odd = odd_sign(text, allowed="\t\n", refused=refused)
+    if odd is not None:
+        line = text.count("\n", 0, text.index(odd)) + 1
+        words = f"it has the character {number_of(odd)}, which no plain text has"
+        raise Fault(f"{file}:{line}", words, f"take it out{then}", Status.BAD_WORDS, None)
+    if not text.strip():
+        raise Fault(file, "it is empty", empty + then, Status.BAD_WORDS, None)
+    return text
+
+
 def sync_folder(folder: pathlib.Path) -> None:
     """Brings the names of a folder to the disk."""
     handle = os.open(folder, os.O_RDONLY | os.O_DIRECTORY)
@@ -51,17 +85,15 @@ def sync_folder(folder: pathlib.Path) -> None:
         os.close(handle)
 
 
-def write_whole(file: pathlib.Path, data: bytes | Iterable[bytes | memoryview], mode: int = 0o644) -> None:
-    """Writes a file whole or not at all: a temporary beside it is brought to the disk, and takes its place.
+def write_whole(file: pathlib.Path, data: bytes, mode: int) -> None:
+    """Writes a file with this mode, whole or not at all: a temporary beside it is brought to the disk, and takes its place.
 
-    A file that was there keeps its mode; a new one gets this mode, less what the umask takes. Raises OSError, and then the file
-    is as it was, unless the error is `Written`.
+    Raises OSError, and then the file is as it was, unless the error is `Written`.
     """
-    mode = file.stat().st_mode & 0o777 if file.exists() else mode & ~umask()
     handle, name = tempfile.mkstemp(prefix=TEMPORARY, dir=file.parent)
     try:
         with os.fdopen(handle, "wb") as target:
-            target.writelines([data] if isinstance(data, bytes) else data)
+            target.write(data)
             target.flush()
             os.fchmod(target.fileno(), mode)
             os.fsync(target.fileno())
@@ -84,6 +116,20 @@ def temporary_folder(place: pathlib.Path) -> pathlib.Path:
     return pathlib.Path(tempfile.mkdtemp(prefix=TEMPORARY, dir=place))
 
 
+@contextlib.contextmanager
+def whole_folder(place: pathlib.Path) -> Iterator[pathlib.Path]:
+    """A new folder, which takes its place when all is in it; if that fails, nothing of it is left. Raises OSError."""
+    parent = place.absolute().parent
+    made = temporary_folder(parent)
+    try:
+        yield made
+        made.rename(place)
+        sync_folder(parent)
+    except BaseException:
+        shutil.rmtree(made, ignore_errors=True)
+        raise
+
+
 def write_public(file: pathlib.Path, data: bytes) -> None:
     """Writes a new file that everybody may read, whatever the umask, and brings it to the disk. Raises OSError."""
     with open(file, "xb") as target:
@@ -93,19 +139,12 @@ def write_public(file: pathlib.Path, data: bytes) -> None:
         os.fsync(target.fileno())
 
 
-def umask() -> int:
-    """The bits that new files do not get. The system tells them only where they are set."""
-    mask = os.umask(0o077)
-    os.umask(mask)
-    return mask
-
-
 @contextlib.contextmanager
-def locked(file: pathlib.Path, is_shared: bool = False) -> Iterator[None]:
-    """Holds the lock of a file, alone or with other readers, and waits for it. The lock of a process that is killed is free."""
+def locked(file: pathlib.Path) -> Iterator[None]:
+    """Holds the lock of a file, and waits for it. The lock of a process that is killed is free."""
     handle = os.open(file, os.O_RDWR | os.O_CREAT | os.O_CLOEXEC, 0o644)
     try:
-        fcntl.flock(handle, fcntl.LOCK_SH if is_shared else fcntl.LOCK_EX)
+        fcntl.flock(handle, fcntl.LOCK_EX)
         yield
     finally:
         os.close(handle)
@@ -126,23 +165,13 @@ def locked_folder(folder: pathlib.Path) -> Iterator[None]:
 def in_memory(data: bytes) -> Iterator[str]:
     """A file in memory, which other programs can read by this path as long as it lasts, and of which a kill leaves nothing."""
     if not os.path.isdir(OWN_FILES):
-        raise Fault(
-            OWN_FILES,
-            "it is not there, and programs are given their input by it",
-            "have /proc mounted, then run the command again",
-            Status.BAD_OUTPUT,
-            "nothing was changed",
-        )
+        words = "it is not there, and programs are given their input by it"
+        raise Fault(OWN_FILES, words, "have /proc mounted, then run the command again", Status.BAD_OUTPUT)
     try:
         handle = os.memfd_create("debvote")
     except OSError as error:
-        raise Fault(
-            "memory",
-            f"there is none for a copy of the input ({error.strerror})",
-            "run the command again",
-            Status.BAD_OUTPUT,
-            "nothing was changed",
-        ) from None
+        words = f"there is none for a copy of the input ({error.strerror})"
+        raise Fault("memory", words, "run the command again", Status.BAD_OUTPUT) from None
     try:
         with open(handle, "wb", closefd=False) as target:
             target.write(data)

@@ -11,8 +11,6 @@ import io
 import json
 from collections.abc import Callable, Iterable, Mapping
 
-from debvote_tools.sentences import Sentence
-
 # each by the code that the pages have for it, with its name in English
 LANGUAGES = {"en": "English", "de": "German", "fr": "French", "es": "Spanish"}
 
@@ -41,13 +39,6 @@ class Language:
     def form(self, text: str) -> Callable[..., str]:
         """What says a sentence that is said often, each time with other words at its places."""
         return self.catalog.gettext(text).format
-
-    def of(self, said: Sentence) -> str:
-        """A sentence that was made elsewhere."""
-        places = dict(said.places)
-        if said.many is None:
-            return self.say(said.text, **places)
-        return self.catalog.ngettext(said.text, said.many, said.number).format(**places)
 
     def in_a_row(self, said: Iterable[str]) -> str:
         """Sentences one after another, with semicolons."""

@@ -9,16 +9,13 @@ guessed: no rank, no name, no order.
 """
 
 import codecs
-import dataclasses
 import re
 from collections.abc import Iterable
+from typing import NamedTuple
 
 MARK = codecs.BOM_UTF8
 
 BLANKS = b" \t"
-
-# a line and its end; a carriage return alone ends a line too
-PART = re.compile(rb"(?P<line>[^\r\n]*)(?P<end>\r\n|\n|\r|\Z)")
 
 # in bytes; a longer line is no ballot, and nothing of it is repaired
 LONGEST = 1_000
@@ -33,17 +30,8 @@ NO_BREAK = "\u00a0\u202f"
 DASHES = "\u2010\u2011\u2012\u2013\u2014\u2212"
 # pairs of quotation marks: the one before a line, and the one after it
 QUOTES = (
-    *(chr(34) * 2, chr(39) * 2, "``"),
-    *(
-        "\u201c\u201d",
-        "\u201e\u201c",
-        "\u201e\u201d",
-        "\u201d\u201d",
-        "\u2018\u2019",
-        "\u201a\u2018",
-        "\u00ab\u00bb",
-        "\u00bb\u00ab",
-    ),
+    *('""', "''", "``"),
+    *"\u201c\u201d \u201e\u201c \u201e\u201d \u201d\u201d \u2018\u2019 \u201a\u2018 \u00ab\u00bb \u00bb\u00ab".split(),
 )
 
 # what a mail program writes in place of bold letters: whole words between asterisks
@@ -69,18 +57,17 @@ REPAIRED = {
 CAPITALS = re.compile(rb"[A-Z]")
 
 
-@dataclasses.dataclass(frozen=True, slots=True)
-class Line:
+class Line(NamedTuple):
     """A line that came. `source` names the file, as `more.txt`, and `place` the line in it, as `:3`, or of a table as `: row 3`."""
 
     source: str
     place: str
-    # as it came: that of a file with its byte-order mark and its carriage return, that of a row with the line feeds in its cells
-    whole: bytes
+    # with its byte-order mark and its carriage return, that of a row with the line feeds in its cells
+    came: bytes
     # without them: so it is entered if debvote refuses it
-    bare: bytes
+    unframed: bytes
     # after all changes that are allowed
-    changed: bytes
+    repaired: bytes
 
     @property
     def where(self) -> str:
@@ -89,35 +76,35 @@ class Line:
 
     @property
     def is_empty(self) -> bool:
-        return not self.changed
+        return not self.repaired
 
     @property
     def had_mark(self) -> bool:
         """Whether all that it lost is a byte-order mark, and perhaps a carriage return."""
-        return not self.bare.startswith(MARK) and self.whole.removesuffix(b"\r") == MARK + self.bare
+        return not self.unframed.startswith(MARK) and self.came.removesuffix(b"\r") == MARK + self.unframed
 
     @property
     def had_return(self) -> bool:
         """Whether all that it lost is a carriage return, and perhaps a byte-order mark."""
-        return self.whole == self.bare + b"\r" or (self.had_mark and self.whole.endswith(b"\r"))
+        return self.came == self.unframed + b"\r" or (self.had_mark and self.came.endswith(b"\r"))
 
     @property
     def without_frame(self) -> bytes:
         """The line as it came, without such a byte-order mark and carriage return: they are mentioned once for the whole file."""
-        return self.bare if self.had_mark or self.had_return else self.whole
+        return self.unframed if self.had_mark or self.had_return else self.came
 
 
 def lines_in(data: bytes, name: str, first: int = 1) -> list[Line]:
-    """The lines of a file; `first` is the number of the first one. A byte-order mark is removed at the start of line 1."""
-    lines, number = [], first
-    for part in PART.finditer(data):
-        if part.start() == len(data):
-            break
-        line = part["line"]
-        whole = line + (b"\r" if part["end"].startswith(b"\r") else b"")
-        bare = line.removeprefix(MARK) if number == 1 else line
-        lines.append(Line(name, f":{number}", whole, bare, changed(bare)))
-        number += 1
+    """The lines of a file; `first` is the number of the first one. A byte-order mark is removed at the start of line 1.
+
+    A carriage return alone ends a line, too.
+    """
+    lines = []
+    for number, line in enumerate(data.splitlines(keepends=True), start=first):
+        came = line.removesuffix(b"\n")
+        unframed = came.removesuffix(b"\r")
+        unframed = unframed.removeprefix(MARK) if number == 1 else unframed
+        lines.append(Line(name, f":{number}", came, unframed, unframed if PLAIN.fullmatch(unframed) else changed(unframed)))
     return lines
 
 
@@ -128,7 +115,7 @@ def ballot_lines(ballots_bytes: bytes) -> list[bytes]:
 
 def ballot_file(lines: Iterable[bytes]) -> bytes:
     """A ballot file of these lines, each with its line feed."""
-    return b"".join(line + b"\n" for line in lines)
+    return b"\n".join([*lines, b""])
 
 
 def name_in(line: bytes) -> bytes:

@@ -45,7 +45,7 @@ REFUSED = f"{LINE_ENDS}\ufff9\ufffa\ufffb"
 def without_accents(text: str, language: str) -> str:
     """The text with plain letters for those with accents, as the language spells them. Letters of other scripts stay.
 
-    `find.js` does the same with the real name that an elector types.
+    The page of the result does the same with the real name that an elector types.
     """
     if text.isascii():
         return text
@@ -95,16 +95,11 @@ def made_different(bases: Sequence[str], taken: Collection[str], limit: int, joi
     for base in bases:
         name, form = base, alike(base)
         while alike(name) in used or (name == base and form in several):
-            name = with_number(base, next(numbers[form]), limit, joint)
+            end = f"{joint}{next(numbers[form])}"
+            name = base[: limit - len(end)].rstrip(" -") + end
         used.add(alike(name))
         names.append(name)
     return names
-
-
-def with_number(base: str, number: int, limit: int, joint: str) -> str:
-    """The base with a number at its end, cut to the limit."""
-    end = f"{joint}{number}"
-    return base[: limit - len(end)].rstrip(" -") + end
 
 
 # ---------------------------------------------------------------- the poll
@@ -115,15 +110,14 @@ def plain_title(title: str, language: str) -> str:
 
 def plain_options(names: Sequence[str], language: str) -> list[str]:
     """The plain names of all options, the default last. An empty name stays empty, so that it is refused."""
-    is_kept = [not name or is_plain(name, OPTION_LIMIT) for name in names]
-    bases = [
-        plain_text(name, language, OPTION_LIMIT) or f"Option {number}"
+    bases = {
+        number: plain_text(name, language, OPTION_LIMIT) or f"Option {number}"
         for number, name in enumerate(names, start=1)
-        if not is_kept[number - 1]
-    ]
-    kept = [name for name, keeps in zip(names, is_kept) if keeps]
-    made = iter(made_different(bases, kept, OPTION_LIMIT, " "))
-    return [name if keeps else next(made) for name, keeps in zip(names, is_kept)]
+        if name and not is_plain(name, OPTION_LIMIT)
+    }
+    kept = [name for number, name in enumerate(names, start=1) if number not in bases]
+    made = dict(zip(bases, made_different(list(bases.values()), kept, OPTION_LIMIT, " ")))
+    return [made.get(number, name) for number, name in enumerate(names, start=1)]
 
 
 # ---------------------------------------------------------------- electors
@@ -174,8 +168,8 @@ def bad_options(names: Sequence[str], plain_names: Sequence[str]) -> list[BadNam
     for (first, first_name, first_plain), (second, second_name, second_plain) in itertools.combinations(options, 2):
         like = {alike(first_plain): "the plain name of ", alike(first_name): ""}.get(alike(second_name))
         if like is not None and alike(second_name) and first_plain != second_plain:
-            reason = f"it looks like {like}option {first}, `{shown_text(first_name)}`, but for case, accents, blanks or unseen characters"
-            found.append(BadName(second, second_name, reason))
+            reason = f"it looks like {like}option {first}, `{shown_text(first_name)}`"
+            found.append(BadName(second, second_name, f"{reason}, but for case, accents, blanks or unseen characters"))
     return found
 
 

@@ -1,11 +1,12 @@
 """The sealed poll: what the call announces and the result publishes, in plain form.
 
-Plain form is TOML that a simple reader understands, too: one `key = value` a line in the order of `KEYS`, each value as JSON writes it,
-each line ended by a line feed, without comments and tables. So one SHA-256 of the file binds all that electors were told.
+Plain form is TOML that a simple reader understands, too: one `key = value` a line in the order of `KEYS`, each value as JSON writes
+it, each line ended by a line feed, without comments and tables. So one SHA-256 of the file binds all that electors were told.
 """
 
 import dataclasses
 import datetime
+import functools
 import json
 from collections.abc import Sequence
 from typing import Any
@@ -67,6 +68,7 @@ class SealedPoll:
     def deadline_time(self) -> datetime.datetime | None:
         return None if self.deadline is None else datetime.datetime.fromisoformat(self.deadline)
 
+    @functools.lru_cache(4)
     def as_bytes(self) -> bytes:
         """The poll in plain form."""
         values = {field.name: getattr(self, field.name) for field in dataclasses.fields(self)}
@@ -94,6 +96,7 @@ def plain_form(values: dict[str, Any]) -> bytes:
     return "".join(lines).replace("\x7f", "\\u007f").encode()
 
 
+@functools.lru_cache(4)
 def read_plain(data: bytes, file: object = "poll.toml") -> SealedPoll:
     """Reads a poll in plain form. Raises `Fault` if it is not in this form, byte for byte."""
     try:
@@ -106,7 +109,7 @@ def read_plain(data: bytes, file: object = "poll.toml") -> SealedPoll:
         is_plain = False
     if not is_plain:
         cure = "give the poll.toml of a call or of a published folder"
-        raise Fault(file, "it is not a sealed poll in plain form", cure, Status.BAD_POLL)
+        raise Fault(file, "it is not a sealed poll in plain form", cure, Status.BAD_POLL, None)
     return poll
 
 

@@ -66,6 +66,12 @@ class Sheet:
         # a name may end with the words that tell a casting vote
         return Winner(int(parts[1]), parts[2] != self.names[int(parts[1])])
 
+    @property
+    def is_by_casting(self) -> bool:
+        """Whether the casting vote decides."""
+        winner = self.winner()
+        return winner is not None and winner.is_by_casting
+
     def casting_outside(self) -> int | None:
         """The option of a casting vote that is for none of the options that are left."""
         # the name of an option that wins may have these words

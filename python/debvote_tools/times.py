@@ -85,7 +85,11 @@ def parse_until(text: str, zone: str | None) -> datetime.datetime:
     date, clock, offset = parts.groups()
     try:
         plain = datetime.datetime.fromisoformat(f"{date} {clock}")
-        return in_zone(plain, zone) if offset is None else with_offset(plain, offset, zone)
+        if offset is None:
+            return in_zone(plain, zone)
+        if zone is not None:
+            raise Fault("--zone", "the time has an offset already", "leave out one of the two", Status.BAD_WORDS)
+        return plain.replace(tzinfo=datetime.UTC if offset in ("Z", "UTC") else datetime.datetime.strptime(offset, "%z").tzinfo)
     except (ValueError, OverflowError):
         raise refused("there is no such day or time of day (a day goes from 00:00 to 23:59)", HOW) from None
 
@@ -98,18 +102,15 @@ def demand_future(time: datetime.datetime, now: datetime.datetime) -> None:
         raise refused(reason, "write a time that is to come")
 
 
-def with_offset(plain: datetime.datetime, offset: str, zone: str | None) -> datetime.datetime:
-    """The time with the offset that is written after it."""
-    if zone is not None:
-        reason = "the time has an offset already"
-        raise Fault("--zone", reason, "leave out one of the two", Status.BAD_WORDS, "nothing was changed")
-    return plain.replace(tzinfo=datetime.UTC if offset in ("Z", "UTC") else datetime.datetime.strptime(offset, "%z").tzinfo)
-
-
 def in_zone(plain: datetime.datetime, name: str | None) -> datetime.datetime:
     """The time of a clock in a zone, or of the clock of this computer. The clock has to show it just once."""
-    zone = None if name is None else zone_of(name)
-    first, second = (aware(plain.replace(fold=fold), zone) for fold in (0, 1))
+    try:
+        zone = None if name is None else zoneinfo.ZoneInfo(name)
+    except (zoneinfo.ZoneInfoNotFoundError, ValueError, OSError):
+        cure = "write one as Europe/Berlin, or give the offset in the time, as +01:00"
+        raise Fault("--zone", "this computer knows no time zone of this name", cure, Status.BAD_WORDS) from None
+    folded = [plain.replace(fold=fold) for fold in (0, 1)]
+    first, second = (time.astimezone() if zone is None else time.replace(tzinfo=zone) for time in folded)
     is_shown = any(time.astimezone(datetime.UTC).astimezone(zone).replace(tzinfo=None) == plain for time in (first, second))
     where = "where this computer is" if name is None else f"in {name}"
     if not is_shown:
@@ -122,20 +123,5 @@ def in_zone(plain: datetime.datetime, name: str | None) -> datetime.datetime:
     return datetime.datetime.fromisoformat(first.isoformat(timespec="seconds"))
 
 
-def aware(plain: datetime.datetime, zone: datetime.tzinfo | None) -> datetime.datetime:
-    """The time of a clock in a zone; without a zone, in that of this computer."""
-    return plain.astimezone() if zone is None else plain.replace(tzinfo=zone)
-
-
-def zone_of(name: str) -> zoneinfo.ZoneInfo:
-    """A time zone by its name."""
-    try:
-        return zoneinfo.ZoneInfo(name)
-    except (zoneinfo.ZoneInfoNotFoundError, ValueError, OSError):
-        reason = "this computer knows no time zone of this name"
-        cure = "write one as Europe/Berlin, or give the offset in the time, as +01:00"
-        raise Fault("--zone", reason, cure, Status.BAD_WORDS, "nothing was changed") from None
-
-
 def refused(reason: str, cure: str) -> Fault:
-    return Fault("--until", reason, cure, Status.BAD_WORDS, "nothing was changed")
+    return Fault("--until", reason, cure, Status.BAD_WORDS)

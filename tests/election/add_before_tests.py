@@ -97,6 +97,23 @@ class AsItCame(Before):
         self.assert_passed_over(2, 1)
 
 
+    def test_a_table_with_a_newer_row_that_came_before(self) -> None:
+        """A web form may show the newest row first: then the row below, which is new to the book, is the older one."""
+        self.write("form", "n,a,b,c,d\ncleo,1,2,4,3\n")
+        self.told("add", *TABLE, "form")
+        self.write("more", "n,a,b,c,d\ncleo,1,2,4,3\ncleo,2,1,4,3\ndan,1,2,4,3\n")
+        before = self.last_act()
+        for words in ((), ("--force",)):
+            said = "more: it has two ballots of cleo that differ (row 2 and row 3)"
+            self.assert_stops(self.election("add", *TABLE, *words, "more"), before, 9, said, "--oldest-first or --newest-first")
+        older = "more: row 3 has an older ballot of cleo than row 2, which came before, and would replace it"
+        self.assert_stops(self.election("add", *TABLE, "--newest-first", "more"), before, 9, older)
+        self.assert_passed_over(1, 2, *TABLE, "--oldest-first")
+        self.assertEqual(self.lines()[3:], [f"cleo {OTHER_RANKS}", f"dan {RANKS}"])
+        # by now both came before, in whatever order
+        self.assert_passed_over(3, 0, *TABLE)
+
+
 class Since(Before):
     def test_another_ballot_has_come(self) -> None:
         self.told("desk", given=f"ada {OTHER_RANKS}\n")
@@ -111,6 +128,23 @@ class Since(Before):
         self.assertEqual(self.lines()[3:], [f"ada {RANKS}"])
         # by now it stands, so that there is nothing to tell
         self.assertNotIn("--again", self.assert_passed_over(2, 0, "--again", name="monday"))
+
+    def test_a_line_that_is_taken_again_came_once(self) -> None:
+        """It is known by its new envelope: to take it again twice enters nothing, and the same line once more is a new one."""
+        self.write("more", f"cleo {RANKS}\ncleo {OTHER_RANKS}\n")
+        self.told("add", "more")
+        self.told("desk", given="cleo -,-,-,1\n")
+        self.assertIn("Added 2 lines (2 replaced).\n", self.told("add", "--again", "more"))
+        self.assertEqual(self.acts()[-1][1]["again"], [3, 4])
+        self.assertEqual(self.lines()[5:], [f"cleo {RANKS}", f"cleo {OTHER_RANKS}"])
+        self.assertNotIn("--again", self.assert_passed_over(2, 0, "--again"))
+        self.write("more", f"cleo {RANKS}\ncleo {OTHER_RANKS}\ncleo {RANKS}\n")
+        self.assert_passed_over(2, 1)
+        self.assertEqual(self.lines()[7:], [f"cleo {RANKS}"])
+        # what an `undo` took back is known by its old envelope again
+        self.told("undo")
+        self.told("undo")
+        self.assertIn("cleo has voted since (envelope 5)", self.assert_passed_over(2, 1))
 
     def test_a_later_row_of_the_same_file_is_nothing_since(self) -> None:
         self.write("more", f"cleo {RANKS}\ncleo {OTHER_RANKS}\n")

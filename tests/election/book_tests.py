@@ -79,6 +79,9 @@ class Copies(BookTest):
         shutil.copy(copy, self.book)
         self.write("more", "hal 1,2,3,4\n")
         self.assert_fault(self.election("add", "--yes", "--moved", "more"), 2, "--moved", "reason")
+        for text in ("a\u202eb", "a\x1b[1m", "one line\nand one more"):
+            odd = self.election("add", "--yes", "--moved", "--because", text, "more")
+            self.assert_fault(odd, 2, "--because: the text has the character U+", "nothing was changed")
         self.done("add", "--yes", *MOVED, "more")
         self.assertEqual([line.split()[4] for line in self.done("log").output.splitlines()[::2]][-2:], ["moved", "add"])
         self.done("add", "--yes", "--again", "more")

@@ -183,6 +183,8 @@ class Secret(CallTest):
 
     def test_codes_on_the_roll(self) -> None:
         self.done("codes", "--on-roll")
+        for status in (self.done("status").output, self.done("status", "--json").output):
+            self.assertNotRegex(status.rpartition("digest")[0], r"[0-9a-f]{32}")
         self.assertEqual([file.name for file in (self.folder / "private").iterdir()], ["slips.html"])
         self.assert_fault(self.election("roll"), 9, "codes are on the roll")
         ended = self.done("call", *UNTIL)
@@ -198,7 +200,14 @@ class Secret(CallTest):
         self.assert_fault(self.election("codes"), 9, "the vote is not secret", "secret = true")
         self.write("poll.toml", self.poll)
         self.done("codes")
+        self.assert_fault(self.election("codes", "--on-roll"), 9, "--on-roll", "beside their names already")
         self.assert_fault(self.election("call", "--names"), 2, "--names", "secret")
+
+    def test_after_the_call_of_a_vote_that_is_not_secret(self) -> None:
+        self.write("poll.toml", support.POLL)
+        self.done("call", *UNTIL)
+        self.assert_fault(self.election("codes"), 9, "the vote is not secret", "debvote-election status")
+        self.assertFalse((self.folder / "private").exists())
 
 
 if __name__ == "__main__":

@@ -21,8 +21,7 @@ from at_browser import BROWSER, Window
 sys.path.insert(0, str(pathlib.Path(__file__).resolve().parents[2] / "python"))
 
 from debvote_tools.call.data import CallData, demand_mail_address, demand_web_address  # noqa: E402
-from debvote_tools.call.files import call_files  # noqa: E402
-from debvote_tools.call.letter import call_letter, extension_letter  # noqa: E402
+from debvote_tools.call.files import call_files, call_letter, extension_letter  # noqa: E402
 from debvote_tools.faults import Fault, Status  # noqa: E402
 from debvote_tools.language import LANGUAGES, language_of  # noqa: E402
 from debvote_tools.lines import changed  # noqa: E402
@@ -208,11 +207,11 @@ class Files(unittest.TestCase):
         listed = "".join(f"<li><code>{name}</code></li>\n" for name in ROLL)
         self.assertIn(listed, call_files(CALL)["index.html"].decode())
         self.assertIn("\n  ada, ben, cleo, dan\n", call_files(CALL)["call.txt"].decode())
-        names = dataclasses.replace(CALL, names_published=True, real_names={"ada": "Ada <i>", "dan": ""})
+        names = dataclasses.replace(CALL, real_names={"ada": "Ada <i>", "dan": ""})
         page = call_files(names)["index.html"].decode()
         self.assertIn("<li><code>ada</code> <bdi>Ada &lt;i&gt;</bdi></li>\n<li><code>ben</code></li>\n", page)
         # real names are shown only where they will be published
-        hidden = call_files(dataclasses.replace(names, names_published=False))
+        hidden = call_files(dataclasses.replace(names, real_names=None))
         self.assertNotIn(b"Ada", b"".join(hidden.values()))
         for count, in_page, in_letter in ((200, True, True), (201, True, False), (2_000, True, False), (2_001, False, False)):
             data = dataclasses.replace(CALL, poll=with_roll(POLL, [f"e{number:04}" for number in range(count)]))
@@ -229,10 +228,10 @@ class Files(unittest.TestCase):
             "codes": "Each elector votes under a code, and nobody has a list of who has which.",
         }
         for kind, part in wanted.items():
-            for names_published in (False, True):
-                for text in texts_of(dataclasses.replace(KINDS[kind], names_published=names_published)).values():
+            for real_names in (None, {}):
+                for text in texts_of(dataclasses.replace(KINDS[kind], real_names=real_names)).values():
                     self.assertEqual([other for other in wanted.values() if other in text], [part])
-                    self.assertEqual(real in text, kind == "open" and names_published)
+                    self.assertEqual(real in text, kind == "open" and real_names is not None)
 
     def test_each_kind_says_its_own(self) -> None:
         receipts = ["a letter that says how your ballot was read", "a letter that says that your ballot has come"]
@@ -259,7 +258,7 @@ class Files(unittest.TestCase):
 
     def test_a_secret_call_shows_no_roll_and_one_with_codes_no_poll(self) -> None:
         for data in (SECRET, WITH_CODES):
-            files = call_files(dataclasses.replace(data, real_names=dict.fromkeys(CODES, "Ada L."), names_published=True))
+            files = call_files(dataclasses.replace(data, real_names=dict.fromkeys(CODES, "Ada L.")))
             for name in files.keys() - {"poll.toml"}:
                 self.assertEqual([text for text in (*CODES, "Ada L.") if text in files[name].decode()], [])
             self.assertNotIn('id="roll"', files["index.html"].decode())
@@ -297,7 +296,7 @@ class Hostile(unittest.TestCase):
     def hostile(self, texts: list[str]) -> CallData:
         poll = dataclasses.replace(POLL, shown_title=texts[0], shown_options=(texts[1], texts[2], texts[0], texts[2] + "."))
         poll = dataclasses.replace(poll, explanations=(texts[0], texts[1], texts[2]))
-        return dataclasses.replace(CALL, poll=poll, names_published=True, real_names=dict(zip(ROLL, [*texts, "Dan"], strict=True)))
+        return dataclasses.replace(CALL, poll=poll, real_names=dict(zip(ROLL, [*texts, "Dan"], strict=True)))
 
     def test_the_page_runs_its_own_script_alone(self) -> None:
         page = call_files(self.hostile(HOSTILE))["index.html"].decode()
@@ -421,7 +420,7 @@ class InBrowser(unittest.TestCase):
             self.assertEqual((found["line"], str(found["said"]).startswith("A code has 32 digits, 0 to 9 and a to f.")), ("", True))
         self.assertEqual(self.chosen(window, "", "1234")["missing"], "Type your code as it is on your slip.")
         names = {"ben": "Zo\u00eb \u00c5ngstr\u00f6m", "cleo": "Zoe Angstr\u00f6mer"}
-        window = self.window(dataclasses.replace(CALL, names_published=True, real_names=names))
+        window = self.window(dataclasses.replace(CALL, real_names=names))
         self.assertIn("Did you mean ben?", str(self.chosen(window, "Zoe Angstrom", "1234")["said"]))
         self.assertIn("Did you mean ben or cleo?", str(self.chosen(window, "Zoe", "1234")["said"]))
         found = self.chosen(window, "eve", "1234")

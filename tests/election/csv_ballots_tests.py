@@ -8,7 +8,7 @@ import support
 
 sys.path.insert(0, str(support.ROOT / "python"))
 
-from debvote_tools.election.csv_ballots import LineReader, columns_of  # noqa: E402
+from debvote_tools.election.csv_ballots import columns_of, lines_of_table  # noqa: E402
 from debvote_tools.faults import Fault, Status  # noqa: E402
 
 OPTIONS = ["At the lake", "In the town hall", "Neither"]
@@ -18,9 +18,9 @@ ROLL = ["ada", "ben", "1"]
 class CsvBallotsTest(unittest.TestCase):
     def lines(self, data: str | bytes, name: str = "n", ranks: str = "a,b,c", **how: bool) -> list[tuple[str, bytes, bytes, bytes]]:
         """Of each line where it is, and as it came, without line ends, and repaired."""
-        reader = LineReader(columns_of(name, ranks, OPTIONS, ROLL, **how))
-        found = reader.lines_in(data if isinstance(data, bytes) else data.encode(), "form.csv")
-        return [(line.where, line.whole, line.bare, line.changed) for line in found]
+        columns = columns_of(name, ranks, OPTIONS, ROLL, **how)
+        found = lines_of_table(data if isinstance(data, bytes) else data.encode(), "form.csv", columns)
+        return [(line.where, line.came, line.unframed, line.repaired) for line in found]
 
     def assert_refused(self, data: str | bytes, status: Status, *parts: str, name: str = "n", ranks: str = "a,b,c") -> None:
         with self.assertRaises(Fault) as caught:
@@ -58,10 +58,6 @@ class Lines(CsvBallotsTest):
             text = "n,a,b,c\r\nZoë,1,2,3\r\n".replace(",", delimiter)
             for data in (text.encode(), codecs.BOM_UTF8 + text.encode(), codecs.BOM_UTF16_BE + text.encode("utf-16-be")):
                 self.assertEqual(self.lines(data), [("form.csv: row 2", *("Zoë 1,2,3".encode(),) * 2, "zoë 1,2,3".encode())])
-
-    def test_a_file_of_lines(self) -> None:
-        (line,) = LineReader(None).lines_in(b"Ada 1, 2,3\r\n", "more.txt")
-        self.assertEqual((line.where, line.changed), ("more.txt:1", b"ada 1,2,3"))
 
 
 class Refused(CsvBallotsTest):

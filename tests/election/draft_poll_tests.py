@@ -14,8 +14,9 @@ import support
 sys.path.insert(0, str(support.ROOT / "python"))
 
 from debvote_tools.election import draft_poll  # noqa: E402
-from debvote_tools.election.draft_poll import BadToml, DraftPoll, faults_when_sealed, seal, sealed_form  # noqa: E402
+from debvote_tools.election.draft_poll import BadToml, DraftPoll, faults_when_sealed, sealed_form  # noqa: E402
 from debvote_tools.faults import Fault, Status  # noqa: E402
+from debvote_tools.sealed_poll import SealedPoll, read_plain  # noqa: E402
 
 GERMAN = """title = "Wo wir uns im Frühling treffen"
 options = ["Am See", "Über der Brücke", "李"]
@@ -25,6 +26,11 @@ quorum = 1
 """
 PLAIN = GERMAN.replace("ü", "u").replace("Ü", "U").replace("李", "Li")
 ROLL = ["ada", "ben", "zoe-mueller"]
+
+
+def seal(draft: DraftPoll, roll: list[str], language: str, **said: str) -> SealedPoll:
+    """The sealed poll of a draft in which debvote finds nothing wrong."""
+    return read_plain(sealed_form(draft, roll, language, **said))
 
 
 class DraftTest(unittest.TestCase):
@@ -164,7 +170,7 @@ class Faults(DraftTest):
         for value in ("1", '"true"', "[]"):
             draft = self.draft(GERMAN + f"secret = {value}\n")
             self.assert_faults(draft.faults, ("`secret` is neither true nor false", "secret = true"))
-            self.assertFalse(draft.is_secret)
+            self.assertNotIn(b"secret", sealed_form(draft, ROLL, "de"))
 
     def test_bad_toml(self) -> None:
         for poll, why in {
@@ -176,7 +182,7 @@ class Faults(DraftTest):
         }.items():
             with self.assertRaises(BadToml) as caught:
                 self.draft(poll)
-            self.assertIn(why, caught.exception.why)
+            self.assertIn(why, str(caught.exception.words))
             self.assertIn("poll.toml: it can't be read as TOML 1.0: ", str(caught.exception.words))
 
     def test_a_poll_that_is_not_there_or_too_long(self) -> None:
@@ -261,7 +267,7 @@ class Confusing(DraftTest):
 
 class NewPoll(DraftTest):
     def test_it_is_filled_in_by_its_own_examples(self) -> None:
-        text = draft_poll.NEW_POLL
+        text = draft_poll.NEW_POLL.read_text()
         self.assertEqual(tomllib.loads(text), {"title": "", "options": [], "ratios": [], "default": ""})
         self.assertLess(max(map(len, text.splitlines())), 111)
         self.assertEqual(self.draft(text).faults, ())

@@ -2,29 +2,49 @@
 
 import sys
 import unittest
+from collections.abc import Iterable
 
 import support
 
 sys.path.insert(0, str(support.ROOT / "python"))
 
-from debvote_tools.election.electors import KnownElector, Roll, roll_of  # noqa: E402
-from debvote_tools.election.members import members_of  # noqa: E402
+from debvote_tools.book.queries import Elector  # noqa: E402
+from debvote_tools.election.electors import Roll, roll_of  # noqa: E402
+from debvote_tools.election.members import Member, members_of  # noqa: E402
 
 KEY = "0123456789ABCDEF0123456789ABCDEF01234567"
-KNOWN = [KnownElector(1, "ada", "Ada L", ("a@x",)), KnownElector(2, "ben", "Ben", ("b@x",), KEY), KnownElector(3, "zoe", "Zoë")]
+KNOWN = [Elector(1, "ada", 1, "Ada L", ("a@x",)), Elector(2, "ben", 2, "Ben", ("b@x",), KEY), Elector(3, "zoe", 3, "Zoë", ())]
 SAME = ["Ada L;a@x", f"Ben;b@x;;{KEY}", "Zoë"]
+
+
+def names_of(electors: Iterable[Member | Elector]) -> list[str]:
+    return [elector.name for elector in electors]
+
+
+def numbers_of(roll: Roll) -> list[int | None]:
+    """The numbers of the electors in the book."""
+    return [elector.known.number if elector.known else None for elector in roll.electors]
+
+
+def new_of(roll: Roll) -> list[Member]:
+    return [elector for elector in roll.electors if elector.is_new]
+
+
+def changes_of(roll: Roll) -> list[tuple[str, list[str]]]:
+    """What changed of whom."""
+    return [(elector.name, list(elector.changes)) for elector in roll.electors if elector.changes]
 
 
 class RollTest(unittest.TestCase):
     maxDiff = None
 
-    def roll(self, *rows: str, known: list[KnownElector] | None = None, language: str = "en", is_called: bool = False) -> Roll:
+    def roll(self, *rows: str, known: list[Elector] | None = None, language: str = "en", is_called: bool = False) -> Roll:
         """The roll of rows of who, mail, name and key; the first is on line 2."""
         text = "\n".join(["who;mail;name;key", *rows])
         return roll_of(members_of(text.encode()), known or [], language, is_called=is_called)
 
     def assert_named(self, roll: Roll, *names: str) -> None:
-        self.assertEqual(([fault.words for fault in roll.faults], list(roll.names)), ([], list(names)))
+        self.assertEqual(([fault.words for fault in roll.faults], names_of(roll.electors)), ([], list(names)))
 
     def assert_faults(self, roll: Roll, *wanted: tuple[str, ...]) -> None:
         self.assertEqual(len(roll.faults), len(wanted), [fault.words for fault in roll.faults])
@@ -40,7 +60,7 @@ class Proposals(RollTest):
 
     def test_an_address_where_nothing_is_left_of_who(self) -> None:
         roll = self.roll("李明;x@y@z Li.Ming@x", "...;dot@x")
-        self.assertEqual(list(roll.names), ["x", "dot"])
+        self.assertEqual(names_of(roll.electors), ["x", "dot"])
         self.assert_faults(self.roll("李明", "李;李@x", "Ada"), (":2: no name can be made from 李明",), (":3: no name",))
 
     def test_who_would_get_one_name_gets_a_number(self) -> None:
@@ -48,58 +68,58 @@ class Proposals(RollTest):
         self.assert_named(self.roll(f"{'a' * 32} b", f"{'a' * 33}"), "a" * 30 + "-1", "a" * 30 + "-2")
 
     def test_names_of_others_are_not_taken(self) -> None:
-        gone = KnownElector(7, "ann-3", "Ann Z", is_on_roll=False)
+        gone = Elector(7, "ann-3", None, "Ann Z", ())
         self.assert_named(self.roll("Ann", "Other;;ann", "Another;;ann-2", "Ann.", known=[gone]), "ann-4", "ann", "ann-2", "ann.")
-        self.assertEqual([elector.line for elector in self.roll("Ann", "Other;;ann").proposed], [2])
+        self.assertEqual([elector.line for elector in self.roll("Ann", "Other;;ann").electors if elector.is_proposed], [2])
 
     def test_ten_thousand_of_one_name(self) -> None:
         marks = str.maketrans("01", "!?")
         roll = self.roll(*(f"Ann {number:b}".translate(marks) for number in range(10_000)))
-        self.assertEqual((roll.names[0], roll.names[-1]), ("ann-1", "ann-10000"))
-        self.assertEqual(len({*roll.names}), 10_000)
+        names = names_of(roll.electors)
+        self.assertEqual((names[0], names[-1], len({*names})), ("ann-1", "ann-10000", 10_000))
 
 
 class Known(RollTest):
     def test_a_name_stays_with_its_person(self) -> None:
         roll = self.roll("Zoë", "Ben B;;ben", "ADA L;a@x", "Dan", known=KNOWN)
         self.assert_named(roll, "zoe", "ben", "ada", "dan")
-        self.assertEqual([elector.number for elector in roll.electors], [3, 2, 1, None])
-        changes = [(change.known.name, change.fields) for change in roll.changes]
-        self.assertEqual(changes, [("ben", ("who", "addresses", "key")), ("ada", ("who",))])
-        self.assertEqual(([elector.name for elector in roll.new], roll.gone), (["dan"], ()))
+        self.assertEqual(numbers_of(roll), [3, 2, 1, None])
+        self.assertEqual(changes_of(roll), [("ben", ["who", "address", "key"]), ("ada", ["who"])])
+        self.assertEqual((names_of(new_of(roll)), roll.gone), (["dan"], ()))
 
     def test_the_same_list_changes_nothing(self) -> None:
         roll = self.roll(*SAME, known=KNOWN)
-        self.assertEqual((roll.changes, roll.new, roll.gone, roll.proposed, roll.faults), ([], [], (), [], ()))
+        proposed = [elector for elector in roll.electors if elector.is_proposed]
+        self.assertEqual((changes_of(roll), new_of(roll), roll.gone, proposed, roll.faults), ([], [], (), [], ()))
 
     def test_a_new_name_for_the_same_person(self) -> None:
         roll = self.roll("Ada L;A@x;ada.l", *SAME[1:], known=KNOWN)
         self.assert_named(roll, "ada.l", "ben", "zoe")
-        self.assertEqual([(change.known.number, change.fields) for change in roll.changes], [(1, ("name",))])
+        self.assertEqual((changes_of(roll), numbers_of(roll)[0]), ([("ada.l", ["name"])], 1))
 
     def test_who_is_gone_and_comes_again(self) -> None:
         roll = self.roll(SAME[1], known=KNOWN)
-        self.assertEqual([elector.name for elector in roll.gone], ["ada", "zoe"])
-        left = [KNOWN[0], KNOWN[1], KnownElector(3, "zoe", "Zoë", is_on_roll=False)]
+        self.assertEqual(names_of(roll.gone), ["ada", "zoe"])
+        left = [KNOWN[0], KNOWN[1], Elector(3, "zoe", None, "Zoë", ())]
         roll = self.roll(*SAME, "Zoe", known=left)
         self.assert_named(roll, "ada", "ben", "zoe", "zoe-2")
-        self.assertEqual([(elector.name, elector.number) for elector in roll.new], [("zoe", 3), ("zoe-2", None)])
+        self.assertEqual((names_of(new_of(roll)), numbers_of(roll)[2:]), (["zoe", "zoe-2"], [3, None]))
         self.assertEqual(roll.gone, ())
         self.assertEqual(self.roll(*SAME[:2], known=left).gone, ())
         roll = self.roll(*SAME[:2], "Zoë;new@x", known=left)
-        self.assertEqual((roll.changes, [elector.name for elector in roll.new]), ([], ["zoe"]))
+        self.assertEqual((changes_of(roll), names_of(new_of(roll))), ([], ["zoe"]))
 
     def test_of_two_namesakes_that_of_the_last_list_is_meant(self) -> None:
-        known = [KnownElector(1, "ann-1", "Ann", is_on_roll=False), KnownElector(2, "ann-2", "Ann")]
+        known = [Elector(1, "ann-1", None, "Ann", ()), Elector(2, "ann-2", 1, "Ann", ())]
         self.assert_named(self.roll("Ann", known=known), "ann-2")
-        roll = self.roll("Ann", known=[KnownElector(1, "ann-1", "Ann"), KnownElector(2, "ann-2", "Ann")])
-        self.assertEqual(([elector.number for elector in roll.electors], len(roll.gone)), ([None], 2))
+        roll = self.roll("Ann", known=[Elector(1, "ann-1", 1, "Ann", ()), Elector(2, "ann-2", 2, "Ann", ())])
+        self.assertEqual((numbers_of(roll), len(roll.gone)), ([None], 2))
 
     def test_who_is_not_named_is_nobody_else(self) -> None:
-        known = [KnownElector(1, "x", ""), KnownElector(2, "ben", "")]
+        known = [Elector(1, "x", 1, "", ()), Elector(2, "ben", 2, "", ())]
         roll = self.roll(";;y", "Ben;;ben", known=known)
         self.assert_named(roll, "y", "ben")
-        self.assertEqual(([elector.number for elector in roll.electors], [elector.name for elector in roll.gone]), ([None, 2], ["x"]))
+        self.assertEqual((numbers_of(roll), names_of(roll.gone)), ([None, 2], ["x"]))
 
     def test_two_with_one_who_need_names_of_their_own(self) -> None:
         self.assert_faults(self.roll("Ann", "Bo", " Ann "), (":2: lines 2 and 4 have the same `who`: Ann", "under `name`"))
@@ -131,10 +151,9 @@ class Known(RollTest):
 class Told(RollTest):
     def test_who_has_no_address_and_what_appears_twice(self) -> None:
         roll = self.roll("Ada;a@x B@x", "Ben", "Zoë;b@X", "zoe;z@x", "Eve;e@x e@X")
-        self.assertEqual([elector.name for elector in roll.without_address], ["ben"])
-        shared = {address: [elector.name for elector in electors] for address, electors in roll.shared_addresses.items()}
+        shared = {address: names_of(electors) for address, electors in roll.shared_addresses.items()}
         self.assertEqual(shared, {"b@x": ["ada", "zoe-1"]})
-        self.assertEqual([[elector.name for elector in group] for group in roll.alike_people], [["zoe-1", "zoe-2"]])
+        self.assertEqual([names_of(group) for group in roll.alike_people], [["zoe-1", "zoe-2"]])
 
 
 class AfterTheCall(RollTest):
@@ -144,8 +163,7 @@ class AfterTheCall(RollTest):
     def test_addresses_and_keys_may_change_and_the_order_is_that_of_the_poll(self) -> None:
         roll = self.called("Zoë;z@x", "Ben;b@x c@x", SAME[0])
         self.assert_named(roll, "ada", "ben", "zoe")
-        changes = [(change.elector.name, change.fields) for change in roll.changes]
-        self.assertEqual(changes, [("ben", ("addresses", "key")), ("zoe", ("addresses",))])
+        self.assertEqual(changes_of(roll), [("ben", ["address", "key"]), ("zoe", ["address"])])
 
     def test_the_people_stay(self) -> None:
         self.assert_faults(self.called(SAME[1]), ("ada (Ada L) and zoe (Zoë) is missing", "addresses and keys alone may change"))
@@ -160,6 +178,6 @@ class AfterTheCall(RollTest):
         self.assert_faults(self.called(*SAME[:2], "Eve;z@x"), ("zoe (Zoë) is missing",), ("eve (Eve) on line 4 is new",))
 
     def test_who_was_gone_before_the_call_is_new(self) -> None:
-        known = [*KNOWN, KnownElector(4, "dan", "Dan", is_on_roll=False)]
+        known = [*KNOWN, Elector(4, "dan", None, "Dan", ())]
         roll = self.roll(*SAME, "Dan", known=known, is_called=True)
         self.assert_faults(roll, ("dan (Dan) on line 5 is new",))

@@ -48,10 +48,9 @@ class Asked(CalledTest):
         self.assertEqual(acts, [[1, 2], [1, 2, 3, 4], [1, 2, 3, 4, 5], [1, 2, 3, 4], [1, 2, 4]])
 
     def test_those_of_some_electors(self) -> None:
-        """With the lines of the act itself, whosever they are."""
         book = self.book
-        self.assertEqual(self.after(1, "ada", book=book), [1, 3, 4])
-        self.assertEqual(self.after(2, "ada", book=book), [1, 3, 5])
+        self.assertEqual(self.after(1, "ada", book=book), [1, 3])
+        self.assertEqual(self.after(2, "ada", "cleo", book=book), [1, 3, 5])
         self.assertEqual(self.after(4, "ben", book=book), [2])
         lines = entered.lines_of_electors(book, {self.elector("ada")})
         self.assertEqual(lines, [(1, f"ada {RANKS}".encode())])
@@ -61,7 +60,7 @@ class Asked(CalledTest):
     def test_sizes_numbers_and_the_last_act(self) -> None:
         book = self.book
         self.assertEqual(entered.size_in_time(book), (3, len(f"ada {RANKS}\nben {RANKS}\nx\n")))
-        self.assertEqual(entered.last_envelope(book), 5)
+        self.assertEqual(queries.last_envelope(book), 5)
         self.assertEqual(entered.last_entering_act(book), self.first_act + 1)
         ada, ben = self.elector("ada"), self.elector("ben")
         self.assertEqual(entered.last_numbers(book), {ada: (1, f"ada {RANKS}".encode()), ben: (2, f"ben {RANKS}".encode())})
@@ -71,9 +70,18 @@ class Asked(CalledTest):
 
     def test_of_equal_lines_the_struck_ones_come_last(self) -> None:
         self.told("strike", 1, "--because", "a test")
-        self.told("add", "--again", given=f"ada {RANKS}\n")
+        self.told("add", given=f"ada {RANKS}\nada {RANKS}\n")
         came = entered.came_in_files(self.book)[f"ada {RANKS}".encode()]
         self.assertEqual([(one.number, one.is_struck) for one in came], [(6, False), (1, True)])
+
+    def test_a_line_that_is_taken_again_is_known_by_its_new_envelope(self) -> None:
+        self.told("strike", 1, "--because", "a test")
+        self.told("add", "--again", given=f"ada {RANKS}\n")
+        line = f"ada {RANKS}".encode()
+        self.assertEqual([one.number for one in entered.came_in_files(self.book)[line]], [6])
+        self.assertEqual(entered.lines_that_came(self.book)[line], 1)
+        self.told("undo")
+        self.assertEqual([one.number for one in entered.came_in_files(self.book)[line]], [1])
 
 
 class WhenDebvoteRuns(CalledTest):

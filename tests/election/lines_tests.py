@@ -91,13 +91,17 @@ class Changes(unittest.TestCase):
 
 class Ends(unittest.TestCase):
     def texts(self, data: bytes, first: int = 1) -> list[tuple[str, bytes]]:
-        return [(line.where, line.changed) for line in lines_in(data, "f", first)]
+        return [(line.where, line.repaired) for line in lines_in(data, "f", first)]
 
     def test_each_way_to_end_a_line(self) -> None:
         for end in (b"\n", b"\r\n", b"\r"):
             wanted = [("f:1", b"ada 1"), ("f:2", b"ben 2")]
             self.assertEqual(self.texts(b"ada 1" + end + b"ben 2" + end), wanted)
             self.assertEqual(self.texts(b"ada 1" + end + b"ben 2"), wanted)
+
+    def test_a_file_of_lines(self) -> None:
+        (line,) = lines_in(b"Ada 1, 2,3\r\n", "more.txt")
+        self.assertEqual((line.where, line.repaired), ("more.txt:1", b"ada 1,2,3"))
 
     def test_empty_lines_are_numbered(self) -> None:
         self.assertEqual(self.texts(b"\n \t\r\nada 1\r\r\n"), [("f:1", b""), ("f:2", b""), ("f:3", b"ada 1"), ("f:4", b"")])
@@ -108,7 +112,7 @@ class Ends(unittest.TestCase):
         self.assertEqual(self.texts(mark + b"ada 1\n" + mark + b"ben 2\n"), [("f:1", b"ada 1"), ("f:2", mark + b"ben 2")])
         self.assertEqual(self.texts(mark + b"ada 1\n", 2), [("f:2", mark + b"ada 1")])
         (line,) = lines_in(mark + b"Ada;1\r\n", "f")
-        self.assertEqual((line.whole, line.bare), (mark + b"Ada;1\r", b"Ada;1"))
+        self.assertEqual((line.came, line.unframed), (mark + b"Ada;1\r", b"Ada;1"))
 
     def test_what_is_told_of_the_whole_file(self) -> None:
         lines = lines_in(b"\xef\xbb\xbfAda 1\r\nben 2\r\ncleo  3\n", "f")

@@ -37,6 +37,9 @@ class Strike(CalledTest):
             (0, *WHY): (9, "there is no envelope 0; "),
             (1,): (2, "strike: it needs a reason, which the log keeps; nothing was changed: "),
             (1, "--because", " "): (2, "strike: it needs a reason"),
+            (1, "--because", "a\u202eb"): (2, "--because: the text has the character U+202E, which no plain text has"),
+            (1, "--because", "a\x1b[1m"): (2, "--because: the text has the character U+001B"),
+            (1, "--because", "one line\nand one more"): (2, "--because: the text has the character U+000A"),
         }
         for words, (status, said) in refused.items():
             self.assert_stops(self.election("strike", *words), before, status, said)
@@ -64,14 +67,12 @@ class Strike(CalledTest):
     def test_a_letter_is_set_aside(self) -> None:
         with self.book.act("add") as act:
             source = queries.keep(act, "inbox", b"letter")
-            letter = act.insert("letter", source=source, identity="1", sender="cleo@club.example", arrival="", known="{}")
-            queries.enter(
-                act, [queries.NewEnvelope(self.elector("cleo"), b"cleo 1,2,3,4", source, "", act.time, letter)], is_late=False
-            )
+            letter = act.insert("letter", source=source, identity="1", known="{}")
+            new = [queries.NewEnvelope(b"cleo 1,2,3,4", "", source, letter)]
+            queries.enter(act, new, [self.elector("cleo")], is_late=False)
             letters.decide(act, letter, letters.ENTERED)
         self.told("strike", 5, *WHY)
-        [row] = self.book.rows("SELECT letter, state, detail FROM letter_state WHERE act = ?", self.last_act())
-        self.assertEqual(row, (1, "struck", '{"envelope": 5, "because": "it was pencil"}'))
+        self.assertEqual(self.book.rows("SELECT letter, state FROM letter_state WHERE act = ?", self.last_act()), [(1, "struck")])
 
 
 class NoBallots(CalledTest):

@@ -15,10 +15,10 @@ sys.path.insert(0, str(support.ROOT / "python"))
 
 from debvote_tools.call.page import SENTENCES as CALL_SENTENCES  # noqa: E402
 from debvote_tools.language import language_of  # noqa: E402
-from debvote_tools.publish.parts.count_again import SENTENCES as COUNT_SENTENCES  # noqa: E402
-from debvote_tools.publish.parts.find import OPEN_SENTENCES, SECRET_SENTENCES, SENTENCES as FIND_SENTENCES  # noqa: E402
+from debvote_tools.publish.scripts import COUNT_AGAIN, FIND, FIND_IN_OPEN, FIND_IN_SECRET  # noqa: E402
 
 WIDTHS = (390, 1280)
+TELEPHONE = (390, 844)
 
 # what the page of a call shows once a name is typed and ranks are chosen
 CHOOSE = """((name, ranks) => {
@@ -58,6 +58,12 @@ class InBrowser(support.LanguageTest):
                     with self.subTest(language=language, page=str(file.relative_to(self.scratch)), width=width):
                         self.assertEqual(window.ask("document.documentElement.scrollWidth"), width)
                         self.assertEqual(window.ask("document.documentElement.lang"), language)
+        with at_browser.Window(*TELEPHONE) as window:
+            for place in places.values():
+                # four options: who has won, one's own ballot, the bars and the reasons
+                window.open(place / "result" / "index.html")
+                end = window.ask("document.getElementById('Why').parentNode.getBoundingClientRect().bottom")
+                self.assertLessEqual(end, 3 * TELEPHONE[1], f"{place.name}: screens of a telephone")
         with at_browser.Window(WIDTHS[0], 800) as window:
             self.check_call(window, language, places["open"])
             for place in places.values():
@@ -111,20 +117,20 @@ class InBrowser(support.LanguageTest):
         window.until("document.getElementById('Again-progress').hidden && document.querySelectorAll('#Again-answer p').length > 1")
         rows = window.ask("[...document.querySelectorAll('#Again-answer p')].map((row) => row.textContent)")
         sheet = (folder / "sheet.txt").read_text().splitlines()
-        published = said(language, COUNT_SENTENCES, "sheet_published")
-        self.assertEqual(rows[0], said(language, COUNT_SENTENCES, "same", sheet=published, lines=len(sheet)))
-        self.assertEqual(rows[1], said(language, COUNT_SENTENCES, "last", line=sheet[-1]))
+        published = said(language, COUNT_AGAIN, "sheet_published")
+        self.assertEqual(rows[0], said(language, COUNT_AGAIN, "same", sheet=published, lines=len(sheet)))
+        self.assertEqual(rows[1], said(language, COUNT_AGAIN, "last", line=sheet[-1]))
         ballots = len((folder / "standing.txt").read_text().splitlines())
-        self.assertEqual(rows[2], said(language, COUNT_SENTENCES, "page_same", ballots=ballots))
-        self.assertEqual(rows[-1], said(language, COUNT_SENTENCES, "second"))
+        self.assertEqual(rows[2], said(language, COUNT_AGAIN, "page_same", ballots=ballots))
+        self.assertEqual(rows[-1], said(language, COUNT_AGAIN, "second"))
         # a page that shows another winner says so
         window.ask("document.querySelector('.outcome b').textContent = '9 Nobody'; document.getElementById('Again-button').click()")
-        other = said(language, COUNT_SENTENCES, "page_differs", where=said(language, COUNT_SENTENCES, "the_result"))
+        other = said(language, COUNT_AGAIN, "page_differs", where=said(language, COUNT_AGAIN, "the_result"))
         window.until(f"document.getElementById('Again-answer').textContent.includes({json.dumps(other)})")
 
     def check_find(self, window: at_browser.Window, language: str, place: pathlib.Path) -> None:
         def sentence(key: str, /, **places: object) -> str:
-            return said(language, FIND_SENTENCES | OPEN_SENTENCES, key, **places)
+            return said(language, FIND | FIND_IN_OPEN, key, **places)
 
         window.open(place / "result" / "index.html")
         found = self.found(window, "Person 02")
@@ -135,7 +141,7 @@ class InBrowser(support.LanguageTest):
 
     def check_find_in_secret(self, window: at_browser.Window, language: str, place: pathlib.Path) -> None:
         def sentence(key: str, /, **places: object) -> str:
-            return said(language, FIND_SENTENCES | SECRET_SENTENCES, key, **places)
+            return said(language, FIND | FIND_IN_SECRET, key, **places)
 
         rows = [line.split(",") for line in (place / "private" / "codes.csv").read_text().splitlines()[1:]]
         codes, aliases = {row[0]: row[3] for row in rows}, {row[0]: row[4] for row in rows}

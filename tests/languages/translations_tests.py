@@ -16,8 +16,7 @@ sys.path.insert(0, str(support.ROOT / "python"))
 
 from debvote_tools.times import time_in_words  # noqa: E402
 from debvote_tools.language import LANGUAGES, catalog_of, language_of  # noqa: E402
-from debvote_tools.publish.parts.result import share  # noqa: E402
-from debvote_tools.sentences import numbered, sentence  # noqa: E402
+from debvote_tools.publish.page import share  # noqa: E402
 
 MSGFMT = shutil.which("msgfmt")
 TAG = re.compile(r"<[^>]*>")
@@ -60,7 +59,8 @@ class Translations(support.LanguageTest):
                         self.assertNotIn('"', TAG.sub("", form))
 
     def test_what_puts_parts_behind_each_other_has_its_places_at_its_ends(self) -> None:
-        both = {("{entries} and {last}",), ("{before}; {after}",), ("{before}, then {step}",), ("{before}; then {step}",)}
+        both = {("{entries} and {last}",), ("{before}: {after}",), ("{before}; {after}",)}
+        both |= {("{before}, then {step}",), ("{before}; then {step}",)}
         for code, entries in self.entries.items():
             found = {entry.texts: entry.forms[0] for entry in entries if entry.texts in both}
             self.assertEqual(found.keys(), both)
@@ -98,11 +98,11 @@ class Translations(support.LanguageTest):
                 self.assertEqual({**by_msgfmt._catalog, "": ""}, {**here._catalog, "": ""})
                 self.assertEqual([by_msgfmt.plural(n) for n in range(200)], [here.plural(n) for n in range(200)])
 
-    def test_sentences_that_are_said_later(self) -> None:
+    def test_sentences_with_numbers_and_places(self) -> None:
         for code, wanted in (("en", ("1 is wanted", "3 are wanted")), ("de", ("n\u00f6tig ist 1", "n\u00f6tig sind 3"))):
-            said = [language_of(code).of(numbered("{number} is wanted", "{number} are wanted", number)) for number in (1, 3)]
+            said = [language_of(code).say_number("{number} is wanted", "{number} are wanted", number) for number in (1, 3)]
             self.assertEqual(tuple(said), wanted)
-        self.assertEqual(language_of("de").of(sentence("Quorum: {wanted}.", wanted="{x}")), "Quorum: {x}.")
+        self.assertEqual(language_of("de").say("Quorum: {wanted}.", wanted="{x}"), "Quorum: {x}.")
         self.assertEqual(language_of("fr").in_a_row(["a", "b", "c"]), "a\u00a0; b\u00a0; c")
 
     def test_numbers_and_dates(self) -> None:

@@ -115,6 +115,18 @@ class Adding(LettersTest):
         self.done("desk", given=f"ada {OTHER}\n")
         self.assertIn("a later ballot of ada is in already", self.add(letter("ada", f"ada {RANKS}")).output)
 
+    def test_a_late_ballot_is_a_later_ballot(self) -> None:
+        """After `reopen` a letter that had arrived in time waits if its elector has a ballot that came after the close: a person decides."""
+        self.done("close")
+        self.done("desk", given=f"ada {OTHER}\n")
+        self.done("reopen", "--because", "a mailbox was forgotten")
+        ended = self.add(letter("ada", f"ada {RANKS}"), letter("ben", f"ben {RANKS}"))
+        self.assertIn("a later ballot of ada is in already, of 2026-11-25 09:00", ended.output)
+        self.assertEqual(self.exported(), (f"ben {RANKS}\n", f"ada {OTHER}\n"))
+        self.assert_fault(self.election("held", 1, "--enter", 1), 9, "its elector has voted since")
+        self.done("held", 1, "--enter", 1, "--force")
+        self.assertEqual(self.exported(), (f"ben {RANKS}\nada {RANKS}\n", f"ada {OTHER}\n"))
+
     def test_a_stranger_and_a_member_without_address(self) -> None:
         ended = self.add(letter("ada", f"ada {RANKS}", sender="stranger@elsewhere.example"))
         self.assertIn("it came from stranger@elsewhere.example, and the list has ada@club.example for ada", ended.output)
@@ -126,6 +138,25 @@ class Adding(LettersTest):
         before = self.contents()
         self.assertEqual(self.election("add", "--yes", "lines", "inbox.mbox").status, 2)
         self.assertEqual(self.contents(), before)
+
+    def test_good_files_before_one_that_can_not_be_read(self) -> None:
+        """Nothing of them is entered or kept, and all is told."""
+        self.write("lines", f"ben {RANKS}\n")
+        self.write("inbox.mbox", mailbox(letter("ada", f"ada {RANKS}")))
+        self.write("scan.pdf", "%PDF-1.7")
+        (self.folder / "box").mkdir()
+        (self.folder / "box" / "a.eml").write_text(letter("cleo", f"cleo {RANKS}"))
+        before = self.numbers()
+        for words, status, part in [
+            (("inbox.mbox", "none.mbox"), 4, "none.mbox: No such file or directory; nothing was added"),
+            (("lines", "none.mbox"), 4, "none.mbox: No such file or directory; nothing was added"),
+            (("inbox.mbox", "box", "scan.pdf"), 4, "scan.pdf: it is a PDF; nothing was added"),
+            (("lines", "inbox.mbox"), 2, "inbox.mbox: it has letters, and other files have none; nothing was added"),
+            (("lines", "box"), 2, "box: it has letters, and other files have none; nothing was added"),
+        ]:
+            with self.subTest(words):
+                self.assert_fault(self.election("add", "--yes", *words), status, part)
+                self.assertEqual(self.numbers(), before)
 
     def test_an_extension_judges_anew(self) -> None:
         self.set_clock("2026-11-20T10:00:00+00:00")

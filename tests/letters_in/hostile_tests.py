@@ -44,10 +44,19 @@ class Bombs(unittest.TestCase):
             "a kind of many parameters": letter("ada", BALLOT, kind="text/plain" + "; x=y" * 3_000),
             "a kind of blanks": letter("ada", BALLOT, kind="text/plain" + " " * 15_000 + "x"),
             "a Received line of 200 KB": letter("ada", BALLOT, time=";" * 200_000),
+            "a kind of many names": letter("ada", BALLOT, kind="text/plain" + "; name=x" * 2_000 + "; !"),
+            "a kind in an odd form": letter("ada", BALLOT, kind="text/plain" + "; name=x; name*=y; name*0*=z" * 500 + "; ="),
+            "boundaries after blanks": letter("ada", nested(400, "multipart/mixed;\n boundary\n =\n b{}") + "x\n" * 200_000, kind="multipart/mixed;\n boundary\n =\n b0"),
+            "boundaries after other blanks": letter("ada", nested(400, "multipart/mixed; boundary\x1c=\x0bb{}") + "x\n" * 200_000, kind="multipart/mixed; boundary\x1c=\x0bb0"),
+            "100,000 parts of a coded boundary": letter("ada", "--b\n\nx\n" * 100_000 + "--b--\n", kind="multipart/mixed; boundary*=utf-8''%62"),
+            "40 parts within each other, and carriage returns": letter("ada", nested(40) + "\r" * 3_000_000, kind="multipart/mixed; boundary=b0"),
+            "20 parts in a charset that takes long": letter("ada", f"--b\nContent-Type: text/plain; charset=punycode\n\n{'a' * 260_000}\n" * 20 + "--b--\n", kind=MIXED),
+            "60,000 accents on one letter": letter("ada", f"a{chr(0x301) * 60_000}{chr(0x316) * 60_000}\n{BALLOT}\n"),
             **{
                 f"marks without end: {text[:8]}": letter("ada", text, kind="text/html")
                 for text in ("<" * 250_000, "<!--" * 60_000, "<![" * 60_000, "<a " * 60_000, "<p " + "a" * 200_000, "<div>" * 50_000, "&" * 250_000,
-                             "<p style='" + "margin:0 " * 20_000 + "'>", "<p" + " a=b" * 50_000 + ">", "<p " + "a=' " * 50_000, "<blockquote>" * 20_000)
+                             "<p style='" + "margin:0 " * 20_000 + "'>", "<p" + " a=b" * 50_000 + ">", "<p " + "a=' " * 50_000, "<blockquote>" * 20_000,
+                             "<b" + " " * 250_000 + "!>", "<i a" + " " * 250_000 + "!>", "<u a=" + " " * 250_000 + "!>")
             },
             "lines that are near to ballots": letter("ada", "\n".join(f"I vote ada 1,{number % 90},3 or not" for number in range(4_900))),
             "a line of names": letter("ada", "ada " * 60_000 + "1,2"),

@@ -16,6 +16,7 @@ sys.path.insert(0, str(ROOT / "python"))
 
 from debvote_tools.letters.judge import Circumstances, JudgedLetter, Outcome, judge_all  # noqa: E402
 from debvote_tools.letters.parse import ParsedLetter, as_json, from_json, parse  # noqa: E402
+from debvote_tools.letters.reasons import Because  # noqa: E402
 from debvote_tools.letters.sources import RawLetter  # noqa: E402
 
 NAMES = ("ada", "ben", "cleo", "dan", "eve", "fay", "gus", "hal", "ida")
@@ -147,11 +148,16 @@ def judged(*letters: bytes | ParsedLetter, reader: DebvoteReader | None = None, 
     return found
 
 
+def label(because: Because) -> str:
+    """A reason in a word or two."""
+    return because.reason.name.lower().replace("_", " ")
+
+
 def outcome(one: JudgedLetter) -> str:
     """What becomes of a letter, in a word and the ballot or the reason."""
     if one.outcome is Outcome.GOES_IN:
         return f"in: {one.ballots[0].ballot}"
-    return one.outcome.value if one.reason is None else f"{one.outcome.value}: {one.reason.reason.value}"
+    return one.outcome.value if one.reason is None else f"{one.outcome.value}: {label(one.reason)}"
 
 
 def outcomes(*letters: bytes | ParsedLetter, **other: object) -> list[str]:

@@ -6,12 +6,11 @@ import unittest
 
 import signatures_tests
 import table_tests
-from letters_support import NAMES, at
+from letters_support import NAMES, at, label
 
-from debvote_tools.language import ENGLISH
 from debvote_tools.letters.parse import may_be_ballot
 from debvote_tools.letters.readings import repaired
-from debvote_tools.letters.reasons import FOR_ELECTOR, FOR_SECRETARY, Because, Reason, for_elector, for_secretary
+from debvote_tools.letters.reasons import FOR_ELECTOR, Because, Reason, for_elector, for_secretary
 
 # values of each name that a reason may have
 VALUES: dict[str, str | int | datetime.datetime] = {
@@ -23,22 +22,22 @@ VALUES: dict[str, str | int | datetime.datetime] = {
 
 def with_values(reason: Reason) -> Because:
     """A reason with all values that its sentence names."""
-    names = re.findall(r"{(\w+)}", FOR_SECRETARY[reason])
+    names = re.findall(r"{(\w+)}", reason.value)
     return reason(**{name: VALUES[name] for name in names})
 
 
 class Sentences(unittest.TestCase):
     def test_each_reason_has_both(self) -> None:
-        for table in (FOR_SECRETARY, FOR_ELECTOR):
-            self.assertEqual(set(table), set(Reason))
+        self.assertEqual(set(FOR_ELECTOR), set(Reason))
+        self.assertEqual(len(Reason.__members__), len(Reason), "no two have one sentence")
         for reason in Reason:
             said = for_secretary(with_values(reason))
             self.assertNotRegex(said, r"[{}]|^[A-Z]|\.$", reason)
-            self.assertRegex(ENGLISH.of(for_elector(with_values(reason))), r"^The reason: [^{}]+\.$")
+            self.assertRegex(for_elector(with_values(reason)), r"^The reason: [^{}]+\.$")
 
     def test_what_electors_read_has_no_value_and_no_ballot(self) -> None:
         for reason in Reason:
-            text = ENGLISH.of(for_elector(with_values(reason)))
+            text = for_elector(with_values(reason))
             for value in VALUES.values():
                 self.assertNotRegex(
                     text, rf"(?<!\w){re.escape(str(value))}(?!\w)" if isinstance(value, str) and len(value) > 4 else "\x00"
@@ -48,7 +47,7 @@ class Sentences(unittest.TestCase):
 
     def test_how_values_are_shown(self) -> None:
         self.assertEqual(
-            for_secretary(Reason.AFTER_END(end=at(9))), "it arrived after the end of the vote, 2026-11-23 09:00:00 UTC"
+            for_secretary(Reason.AFTER_THE_END(end=at(9))), "it arrived after the end of the vote, 2026-11-23 09:00:00 UTC"
         )
         said = for_secretary(Reason.OTHER_SENDER(sender="a\x1b[2J\u202e@x", listed="b@x", elector="ada"))
         self.assertEqual(said, "it came from a\\u001B[2J\\u202E@x, and the list has b@x for ada")
@@ -58,4 +57,4 @@ class Sentences(unittest.TestCase):
         found = {one.partition(": ")[2] for one in tables}
         # these two are of letters beside others, and of a gpgv that hangs
         found |= {"came before", "slow signature", "parted off"}
-        self.assertEqual({reason.value for reason in Reason} - found, set())
+        self.assertEqual({label(reason()) for reason in Reason} - found, set())

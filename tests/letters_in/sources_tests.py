@@ -50,6 +50,12 @@ class Files(unittest.TestCase):
         cases = {
             "no empty line": LINE + carrier + LINE + BEN,
             "within the length": LINE + length + carrier + b"\n" + LINE + BEN,
+            "within the length, in two lines": LINE + length.replace(b": ", b":\n ") + carrier + b"\n" + LINE + BEN,
+            "within parts whose boundary is in pieces": LINE
+            + letter("x", "--bc\n\nhi\n", kind="multipart/mixed; boundary*0=b; boundary*1=c")
+            + b"\n"
+            + LINE
+            + BEN,
             "within the parts": LINE + letter("x", "--b\n\nhi\n", kind="multipart/mixed; boundary=b") + b"\n" + LINE + BEN,
             "within the parts of the second of two": LINE
             + letter("x", "--b--\n\n--c\n\nhi\n", kind="a/b; boundary=b; boundary=c")

@@ -6,24 +6,27 @@ import unittest
 
 from out_support import one_line, parsed
 
-from debvote_tools.call.data import CallData
+from debvote_tools.book.queries import Elector
+from debvote_tools.book.sent import SentLetter
+from debvote_tools.call.data import CallData, is_mail_address
 from debvote_tools.language import LANGUAGES, language_of
 from debvote_tools.letters.readings import Near
 from debvote_tools.letters.reasons import Reason
-from debvote_tools.letters_out import compose
-from debvote_tools.letters_out.compose import Became, Came, Kind, Receiver, Result, Vote, without_ballots
-from debvote_tools.letters_out.message import Envelope, is_address, message_of, new_message_id
+from debvote_tools.letters_out.compose import Became, Came, Composer, Kind, without_ballots
+from debvote_tools.letters_out.message import message_of, new_message_id, one_line as on_one_line
+from debvote_tools.publish import casting_vote
 from debvote_tools.publish.inputs import CastingVote
 from debvote_tools.sealed_poll import SealedPoll
 
 TIME = datetime.datetime(2026, 11, 23, 10, tzinfo=datetime.UTC)
 POLL = SealedPoll("Spring", ("Lake", "Hall"), (1, 1), "None", 1, ("ada", "ben"))
-ADA = Receiver("ada", "Ada L.")
+ADA = Elector(1, "ada", 1, "Ada L.", ("ada@club.example",))
+LETTER = SentLetter(1, "call", 1, "ada@club.example", "<1@club.example>", TIME, ())
 
 
-def vote(code: str = "en", *, is_over: bool = False, **how: object) -> Vote:
+def vote(code: str = "en", *, is_over: bool = False, **how: object) -> Composer:
     data = CallData(language_of(code), POLL, 1, to="vote@club.example", at="https://club.example/vote/")
-    return Vote(dataclasses.replace(data, **how), is_over)  # type: ignore[arg-type]
+    return Composer(dataclasses.replace(data, **how), is_over)  # type: ignore[arg-type]
 
 
 def all_that_came() -> list[Came]:
@@ -42,33 +45,38 @@ def all_that_came() -> list[Came]:
         is_letter = became.name in ("WAITS", "SET_ASIDE")
         because = Reason.NO_BALLOT() if is_letter else None
         answer = "bad rank count: 1 ranks, the poll has 3 options" if became is Became.REFUSED else ""
-        found.append(Came(became.name, became, TIME, "1,2,3" if is_ballot else "", answer, because, near if is_letter else ()))
-    return [*found, Came("shape", Became.REFUSED, TIME, answer='bad shape: column 2: "!"')]
+        found.append(
+            Came((became.name, 1, False), became, TIME, "1,2,3" if is_ballot else "", answer, because, near if is_letter else ())
+        )
+    return [*found, Came(("shape", 1, False), Became.REFUSED, TIME, answer='bad shape: column 2: "!"')]
 
 
-RESULT = Result(
-    winner=1,
-    is_by_casting=True,
-    casting=CastingVote("Lake", "the chair", datetime.date(2026, 11, 24)),
-    left=(1, 2),
-    at="https://club.example/vote/",
-    checksums={"poll.toml": "a" * 64, "ballots.txt": "b" * 64, "index.html": "c" * 64},
-    doubts=("DOUBT",),
-    because="BECAUSE",
-    acts=("ACT",),
-)
+RESULT = {
+    "checksums": {"poll.toml": "a" * 64, "ballots.txt": "b" * 64, "index.html": "c" * 64},
+    "doubts": ("DOUBT",),
+    "because": "BECAUSE",
+    "acts": ("ACT",),
+}
 
 
-def texts(now: Vote) -> list[str]:
+def result(now: Composer, ended: str = "Winner: {option} by casting vote", *, has_ballot: bool = True, **other: object) -> str:
+    """The letter of a result that the casting vote decided."""
+    language = now.call.language
+    casting = casting_vote.told(CastingVote("Lake", "the chair", datetime.date(2026, 11, 24)), language)
+    own = {"ended": language.say(ended, option="Option 1: Lake", options="Option 2: Hall"), "casting": casting}
+    return now.text(Kind.RESULT, ADA, has_ballot=has_ballot, **RESULT | own | other)
+
+
+def texts(now: Composer) -> list[str]:
     """A letter of each kind."""
     return [
-        compose.call_text(now, dataclasses.replace(ADA, code="c0de"), "CALL\n"),
-        compose.reminder_text(now, ADA, all_that_came()[:1]),
-        compose.reminder_text(now, ADA, []),
-        compose.receipt_text(now, ADA, all_that_came()),
-        compose.closed_text(now, ADA, "CLOSED\n"),
-        compose.result_text(now, ADA, RESULT, has_ballot=True),
-        compose.result_text(now, ADA, dataclasses.replace(RESULT, winner=None, close_command="COMMAND"), has_ballot=False),
+        now.text(Kind.CALL, ADA, letter="CALL\n", code="c0de", find_command="python3"),
+        now.reminder(ADA, all_that_came()[:1]),
+        now.reminder(ADA, []),
+        now.receipt(ADA, all_that_came()),
+        now.text(Kind.CLOSED, ADA, letter="CLOSED\n"),
+        result(now),
+        result(now, "Tie: {options}", has_ballot=False),
     ]
 
 
@@ -85,8 +93,8 @@ class Texts(unittest.TestCase):
                     self.assertEqual(same - commands if code != "en" else set(), set(), code)
 
     def test_a_secret_vote_repeats_no_ranks(self) -> None:
-        self.assertIn("(ada 1,2,3)", compose.receipt_text(vote(), ADA, all_that_came()))
-        self.assertNotRegex(compose.receipt_text(vote(is_secret=True), ADA, all_that_came()), r"\d,\d|In words|Lake, then")
+        self.assertIn("(ada 1,2,3)", vote().receipt(ADA, all_that_came()))
+        self.assertNotRegex(vote(is_secret=True).receipt(ADA, all_that_came()), r"\d,\d|In words|Lake, then")
 
     def test_the_mark_ends_each_subject(self) -> None:
         for code in LANGUAGES:
@@ -94,13 +102,13 @@ class Texts(unittest.TestCase):
                 self.assertTrue(vote(code).subject(kind).endswith(f"Spring [{POLL.mark}]"), (code, kind))
 
     def test_a_signed_vote_asks_for_a_signature(self) -> None:
-        text = " ".join(compose.reminder_text(vote(is_signed=True), ADA, []).split())
+        text = " ".join(vote(is_signed=True).reminder(ADA, []).split())
         self.assertIn("has to be signed with OpenPGP", text)
         self.assertNotIn("send the line alone", text)
-        self.assertNotIn("OpenPGP", compose.reminder_text(vote(), ADA, []))
+        self.assertNotIn("OpenPGP", vote().reminder(ADA, []))
 
     def test_of_a_result(self) -> None:
-        text = " ".join(compose.result_text(vote(), ADA, RESULT, has_ballot=True).split())
+        text = " ".join(result(vote()).split())
         for part in (
             "Winner: Option 1: Lake by casting vote",
             "given on 24 November 2026",
@@ -110,8 +118,8 @@ class Texts(unittest.TestCase):
             "vote/#ada",
         ):
             self.assertIn(part, text)
-        plain = dataclasses.replace(RESULT, is_by_casting=False, doubts=(), because=None, acts=())
-        text = " ".join(compose.result_text(vote(is_secret=True), ADA, plain, has_ballot=True).split())
+        text = result(vote(is_secret=True), "Winner: {option}", casting="", doubts=(), because=None, acts=())
+        text = " ".join(text.split())
         self.assertNotRegex(text, r"casting|doubt|WHAT WAS DONE|#|secretary")
         self.assertIn("find it with your name, ada, and your code", text)
 
@@ -132,11 +140,8 @@ class NoBallot(unittest.TestCase):
 
 
 class Bytes(unittest.TestCase):
-    def message(self, text: str, **how: object) -> bytes:
-        usual = Envelope(
-            "vote@club.example", "", "ada@club.example", "Vote: Fr\u00fchling [0123456789abcdef]", "<1@club.example>", TIME
-        )
-        return message_of(dataclasses.replace(usual, **how), text, is_draft=False)  # type: ignore[arg-type]
+    def message(self, text: str, subject: str = "Vote: Fr\u00fchling [0123456789abcdef]") -> bytes:
+        return message_of(LETTER, text, sender="vote@club.example", reply_to=None, subject=subject, is_draft=False)
 
     def test_texts_come_through_as_they_are(self) -> None:
         for text in (
@@ -158,7 +163,7 @@ class Bytes(unittest.TestCase):
 
     def test_a_subject_has_one_field_and_its_mark(self) -> None:
         for title in ("a\nBcc: x@y.example", "\u00fc" * 200, "x" * 200, "a\r\n\r\nbody", "\u202e", "\ud800"):
-            subject = f"Vote: {compose.one_line(title)} [0123456789abcdef]"
+            subject = f"Vote: {on_one_line(title)} [0123456789abcdef]"
             data = self.message("text\n", subject=subject)
             message = parsed(data)
             self.assertEqual(message["Subject"].replace(" ", "")[-18:], "[0123456789abcdef]")
@@ -168,7 +173,7 @@ class Bytes(unittest.TestCase):
 
     def test_addresses_and_ids(self) -> None:
         for text in ("a@b.example", "a.b+c@d-e.example"):
-            self.assertTrue(is_address(text))
+            self.assertTrue(is_mail_address(text))
         for text in (
             "",
             "a",
@@ -181,15 +186,15 @@ class Bytes(unittest.TestCase):
             "-a@b",
             "a@b.example\n",
         ):
-            self.assertFalse(is_address(text), text)
+            self.assertFalse(is_mail_address(text), text)
         ids = {new_message_id("vote@club.example") for _ in range(100)}
         self.assertEqual(len(ids), 100)
         for one in ids:
             self.assertRegex(one, r"\A<[0-9a-f]{32}@club\.example>\Z")
 
     def test_a_name_is_one_line(self) -> None:
-        receiver = Receiver("ada", "Ada\r\nBcc: x@y.example\n\nada 1,2,3\u2028" + "x" * 500)
-        text = compose.closed_text(vote(), receiver, "CLOSED\n")
+        elector = dataclasses.replace(ADA, who="Ada\r\nBcc: x@y.example\n\nada 1,2,3\u2028" + "x" * 500)
+        text = vote().text(Kind.CLOSED, elector, letter="CLOSED\n")
         self.assertEqual(len(text.split("\n\n")), 2)
         self.assertEqual(one_line(parsed(self.message(text)))[:9], "Dear Ada ")
 

@@ -102,7 +102,7 @@ class Call(OutTest):
         self.done("close")
         for kind in ("call", "reminders"):
             self.assert_fault(self.election("letters", kind), 9, "the time to vote is over")
-        self.assertEqual((self.rows("call"), self.rows("reminder")), ([], []))
+        self.assertEqual((self.rows("call"), self.rows("reminders")), ([], []))
 
 
 class Refused(OutTest):
@@ -358,10 +358,10 @@ class FullDisk(OutTest):
                     number = len(self.book().acts())
                     for name in self.names:
                         self.add_lines(f"{name} {1 + number % 90},{1 + number // 90},-,1")
-                    before = len(self.rows("receipt"))
+                    before = len(self.rows("receipts"))
                     ended = self.full_at(call, count)
                     failures += ended.status != 0
-                    noted = [name for name, _ in self.rows("receipt")[before:]]
+                    noted = [name for name, _ in self.rows("receipts")[before:]]
                     there = [file.stem for file in self.files("receipts")]
                     self.assertIn(noted, ([], self.names))
                     if noted:

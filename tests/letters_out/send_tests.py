@@ -69,7 +69,8 @@ class Sending(SendTest):
         ended = self.send("call")
         self.assertEqual(ended.status, 0, ended)
         self.assertEqual(self.server.addresses(), [*ALL[4:], ALL[1], ALL[3]])
-        self.assertIn("There is no letter to send", self.send("call").output)
+        nothing = "There is no letter to send: the server has taken all that are due but those that it has refused: ada, cleo.\n"
+        self.assertIn(nothing, self.send("call").output)
         # what is written as files now are the letters that no server has taken
         self.assertEqual(list(self.written("call")), ["ada", "cleo"])
         # a new address is another try
@@ -265,7 +266,7 @@ class Encrypted(unittest.TestCase):
         server = MailServer()
         self.addCleanup(server.stop)
         with self.assertRaises(Fault) as caught:
-            list(send.send_all([], send.Server("127.0.0.1", server.port, True), lambda letters: None))
+            list(send.send_all([], "vote@club.example", send.Server("127.0.0.1", server.port, True), lambda letters: None))
         self.assertIn("STARTTLS", str(caught.exception.reason))
         self.assertEqual(server.steps, [])
 
@@ -281,20 +282,20 @@ class Encrypted(unittest.TestCase):
             self.addCleanup(server.stop)
             near = send.Server("localhost", server.port, is_encrypted=True)
             with self.assertRaises(Fault) as caught:
-                list(send.send_all([outgoing()], near, lambda letters: None))
+                list(send.send_all([outgoing()], "vote@club.example", near, lambda letters: None))
             self.assertIn("certificate", str(caught.exception.reason).lower())
             self.assertEqual((server.steps, server.taken), ([], []))
             with unittest.mock.patch.dict(os.environ, {"SSL_CERT_FILE": certificate}):
-                [tried] = send.send_all([outgoing()], near, lambda letters: None)
+                [tried] = send.send_all([outgoing()], "vote@club.example", near, lambda letters: None)
             self.assertEqual((tried.state, server.addresses()), (TAKEN, ["ada@club.example"]))
             self.assertTrue(server.was_encrypted)
 
 
-def outgoing() -> send.Outgoing:
+def outgoing() -> tuple[SentLetter, bytes]:
     """A letter to Ada."""
     time = datetime.datetime(2026, 11, 23, tzinfo=datetime.UTC)
     letter = SentLetter(1, "call", 1, "ada@club.example", "<1@club.example>", time, ())
-    return send.Outgoing(letter, "vote@club.example", b"From: vote@club.example\n\n.\nFrom me\n")
+    return letter, b"From: vote@club.example\n\n.\nFrom me\n"
 
 
 if __name__ == "__main__":

@@ -5,6 +5,8 @@ import dataclasses
 import pathlib
 import re
 
+import jinja2
+
 ROOT = pathlib.Path(__file__).resolve().parents[2]
 PACKAGE = ROOT / "python" / "debvote_tools"
 LOCALE = PACKAGE / "locale"
@@ -25,8 +27,17 @@ class Entry:
 
 
 def in_code() -> dict[tuple[str, ...], str]:
-    """The sentences of the code, each with the first place where it stands."""
+    """The sentences of the code and of the templates, each with the first place where it stands."""
     found: dict[tuple[str, ...], str] = {}
+    templates = jinja2.Environment(extensions=["jinja2.ext.i18n"])
+    for file in sorted(PACKAGE.rglob("templates/*")):
+        said = templates.extract_translations(file.read_text(encoding="utf-8"), ["say", "say_number", "part", "folded", "to"])
+        for line, name, words in said:
+            texts = words if isinstance(words, tuple) else (words,)
+            texts = texts[:2] if name in WITH_TWO else texts[:1]
+            # what a macro is given is said there, and stands where it is called
+            if None not in texts:
+                found.setdefault(texts, f"{file.relative_to(PACKAGE)}:{line}")
     for file in sorted(PACKAGE.rglob("*.py")):
         for node in ast.walk(ast.parse(file.read_text(encoding="utf-8"))):
             if isinstance(node, ast.Call):

@@ -500,7 +500,8 @@ def try_made(folder, count, names):
     demand(list(json.loads(data)) == list(document), "the order of its keys")
     demand(list(csv.reader(io.StringIO(table))) == list(table_of(count)), f"votes.csv: {table}")
     for number, text in names.items():
-        demand(f"<bdi>{html.escape(text)}</bdi>" in page, f"name of {number}")
+        shown = f"<bdi>{pages.escaped(text)}</bdi>" if number else f'<h1 dir="auto">{pages.escaped(text)}</h1>'
+        demand(shown in page, f"name of {number}")
     try_refused(page, count)
     pages.try_parts(page, count, names)
     return try_sentences(page, count, names)

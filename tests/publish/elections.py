@@ -2,9 +2,10 @@
 
 import json
 
+import case_tables
 import support
 
-# cases of tests/cases/
+# cases of the tables in tests/cases/
 CASES = [
     "casting-vote-in-a-tie",
     "dropped-all-without-ballots",
@@ -46,15 +47,25 @@ a.b-c 4,4,4,1,4,4,9
 """
 
 
+def of_case(name, scratch):
+    """The poll and the ballots of a case, which are written there, and the words of its casting vote."""
+    (row,) = (rows[name] for rows in map(case_tables.read_table, support.CASES.glob("*.toml")) if name in rows)
+    folder = scratch / f"case-{name}"
+    folder.mkdir()
+    for file, data in row.files().items():
+        (folder / file).write_bytes(data)
+    words = row.words()
+    casting = words[words.index("--casting") : words.index("--casting") + 2] if "--casting" in words else []
+    return folder / case_tables.POLL, folder / case_tables.BALLOTS, casting
+
+
 def elections(scratch):
     """The name of each election, its poll, its ballots and further words."""
     for folder in sorted(support.EXAMPLES.iterdir()):
         if (folder / "ballots").exists():
             yield folder.name, folder / "poll.toml", folder / "ballots", []
     for name in CASES:
-        words = (support.CASES / name / "args").read_text().splitlines()
-        casting = words[words.index("--casting") : words.index("--casting") + 2] if "--casting" in words else []
-        yield name, support.CASES / name / "poll.toml", support.CASES / name / "ballots", casting
+        yield name, *of_case(name, scratch)
     poll, ballots = scratch / "poll.toml", scratch / "ballots"
     poll.write_text(HOSTILE_POLL)
     ballots.write_text(HOSTILE_BALLOTS)

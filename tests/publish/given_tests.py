@@ -33,10 +33,10 @@ def try_names(expect, scratch):
     expect("names: its status", publish(room, *FILES, "result")[1:], ("", 0))
     expect("names: the poll keeps what is sealed", "note" in (room / "result" / "poll.toml").read_text(), False)
     page = (room / "result" / "index.html").read_text()
-    label = [f"<bdi>{html.escape(text)}</bdi>" for text in names]
+    label = [f"<bdi>{pages.escaped(text)}</bdi>" for text in names]
     bold = '<b data-option="{}">Option {}: {}</b>'.format
     for name, wanted in [
-        ("the heading", "<h1><bdi>Ob die Satzung geändert wird</bdi></h1>"),
+        ("the heading", '<h1 dir="auto">Ob die Satzung geändert wird</h1>'),
         ("the window", "<title>Result: Ob die Satzung geändert wird</title>"),
         ("the winner", f'<p class="outcome">{bold(2, 2, label[1])} has won.'),
         ("an option", f"<li>{bold(1, 1, label[0])}, majority ratio 3 (plain name, on the result sheet: Amend it)</li>"),
@@ -81,7 +81,8 @@ def try_honest_words(expect, scratch):
     said = "This is the count of the files in this folder. Whether they are what the electors sent, no count shows: "
     expect("honest words: below the result", said in sections["Result"].text(), True)
     unseen = sections["What-nobody-can-see-from-here"]
-    rows = [entry.text() for entry in unseen.all("li")]
+    # a line feed is a space to a reader
+    rows = [" ".join(entry.text().split()) for entry in unseen.all("li")]
     for start, check in [
         ("A ballot that came and was left out, if its elector does not look. ", "Look for your own ballot under Find your ballot"),
         ("A vote in the name of an elector who did not vote. ", "you must be among those who did not"),
@@ -92,9 +93,12 @@ def try_honest_words(expect, scratch):
     ]:
         expect(f"nobody can see: {start}", [check in row for row in rows if row.startswith(start)], [True])
     expect("nobody can see: how many", len(rows), 6)
-    order = ["Result", "Find-your-ballot", "The-result-in-bars", "Why", "Options", "Votes", "Defeats", "Rounds", "Ballots", "Who-voted"]
-    order += ["Refused-lines", "What-was-done", "What-nobody-can-see-from-here", "Count-again-here", "How-to-verify"]
-    expect("the order of the parts", [name for name in sections if name != "About-this-vote"], order)
+    seen = ["Result", "Find-your-ballot", "The-result-in-bars", "Why"]
+    folded = ["Options", "Votes", "Defeats", "Rounds", "Ballots", "Who-voted"]
+    folded += ["Refused-lines", "What-was-done", "What-nobody-can-see-from-here", "Count-again-here", "How-to-verify"]
+    expect("the order of the parts", list(sections), [*seen, *folded])
+    heads = {name: [head.one("h2").attributes["id"] for head in part.all("summary") if list(head.all("h2"))] for name, part in sections.items()}
+    expect("what is folded, under its heading", {name: head for name, head in heads.items() if head}, {name: [name] for name in folded})
     verify = sections["How-to-verify"]
     heads = [head.text() for head in verify.all("h3")]
     program = subprocess.run([PROGRAM, "--version"], capture_output=True, text=True).stdout.strip()

@@ -1,6 +1,7 @@
 """What debvote-election publishes of its book: the files, what was done, doubts, casting votes, secret votes, and the same bytes again."""
 
 import contextlib
+import dataclasses
 import datetime
 import email.utils
 import hashlib
@@ -10,9 +11,11 @@ import re
 import shutil
 import sqlite3
 import sys
+import tomllib
 import unittest.mock
 
 import page as pages
+import reading
 import support
 
 sys.path.append(str(support.ROOT / "python"))
@@ -37,6 +40,11 @@ MEMBERS = "who,mail,name\nAda <Lovelace>,ada@x.example,\nZoë Müller,zoe@x.exam
 TIE = "ada-lovelace 1,2,3\nzoe-mueller 2,1,3\n"
 NOTHING_DONE = "nothing was published"
 TEXT = "Who certifies this: <b>Anna</b>.\n"
+
+
+def hostile_name(folder):
+    """The plain name of the first option of a called election."""
+    return tomllib.loads((folder / "call" / "poll.toml").read_text())["options"][0]
 
 
 class OfElections(support.PublishTest):
@@ -280,9 +288,9 @@ class OfOpenVotes(OfElections):
                 time = close + datetime.timedelta(minutes=minutes)
                 data = b"Received: by mx; %s\nFrom: x@x.example\n\n%s\n" % (email.utils.format_datetime(time).encode(), line)
                 known = parse.as_json(parse.parse(RawLetter("letter.eml", data)))
-                letter = letters.keep_letter(act, letters.NewLetter("letter.eml", data, "", "", "", known))
+                letter = letters.keep_letter(act, "letter.eml", data, "", known)
                 letters.decide(act, letter, "entered")
-                queries.enter(act, [queries.NewEnvelope(None, line, None, "", time, letter)], is_late=True)
+                queries.enter(act, [queries.NewEnvelope(line, letter=letter, time=time)], [None], is_late=True)
         self.stops("publish", said=["the ballot of letter 1 is late", "the ballot of letter 3 is late"])
         self.say("publish", "--force", "--because", "so be it", "--language", "en")
         self.expect("doubts", [text.partition("before")[0].partition("at ")[0] for text in self.doubts()], ["A letter arrived "] * 2)
@@ -347,10 +355,11 @@ class OfOpenVotes(OfElections):
         self.add("ada-lovelace 1,2,3\n")
         self.say("close")
         election = Election(self.folder, support.PROGRAM.parent)
-        arguments = command.Arguments(None, None, None, None, "en", False, False, None, False, None)
+        given = dict.fromkeys(field.name for field in dataclasses.fields(command.Arguments))
+        arguments = command.Arguments(**given | {"language": "en"})
         killed = unittest.mock.patch.object(Made, "take_place", side_effect=KeyboardInterrupt)
         with self.state_of_this(), killed, self.assertRaises(KeyboardInterrupt):
-            command.publish(election, arguments)
+            command.run(election, arguments)
         election.book.connection.close()
         acts = self.acts()
         self.expect("the book knows it, and no folder is there", (acts[-1].name, (self.folder / "result").exists()), ("publish", False))
@@ -377,6 +386,36 @@ class OfOpenVotes(OfElections):
         (program / "debvote").write_text(f'#!/bin/sh\necho $1 >> {starts}\nexec {support.PROGRAM} "$@"\n')
         self.run_words("publish", "--language", "es", path=path)
         self.expect("debvote is started at most eight times", len(starts.read_text().splitlines()) <= 8, True)
+
+    def test_hostile_texts(self):
+        """Each text of a person stands as text on the page, whatever is in it, and in the letters."""
+        hostile = "</p></b><script>alert(1)</script> & <img src=x onerror=alert(1)>{{ say }}{% endblock %}"
+        (self.folder / "poll.toml").write_text(f"title = '{hostile}'\noptions = ['{hostile} 1', '{hostile} 2']\nratios = [1, 1]\ndefault = 'N'\nquorum = 0\n")
+        (self.folder / "members.csv").write_text(f'who,mail,name\n"{hostile}",ada@x.example,ada\nB,b@x.example,b\n{hostile} c,,c\n')
+        (self.folder / "texts").mkdir()
+        (self.folder / "texts" / "1.txt").write_text(f"text {hostile}")
+        self.say("roll")
+        self.say("call", "--names")
+        (self.folder / "lines").write_text("ada 1,2,3\nb 2,1,3\nada 2,1,3\n" + "".join(f"ada {number} {hostile}\n" for number in range(4)))
+        self.say("add", "lines", "--force")
+        self.say("strike", "3", "--because", f"strike {hostile}")
+        self.say("close")
+        self.add(f"c {hostile}\n")
+        self.say("reopen", "--because", f"reopen {hostile}")
+        self.say("close")
+        (self.folder / "about").write_text(f"about {hostile}")
+        cast = ("--casting", hostile_name(self.folder), "--cast-by", f"by {hostile}", "--cast-on", "2026-11-20")
+        self.say("publish", *cast, "--about", "about", "--force", "--because", f"force {hostile}", "--language", "en")
+        reading.try_page(self.expect, "hostile", self.folder / "result")
+        seen = ["Result", "Find-your-ballot", "The-result-in-bars", "Why", "About-this-vote"]
+        self.expect("the text about the vote stands above what is folded", list(self.sections())[: len(seen)], seen)
+        page = pages.tree_of((self.folder / "result" / "index.html").read_text())
+        shown = " ".join(part.text() for part in page.all("main"))
+        for text in (f"{hostile} 1", *(f"{word} {hostile}" for word in ("text", "strike", "reopen", "about", "by", "force"))):
+            self.expect(text, text in shown, True)
+        self.expect("real names", [hostile in name.text() for name in page.all("li") if name.text().startswith("ada </p>")], [True])
+        refused = [line.text() for line in self.sections()["Refused-lines"].all("li")]
+        self.expect("a refused line", [hostile[:50] in line for line in refused][:1], [True])
 
     def test_count(self):
         self.say("call")

@@ -5,6 +5,7 @@ the count of the reference; nothing of debvote_tools is used.
 """
 
 import decimal
+import html
 import html.parser
 import re
 
@@ -18,6 +19,11 @@ class Wrong(Exception):
 def demand_equal(what, found, wanted):
     if found != wanted:
         raise Wrong(f"{what}: {str(found)[:600]} in place of {str(wanted)[:600]}")
+
+
+def escaped(text):
+    """A text as it stands in a page."""
+    return html.escape(text).replace("&quot;", "&#34;").replace("&#x27;", "&#39;")
 
 
 # ---------------------------------------------------------------- the tree of a page
@@ -123,7 +129,8 @@ class Parts:
             lines += f". {of} {valid} valid lines: electors who voted again account for the difference, "
             lines += "and the last valid line of each counts"
         electors = len(poll.roll)
-        quorum = f"{least_of(count)} votes: at least {poll.quorum}Q, where Q is half of the square root of the number of electors"
+        votes = "1 vote" if least_of(count) == 1 else f"{least_of(count)} votes"
+        quorum = f"{votes}: at least {poll.quorum}Q, where Q is half of the square root of the number of electors"
         wanted = {
             "Electors": str(electors),
             "Voters": f"{count.voters}, which is {share(count.voters, electors)} of the electors: those with a ballot that counts",
@@ -137,8 +144,8 @@ class Parts:
         demand_equal("the head", found, wanted)
 
     def rule(self):
-        """The wording of majorities, above the sentences of Why."""
-        said = next(self.sections["Why"].all("p")).text()
+        """The wording of majorities, folded below the sentences of Why."""
+        said = self.sections["Why"].one("details").one("p").text()
         at_least = "At least the ratio times as many electors must prefer it as prefer the default option, and in any case more."
         more_than = "More than the ratio times as many electors must prefer it as prefer the default option."
         wanted = (False, True) if self.count.poll.is_more_than else (True, False)
@@ -151,7 +158,7 @@ class Parts:
         default, least = poll.default, least_of(count)
         whole = max(count.voters, least, 1)
         entries = list(self.sections["The-result-in-bars"].one("ol", "bars").all("li"))
-        legend = next(self.sections["The-result-in-bars"].all("p"))
+        legend = self.sections["The-result-in-bars"].one("details").one("p")
         has = "elector has" if count.voters == 1 else "electors have"
         said = (f"default option, {self.name(default)}." in legend.text(), "dashed mark" in legend.text())
         demand_equal("the legend of the bars", said, (True, poll.quorum > 0))

@@ -3,6 +3,7 @@
 import collections
 
 import data
+import elections
 import support
 
 # no random poll leaves as many options in a tie
@@ -11,7 +12,8 @@ MANY = "rounds-cycle-of-31-options"
 
 class RandomTest(support.PublishTest):
     def test_random_polls(self):
-        met, case, folder = collections.Counter(), support.CASES / MANY, self.scratch / MANY
-        support.publish_files(case / "poll.toml", case / "ballots", folder)
+        met, folder = collections.Counter(), self.scratch / MANY
+        poll, ballots, _ = elections.of_case(MANY, self.scratch)
+        support.publish_files(poll, ballots, folder)
         met += data.try_published(self.expect, MANY, folder, None)
         data.try_random_polls(self.expect, met)

@@ -139,6 +139,27 @@ class ScriptsTest(support.PublishTest):
                 self.expect(f"{what}: {odd}", (odd.startswith("This is no secret vote as it is published: "), said in odd), (True, True))
 
     @NEEDS_BROWSER
+    def test_folded_parts(self):
+        """A link, or the address of the page, opens the folded part that it leads to; on paper all are open, without a script too."""
+        with Page() as window:
+            self.page_of(window)
+            unfolded = "[...document.querySelectorAll('.folded[open] h2')].map((node) => node.id)"
+            self.expect("all are folded", window.ask(unfolded), [])
+            window.ask("""document.querySelector('nav a[href="#Votes"]').click()""")
+            self.expect("by a link", window.ask(unfolded), ["Votes"])
+            window.ask("document.querySelector('.folded[open]').open = false")
+            window.ask("""document.querySelector('nav a[href="#Votes"]').click()""")
+            self.expect("by the same link again", window.ask(unfolded), ["Votes"])
+            for address, part in (("ada", "Ballots"), ("dan", "Who-voted"), ("%", None)):
+                window.ask(f"location.hash = '#{address}'")
+                window.until(f"{json.dumps(part)} === null || {unfolded}.includes({json.dumps(part)})")
+        with Page() as window:
+            window.for_paper()
+            self.page_of(window)
+            seen = window.ask("[...document.querySelectorAll('.folded')].map((part) => part.children[1].getBoundingClientRect().height > 0)")
+            self.expect("on paper", (seen, window.ask(unfolded)), ([True] * 11, []))
+
+    @NEEDS_BROWSER
     def test_counting_again(self):
         folder = self.room / "result"
         sums = {name: hashlib.sha256((folder / name).read_bytes()).hexdigest() for name in ("poll.toml", "ballots.txt", "index.html")}
@@ -158,8 +179,8 @@ class ScriptsTest(support.PublishTest):
     def test_counting_again_on_changed_pages(self):
         changes = {
             "the result": ('class="outcome"><b data-option="2">Option 2', 'class="outcome"><b data-option="1">Option 1'),
-            "the names of title and options": ("<h1><bdi>Größe", "<h1><bdi>Grösse"),
-            "the names of title and options ": ("plain name, on the result sheet: A)", "plain name, on the result sheet: B)"),
+            "the names of title and options": ('<h1 dir="auto">Größe', '<h1 dir="auto">Grösse'),
+            "the names of title and options ": ("(plain name, on the result sheet: A)", "(plain name, on the result sheet: B)"),
             "the table of votes": ("<td>0</td>", "<td>1</td>"),
             "the ballot of ben": ('<li id="ben"><b>ben</b> <code>-,1,1', '<li id="ben"><b>ben</b> <code>-,1,2'),
             "the ballot of ada": ("</bdi>; then Option 1: <bdi>72 Euro</bdi>; not", "</bdi>; then Option 1: <bdi>73 Euro</bdi>; not"),

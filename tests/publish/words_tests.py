@@ -8,7 +8,7 @@ import support
 sys.path.append(str(support.ROOT / "python"))
 
 from debvote_tools.ballots import ranks_in_words  # noqa: E402
-from debvote_tools.publish.parts.result import share  # noqa: E402
+from debvote_tools.publish.page import share  # noqa: E402
 
 
 def try_ballots_in_words(expect):

@@ -6,14 +6,13 @@ An act adds rows, in one transaction, and is told only after its commit. Trigger
 import contextlib
 import dataclasses
 import datetime
-import importlib.resources
+import fcntl
+import functools
+import itertools
 import json
 import os
 import pathlib
-import secrets
 import sqlite3
-import subprocess
-import sys
 import urllib.parse
 from collections.abc import Iterable, Iterator, Sequence
 from typing import Any
@@ -25,6 +24,9 @@ from debvote_tools.files import uninterrupted
 
 NAME = "election.db"
 
+# the act that takes another book than that of the note
+MOVED = "moved"
+
 # "dbvt": what tells a book from other databases of SQLite, and the version of its schema
 APPLICATION_ID, VERSION = 0x64627674, 2
 
@@ -32,6 +34,12 @@ APPLICATION_ID, VERSION = 0x64627674, 2
 PATIENCE = 120
 
 SETTINGS = ("foreign_keys = ON", "recursive_triggers = ON", "journal_mode = DELETE", "synchronous = EXTRA", "trusted_schema = OFF")
+
+# how many rows one statement adds: one for each row takes twice the time
+ROWS_AT_ONCE = 20
+
+# the byte of the file that SQLite locks for an act
+RESERVED_BYTE = 0x40000001
 
 REFUSE = """CREATE TRIGGER {table}_{verb} BEFORE {verb} ON {table} BEGIN SELECT RAISE(ABORT, 'a book only grows'); END"""
 
@@ -51,18 +59,23 @@ class DoneAct:
     digest: str
 
 
+@dataclasses.dataclass
 class Act:
     """An act while it is written. Its rows are in the book when it is committed, all or none."""
 
-    def __init__(
-        self, connection: sqlite3.Connection, number: int, time: datetime.datetime, name: str, detail: dict[str, Any]
-    ) -> None:
-        self.connection, self.number, self.time, self.name, self.detail = connection, number, time, name, detail
+    connection: sqlite3.Connection
+    number: int
+    time: datetime.datetime
+    name: str
+    detail: dict[str, Any]
 
-    def insert_all(self, table: str, columns: Sequence[str], rows: Iterable[Sequence[object]]) -> None:
-        """Adds many rows of this act; the columns are those but for the act."""
-        words = f"INSERT INTO {table} (act, {', '.join(columns)}) VALUES ({self.number}, {', '.join('?' * len(columns))})"
-        self.connection.executemany(words, rows)
+    def insert_all(self, table: str, columns: Sequence[str], rows: Iterable[Sequence[object]], **same: object) -> None:
+        """Adds many rows of this act, each with its own values in these columns, and all with the same in others."""
+        values, waiting = [self.number, *same.values()], iter(rows)
+        words = f"INSERT INTO {table} ({', '.join(['act', *same, *columns])}) VALUES"
+        while part := list(itertools.islice(waiting, ROWS_AT_ONCE)):
+            places = places_of(len(values), len(columns), len(part))
+            self.connection.execute(f"{words} {places}", [*values, *itertools.chain.from_iterable(part)])
 
     def insert(self, table: str, **values: object) -> int:
         """Adds a row of this act, and returns its number."""
@@ -73,13 +86,18 @@ class Act:
         return row
 
 
+@functools.lru_cache(100)
+def places_of(shared: int, own: int, rows: int) -> str:
+    """The places of values in a statement that adds rows, as `(?1, ?2), (?1, ?3)`: some values are shared by all rows."""
+    starts = range(shared + 1, shared + 1 + rows * own, own)
+    return ", ".join(f"({', '.join(f'?{n}' for n in (*range(1, shared + 1), *range(start, start + own)))})" for start in starts)
+
+
 class Book:
     """An open book. `path` names the database file."""
 
     def __init__(self, path: pathlib.Path, connection: sqlite3.Connection, *, is_read_only: bool = False) -> None:
         self.path, self.connection, self.is_read_only = path, connection, is_read_only
-        # whether this process has tried the locks of the file system
-        self.has_tried_locks = False
 
     # ------------------------------------------------------------ reading
     def rows(self, words: str, *values: object) -> list[Any]:
@@ -104,6 +122,11 @@ class Book:
         """The number of the last act."""
         return int(self.rows("SELECT max(act) FROM act")[0][0])
 
+    def size(self) -> int:
+        """How many bytes its file has."""
+        [(pages, size)] = self.rows("SELECT page_count, page_size FROM pragma_page_count, pragma_page_size")
+        return int(pages) * int(size)
+
     def digest_at(self, act: int) -> str | None:
         """The digest of an act; None if the book has no such act."""
         return next((str(digest) for digest, in self.rows("SELECT digest FROM act WHERE act = ?", act)), None)
@@ -126,13 +149,11 @@ class Book:
 
     # ------------------------------------------------------------ acts
     @contextlib.contextmanager
-    def act(
-        self, name: str, detail: dict[str, Any] | None = None, *, seen: int | None = None, is_move: bool = False
-    ) -> Iterator[Act]:
+    def act(self, name: str, detail: dict[str, Any] | None = None, *, seen: int | None = None) -> Iterator[Act]:
         """One act: what is inserted within is committed at its end, and an exception leaves the book as it was.
 
         `seen` is the last act when this one was decided; if others came since, `Overtaken` is raised. Nobody is asked and no program runs
-        within. An act that is a move makes this book the one that the machine knows.
+        within. The act `moved` makes this book the one that the machine knows.
         """
         note = self.note()
         note.demand_writable()
@@ -142,7 +163,7 @@ class Book:
                 before = self.last_act()
                 if seen is not None and before.number != seen:
                     raise Overtaken
-                if not is_move:
+                if name != MOVED:
                     self.demand_noted(note)
                 act = Act(self.connection, before.number + 1, utc_now(), name, detail or {})
                 yield act
@@ -154,12 +175,12 @@ class Book:
                 raise
         # a note that can't be written is one of an earlier act, as after a kill
         with contextlib.suppress(Fault, OSError):
-            note.write(Note(act.number, digest), is_moved=is_move)
+            note.write(Note(act.number, digest), is_moved=name == MOVED)
 
     def finish(self, act: Act, before: DoneAct | None) -> str:
         """Adds the row of the act, with its digest, and commits."""
         detail = json.dumps(act.detail, ensure_ascii=False)
-        row = (act.number, as_text(act.time), act.name, detail, secrets.token_bytes(16))
+        row = (act.number, as_text(act.time), act.name, detail, os.urandom(16))
         digest = chain.digest_of(self.connection, before.digest if before else chain.BEGINNING, row)
         self.connection.execute("INSERT INTO act VALUES (?, ?, ?, ?, ?, ?)", (*row, digest))
         self.connection.execute("COMMIT")
@@ -206,37 +227,31 @@ class Book:
                 "find out how that came; if it is the right book, as after a move to this computer or folder, give the command "
                 "--moved --because TEXT, and the page tells it"
             )
-            raise Fault(self.path, why, cure, Status.DOUBT, "nothing was changed")
+            raise Fault(self.path, why, cure)
 
     def accept(self, because: str) -> None:
         """The act `moved`: from now on this machine takes this book for the right one."""
         noted, last = self.note().read(), self.last_act()
         why = self.strangeness()
         if why is None:
-            raise Fault(
-                "--moved", "this is the book that this computer knows", "leave it out", Status.BAD_WORDS, "nothing was changed"
-            )
+            raise Fault("--moved", "this is the book that this computer knows", "leave it out", Status.BAD_WORDS)
         there = {"act": last.number, "digest": last.digest}
         detail = {"why": why, "noted": dataclasses.asdict(noted) if noted else None, "there": there, "because": because}
-        with self.act("moved", detail, is_move=True):
+        with self.act(MOVED, detail):
             pass
 
     # ------------------------------------------------------------ the file
     def demand_locks(self) -> None:
         """Stops if a second process gets the lock that this one holds."""
-        if self.has_tried_locks:
-            return
         with told_as_faults(self.path):
             self.connection.execute("BEGIN IMMEDIATE")
             try:
-                program = [sys.executable, "-I", "-S", "-c", SECOND_PROCESS, str(self.path)]
-                ended = subprocess.run(program, capture_output=True, stdin=subprocess.DEVNULL, text=True)
+                is_locked = is_locked_for_others(self.path)
             finally:
                 self.connection.execute("ROLLBACK")
-        if ended.stdout.strip() != "locked":
+        if not is_locked:
             words = "locks do not work in this file system, as on some network shares"
-            raise Fault(self.path, words, "move the folder to a disk of this computer", Status.DOUBT, "nothing was changed")
-        self.has_tried_locks = True
+            raise Fault(self.path, words, "move the folder to a disk of this computer")
 
     def demand_alone(self) -> None:
         """Stops if another book in the folder is no beginning of this one, as the copy that a sync tool leaves."""
@@ -249,7 +264,7 @@ class Book:
             if number is None or self.digest_at(number) != digest:
                 words = "it is another book of this election, with acts that election.db lacks, as a sync tool leaves it"
                 cure = "find out which one is right, and move the other out of the folder"
-                raise Fault(file, words, cure, Status.DOUBT, "nothing was changed")
+                raise Fault(file, words, cure)
 
     def back_up(self, target: pathlib.Path) -> None:
         """Writes a copy of the book into a new file."""
@@ -259,16 +274,21 @@ class Book:
                 self.connection.backup(copy)
 
 
-# what the second process does, without waiting
-SECOND_PROCESS = """
-import sqlite3, sys
-connection = sqlite3.connect(sys.argv[1], timeout=0, isolation_level=None)
-try:
-    connection.execute("BEGIN IMMEDIATE")
-    print("free")
-except sqlite3.OperationalError as error:
-    print("locked" if "locked" in str(error) else error)
-"""
+def is_locked_for_others(path: pathlib.Path) -> bool:
+    """Whether a second process is refused the lock of SQLite that an act holds."""
+    second = os.fork()
+    if second == 0:
+        # only the second process may open the file: to close it ends all locks that a process has there
+        status = 1
+        try:
+            handle = os.open(path, os.O_RDWR)
+            try:
+                fcntl.lockf(handle, fcntl.LOCK_EX | fcntl.LOCK_NB, 1, RESERVED_BYTE)
+            except (BlockingIOError, PermissionError):
+                status = 0
+        finally:
+            os._exit(status)
+    return os.waitstatus_to_exitcode(os.waitpid(second, 0)[1]) == 0
 
 
 # ---------------------------------------------------------------- making and opening
@@ -280,7 +300,7 @@ def create(path: pathlib.Path, detail: dict[str, Any], final_path: pathlib.Path)
         connection.execute(f"PRAGMA application_id = {APPLICATION_ID}")
         connection.execute(f"PRAGMA user_version = {VERSION}")
         connection.execute("BEGIN IMMEDIATE")
-        schema = importlib.resources.files("debvote_tools.book").joinpath("schema.sql").read_text()
+        schema = pathlib.Path(__file__).with_name("schema.sql").read_text()
         for statement in schema.split(";\n"):
             connection.execute(statement)
         for table in (*chain.COLUMNS, "act"):
@@ -306,15 +326,14 @@ def open_book(path: pathlib.Path) -> Book:
             if is_read_only and "unable to open" in str(error) or "readonly" in str(error):
                 words = "a command was cut off in its act, and in a folder that can't be written the act can't be taken back"
                 cure = f"copy {NAME} and {NAME}-journal together into a folder of your own, and work there"
-                raise Fault(path, words, cure, Status.DOUBT) from None
+                raise Fault(path, words, cure, Status.DOUBT, None) from None
             raise
         if found != APPLICATION_ID:
-            raise Fault(
-                path, "it is a database of another program", "name the folder of an election with --folder", Status.BAD_WORDS
-            )
+            cure = "name the folder of an election with --folder"
+            raise Fault(path, "it is a database of another program", cure, Status.BAD_WORDS, None)
         if version != VERSION:
             words = f"it is a book of version {version}, and this program writes version {VERSION}"
-            raise Fault(path, words, "use the debvote that began this election", Status.BAD_WORDS)
+            raise Fault(path, words, "use the debvote that began this election", Status.BAD_WORDS, None)
         book = Book(path, connection, is_read_only=is_read_only)
         if book.digest_at(1) is None:
             raise damaged(path)
@@ -345,22 +364,22 @@ def fault_of(path: pathlib.Path, error: sqlite3.Error) -> Fault:
     kind = getattr(error, "sqlite_errorname", "").removeprefix("SQLITE_")
     if kind.startswith("BUSY"):
         words = "other commands have worked on it for two minutes"
-        return Fault(path, words, "wait until they are done, then run the command again", Status.BAD_OUTPUT, "nothing was changed")
+        return Fault(path, words, "wait until they are done, then run the command again", Status.BAD_OUTPUT)
     if kind.startswith(("CORRUPT", "NOTADB", "ERROR", "CONSTRAINT", "MISMATCH", "FORMAT")):
         return damaged(path, str(error))
     if kind.startswith(("FULL", "IOERR")):
         cure = "make room on the disk, or look whether it is in order, then run the command again"
-        return Fault(path, f"it can't be written ({error})", cure, Status.BAD_OUTPUT, "nothing was changed")
+        return Fault(path, f"it can't be written ({error})", cure, Status.BAD_OUTPUT)
     if kind.startswith(("READONLY", "CANTOPEN", "PERM", "AUTH")):
         cure = "make file and folder writable for you, then run the command again"
-        return Fault(path, f"it can't be written ({error})", cure, Status.BAD_OUTPUT, "nothing was changed")
-    return Fault(path, str(error), "run the command again", Status.BAD_OUTPUT, "nothing was changed")
+        return Fault(path, f"it can't be written ({error})", cure, Status.BAD_OUTPUT)
+    return Fault(path, str(error), "run the command again", Status.BAD_OUTPUT)
 
 
 def damaged(path: pathlib.Path, how: str = "it has no first act") -> Fault:
     """The fault of a book that can't be read."""
     cure = "put back the last copy that debvote-election backup made, and tell the maintainers"
-    return Fault(path, f"the book is damaged ({how})", cure, Status.DOUBT, "nothing was changed")
+    return Fault(path, f"the book is damaged ({how})", cure)
 
 
 # ---------------------------------------------------------------- other files

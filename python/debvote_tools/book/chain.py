@@ -5,9 +5,8 @@ table's name and the columns, bytes by their SHA-256.
 """
 
 import hashlib
-import itertools
 import sqlite3
-from collections.abc import Iterable, Iterator
+from collections.abc import Sequence
 
 # what is in the place of the digest before the first act
 BEGINNING = ""
@@ -18,8 +17,8 @@ COLUMNS = {
     "elector_state": "act elector position who mail key code alias",
     "sealed": "act name data*",
     "source": "source act name data*",
-    "letter": "letter act source identity sender arrival known",
-    "letter_state": "act letter state detail",
+    "letter": "letter act source identity known",
+    "letter_state": "act letter state",
     "envelope": "envelope act elector line* source letter place time late",
     "struck": "envelope act",
     "sent": "sent act elector kind state detail",
@@ -33,7 +32,7 @@ def as_json(table: str, columns: str) -> str:
 
 
 ACT = as_json("act", "act time name detail salt*")
-ROWS = {table: as_json(table, columns) for table, columns in COLUMNS.items()}
+ROWS = [f"SELECT act, {as_json(table, columns)} FROM {table}" for table, columns in COLUMNS.items()]
 
 
 def prepare(connection: sqlite3.Connection) -> None:
@@ -44,35 +43,30 @@ def prepare(connection: sqlite3.Connection) -> None:
 def digest_of(connection: sqlite3.Connection, before: str, act: tuple[object, ...]) -> str:
     """The digest of an act (number, time, name, detail, salt) by the rows that the book has of it."""
     columns = "SELECT ? AS act, ? AS time, ? AS name, ? AS detail, ? AS salt"
-    lines = [json for json, in connection.execute(f"SELECT {ACT} FROM ({columns})", act)]
-    for table, expression in ROWS.items():
-        lines += (json for json, in connection.execute(f"SELECT {expression} FROM {table} WHERE act = ? ORDER BY rowid", (act[0],)))
-    return digest_of_lines(before, lines)
+    lines = [before, *connection.execute(f"SELECT {ACT} FROM ({columns})", act).fetchone()]
+    for rows in ROWS:
+        lines += [json for _, json in connection.execute(f"{rows} WHERE act = ? ORDER BY rowid", (act[0],))]
+    return digest_of_lines(lines)
 
 
-def digest_of_lines(before: str, lines: Iterable[str]) -> str:
-    return hashlib.sha256("\n".join([before, *lines]).encode()).hexdigest()
+def digest_of_lines(lines: Sequence[str]) -> str:
+    return hashlib.sha256("\n".join(lines).encode()).hexdigest()
 
 
 def broken_act(connection: sqlite3.Connection) -> int | None:
     """The first act whose digest is not that of its rows, or that rows name and the book lacks; None if the chain is whole."""
-    groups = [rows_by_act(connection, table) for table in COLUMNS]
-    waiting = [next(group, None) for group in groups]
+    tables = [iter(connection.execute(f"{rows} ORDER BY act, rowid")) for rows in ROWS]
+    waiting = [next(rows, (0, "")) for rows in tables]
     before, number = BEGINNING, 0
     for number, (act, line, digest) in enumerate(connection.execute(f"SELECT act, {ACT}, digest FROM act ORDER BY act"), start=1):
-        lines = [line]
-        for index, group in enumerate(waiting):
-            if group is not None and group[0] == act:
-                lines += group[1]
-                waiting[index] = next(groups[index], None)
-        if act != number or digest != digest_of_lines(before, lines):
+        lines = [before, line]
+        for index, rows in enumerate(tables):
+            owner, json = waiting[index]
+            while owner == act:
+                lines.append(json)
+                owner, json = next(rows, (0, ""))
+            waiting[index] = owner, json
+        if act != number or digest != digest_of_lines(lines):
             return number
         before = digest
-    return number + 1 if any(waiting) else None
-
-
-def rows_by_act(connection: sqlite3.Connection, table: str) -> Iterator[tuple[int, list[str]]]:
-    """The rows of a table as JSON, by act, in the order of the acts."""
-    cursor = connection.execute(f"SELECT act, {ROWS[table]} FROM {table} ORDER BY act, rowid")
-    for act, rows in itertools.groupby(cursor, key=lambda row: int(row[0])):
-        yield act, [json for _, json in rows]
+    return number + 1 if any(owner for owner, _ in waiting) else None

@@ -1,19 +1,22 @@
 """What is asked of the book about lines that were entered: by which act, what stood after one, what came in files before."""
 
 import collections
-import dataclasses
 from collections.abc import Collection
+from typing import NamedTuple
 
 from debvote_tools.book.book import Book
 
 # the acts that no `undo` took back
 NOT_UNDONE = "act NOT IN (SELECT json_extract(detail, '$.act') FROM act WHERE name = 'undo')"
 
-# the late envelopes that a `reopen` entered anew as in time, and that no `undo` made late again
-ENTERED_ANEW = f"SELECT value FROM act, json_each(act.detail, '$.in_time') WHERE act.name = 'reopen' AND act.{NOT_UNDONE}"
+# the late envelopes that a `reopen` entered anew as in time, and those that `add --again` entered anew, if no `undo` took that back
+ANEW_IN_TIME = f"SELECT value FROM act, json_each(act.detail, '$.in_time') WHERE act.name = 'reopen' AND act.{NOT_UNDONE}"
+ANEW_BY_ADD = f"SELECT value FROM act, json_each(act.detail, '$.again') WHERE act.name = 'add' AND act.{NOT_UNDONE}"
 
-# the envelopes that came in files of lines and tables; a late line that was entered anew came once, and is known by its new envelope
-CAME_IN_FILES = f"source IS NOT NULL AND letter IS NULL AND envelope.{NOT_UNDONE} AND envelope NOT IN ({ENTERED_ANEW})"
+# the envelopes that came in files of lines and tables; a line that was entered anew came once, and is known by its new envelope
+CAME_IN_FILES = (
+    f"source IS NOT NULL AND letter IS NULL AND envelope.{NOT_UNDONE} AND envelope NOT IN ({ANEW_IN_TIME} UNION {ANEW_BY_ADD})"
+)
 
 # of more electors all lines are read
 MOST_ELECTORS = 200
@@ -26,16 +29,14 @@ def last_entering_act(book: Book) -> int | None:
 
 
 def lines_after(book: Book, act: int, electors: Collection[int] | None = None) -> list[tuple[int, bytes]]:
-    """Number and line of each envelope that was in time and not struck when an act was done, in their order. If electors are named, the
-    lines that the act entered are among them, whose they may be.
+    """Number and line of each envelope that was in time and not struck when an act was done, in their order. If electors are named, those of
+    others may be missing.
     """
     condition = "late = 0 AND (struck.act IS NULL OR struck.act > ?) AND envelope.act <= ?"
-    values: list[object] = [act, act]
+    values = [act, act]
     if electors is not None and len(electors) <= MOST_ELECTORS:
-        places = ", ".join("?" * len(electors))
-        numbers = f"SELECT envelope FROM envelope WHERE elector IN ({places}) UNION SELECT envelope FROM envelope WHERE act = ?"
-        condition += f" AND envelope IN ({numbers})"
-        values += [*electors, act]
+        condition += f" AND elector IN ({', '.join('?' * len(electors))})"
+        values += electors
     words = f"SELECT envelope, line FROM envelope LEFT JOIN struck USING (envelope) WHERE {condition} ORDER BY envelope"
     return book.rows(words, *values)
 
@@ -45,19 +46,18 @@ def lines_of_electors(book: Book, electors: Collection[int]) -> list[tuple[int, 
     return lines_after(book, book.last_number(), electors)
 
 
-@dataclasses.dataclass(frozen=True, slots=True)
-class Came:
+class EnvelopeOfFile(NamedTuple):
     """An envelope that came in a file of lines or a table."""
 
     number: int
     elector: int | None
-    is_struck: bool
-    is_late: bool
+    is_struck: int
+    is_late: int
 
 
 def entered_anew(book: Book) -> set[int]:
     """The late envelopes that a `reopen` entered anew as in time."""
-    return {int(number) for number, in book.rows(ENTERED_ANEW)}
+    return {int(number) for number, in book.rows(ANEW_IN_TIME)}
 
 
 def lines_that_came(book: Book) -> collections.Counter[bytes]:
@@ -65,15 +65,15 @@ def lines_that_came(book: Book) -> collections.Counter[bytes]:
     return collections.Counter(dict(book.rows(f"SELECT line, count(*) FROM envelope WHERE {CAME_IN_FILES} GROUP BY line")))
 
 
-def came_in_files(book: Book) -> dict[bytes, list[Came]]:
+def came_in_files(book: Book) -> dict[bytes, list[EnvelopeOfFile]]:
     """The envelopes that came in files of lines and tables and that no `undo` took back, by their line; those that are struck or late come last."""
     words = f"""
     SELECT line, envelope, elector, struck.act IS NOT NULL, late FROM envelope LEFT JOIN struck USING (envelope)
     WHERE {CAME_IN_FILES} ORDER BY late OR struck.act IS NOT NULL, envelope
     """
-    by_line: dict[bytes, list[Came]] = {}
-    for line, number, elector, is_struck, is_late in book.rows(words):
-        by_line.setdefault(line, []).append(Came(number, elector, bool(is_struck), bool(is_late)))
+    by_line: dict[bytes, list[EnvelopeOfFile]] = {}
+    for line, *envelope in book.rows(words):
+        by_line.setdefault(line, []).append(EnvelopeOfFile(*envelope))
     return by_line
 
 
@@ -86,23 +86,8 @@ def last_numbers(book: Book) -> dict[int, tuple[int, bytes]]:
     return {elector: (number, line) for elector, number, line in book.rows(words)}
 
 
-def numbers_of(book: Book) -> dict[str, int]:
-    """The number of each elector, by the name on the roll."""
-    return dict(book.rows("SELECT name, elector FROM elector"))
-
-
 def size_in_time(book: Book) -> tuple[int, int]:
     """How many lines and bytes the ballots have that are counted."""
     words = "SELECT count(*), coalesce(sum(length(line) + 1), 0) FROM envelope LEFT JOIN struck USING (envelope)"
     [(lines, size)] = book.rows(f"{words} WHERE late = 0 AND struck.act IS NULL")
     return int(lines), int(size)
-
-
-def last_envelope(book: Book) -> int:
-    """The number of the last envelope; 0 if there is none."""
-    return int(book.rows("SELECT coalesce(max(envelope), 0) FROM envelope")[0][0])
-
-
-def has_sealed_since(book: Book, name: str, act: int) -> bool:
-    """Whether an act, or a later one, sealed something under a name."""
-    return bool(book.rows("SELECT EXISTS (SELECT 1 FROM sealed WHERE name = ? AND act >= ?)", name, act)[0][0])

@@ -1,8 +1,6 @@
 """What is asked of the book about letters: what came, what acts decided of it, and what was written to electors."""
 
 import dataclasses
-import json
-from typing import Any
 
 from debvote_tools.book.book import Act, Book
 
@@ -35,6 +33,11 @@ def letters(book: Book) -> list[KeptLetter]:
     return [KeptLetter(*row) for row in book.rows(LETTERS)]
 
 
+def have_come(book: Book) -> bool:
+    """Whether a letter has come."""
+    return bool(book.rows("SELECT EXISTS (SELECT 1 FROM letter)")[0][0])
+
+
 def known_digests(book: Book) -> set[tuple[str, bool]]:
     """The digests of the letters that came, each with whether it was parted off."""
     words = "SELECT json_extract(known, '$.digest'), json_extract(known, '$.is_parted_off') FROM letter"
@@ -52,32 +55,14 @@ def undecided(kept: list[KeptLetter]) -> list[KeptLetter]:
     return [letter for letter in kept if letter.identity in identities]
 
 
-@dataclasses.dataclass(frozen=True)
-class NewLetter:
-    """A letter that is kept: where it came from, its bytes, and what is known of it."""
-
-    where: str
-    data: bytes
-    identity: str
-    sender: str
-    arrival: str
-    known: str
-
-
-def keep_letter(act: Act, new: NewLetter) -> int:
+def keep_letter(act: Act, where: str, data: bytes, identity: str, known: str) -> int:
     """Keeps a letter, byte for byte, and returns its number."""
-    source = act.insert("source", name=new.where, data=new.data)
-    return act.insert("letter", source=source, identity=new.identity, sender=new.sender, arrival=new.arrival, known=new.known)
+    return act.insert("letter", source=act.insert("source", name=where, data=data), identity=identity, known=known)
 
 
-def decide(act: Act, letter: int, state: str, detail: dict[str, Any] | None = None) -> None:
+def decide(act: Act, letter: int, state: str) -> None:
     """Notes what an act decided of a letter."""
-    act.insert("letter_state", letter=letter, state=state, detail=json.dumps(detail or {}, ensure_ascii=False))
-
-
-def last_act_that_sealed(book: Book, name: str) -> int:
-    """The last act that sealed something under a name; 0 if none did."""
-    return int(book.rows("SELECT coalesce(max(act), 0) FROM sealed WHERE name = ?", name)[0][0])
+    act.insert("letter_state", letter=letter, state=state)
 
 
 def our_message_ids(book: Book) -> dict[int, list[str]]:

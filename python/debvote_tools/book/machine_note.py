@@ -43,7 +43,8 @@ class MachineNote:
             return None
         except (OSError, ValueError, LookupError, TypeError) as error:
             cure = "remove it, then give the command --moved --because TEXT"
-            raise Fault(self.file, f"this machine's note of the election can't be read ({error})", cure, Status.DOUBT) from None
+            words = f"this machine's note of the election can't be read ({error})"
+            raise Fault(self.file, words, cure, Status.DOUBT, None) from None
 
     def demand_writable(self) -> None:
         """Stops if the note could not be written after an act."""
@@ -67,7 +68,8 @@ class MachineNote:
                 yield
         except OSError as error:
             words = f"this machine has to note there what it did last, and can't ({error.strerror})"
-            raise Fault(self.folder, words, "make the folder writable for you, or set XDG_STATE_HOME", Status.BAD_OUTPUT) from None
+            cure = "make the folder writable for you, or set XDG_STATE_HOME"
+            raise Fault(self.folder, words, cure, Status.BAD_OUTPUT, None) from None
 
 
 def state_folder() -> pathlib.Path:

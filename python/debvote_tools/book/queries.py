@@ -2,11 +2,17 @@
 
 import dataclasses
 import datetime
+import itertools
 import json
-from collections.abc import Iterable
+from collections.abc import Collection, Iterable
+from typing import NamedTuple
 
 from debvote_tools.book.book import Act, Book, as_text, from_text
 from debvote_tools.lines import ballot_file
+
+
+# more names than a query takes are looked for among all
+MOST_NAMES = 200
 
 
 # ---------------------------------------------------------------- electors
@@ -71,6 +77,11 @@ def sealed_at(book: Book, name: str, act: int) -> bytes | None:
     return rows[0][0] if rows else None
 
 
+def last_act_that_sealed(book: Book, name: str) -> int:
+    """The last act that sealed something under a name; 0 if none did."""
+    return int(book.rows("SELECT coalesce(max(act), 0) FROM sealed WHERE name = ?", name)[0][0])
+
+
 # ---------------------------------------------------------------- envelopes
 @dataclasses.dataclass(frozen=True)
 class Envelope:
@@ -105,16 +116,6 @@ def envelopes(book: Book, condition: str = "1", *values: object) -> list[Envelop
     ]
 
 
-def envelopes_of(book: Book, elector: int) -> list[Envelope]:
-    """All envelopes of an elector."""
-    return envelopes(book, "elector = ?", elector)
-
-
-def envelopes_of_act(book: Book, act: int) -> list[Envelope]:
-    """The envelopes that an act entered."""
-    return envelopes(book, "envelope.act = ?", act)
-
-
 IN_TIME = "late = 0 AND struck.act IS NULL"
 
 
@@ -145,31 +146,39 @@ def strike(act: Act, numbers: Iterable[int]) -> None:
     act.insert_all("struck", ["envelope"], ((number,) for number in numbers))
 
 
-@dataclasses.dataclass(frozen=True)
-class NewEnvelope:
-    """A line that goes in: see `Envelope`."""
+class NewEnvelope(NamedTuple):
+    """A line that goes in: see `Envelope`. Without a time of its own it has that of the act."""
 
-    elector: int | None
     line: bytes
-    source: int | None
-    place: str
-    time: datetime.datetime
+    place: str = ""
+    source: int | None = None
     letter: int | None = None
+    time: datetime.datetime | None = None
 
 
-def enter(act: Act, new: Iterable[NewEnvelope], *, is_late: bool) -> range:
-    """Enters lines, and returns the numbers of their envelopes."""
-    columns = ["elector", "line", "source", "letter", "place", "time", "late"]
-    first = last_envelope(act) + 1
-    act.insert_all(
-        "envelope", columns, ((e.elector, e.line, e.source, e.letter, e.place, as_text(e.time), int(is_late)) for e in new)
-    )
-    return range(first, last_envelope(act) + 1)
+def enter(act: Act, new: Iterable[NewEnvelope], electors: Iterable[int | None], *, is_late: bool) -> None:
+    """Enters lines, each with the elector with whose name it begins."""
+    for (source, letter, time), group in itertools.groupby(zip(electors, new), key=shared):
+        rows = ((elector, envelope.line, envelope.place) for elector, envelope in group)
+        same = {"source": source, "letter": letter, "time": as_text(time or act.time), "late": int(is_late)}
+        act.insert_all("envelope", ["elector", "line", "place"], rows, **same)
 
 
-def last_envelope(act: Act) -> int:
+def shared(pair: tuple[int | None, NewEnvelope]) -> tuple[int | None, int | None, datetime.datetime | None]:
+    """What a line has in common with others of its file."""
+    return pair[1].source, pair[1].letter, pair[1].time
+
+
+def last_envelope(book: Book) -> int:
     """The number of the last envelope; 0 if there is none."""
-    return int(act.connection.execute("SELECT coalesce(max(envelope), 0) FROM envelope").fetchone()[0])
+    return int(book.rows("SELECT coalesce(max(envelope), 0) FROM envelope")[0][0])
+
+
+def elector_numbers(book: Book, names: Collection[str]) -> dict[str, int]:
+    """The numbers of the electors who have one of these names; of very many names those of all electors."""
+    if len(names) > MOST_NAMES:
+        return dict(book.rows("SELECT name, elector FROM elector"))
+    return dict(book.rows(f"SELECT name, elector FROM elector WHERE name IN ({', '.join('?' * len(names))})", *names))
 
 
 # ---------------------------------------------------------------- sources

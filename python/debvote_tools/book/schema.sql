@@ -49,8 +49,6 @@ CREATE TABLE letter (
   act INTEGER NOT NULL REFERENCES act DEFERRABLE INITIALLY DEFERRED,
   source INTEGER NOT NULL REFERENCES source,
   identity TEXT NOT NULL,               -- what a copy of it has in common with it
-  sender TEXT NOT NULL,                 -- one address, or empty
-  arrival TEXT NOT NULL,                -- a time, or empty
   known TEXT NOT NULL                   -- JSON: what its bytes and the keyring alone decide
 ) STRICT;
 
@@ -58,7 +56,6 @@ CREATE TABLE letter_state (
   act INTEGER NOT NULL REFERENCES act DEFERRABLE INITIALLY DEFERRED,
   letter INTEGER NOT NULL REFERENCES letter,
   state TEXT NOT NULL,                  -- entered, set aside, put back, taken back, struck
-  detail TEXT NOT NULL,                 -- JSON
   PRIMARY KEY (letter, act)
 ) STRICT;
 
@@ -96,5 +93,4 @@ CREATE INDEX source_by_act ON source (act);
 CREATE INDEX letter_by_act ON letter (act);
 CREATE INDEX letter_state_by_act ON letter_state (act);
 CREATE INDEX sent_by_act ON sent (act);
-CREATE INDEX letter_by_identity ON letter (identity);
 CREATE INDEX struck_by_act ON struck (act);

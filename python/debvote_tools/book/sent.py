@@ -14,6 +14,10 @@ WRITTEN, BEGUN, TAKEN, REFUSED, POSTPONED = "written", "begun", "taken", "refuse
 COLUMNS = ("elector", "kind", "state", "detail")
 
 
+# what a receipt is about: an envelope or a letter, its number, and whether it tells that the envelope was struck
+About = tuple[str, int, bool]
+
+
 @dataclasses.dataclass(frozen=True)
 class SentLetter:
     """A letter to an elector. One to be printed has no address and no Message-ID."""
@@ -21,12 +25,11 @@ class SentLetter:
     elector: int
     kind: str
     # the act that it belongs to: that of the call, of the close, of the publication, or the one that wrote it
-    round: int
+    for_act: int
     address: str
     message_id: str
     time: datetime.datetime
-    # what a receipt is about
-    about: tuple[str, ...]
+    about: tuple[About, ...]
     state: str = WRITTEN
     # what the server said last
     reply: str = ""
@@ -38,8 +41,8 @@ def sent_letters(book: Book, kind: str) -> list[SentLetter]:
     for row, elector, state, text in book.rows("SELECT sent, elector, state, detail FROM sent WHERE kind = ? ORDER BY sent", kind):
         detail = json.loads(text)
         if state == WRITTEN:
-            time, about = from_text(detail["time"]), tuple(detail["about"])
-            letter = SentLetter(elector, kind, detail["round"], detail["address"], detail["message_id"], time, about)
+            time, about = from_text(detail["time"]), tuple((what, number, is_struck) for what, number, is_struck in detail["about"])
+            letter = SentLetter(elector, kind, detail["for_act"], detail["address"], detail["message_id"], time, about)
             found[letter.message_id or f"printed {row}"] = letter
         else:
             before = found[detail["message_id"]]
@@ -64,7 +67,7 @@ def written_detail(letter: SentLetter) -> str:
         "message_id": letter.message_id,
         "address": letter.address,
         "time": letter.time.isoformat(),
-        "round": letter.round,
+        "for_act": letter.for_act,
         "about": letter.about,
     }
     return json.dumps(detail, ensure_ascii=False)

@@ -2,13 +2,16 @@
 
 import dataclasses
 import datetime
+import functools
 import re
 import urllib.parse
 from collections.abc import Mapping
 
+from debvote_tools.ballots import UNRANKED, ranks_in_words
 from debvote_tools.faults import Fault, Status
 from debvote_tools.language import Language
 from debvote_tools.sealed_poll import SealedPoll
+from debvote_tools.sentences import marked
 
 MAIL = re.compile(r"[A-Za-z0-9_][A-Za-z0-9._+=-]*@[A-Za-z0-9-]+(\.[A-Za-z0-9-]+)*")
 MAIL_LIMIT = 254
@@ -16,6 +19,9 @@ MAIL_LIMIT = 254
 # printable ASCII without blanks, without what ends an address in a letter, and without the # that an own ballot's link adds
 WEB = re.compile(r"[!$-;=?-_a-z~]+")
 WEB_LIMIT = 500
+
+OPTION = marked("Option {number}: {name}")
+SUBJECT = marked("Ballot: {title}")
 
 
 @dataclasses.dataclass(frozen=True)
@@ -32,9 +38,8 @@ class CallData:
     # the mail address for ballots, and the web address of this page, where the result will be
     to: str | None = None
     at: str | None = None
-    # the real names by the names on the roll, where they will be published
+    # the real names by the names on the roll; None if they will not be published
     real_names: Mapping[str, str] | None = None
-    names_published: bool = False
     has_form: bool = False
     is_signed: bool = False
     is_secret: bool = False
@@ -56,24 +61,68 @@ class CallData:
         """The names on the roll, if the call may show them."""
         return self.poll.roll if self.is_open else ()
 
+    @functools.cached_property
+    def mark(self) -> str:
+        """The mark of the poll, as the subject of a letter has it."""
+        return f"[{self.poll.mark}]"
+
     @property
-    def default(self) -> int:
-        """The number of the default option."""
-        return len(self.poll.names)
+    def mail_to(self) -> str:
+        """The address of a letter with a ballot, as a link without its subject; empty if ballots are sent otherwise."""
+        return "" if self.to is None else f"mailto:{urllib.parse.quote(self.to, safe='@')}"
+
+    @property
+    def mail_to_with_subject(self) -> str:
+        subject = f"{self.language.say(SUBJECT, title=self.poll.name)} {self.mark}"
+        return f"{self.mail_to}?subject={urllib.parse.quote(subject)}"
+
+    @functools.cached_property
+    def option_names(self) -> list[str]:
+        """The options in plain text, each with its number."""
+        return [self.language.say(OPTION, number=number, name=name) for number, name in enumerate(self.poll.names, start=1)]
+
+    @property
+    def explanations(self) -> list[tuple[int, list[str]]]:
+        """The texts of the options, in paragraphs, each with the number of its option. They are not the program's words."""
+        texts = enumerate(self.poll.explanations, start=1)
+        return [(number, re.split(r"\n(?:[ \t]*\n)+", text.strip("\n"))) for number, text in texts if text.strip()]
+
+    @property
+    def example(self) -> str:
+        return example_ranks(len(self.poll.names))
+
+    @property
+    def example_in_words(self) -> str:
+        return ranks_in_words(self.example, self.option_names, self.language)
 
 
-def demand_mail_address(text: str) -> None:
-    """Raises `Fault` unless `--to` is one plain mail address."""
-    if len(text) > MAIL_LIMIT or not MAIL.fullmatch(text):
+def example_ranks(count: int) -> str:
+    """Ranks for a number of options that show the order, and with four options or more one that is not ranked."""
+    return "1,2" if count == 2 else ",".join(["2", "1", *[UNRANKED] * (count - 3), "3"])
+
+
+def gaps_of(count: int) -> str:
+    """What stands in the place of the ranks of so many options, where an elector is to write them."""
+    return ",".join("_" * count)
+
+
+def demand_mail_address(text: str, option: str = "--to") -> None:
+    """Raises `Fault` unless the option is one plain mail address."""
+    if not is_mail_address(text):
         reason = "it has to be one mail address, as secretary@example.org"
-        raise Fault("--to", reason, "write it anew", Status.BAD_WORDS, "nothing was changed")
+        raise Fault(option, reason, "write it anew", Status.BAD_WORDS)
+
+
+def is_mail_address(text: str) -> bool:
+    """Whether a text is one plain mail address, in characters that every mail server takes."""
+    return len(text) <= MAIL_LIMIT and MAIL.fullmatch(text) is not None
 
 
 def demand_web_address(text: str) -> None:
     """Raises `Fault` unless `--at` is the web address of a page."""
     if not is_web_address(text):
         reason = "it has to be the address of a page, as https://example.org/vote/, without a part after #"
-        raise Fault("--at", reason, "write it as the browser shows it", Status.BAD_WORDS, "nothing was changed")
+        raise Fault("--at", reason, "write it as the browser shows it", Status.BAD_WORDS)
 
 
 def is_web_address(text: str) -> bool:

@@ -1,36 +1,14 @@
-"""The page of the call. It can be read without scripts, and its one script makes the line of a ballot."""
+"""The page of the call, and what its script says."""
 
 from debvote_tools import pages
-from debvote_tools.call import words
-from debvote_tools.call.data import CallData
-from debvote_tools.call.words import PACKAGE, CallWords
-from debvote_tools.rendering import InHtml, attribute_json, render_page
+from debvote_tools.call.data import OPTION, SUBJECT, CallData
+from debvote_tools.rendering import render_page
 from debvote_tools.sentences import marked
 
-# a longer roll stands in the poll alone
-NAMES_LIMIT = 2_000
-
-FILE = "poll.toml"
-
-FORM = {
-    "your_name": marked("Your name, as it is on the roll"),
-    "a_rank": marked("A rank for each option"),
-    "first_preference": marked("1 is your first preference. Options may have equal ranks, or none."),
-    "not_ranked": marked("not ranked"),
-    "meaning": marked("What your ballot says"),
-    "the_line": marked("The line that you send"),
-    "long": marked(
-        "This line is long, and a mail program may break it.\nLook at the letter before you send it: it has to be one line."
-    ),
-    "copy_line": marked("Copy the line"),
-    "write_letter": marked("Write a letter with it"),
-    "sends_nothing": marked("This page sends nothing by itself."),
-}
-
-# what the script says; a word in braces is a place
+# a word in braces is a place
 SENTENCES = {
-    "option": words.OPTION,
-    "subject": words.SUBJECT,
+    "option": OPTION,
+    "subject": SUBJECT,
     "type_name": marked("Type your name as it is on the roll."),
     "code_typed": marked("This looks like a code. Type the name that is beside it, and send the code to nobody."),
     "spaces": marked("Spaces before or after the name are left out."),
@@ -59,84 +37,16 @@ SENTENCES = {
     "copied": marked("The line is copied."),
 }
 
-# in place of these, where the slip of an elector has the name or the code
-FORM_IN_SECRET = {"your_name": marked("Your name, as it is on the slip with your code")}
-SENTENCES_IN_SECRET = {"type_name": marked("Type your name as it is on the slip with your code.")}
-FORM_WITH_CODES = {"your_name": marked("Your code, as it is on your slip")}
-SENTENCES_WITH_CODES = {"type_name": marked("Type your code as it is on your slip.")}
-
-WHOSE = marked("About {option}, in the words of those who publish this page. The program has not checked them:")
+# in its place, where the slip of an elector has the name or the code
+TYPE_NAME_IN_SECRET = marked("Type your name as it is on the slip with your code.")
+TYPE_CODE = marked("Type your code as it is on your slip.")
 
 
-def call_page(data: CallData) -> bytes:
+def call_page(call: CallData) -> bytes:
     """The page of a call."""
-    speaker = InHtml(data.language)
-    said = CallWords(data, speaker)
-    options = range(1, data.default + 1)
-    return render_page(
-        PACKAGE,
-        "page.html",
-        data.language,
-        style=pages.FIELDS_STYLE + pages.GIVEN_STYLE + pages.resource(PACKAGE, "ballot.css"),
-        script=pages.resource(PACKAGE, "ballot.js"),
-        head=speaker.say("Vote: {title}", title=data.poll.name),
-        title=data.poll.name,
-        words=said,
-        headings=said.headings(),
-        until_and_to=said.until_and_to(),
-        options=[
-            {"number": number, "bare_name": data.poll.names[number - 1], "name": said.option(number), "kind": said.kind(number)}
-            for number in options
-        ],
-        explanations=[
-            {"whose": speaker.say(WHOSE, option=said.option(number)), "paragraphs": paragraphs}
-            for number, paragraphs in said.explanations()
-        ],
-        not_ours=speaker.say("Not the words of the program"),
-        **form_values(data, said),
-        **roll_values(data, said),
-        **poll_values(data, said),
-    )
-
-
-def form_values(data: CallData, said: CallWords) -> dict[str, object]:
-    """What the form has, and what its script says and knows."""
-    form, sentences = FORM, SENTENCES
-    if data.is_codes_on_roll:
-        form, sentences = FORM | FORM_WITH_CODES, SENTENCES | SENTENCES_WITH_CODES
-    elif data.is_secret:
-        form, sentences = FORM | FORM_IN_SECRET, SENTENCES | SENTENCES_IN_SECRET
-    return {
-        "form": {name: said.say(text) for name, text in form.items()},
-        "script_words": attribute_json(data.language, sentences),
-        "mail_to": words.mail_to(data),
-        "mark": words.bracketed_mark(data),
-        "is_secret": data.is_secret and not data.is_codes_on_roll,
-        "is_codes_on_roll": data.is_codes_on_roll,
-        "is_signed": data.is_signed,
-    }
-
-
-def roll_values(data: CallData, said: CallWords) -> dict[str, object]:
-    """The names on the roll, with the real names that will be published; of a long roll only where they stand."""
-    is_long = len(data.roll) > NAMES_LIMIT
-    real_names = (data.real_names or {}) if data.names_published else {}
-    return {
-        "names": said.say(words.NAMES),
-        "names_in_poll": said.say(words.NAMES_IN_POLL, file=said.speaker.link(FILE, FILE)) if is_long else "",
-        "roll": [] if is_long else [{"name": name, "who": real_names.get(name, "")} for name in data.roll],
-    }
-
-
-def poll_values(data: CallData, said: CallWords) -> dict[str, object]:
-    """The checksum of the poll, and how it is compared."""
-    has_file = not data.is_codes_on_roll
-    return {
-        "for_example": said.say("For example:"),
-        "poll_words": said.poll(said.say("It lies beside this page.")),
-        "checksum": data.poll.checksum,
-        "yours": said.say(words.YOURS),
-        "file": said.say("The file: {file}", file=said.speaker.link(FILE, FILE)) if has_file else "",
-        "compare_command": words.COMMAND,
-        "never_changes": said.say(words.NEVER_CHANGES),
-    }
+    package, sentences = "debvote_tools.call", SENTENCES
+    if not call.is_open:
+        sentences = SENTENCES | {"type_name": TYPE_CODE if call.is_codes_on_roll else TYPE_NAME_IN_SECRET}
+    style = pages.FIELDS_STYLE + pages.GIVEN_STYLE + pages.resource(package, "ballot.css")
+    script, script_words = pages.resource(package, "ballot.js"), call.language.words(sentences)
+    return render_page(package, "page.html", call.language, style=style, script=script, call=call, script_words=script_words)

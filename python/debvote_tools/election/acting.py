@@ -1,37 +1,63 @@
-"""What comes before each act: that this is the book which this machine knows, and that nobody else writes another."""
+"""What commands ask of the book first: that this machine knows it, that it is whole, and that nobody writes another."""
 
-import argparse
+import dataclasses
 
+from debvote_tools.arguments import flag, option
 from debvote_tools.book.book import Book
+from debvote_tools.console import tell
 from debvote_tools.election.election import Election
 from debvote_tools.faults import Fault, Status
+from debvote_tools.terminal_text import LINE_ENDS, number_of, odd_sign
 
 
-def add_arguments(parser: argparse.ArgumentParser) -> None:
+@dataclasses.dataclass(frozen=True)
+class Arguments:
     """The options of each command that writes an act."""
-    moved = "The election was moved to this computer or folder, or a copy was put back: go on with it; the page tells it"
-    parser.add_argument("--moved", action="store_true", help=moved)
-    parser.add_argument("--because", metavar="TEXT", help="With --moved, --force and the like: the reason, in your words")
+
+    moved: bool = flag(
+        "The election was moved to this computer or folder, or a copy was put back: go on with it; the page tells it"
+    )
+    because: str | None = option("TEXT", "With --moved, --force and the like: the reason, in your words")
 
 
-def acting(election: Election, *, moved: bool, because: str | None) -> Book:
+def book_for_act(election: Election, arguments: Arguments) -> Book:
     """The book for an act. Stops if it is not the one that this machine knows, and where an act would not be safe."""
     book = election.book
     if book.is_read_only:
         cure = "make it writable for you, or copy the folder to where you can write"
-        raise Fault(election.folder, "the folder can't be written", cure, Status.BAD_OUTPUT, "nothing was changed")
+        raise Fault(election.folder, "the folder can't be written", cure, Status.BAD_OUTPUT)
     book.demand_alone()
     book.demand_locks()
-    if moved:
-        book.accept(demand_reason(because, "--moved"))
+    if arguments.moved:
+        book.accept(demand_reason(arguments.because, "--moved"))
     else:
         book.demand_noted(book.note())
     return book
 
 
+def demand_whole(book: Book) -> None:
+    """Stops if the book is not as its acts wrote it."""
+    broken = book.broken_act()
+    if broken is not None:
+        words = f"act {broken} is not as its digest says: somebody has changed the book with another program"
+        cure = "put back a copy from before, as debvote-election backup makes them, and find out who did it"
+        raise Fault(book.path, words, cure)
+
+
+def tell_strangeness(book: Book) -> None:
+    """Says why this may not be the book that this machine worked on last."""
+    why = book.strangeness()
+    if why is not None:
+        tell(f"Note: {book.path}: {why}.")
+
+
 def demand_reason(because: str | None, option: str) -> str:
-    """The reason that an option needs."""
+    """The reason that an option needs: one line of plain text."""
     if because is None or not because.strip():
         cure = 'write it: --because "TEXT"'
-        raise Fault(option, "it needs a reason, which the log keeps", cure, Status.BAD_WORDS, "nothing was changed")
+        raise Fault(option, "it needs a reason, which the log keeps", cure, Status.BAD_WORDS)
+    character = odd_sign(because.strip(), refused=LINE_ENDS)
+    if character is not None:
+        words = f"the text has the character {number_of(character)}, which no plain text has"
+        raise Fault("--because", words, "take it out", Status.BAD_WORDS)
     return because.strip()

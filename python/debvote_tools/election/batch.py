@@ -1,30 +1,35 @@
 """Lines before they are entered: what debvote says of each, and how it goes in."""
 
+import collections
 import dataclasses
 import functools
 import re
 from collections.abc import Sequence
+from typing import NamedTuple
 
 from debvote_tools.debvote import Debvote, Finding
 from debvote_tools.election.election import Election
 from debvote_tools.election.history import History
 from debvote_tools.faults import other_format
+from debvote_tools.files import LINES_LIMIT
 from debvote_tools.lines import Line, ballot_file
+
+# under this name the book has the keys that letters are signed with
+KEYRING = "keyring"
 
 # what debvote adds to a finding if names on the roll are near
 OFFER = re.compile(r"; did you mean (.+)\?\Z")
 
 
-@dataclasses.dataclass(frozen=True, slots=True)
-class BatchLine:
+class BatchLine(NamedTuple):
     """A line that came, how it is entered, and what debvote says of it, whenever it comes."""
 
-    came: Line
+    line: Line
     # with the changes that are allowed if debvote takes it so, and otherwise without them
     as_entered: bytes
-    # why debvote refuses the line as it is entered, and why it refuses the changed one; None if it is a ballot
+    # why debvote refuses the line as it is entered, and why it refuses the repaired one; None if it is a ballot
     finding: Finding | None = None
-    finding_of_changed: Finding | None = None
+    finding_of_repaired: Finding | None = None
     # names on the roll that fit as well as the one that debvote offers
     other_names: tuple[str, ...] = ()
 
@@ -73,17 +78,23 @@ class Vote:
         The lines are the only input, so what is said of one depends on no other. If the changed line is refused, the line goes in as it
         came, and is refused too, since the changes leave a right line as it is; the reason may be another one.
         """
-        of_changed = self.findings([line.changed for line in lines])
-        indices = [index for index in of_changed if lines[index].bare != lines[index].changed]
-        of_bare = self.findings([lines[index].bare for index in indices])
-        of_entered = of_changed | {indices[at]: finding for at, finding in of_bare.items()}
-        read = [
-            BatchLine(line, line.bare if index in of_changed else line.changed, of_entered.get(index), of_changed.get(index))
-            for index, line in enumerate(lines)
-        ]
-        for index in of_changed:
-            read[index] = self.with_other_names(read[index])
+        of_repaired = self.findings([line.repaired for line in lines])
+        indices = [index for index in of_repaired if lines[index].unframed != lines[index].repaired]
+        of_unframed = self.findings([lines[index].unframed for index in indices])
+        of_entered = of_repaired | {indices[at]: finding for at, finding in of_unframed.items()}
+        read = [BatchLine(line, line.repaired) for line in lines]
+        for index, finding in of_repaired.items():
+            line, entered = lines[index], of_entered.get(index)
+            read[index] = BatchLine(line, line.unframed, entered, finding, self.other_names(entered))
         return read
+
+    def answers(self, lines: Sequence[bytes]) -> dict[bytes, str | None]:
+        """What debvote says of each line, as `bad rank count: ..`; None of a valid ballot. It is asked about so many at once as it takes."""
+        answers: dict[bytes, str | None] = dict.fromkeys(lines)
+        for start in range(0, len(lines), LINES_LIMIT):
+            part = lines[start : start + LINES_LIMIT]
+            answers |= {part[index]: f"{finding.word}: {finding.hint}" for index, finding in self.findings(part).items()}
+        return answers
 
     def findings(self, lines: Sequence[bytes]) -> dict[int, Finding]:
         """Why debvote refuses some of these lines, by their index. Without lines it is not asked."""
@@ -96,20 +107,17 @@ class Vote:
         """A finding that offers no name if the roll has codes."""
         return dataclasses.replace(finding, hint=OFFER.sub("", finding.hint)) if self.has_codes else finding
 
-    def with_other_names(self, line: BatchLine) -> BatchLine:
-        """The line with all names that fit as well as the one that debvote offers, as `anna-meier-2` beside `anna-meier`."""
-        offer = OFFER.search(line.finding.hint) if line.finding else None
-        if offer is None:
-            return line
-        others = (name for name in self.names_by_bare_name.get(bare_name(offer[1]), []) if name != offer[1])
-        return dataclasses.replace(line, other_names=tuple(others))
+    def other_names(self, finding: Finding | None) -> tuple[str, ...]:
+        """All names that fit as well as the one that debvote offers, as `anna-meier-2` beside `anna-meier`."""
+        offer = OFFER.search(finding.hint) if finding else None
+        return () if offer is None else tuple(name for name in self.names_by_bare_name[bare_name(offer[1])] if name != offer[1])
 
     @functools.cached_property
     def names_by_bare_name(self) -> dict[str, list[str]]:
-        """The names of the roll without their number."""
-        by_bare_name: dict[str, list[str]] = {}
+        """The names of the roll by what they are without their number."""
+        by_bare_name: dict[str, list[str]] = collections.defaultdict(list)
         for name in self.roll:
-            by_bare_name.setdefault(bare_name(name), []).append(name)
+            by_bare_name[bare_name(name)].append(name)
         return by_bare_name
 
     # ------------------------------------------------------------ lines that are in the book

@@ -5,8 +5,8 @@ import re
 from collections.abc import Iterable, Iterator, Sequence
 
 from debvote_tools.ballots import ranks_in_words
-from debvote_tools.debvote import Finding
 from debvote_tools.election.batch import BatchLine, Vote
+from debvote_tools.election.entering import LATE
 from debvote_tools.election.reporting import count_of
 from debvote_tools.language import ENGLISH
 from debvote_tools.lines import Line, differences
@@ -15,8 +15,6 @@ from debvote_tools.terminal_text import shown_line
 # what a code and an alias look like
 CODE = re.compile(rb"(?<![0-9a-f])[0-9a-f]{32}(?![0-9a-f])")
 IS_CODE = " (it has 32 digits, as codes and aliases have: a ballot has the elector's name alone, and a code is shown to nobody)"
-
-LATE = "late"
 
 
 class LineWords:
@@ -31,14 +29,16 @@ class LineWords:
         self, lines: Sequence[BatchLine], numbers: Iterable[int], replies: Sequence[str], *, is_entered: bool
     ) -> Iterator[str]:
         """What is printed about lines that were entered, or that would be."""
-        yield from frame_words([line.came for line in lines])
+        yield from frame_words(line.line for line in lines)
         for number, reply, line in zip(numbers, replies, lines):
-            if line.came.whole != line.as_entered:
+            if line.line.came != line.as_entered:
                 yield from change_words(line)
-            yield f"{number} {reply}  {self.of(line, reply)}"
-            if not line.is_ballot:
+            if line.finding is None:
+                yield f"{number} {reply}  {self.ballot(line.as_entered.decode('ascii'))}"
+            else:
+                yield f"{number} {reply}  {self.of(line, reply)}"
                 yield from cause_words(line, is_entered=is_entered)
-        if not all(line.is_ballot for line in lines):
+        if not all(line.finding is None for line in lines):
             yield self.right_words()
         if LATE in replies:
             yield f"{count_of(replies.count(LATE), 'line')} came after the close, and late ones count for nothing."
@@ -46,9 +46,14 @@ class LineWords:
     def of(self, line: BatchLine, reply: str = "") -> str:
         """A ballot in words, or the line and why debvote refuses it."""
         if line.finding is None:
-            return f"{line.voter}: {self.ranks(line.ranks)}"
+            return self.ballot(line.as_entered.decode("ascii"))
         word = "" if line.finding.word == reply else f"{line.finding.word}: "
         return f"{shown_line(line.as_entered)}: {word}{line.finding.hint}{self.more(line)}"
+
+    def ballot(self, ballot: str) -> str:
+        """A valid ballot in words."""
+        voter, _, ranks = ballot.partition(" ")
+        return f"{voter}: {self.ranks(ranks)}"
 
     def ranks(self, ranks: str) -> str:
         """The ranks of a ballot in words."""
@@ -59,7 +64,7 @@ class LineWords:
     def more(self, line: BatchLine) -> str:
         """All other names that fit if debvote offers one, so that nobody takes one elector for another; and that a line has a code."""
         others = f" (or {ENGLISH.joined(list(line.other_names))})" if line.other_names else ""
-        return others if self.vote.has_codes or not CODE.search(line.came.changed) else others + IS_CODE
+        return others if self.vote.has_codes or not CODE.search(line.line.repaired) else others + IS_CODE
 
     def right_words(self) -> str:
         """What a right line looks like."""
@@ -72,11 +77,11 @@ def frame_words(lines: Iterable[Line]) -> Iterator[str]:
     """The byte-order marks and the line ends of Windows that were removed, once a file."""
     by_source: dict[str, list[Line]] = {}
     for line in lines:
-        if line.whole != line.changed:
+        if line.came != line.repaired:
             by_source.setdefault(line.source, []).append(line)
-    for name, changed_lines in by_source.items():
-        return_count = sum(line.had_return for line in changed_lines)
-        if any(line.had_mark for line in changed_lines):
+    for name, repaired_lines in by_source.items():
+        return_count = sum(line.had_return for line in repaired_lines)
+        if any(line.had_mark for line in repaired_lines):
             yield f"{name}: it begins with a mark that Windows writes (byte-order mark); it was taken off"
         if return_count:
             verb, they = ("ends", "it") if return_count == 1 else ("end", "them")
@@ -85,34 +90,26 @@ def frame_words(lines: Iterable[Line]) -> Iterator[str]:
 
 def change_words(line: BatchLine) -> Iterator[str]:
     """What was changed of a line, before and after."""
-    before = line.came.without_frame
+    before = line.line.without_frame
     if before != line.as_entered:
         how = ", ".join(differences(before, line.as_entered))
-        yield f"{line.came.where}: `{shown_line(before)}` was changed to `{shown_line(line.as_entered)}` ({how})"
+        yield f"{line.line.where}: `{shown_line(before)}` was changed to `{shown_line(line.as_entered)}` ({how})"
 
 
 def cause_words(line: BatchLine, *, is_entered: bool) -> Iterator[str]:
-    """Why debvote refuses the changed line too, if that is another reason."""
-    other = other_cause(line)
-    if other is not None:
-        why = f"{other.word}: {other.hint}"
+    """Why debvote refuses the repaired line too, if that is another reason."""
+    finding, other = line.finding, line.finding_of_repaired
+    if finding and other and (other.word, other.hint) != (finding.word, finding.hint):
         goes = "it went in" if is_entered else "it would go in"
-        yield f"  {goes} as it came; written as `{shown_line(line.came.changed)}` it is refused too: {why}"
+        written = f"written as `{shown_line(line.line.repaired)}` it is refused too"
+        yield f"  {goes} as it came; {written}: {other.word}: {other.hint}"
 
 
 def would_words(line: BatchLine) -> str:
     """A line that is not entered yet, and the one reason that stays after the changes that are allowed."""
-    finding = line.finding_of_changed
+    finding = line.finding_of_repaired
     why = "" if finding is None else f": {finding.word}: {finding.hint}"
     return f"{shown_line(line.as_entered)}{why}"
-
-
-def other_cause(line: BatchLine) -> Finding | None:
-    """Why debvote refuses the changed line; None if it does not, or for the same reason as the line as it came."""
-    finding, other = line.finding, line.finding_of_changed
-    if finding is None or other is None or (other.word, other.hint) == (finding.word, finding.hint):
-        return None
-    return other
 
 
 def summary(replies: Sequence[str]) -> str:

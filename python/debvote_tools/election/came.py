@@ -11,7 +11,7 @@ from collections.abc import Mapping, Sequence
 from debvote_tools.console import tell
 from debvote_tools.election.election import Election
 from debvote_tools.faults import Fault, Status, stop_at
-from debvote_tools.file_kinds import Kind, kind_of
+from debvote_tools.file_kinds import PACKED, PDF, kind_of
 from debvote_tools.files import BALLOTS_LIMIT
 from debvote_tools.letters.sources import NotRead, are_letters, kind_not_read
 from debvote_tools.sealed_poll import REQUIRED
@@ -24,9 +24,9 @@ NOTHING_ADDED = "nothing was added"
 UTF_16 = (codecs.BOM_UTF16_LE, codecs.BOM_UTF16_BE)
 
 # what is done with a file that may have letters in it
-CURES: dict[Kind | None, str] = {
-    Kind.PACKED: "save it as plain text in UTF-8; if letters are packed in it, unpack it, and add the folder",
-    Kind.PDF: "save it as plain text in UTF-8; if it shows letters, save the letters themselves (.eml, or a folder of them)",
+CURES = {
+    PACKED: "save it as plain text in UTF-8; if letters are packed in it, unpack it, and add the folder",
+    PDF: "save it as plain text in UTF-8; if it shows letters, save the letters themselves (.eml, or a folder of them)",
 }
 
 POLL_KEY = re.compile(rb"(?m)^[ \t]*\"?(%b)\"?[ \t]*=" % "|".join(REQUIRED).encode())
@@ -124,12 +124,11 @@ def demand_lines(file: CameFile, *, is_table: bool) -> None:
     if len(file.data) > BALLOTS_LIMIT:
         words = f"it is longer than {BALLOTS_LIMIT} bytes, which debvote takes at most"
         raise Fault(file.name, words, "add it in parts", Status.BAD_BALLOTS, NOTHING_ADDED)
-    kind = kind_of(file.data)
-    what = None if kind is None else kind.value
+    what = kind_of(file.data)
     if not is_table and file.data.startswith(UTF_16):
         what = "a text in UTF-16"
     if what is not None:
-        cure = "save it as CSV" if is_table else CURES.get(kind, "save it as plain text in UTF-8")
+        cure = "save it as CSV" if is_table else CURES.get(what, "save it as plain text in UTF-8")
         raise Fault(file.name, f"it is {what}", cure, Status.BAD_BALLOTS, NOTHING_ADDED)
     if len({key[1] for key in POLL_KEY.finditer(file.data)}) > 1:
         words = "it reads as a poll, and not as ballots"

@@ -1,4 +1,4 @@
-"""What came before: the lines of a file that came in an earlier one, which are passed over.
+"""The lines of a file that came in an earlier one, which are passed over.
 
 A line is known as it is entered. The k-th of equal lines in a file came before if k of them came in earlier files that no `undo` took
 back: counted, refused, struck or late. So a form that is exported again with more rows adds the new ones.
@@ -9,7 +9,7 @@ from collections.abc import Iterable, Sequence
 
 from debvote_tools.book import entered
 from debvote_tools.book.book import Book
-from debvote_tools.book.entered import Came
+from debvote_tools.book.entered import EnvelopeOfFile
 from debvote_tools.election.batch import BatchLine
 
 
@@ -26,29 +26,35 @@ class NewAndRepeated:
     """The lines of a file: those that go in, and those that came before, in the order in which they stand."""
 
     new: tuple[BatchLine, ...]
-    repeated: tuple[Repeated, ...]
+    repeated: tuple[Repeated, ...] = ()
+    # the envelopes of lines that go in again: from then on such a line is known by its new envelope
+    again: tuple[int, ...] = ()
 
 
 def sorted_out(book: Book, files: Sequence[Sequence[BatchLine]], *, takes_again: bool, is_reopened: bool) -> list[NewAndRepeated]:
     """The lines of each file. A file that goes in counts as an earlier one of those after it."""
     counts = entered.lines_that_came(book)
     if len(files) == 1 and not any(line.as_entered in counts for line in files[0]):
-        return [NewAndRepeated(tuple(files[0]), ())]
+        return [NewAndRepeated(tuple(files[0]))]
     kth = [list(with_occurrence(lines)) for lines in files]
     earlier = Earlier(book, (pair for lines in kth for pair in lines), is_reopened=is_reopened)
     found = []
     for lines in kth:
-        new, repeated = [], []
+        new, repeated, again, came_first = [], [], [], []
         for number, line in lines:
             is_new = number > counts[line.as_entered]
             change = None if is_new else earlier.change_since(number, line)
-            if is_new or (takes_again and change is not None):
+            if is_new:
                 new.append(line)
+                came_first.append(line.as_entered)
+            elif takes_again and change is not None:
+                new.append(line)
+                again.append(earlier.by_line[line.as_entered][number - 1].number)
             else:
                 repeated.append(Repeated(line, change))
-        counts.update(line.as_entered for line in new)
+        counts.update(came_first)
         earlier.going_in.update(line.as_entered for line in new)
-        found.append(NewAndRepeated(tuple(new), tuple(repeated)))
+        found.append(NewAndRepeated(tuple(new), tuple(repeated), tuple(again)))
     return found
 
 
@@ -65,7 +71,6 @@ class Earlier:
 
     def __init__(self, book: Book, lines: Iterable[tuple[int, BatchLine]], *, is_reopened: bool) -> None:
         self.is_reopened = is_reopened
-        # a line that was struck and taken again is known by its new envelope
         self.by_line = entered.came_in_files(book)
         # the lines of the files before, which go in together with these
         self.going_in: set[bytes] = set()
@@ -74,7 +79,7 @@ class Earlier:
         matched = (self.envelope(number, line) for number, line in lines)
         self.matched = {envelope.number for envelope in matched if envelope is not None}
 
-    def envelope(self, number: int, line: BatchLine) -> Came | None:
+    def envelope(self, number: int, line: BatchLine) -> EnvelopeOfFile | None:
         """The envelope of a line that came before; None if it comes first now."""
         envelopes = self.by_line.get(line.as_entered, [])
         return envelopes[number - 1] if number <= len(envelopes) else None

@@ -7,7 +7,7 @@ import signal
 import sys
 from collections.abc import Sequence
 
-from debvote_tools import console
+from debvote_tools import arguments, console
 from debvote_tools.book.book import Overtaken
 from debvote_tools.election.election import Election
 from debvote_tools.faults import Fault, Several, Status
@@ -15,7 +15,7 @@ from debvote_tools.files import Written
 
 PROGRAM = "debvote-election"
 
-# the modules of the commands, in the order in which an election needs them; each has `HELP`, `add_arguments` and `run`
+# the modules of the commands, in the order in which an election needs them; each has `HELP`, `Arguments` and `run`
 COMMANDS = (
     *("new", "roll", "check", "codes", "call", "add", "held", "undo", "strike", "desk", "letters", "show", "status"),
     *("close", "reopen", "count", "publish", "log", "export", "backup"),
@@ -52,8 +52,8 @@ def parser(words: Sequence[str] = COMMANDS) -> argparse.ArgumentParser:
             continue
         module = importlib.import_module(f"debvote_tools.election.commands.{name}")
         command = commands.add_parser(name, help=module.HELP, description=f"{module.HELP}.", allow_abbrev=False, parents=[folder])
-        module.add_arguments(command)
-        command.set_defaults(run=module.run)
+        arguments.add_arguments(command, module.Arguments)
+        command.set_defaults(run=module.run, arguments=module.Arguments)
     return top
 
 
@@ -68,9 +68,9 @@ def main(program_folder: pathlib.Path, words: Sequence[str] | None = None) -> in
     namespace = parser(words).parse_args(words)
     signal.signal(signal.SIGINT, signal.default_int_handler)
     try:
-        election = Election(pathlib.Path(getattr(namespace, "folder", ".")), program_folder)
-        status: int = namespace.run(election, namespace)
-        return status
+        folder = getattr(namespace, "folder", None)
+        election = Election(None if folder is None else pathlib.Path(folder), program_folder)
+        return int(namespace.run(election, arguments.arguments_of(namespace.arguments, namespace)))
     except console.OutputFailed as fault:
         # a command that changes nothing ends quietly if nobody reads on
         is_quiet = fault.is_closed_pipe and namespace.command in QUIET

@@ -7,10 +7,9 @@ from collections.abc import Collection, Sequence
 
 from debvote_tools.ballots import UNRANKED
 from debvote_tools.election.csv_tables import BadTable, Row, Table, head_form, read_table
+from debvote_tools.election.came import NOTHING_ADDED
 from debvote_tools.faults import Fault, Status
-from debvote_tools.lines import BLANKS, Line, lines_in
-
-NOTHING_ADDED = "nothing was added"
+from debvote_tools.lines import BLANKS, Line
 
 
 @dataclasses.dataclass(frozen=True)
@@ -25,17 +24,6 @@ class Columns:
     @property
     def heads(self) -> list[str]:
         return [self.name, *self.ranks]
-
-
-@dataclasses.dataclass(frozen=True)
-class LineReader:
-    """How the lines of a file are read: as they are or, of a table, from these columns of its rows."""
-
-    columns: Columns | None
-
-    def lines_in(self, data: bytes, file_name: str) -> list[Line]:
-        """The lines of a file, which messages call by this name."""
-        return lines_in(data, file_name) if self.columns is None else lines_of_table(data, file_name, self.columns)
 
 
 def columns_of(name: str, ranks: str, options: Sequence[str], roll: Collection[str], *, is_blank_unranked: bool = False) -> Columns:

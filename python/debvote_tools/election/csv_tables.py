@@ -1,13 +1,19 @@
 """Tables as spreadsheets save them: CSV with a comma, semicolon or tab, in UTF-8 or UTF-16."""
 
+import codecs
 import csv
 import dataclasses
 import io
 import re
 from collections.abc import Collection
 
-from debvote_tools.file_kinds import DELIMITERS, MARKS, kind_of, mark_of
+from debvote_tools.file_kinds import kind_of
 from debvote_tools.terminal_text import shown_text
+
+DELIMITERS = {",": "comma", ";": "semicolon", "\t": "tab"}
+
+# the mark that a text begins with, and how it is written
+MARKS = {codecs.BOM_UTF8: "utf-8", codecs.BOM_UTF16_LE: "utf-16-le", codecs.BOM_UTF16_BE: "utf-16-be"}
 
 # longer than a file that is read, so that a cell has no limit of its own
 CELL_LIMIT = 67_108_864
@@ -52,7 +58,6 @@ class Row:
 class Table:
     """The rows below the head line, blank ones too, and the heads in a form to be compared."""
 
-    delimiter: str
     head: Row
     rows: list[Row]
 
@@ -93,15 +98,15 @@ def read_table(data: bytes, wanted_heads: Collection[str], *, skips_spaces: bool
     head = next((row for row in rows if not row.is_blank), None)
     if head is None:
         raise BadTable("it is empty", "write the head line, and a line for each row")
-    return Table(delimiter, head, rows[head.number :])
+    return Table(head, rows[head.number :])
 
 
 def text_of(data: bytes) -> str:
     """The text of a file, by its mark; without one it is in UTF-8."""
     kind = kind_of(data)
     if kind is not None:
-        raise BadTable(f"it is {kind.value}, and no CSV", f"open it in the spreadsheet and {SAVE_AS}")
-    mark = mark_of(data)
+        raise BadTable(f"it is {kind}, and no CSV", f"open it in the spreadsheet and {SAVE_AS}")
+    mark = next((mark for mark in MARKS if data.startswith(mark)), b"")
     encoding = MARKS.get(mark, "utf-8")
     data = data.removeprefix(mark)
     if encoding == "utf-8" and b"\0" in data:

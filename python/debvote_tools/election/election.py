@@ -26,8 +26,7 @@ OF_VERSION_1 = ("journal", "ballots", "received")
 
 @dataclasses.dataclass(frozen=True)
 class Sealed:
-    """The poll as it was called: what everybody sees, and what the ballots are counted by. Both differ if ballots are published under
-    aliases."""
+    """The poll as it was called: what everybody sees, and what ballots are counted by. They differ if the public sees aliases."""
 
     public: SealedPoll
     counted: SealedPoll
@@ -40,10 +39,9 @@ class Sealed:
 class Election:
     """An election in a folder. What it says of the book is read anew each time, since others may work on it."""
 
-    def __init__(self, folder: pathlib.Path, program_folder: pathlib.Path | None) -> None:
-        self.folder, self.program_folder = folder, program_folder
-        # how a user names the folder in a command
-        self.folder_words = [] if folder == pathlib.Path() else ["--folder", str(folder)]
+    def __init__(self, folder: pathlib.Path | None, program_folder: pathlib.Path | None) -> None:
+        """Without a folder, the one in which the command is run."""
+        self.is_named, self.folder, self.program_folder = folder is not None, folder or pathlib.Path(), program_folder
 
     def path(self, name: str) -> pathlib.Path:
         """Where a file or folder of the election is."""
@@ -68,16 +66,16 @@ class Election:
 
     def history(self) -> History:
         """The acts as they are now."""
-        return History.of(self.book.acts())
+        return History(self.book.acts())
 
     def sealed(self) -> Sealed:
         """The poll as it was called. Stops before the call."""
         call = self.history().call
         if call is None:
             raise self.not_called()
-        polls = {name: queries.sealed_at(self.book, name, call.number) for name in (POLL, POLL_WITH_NAMES)}
-        public = read_plain(polls[POLL] or b"")
-        return Sealed(public, read_plain(polls[POLL_WITH_NAMES] or polls[POLL] or b""))
+        public = queries.sealed_at(self.book, POLL, call.number) or b""
+        counted = queries.sealed_at(self.book, POLL_WITH_NAMES, call.number) or public
+        return Sealed(read_plain(public), read_plain(counted))
 
     def demand_private(self, target: pathlib.Path) -> None:
         """Stops if what is written there would be in a folder for electors or the web site."""
@@ -89,23 +87,24 @@ class Election:
 
     def not_called(self) -> Fault:
         """The fault of a command that comes after the call."""
-        return Fault(
-            None, "the election is not called yet", f"run {self.command('call')} first", Status.DOUBT, "nothing was changed"
-        )
+        return Fault(None, "the election is not called yet", f"run {self.command('call')} first")
 
     def command(self, *words: str) -> str:
         """A command on this election, as a user types it."""
-        return shlex.join(["debvote-election", *words[:1], *self.folder_words, *words[1:]])
+        folder = [] if self.folder == pathlib.Path() else ["--folder", str(self.folder)]
+        return shlex.join(["debvote-election", *words[:1], *folder, *words[1:]])
 
 
 def no_book(folder: pathlib.Path) -> Fault:
     """The fault of a folder without a book: what it is instead, as far as that can be seen."""
     if not folder.is_dir():
-        return Fault(folder, "there is no such folder", "name the folder of the election with --folder", Status.BAD_WORDS)
-    if (folder.absolute().parent / NAME).is_file() and folder.absolute().name in (CALL, LETTERS, RESULT, PRIVATE, TEXTS):
-        return Fault(folder, "the election is one folder up", "go there with cd .., then run the command again", Status.BAD_WORDS)
-    if any(os.path.lexists(folder / name) for name in OF_VERSION_1):
+        words, cure = "there is no such folder", "name the folder of the election with --folder"
+    elif (folder.absolute().parent / NAME).is_file() and folder.absolute().name in (CALL, LETTERS, RESULT, PRIVATE, TEXTS):
+        words, cure = "the election is one folder up", "go there with cd .., then run the command again"
+    elif any(os.path.lexists(folder / name) for name in OF_VERSION_1):
         words = "it is an election of debvote-election 1.x, and is finished with 1.x"
-        return Fault(folder, words, "install the version that began it, or begin anew in another folder", Status.BAD_WORDS)
-    words = f"there is no {NAME} in it, so it is no election"
-    return Fault(folder, words, "go to the folder of the election, or name it with --folder; new makes one", Status.BAD_WORDS)
+        cure = "install the version that began it, or begin anew in another folder"
+    else:
+        words = f"there is no {NAME} in it, so it is no election"
+        cure = "go to the folder of the election, or name it with --folder; new makes one"
+    return Fault(folder, words, cure, Status.BAD_WORDS, None)

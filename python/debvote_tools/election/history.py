@@ -3,8 +3,7 @@
 import dataclasses
 import datetime
 import enum
-import itertools
-from collections.abc import Iterable
+from collections.abc import Sequence
 from typing import Any
 
 from debvote_tools.book.book import DoneAct, from_text
@@ -23,14 +22,9 @@ class Stage(enum.StrEnum):
 class History:
     """The acts of a book, in their order."""
 
-    acts: tuple[DoneAct, ...]
-
-    @classmethod
-    def of(cls, acts: Iterable[DoneAct]) -> "History":
-        return cls(tuple(acts))
+    acts: Sequence[DoneAct]
 
     def named(self, *names: str) -> list[DoneAct]:
-        """The acts of these names."""
         return [act for act in self.acts if act.name in names]
 
     def since_call(self, *names: str) -> list[DoneAct]:
@@ -41,11 +35,6 @@ class History:
     @property
     def last(self) -> DoneAct:
         return self.acts[-1]
-
-    @property
-    def clock_went_back(self) -> list[DoneAct]:
-        """The acts with an earlier time than the act before them."""
-        return [after for before, after in itertools.pairwise(self.acts) if after.time < before.time]
 
     # ------------------------------------------------------------ the call
     @property
@@ -62,14 +51,15 @@ class History:
         return next(said, None)
 
     @property
-    def ends(self) -> list[datetime.datetime]:
-        """The times until which one could vote, as they were announced one after the other; the last one holds."""
-        return [from_text(act.detail["until"]) for act in self.since_call("call", "extend") if act.detail.get("until")]
+    def has_codes_on_roll(self) -> bool:
+        """Whether codes are on the roll in place of names."""
+        return any(act.detail.get("on_roll") for act in self.named("codes"))
 
     @property
     def until(self) -> datetime.datetime | None:
         """Until when one can vote, with the offset in which it was announced; None if no time was."""
-        return self.ends[-1] if self.ends else None
+        until = self.announced("until")
+        return None if until is None else from_text(until)
 
     # ------------------------------------------------------------ the close
     @property

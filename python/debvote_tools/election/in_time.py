@@ -4,16 +4,24 @@ import dataclasses
 import datetime
 
 from debvote_tools import times
-from debvote_tools.console import YES_OR_NO, is_terminal, is_yes
+from debvote_tools.arguments import option
+from debvote_tools.console import is_terminal, is_yes
+from debvote_tools.election import acting
 from debvote_tools.election.election import Election
 from debvote_tools.election.history import History
 from debvote_tools.election.reporting import act_time
 from debvote_tools.faults import Fault, Status
 
-# the option that answers the question below
 OPTION = "--came-before-close"
-ANSWERS = ("yes", "no")
-HELP = "After reopen: whether what is entered came before the first close; at a terminal it is asked"
+
+
+@dataclasses.dataclass(frozen=True)
+class Arguments(acting.Arguments):
+    """The options of a command that enters lines."""
+
+    came_before_close: str | None = option(
+        None, "After reopen: whether what is entered came before the first close; at a terminal it is asked", choices=("yes", "no")
+    )
 
 
 @dataclasses.dataclass(frozen=True)
@@ -57,14 +65,14 @@ def notes(election: Election, openness: Openness, what: str, now: datetime.datet
     return []
 
 
-def came_before_close(openness: Openness, answer: str | None, done: str) -> bool | None:
+def came_before_close(openness: Openness, answer: str | None, not_done: str) -> bool | None:
     """Whether what is entered came before the first close, by the option or by an answer at a terminal. None if that does not matter.
 
-    `done` says what has not been done if it stops here.
+    `not_done` says what has not been done if it stops here.
     """
     if not openness.is_reopened:
         if answer is not None and not openness.is_closed:
-            raise Fault(OPTION, "the vote was never closed", "leave it out", Status.BAD_WORDS, done)
+            raise Fault(OPTION, "the vote was never closed", "leave it out", Status.BAD_WORDS, not_done)
         return None
     if answer is not None:
         return answer == "yes"
@@ -72,8 +80,8 @@ def came_before_close(openness: Openness, answer: str | None, done: str) -> bool
     closed = f"vote was closed at {act_time(openness.first_close)} and opened again"
     if not is_terminal():
         cure = f"say whether this came before that close: {OPTION} yes, or {OPTION} no, and then it is late"
-        raise Fault(OPTION, f"the {closed}, and only what came before counts", cure, Status.DOUBT, done)
-    said = is_yes(f"The {closed}. Did this come before that close?", YES_OR_NO)
+        raise Fault(OPTION, f"the {closed}, and only what came before counts", cure, Status.DOUBT, not_done)
+    said = is_yes(f"The {closed}. Did this come before that close?")
     if said is None:
-        raise Fault(None, "nobody said whether it came before the close", "run the command again", Status.DOUBT, done)
+        raise Fault(None, "nobody said whether it came before the close", "run the command again", Status.DOUBT, not_done)
     return said

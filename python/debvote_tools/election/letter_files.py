@@ -6,35 +6,39 @@ import pathlib
 import shutil
 from collections.abc import Iterator, Mapping
 
-from debvote_tools.files import TEMPORARY, sync_folder, temporary_folder
-from debvote_tools.letters_out.message import Envelope, message_of, one_line
-from debvote_tools.election.letters_due import Plan
-from debvote_tools.letters_out.printing import PrintedLetter, printed_page
+from debvote_tools import pages
 from debvote_tools.book.sent import TAKEN, SentLetter
+from debvote_tools.election.letters_due import LettersDue
+from debvote_tools.files import TEMPORARY, sync_folder, temporary_folder
+from debvote_tools.letters_out.compose import PACKAGE
+from debvote_tools.letters_out.message import message_of, one_line
+from debvote_tools.rendering import render_page
 
 TO_PRINT = "to-print.html"
 
 
-def message(plan: Plan, letter: SentLetter, sender: str, *, is_draft: bool) -> bytes:
+def message(due: LettersDue, letter: SentLetter, *, is_draft: bool) -> bytes:
     """The bytes of a letter. An answer with a ballot goes to the address of the call."""
-    subject = plan.vote.subject(plan.kind)
-    envelope = Envelope(sender, plan.vote.call.to or "", letter.address, subject, letter.message_id, letter.time)
-    return message_of(envelope, plan.text_of(letter), is_draft=is_draft)
+    subject = due.composer.subject(due.kind)
+    return message_of(
+        letter, due.text(letter), sender=due.sender, reply_to=due.composer.call.to, subject=subject, is_draft=is_draft
+    )
 
 
-def letter_files(plan: Plan, sender: str, *, is_sending: bool) -> dict[str, bytes]:
+def letter_files(due: LettersDue) -> dict[str, bytes]:
     """The files by their names. Letters that are sent, or that a server has taken, have none."""
-    letters = [*plan.written, *plan.new]
     files: dict[str, bytes] = {}
-    for letter in letters if not is_sending else []:
-        if letter.address and letter.state != TAKEN:
-            name = plan.name(letter)
-            name = name if f"{name}.eml" not in files else f"{name}-{len(files)}"
-            files[f"{name}.eml"] = message(plan, letter, sender, is_draft=True)
-    printed = [letter for letter in letters if not letter.address]
+    printed = []
+    for letter in (*due.written, *due.new):
+        elector = due.elector(letter)
+        if not letter.address:
+            printed.append((one_line(elector.who) or elector.name, due.text(letter)))
+        elif not due.is_sending and letter.state != TAKEN:
+            name = f"{elector.name}.eml" if f"{elector.name}.eml" not in files else f"{elector.name}-{len(files)}.eml"
+            files[name] = message(due, letter, is_draft=True)
     if printed:
-        pages = [PrintedLetter(one_line(plan.electors[one.elector].who) or plan.name(one), plan.text_of(one)) for one in printed]
-        files[TO_PRINT] = printed_page(plan.vote.language, plan.vote.call.poll.name, pages)
+        call, style = due.composer.call, pages.resource(PACKAGE, "letter.css")
+        files[TO_PRINT] = render_page(PACKAGE, "print.html", call.language, style=style, title=call.poll.name, letters=printed)
     return files
 
 

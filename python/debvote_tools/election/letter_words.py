@@ -3,8 +3,8 @@
 import datetime
 from collections.abc import Iterator, Sequence
 
-from debvote_tools.ballots import ranks_in_words
-from debvote_tools.election.batch_words import IS_CODE
+from debvote_tools.election.batch_words import IS_CODE, LineWords
+from debvote_tools.election.entering import Entered
 from debvote_tools.election.letters_in import LetterNow
 from debvote_tools.election.reporting import act_time, count_of
 from debvote_tools.letters.judge import JudgedLetter, Outcome
@@ -24,13 +24,7 @@ def who_and_when(letter: LetterNow) -> str:
     return f"{number}, from {shown_text(judged.shown_sender) or 'nobody'}, {time_words(judged.arrived)}"
 
 
-def ballot_words(ballot: str, names: Sequence[str]) -> str:
-    """A ballot in words."""
-    name, _, ranks = ballot.partition(" ")
-    return f"{name}: {ranks_in_words(ranks, names)}"
-
-
-def going_in(letter: LetterNow, names: Sequence[str], *, is_late: bool) -> Iterator[str]:
+def going_in(letter: LetterNow, words: LineWords, *, is_late: bool) -> Iterator[str]:
     """A letter whose ballot goes in."""
     judged = letter.judged
     ballot = judged.ballots[0]
@@ -38,12 +32,18 @@ def going_in(letter: LetterNow, names: Sequence[str], *, is_late: bool) -> Itera
     written = judged.letter.shown_lines[ballot.number - 1]
     if written.strip() != ballot.ballot:
         yield f"  `{shown_line(written.encode())}` is read as `{ballot.ballot}`"
-    yield f"  {ballot_words(ballot.ballot, names)}"
+    yield f"  {words.ballot(ballot.ballot)}"
     if judged.other_words:
         yield f"  other words: {judged.other_words}"
     if judged.shared_with:
         yield f"  the address is that of {', '.join(judged.shared_with)}, too"
     yield from code_words(letter)
+
+
+def entered(words: LineWords, done: Entered, ballots: Sequence[str]) -> Iterator[str]:
+    """The reply to each ballot that went in."""
+    for number, reply, ballot in zip(done.numbers, done.replies(), ballots):
+        yield f"{number} {reply}  {words.ballot(ballot)}"
 
 
 def waiting(letter: LetterNow) -> Iterator[str]:

@@ -1,53 +1,61 @@
 """Which letters of a kind are due, and what each says: those that were written before and wait for the server, and new ones."""
 
-import dataclasses
-import datetime
-import html
-import re
 from collections.abc import Callable, Iterable, Mapping, Sequence
 
 from debvote_tools.book import entered, queries, sent
+from debvote_tools.book.book import DoneAct
 from debvote_tools.book.queries import Elector
-from debvote_tools.book.sent import BEGUN, POSTPONED, TAKEN, WRITTEN, SentLetter
-from debvote_tools.call.letter import call_letter, extension_letter
+from debvote_tools.book.sent import BEGUN, POSTPONED, TAKEN, WRITTEN, About, SentLetter
+from debvote_tools.call.data import is_mail_address
+from debvote_tools.call.files import call_letter, extension_letter
 from debvote_tools.debvote import casting_words
 from debvote_tools.election import closing_letter
-from debvote_tools.election.commands.call import current_data
+from debvote_tools.election.call_now import current_data
 from debvote_tools.election.election import Election
 from debvote_tools.election.history import History
-from debvote_tools.election.publication import ACT as PUBLISH
-from debvote_tools.election.publication import Words, chronicle_of
-from debvote_tools.election.what_came import WhatCame, waits_of, what_came
+from debvote_tools.election.publication import Words, chronicle_of, last_publication
+from debvote_tools.election.what_came import waits_of, what_came
 from debvote_tools.faults import Fault, Status
-from debvote_tools.letters_out import compose
-from debvote_tools.letters_out.compose import Came, Kind, Receiver, Result, Vote
-from debvote_tools.letters_out.message import is_address, new_message_id
+from debvote_tools.letters_out.compose import Came, Composer, Kind
+from debvote_tools.letters_out.message import new_message_id
+from debvote_tools.publish.casting_vote import told_if_it_decides
+from debvote_tools.publish.done import told_acts
 from debvote_tools.publish.doubts import Doubt, sentences_of
 from debvote_tools.publish.inputs import Publication
-from debvote_tools.publish.parts.done import told_acts
+from debvote_tools.publish.result_letter import how_ended
+from debvote_tools.rendering import InText
+from debvote_tools.secret.words import BY_PYTHON
 from debvote_tools.sheet import sheet_in
 from debvote_tools.times import now
 
-# what the book calls the kinds
-KINDS = {Kind.CALL: "call", Kind.RECEIPTS: "receipt", Kind.REMINDERS: "reminder", Kind.CLOSED: "closed", Kind.RESULT: "result"}
-
-CLOSE_COMMAND = "cat seal.txt ballots.txt | sha256sum"
+# the act to which letters belong, new ones, those that were written before and belong to the same, and the text of each
+Plan = tuple[int, Sequence[SentLetter], Sequence[SentLetter], Callable[[Elector, SentLetter], str]]
 
 
-@dataclasses.dataclass(frozen=True)
-class Plan:
-    """The letters of a kind."""
+class LettersDue:
+    """The letters of a kind, by the book as it is now. Stops before the call, and where nobody knows who has which code."""
 
-    kind: Kind
-    vote: Vote
-    # the last act when this was made, and the act to which new letters belong
-    seen: int
-    round: int
-    # new letters, and those that were written before and belong to the same
-    new: tuple[SentLetter, ...]
-    written: tuple[SentLetter, ...]
-    electors: Mapping[int, Elector]
-    text_of: Callable[[SentLetter], str]
+    def __init__(self, election: Election, kind: Kind, sender: str, *, is_sending: bool) -> None:
+        self.election, self.kind, self.sender, self.is_sending = election, kind, sender, is_sending
+        self.history, self.time = election.history(), now()
+        if self.history.call is None:
+            raise election.not_called()
+        if self.history.has_codes_on_roll:
+            words = "codes are on the roll, and nobody knows whose each is, so no letter can be written to an elector"
+            cure = "send call/call.txt, letters/closed.txt and result/letter.txt to all with your mail program"
+            raise Fault("letters", words, cure, Status.DOUBT, "nothing was written")
+        is_past = self.history.until is not None and self.time > self.history.until
+        self.composer = Composer(current_data(election, self.history), is_over=is_past or bool(self.history.closes))
+        self.letters = sent.sent_letters(election.book, kind)
+        self.electors = {elector.number: elector for elector in queries.electors(election.book)}
+        plans = {
+            Kind.CALL: self.call,
+            Kind.RECEIPTS: self.receipts,
+            Kind.REMINDERS: self.reminders,
+            Kind.CLOSED: self.closed,
+            Kind.RESULT: self.result,
+        }
+        self.for_act, self.new, self.written, self.text_of = plans[kind]()
 
     @property
     def waiting(self) -> list[SentLetter]:
@@ -59,249 +67,161 @@ class Plan:
         """The letters that a server may have or not: a run was cut off in them."""
         return [one for one in self.written if one.state == BEGUN]
 
-    def name(self, letter: SentLetter) -> str:
-        """The name of the elector of a letter."""
-        return self.electors[letter.elector].name
+    def elector(self, letter: SentLetter) -> Elector:
+        return self.electors[letter.elector]
 
+    def text(self, letter: SentLetter) -> str:
+        return self.text_of(self.elector(letter), letter)
 
-@dataclasses.dataclass(frozen=True)
-class Known:
-    """What each kind needs to know."""
+    # ------------------------------------------------------------ each kind
+    def call(self) -> Plan:
+        """The call to each elector; after an extension that, to those who have the call."""
+        self.demand_not_over()
+        acts = self.history.since_call("call", "extend")
+        had_call = have([letter for letter in self.letters if acts[0].number <= letter.for_act < acts[-1].number])
+        whole, extension = call_letter(self.composer.call), extension_letter(self.composer.call)
 
-    election: Election
-    history: History
-    vote: Vote
-    sender: str
-    kind: Kind
-    letters: Sequence[SentLetter]
-    electors: Mapping[int, Elector]
-    time: datetime.datetime
-    is_sending: bool
+        def text_of(elector: Elector, letter: SentLetter) -> str:
+            is_extension = elector.number in had_call
+            code, text = ("", extension) if is_extension else (elector.code, whole)
+            return self.composer.text(self.kind, elector, code=code, find_command=BY_PYTHON, letter=text)
 
-    def new_letter(self, elector: Elector, round: int, address: str, about: Sequence[str] = ()) -> SentLetter:
+        return self.to_each(acts[-1].number, text_of)
+
+    def reminders(self) -> Plan:
+        """A letter to each elector without a ballot that stands. A run that was cut off goes on; else each run is a new one."""
+        self.demand_not_over()
+        came = what_came(self.election, self.history, is_over=False)
+        silent = {number: elector for number, elector in self.electors.items() if elector.name not in came.standing}
+        last = max((letter.for_act for letter in self.letters), default=0)
+        of_last = [letter for letter in self.letters if letter.for_act == last and letter.elector in silent]
+        goes_on = self.is_sending and any(letter.state in (WRITTEN, POSTPONED) for letter in of_last)
+
+        def text_of(elector: Elector, letter: SentLetter) -> str:
+            return self.composer.reminder(elector, waits_of(came.by_elector[elector.number]))
+
+        def is_left(letter: SentLetter) -> bool:
+            return letter.state == BEGUN or (goes_on and letter.address == address_in(silent[letter.elector].addresses))
+
+        written = list(filter(is_left, of_last))
+        if goes_on:
+            return last, [], written, text_of
+        for_act = self.history.last.number + 1
+        return for_act, [self.letter_to(elector, for_act) for elector in silent.values()], written, text_of
+
+    def receipts(self) -> Plan:
+        """A letter to each elector about all that came since the last one, also to an address that they had before."""
+        came = what_came(self.election, self.history, is_over=self.composer.is_over)
+        for_act, new = self.history.last.number + 1, []
+        told = {(letter.elector, key) for letter in self.letters for key in letter.about}
+        old = old_addresses(self.election, self.history, self.letters)
+        for number, items in came.by_elector.items():
+            elector, keys = self.electors[number], [one.key for one in items if (number, one.key) not in told]
+            addresses = dict.fromkeys([address_in(elector.addresses), *old.get(number, [])]) if keys else []
+            new += [self.letter_to(elector, for_act, address, keys) for address in addresses]
+
+        def text_of(elector: Elector, letter: SentLetter) -> str:
+            return self.composer.receipt(elector, about_now(letter.about, came.by_elector[elector.number]))
+
+        waiting = [letter for letter in self.letters if letter.state in (WRITTEN, POSTPONED, BEGUN) and letter.address]
+        # not to those who are no longer on the list, nor about a letter that is a ballot now, of which a new one tells
+        there = [one for one in waiting if one.elector in self.electors and about_now(one.about, came.by_elector[one.elector])]
+        return for_act, new, there if self.is_sending else [], text_of
+
+    def closed(self) -> Plan:
+        """The letter of the close to each elector."""
+        if not self.history.is_closed:
+            cure = f"run {self.election.command('close')} first"
+            raise Fault(self.kind, "the vote is not closed", cure, Status.DOUBT, "nothing was written")
+        close = self.history.closes[-1]
+        text = closing_letter.letter(close, self.composer.call.poll, self.election.language).decode()
+        return self.to_each(close.number, lambda elector, letter: self.composer.text(self.kind, elector, letter=text))
+
+    def result(self) -> Plan:
+        """The result to each elector."""
+        act = last_publication(self.history)
+        if act is None or not self.history.is_closed:
+            cure = f"run {self.election.command('publish')} first"
+            raise Fault(None, "nothing is published", cure, Status.DOUBT, "nothing was written")
+        if self.composer.call.at is None:
+            words = "the letter has to say where the result is published"
+            raise Fault("--at", words, "give its address with --at URL", Status.BAD_WORDS, "nothing was written")
+        values, standing = result_of(self.election, self.history, act)
+
+        def text_of(elector: Elector, letter: SentLetter) -> str:
+            return self.composer.text(self.kind, elector, has_ballot=elector.name in standing, **values)
+
+        return self.to_each(act.number, text_of)
+
+    def demand_not_over(self) -> None:
+        """Stops if nobody can vote any more."""
+        if self.composer.is_over:
+            cure = f"see {self.election.command('status')}"
+            raise Fault(self.kind, "the time to vote is over, so nobody is invited", cure, Status.DOUBT, "nothing was written")
+
+    # ------------------------------------------------------------ letters
+    def letter_to(self, elector: Elector, for_act: int, address: str | None = None, about: Sequence[About] = ()) -> SentLetter:
         """A letter that is not written yet."""
+        address = address_in(elector.addresses) if address is None else address
         message_id = new_message_id(self.sender) if address else ""
-        return SentLetter(elector.number, KINDS[self.kind], round, address, message_id, self.time, tuple(about))
+        return SentLetter(elector.number, self.kind, for_act, address, message_id, self.time, tuple(about))
 
-    def to(self, electors: Iterable[Elector], round: int, text_of: Callable[[SentLetter], str]) -> Plan:
-        """One letter to each of some electors; those of this round that were written before stay as they are."""
-        written, new = [], []
-        of_round = {(letter.elector, letter.address): letter for letter in self.letters if letter.round == round}
-        for elector in electors:
-            address = address_of(elector)
-            before = of_round.get((elector.number, address))
-            if before is None:
-                new.append(self.new_letter(elector, round, address))
-            else:
-                written.append(before)
-        return self.plan(round, new, written, text_of)
-
-    def plan(
-        self, round: int, new: Sequence[SentLetter], written: Sequence[SentLetter], text_of: Callable[[SentLetter], str]
-    ) -> Plan:
-        return Plan(self.kind, self.vote, self.history.last.number, round, tuple(new), tuple(written), self.electors, text_of)
-
-    def receiver(self, letter: SentLetter) -> compose.Receiver:
-        return receiver_of(self.electors[letter.elector])
+    def to_each(self, for_act: int, text_of: Callable[[Elector, SentLetter], str]) -> Plan:
+        """One letter to each elector; those that were written before, to the same address and for the same act, stay as they are."""
+        before = {(letter.elector, letter.address): letter for letter in self.letters if letter.for_act == for_act}
+        found = [(elector, before.get((elector.number, address_in(elector.addresses)))) for elector in self.electors.values()]
+        new = [self.letter_to(elector, for_act) for elector, written in found if written is None]
+        return for_act, new, [written for _, written in found if written is not None], text_of
 
 
-def plan_of(election: Election, kind: Kind, sender: str, *, is_sending: bool) -> Plan:
-    """The letters of a kind, by the book as it is now."""
-    history = election.history()
-    vote = vote_now(election, history)
-    letters = sent.sent_letters(election.book, KINDS[kind])
-    electors = {elector.number: elector for elector in queries.electors(election.book)}
-    known = Known(election, history, vote, sender, kind, letters, electors, now(), is_sending)
-    return PLANS[kind](known)
-
-
-# ---------------------------------------------------------------- each kind
-def call_plan(known: Known) -> Plan:
-    """The call to each elector; after an extension that, to those who have the call."""
-    demand_not_over(known)
-    acts = known.history.since_call("call", "extend")
-    had_call = have([letter for letter in known.letters if acts[0].number <= letter.round < acts[-1].number])
-    whole, extension = call_letter(known.vote.call), extension_letter(known.vote.call) if len(acts) > 1 else ""
-
-    def text_of(letter: SentLetter) -> str:
-        receiver = known.receiver(letter)
-        is_extension = letter.elector in had_call and bool(extension)
-        receiver = dataclasses.replace(receiver, code="") if is_extension else receiver
-        return compose.call_text(known.vote, receiver, extension if is_extension else whole)
-
-    return known.to(known.electors.values(), acts[-1].number, text_of)
+def address_in(addresses: Sequence[str]) -> str:
+    """The first of some addresses that every mail server takes; empty if there is none."""
+    return next(filter(is_mail_address, addresses), "")
 
 
 def have(letters: Sequence[SentLetter]) -> set[int]:
-    """The electors who have one of some letters: a server has taken it, it is on paper, or all of its round were written as files."""
-    sent_rounds = {letter.round for letter in letters if letter.state != WRITTEN}
+    """The electors who have one of some letters: a server has taken it, it is on paper, or all for its act were written as files."""
+    sent_for = {letter.for_act for letter in letters if letter.state != WRITTEN}
     return {
         letter.elector
         for letter in letters
-        if letter.state == TAKEN or (letter.state == WRITTEN and not (letter.address and letter.round in sent_rounds))
+        if letter.state == TAKEN or (letter.state == WRITTEN and not (letter.address and letter.for_act in sent_for))
     }
-
-
-def demand_not_over(known: Known) -> None:
-    """Stops if nobody can vote any more."""
-    if known.vote.is_over:
-        cure = f"see {known.election.command('status')}"
-        raise Fault(known.kind, "the time to vote is over, so nobody is invited", cure, Status.DOUBT, "nothing was written")
-
-
-def reminder_plan(known: Known) -> Plan:
-    """A letter to each elector without a ballot that stands. A run that was cut off goes on; else each run is a new one."""
-    demand_not_over(known)
-    came = what_came(known.election, known.history, is_over=known.vote.is_over)
-    silent = {number: elector for number, elector in known.electors.items() if elector.name not in came.standing}
-    last = max((letter.round for letter in known.letters), default=0)
-    of_last = [letter for letter in known.letters if letter.round == last]
-    goes_on = known.is_sending and any(one.state in (WRITTEN, POSTPONED) and one.elector in silent for one in of_last)
-    round = last if goes_on else known.history.last.number + 1
-
-    def text_of(letter: SentLetter) -> str:
-        waiting = waits_of(came.by_elector[letter.elector])
-        return compose.reminder_text(known.vote, known.receiver(letter), waiting)
-
-    plan = known.to(silent.values(), round, text_of)
-    begun = [letter for letter in of_last if letter.state == BEGUN and letter not in plan.written and letter.elector in silent]
-    return dataclasses.replace(plan, written=(*plan.written, *begun), new=() if goes_on else plan.new)
-
-
-def receipt_plan(known: Known) -> Plan:
-    """A letter to each elector about all that came since the last one."""
-    came = what_came(known.election, known.history, is_over=known.vote.is_over)
-    round, new = known.history.last.number + 1, []
-    old = old_addresses(known.election, known.history, known.letters)
-    for number, keys in not_told(known.letters, came).items():
-        elector = known.electors[number]
-        addresses = dict.fromkeys([address_of(elector), *old.get(number, [])])
-        new += [known.new_letter(elector, round, address, keys) for address in addresses]
-
-    def text_of(letter: SentLetter) -> str:
-        items = about_now(letter.about, came.by_elector[letter.elector])
-        return compose.receipt_text(known.vote, known.receiver(letter), items)
-
-    waiting = [letter for letter in known.letters if letter.state in (WRITTEN, POSTPONED, BEGUN) and letter.address]
-    # not to those who are no longer on the list, nor about a letter that is a ballot now, of which a new one tells
-    there = [one for one in waiting if one.elector in known.electors and about_now(one.about, came.by_elector[one.elector])]
-    written = there if known.is_sending else []
-    return known.plan(round, new, written, text_of)
-
-
-def closed_plan(known: Known) -> Plan:
-    """The letter of the close to each elector."""
-    if not known.history.is_closed:
-        cure = f"run {known.election.command('close')} first"
-        raise Fault(known.kind, "the vote is not closed", cure, Status.DOUBT, "nothing was written")
-    close = known.history.closes[-1]
-    letter = closing_letter.letter(close, known.election.sealed().public, known.election.language).decode()
-    return known.to(known.electors.values(), close.number, lambda one: compose.closed_text(known.vote, known.receiver(one), letter))
-
-
-def result_plan(known: Known) -> Plan:
-    """The result to each elector."""
-    number, result, standing = result_of(known.election, known.history, known.vote)
-
-    def text_of(letter: SentLetter) -> str:
-        receiver = known.receiver(letter)
-        return compose.result_text(known.vote, receiver, result, has_ballot=receiver.name in standing)
-
-    return known.to(known.electors.values(), number, text_of)
-
-
-PLANS: dict[Kind, Callable[[Known], Plan]] = {
-    Kind.CALL: call_plan,
-    Kind.RECEIPTS: receipt_plan,
-    Kind.REMINDERS: reminder_plan,
-    Kind.CLOSED: closed_plan,
-    Kind.RESULT: result_plan,
-}
-
-
-# ---------------------------------------------------------------- the vote
-def vote_now(election: Election, history: History) -> Vote:
-    """What all letters say of the vote. Stops before the call, and where nobody knows who has which code."""
-    if history.call is None:
-        raise election.not_called()
-    if history.announced("codes_on_roll"):
-        words = "codes are on the roll, and nobody knows whose each is, so no letter can be written to an elector"
-        cure = "send call/call.txt, letters/closed.txt and result/letter.txt to all with your mail program"
-        raise Fault("letters", words, cure, Status.DOUBT, "nothing was written")
-    call = dataclasses.replace(current_data(election), at=history.announced("at"))
-    is_past = history.until is not None and now() > history.until
-    return Vote(call, is_over=is_past or bool(history.closes))
-
-
-def receiver_of(elector: Elector) -> Receiver:
-    return Receiver(elector.name, elector.who, elector.code)
-
-
-def address_of(elector: Elector) -> str:
-    """The first address of an elector that every mail server takes; empty if there is none."""
-    return next(filter(is_address, elector.addresses), "")
 
 
 # ---------------------------------------------------------------- receipts
-def not_told(receipts: Iterable[SentLetter], came: WhatCame) -> dict[int, tuple[str, ...]]:
-    """What no receipt was about yet, by elector."""
-    told = {(letter.elector, key) for letter in receipts for key in letter.about}
-    found = {
-        elector: tuple(one.key for one in items if (elector, one.key) not in told) for elector, items in came.by_elector.items()
-    }
-    return {elector: keys for elector, keys in found.items() if keys}
-
-
 def old_addresses(election: Election, history: History, receipts: Iterable[SentLetter]) -> dict[int, list[str]]:
     """The addresses that electors had before the list was changed after the call, if no receipt was written to them since."""
     assert history.call is not None
-    last = {letter.elector: letter.round for letter in receipts}
-    found: dict[int, list[str]] = {}
-    for elector, before in sent.addresses_before(election.book, history.call.number).items():
-        addresses = [next(filter(is_address, old), "") for act, old in before if act > last.get(elector, 0)]
-        found[elector] = [address for address in dict.fromkeys(addresses) if address]
-    return found
+    last = {letter.elector: letter.for_act for letter in receipts}
+    before = sent.addresses_before(election.book, history.call.number)
+    return {
+        elector: [address for act, old in lists if act > last.get(elector, 0) and (address := address_in(old))]
+        for elector, lists in before.items()
+    }
 
 
-def about_now(about: Sequence[str], came: Sequence[Came]) -> list[Came]:
+def about_now(about: Sequence[About], came: Sequence[Came]) -> list[Came]:
     """What a receipt is about, as it is now: a ballot may have been struck since it was written."""
-    keys = {key.removesuffix(" struck") for key in about}
-    return [one for one in came if one.key.removesuffix(" struck") in keys]
+    numbers = {key[:2] for key in about}
+    return [one for one in came if one.key[:2] in numbers]
 
 
 # ---------------------------------------------------------------- the result
-def result_of(election: Election, history: History, vote: Vote) -> tuple[int, Result, Mapping[str, str]]:
-    """The number of the last publication, what it says, and the ballots that stood then."""
-    act = next(iter(reversed(history.named(PUBLISH))), None)
-    if act is None or not history.is_closed or act.number < history.closes[-1].number:
-        raise Fault(None, "nothing is published", f"run {election.command('publish')} first", Status.DOUBT, "nothing was written")
-    if vote.call.at is None:
-        words = "the letter has to say where the result is published"
-        raise Fault("--at", words, "give its address with --at URL", Status.BAD_WORDS, "nothing was written")
-    sealed, words_kept = election.sealed(), Words(**act.detail["words"])
-    poll = sealed.counted.as_bytes()
-    ballots = queries.ballots_of(entered.lines_after(election.book, act.number))
-    sheet = sheet_in(election.debvote.answer("count", poll, ballots, *casting_words(words_kept.casting)).text)
-    winner = sheet.winner()
-    then = History.of(history.acts[: act.number])
-    chronicle = chronicle_of(election.book, then, is_secret=sealed.is_aliased)
-    publication = Publication(sealed.public, b"", language=election.language, chronicle=chronicle)
+def result_of(election: Election, history: History, act: DoneAct) -> tuple[dict[str, object], Mapping[str, str]]:
+    """What the letters of a publication say, and the ballots that stood then."""
+    language, sealed, words = election.language, election.sealed(), Words(**act.detail["words"])
+    poll, ballots = sealed.counted.as_bytes(), queries.ballots_of(entered.lines_after(election.book, act.number))
+    sheet = sheet_in(election.debvote.answer("count", poll, ballots, *casting_words(words.casting)).text)
+    chronicle = chronicle_of(election.book, History(history.acts[: act.number]), is_secret=sealed.is_aliased)
+    publication = Publication(sealed.public, b"", language=language, casting=words.vote, chronicle=chronicle)
     doubts = [Doubt.from_data(doubt) for doubt in act.detail["doubts"]]
-    result = Result(
-        winner=None if winner is None else winner.option,
-        is_by_casting=winner is not None and winner.is_by_casting,
-        casting=words_kept.vote,
-        left=tuple(sheet.final_set()),
-        at=vote.call.at,
-        checksums=act.detail["checksums"],
-        doubts=tuple(sentences_of(doubts, election.language, is_secret=sealed.is_aliased)),
-        because=words_kept.because if doubts else None,
-        acts=tuple(map(plain, told_acts(publication))),
-        close_command=CLOSE_COMMAND if sealed.is_aliased else "",
-    )
-    return act.number, result, election.debvote.standing(poll, ballots)
-
-
-def plain(text: str) -> str:
-    """A sentence of the page as plain text."""
-    return html.unescape(re.sub(r"<[^>]*>", "", text.replace("<q>", "\u201c").replace("</q>", "\u201d")))
+    values = {
+        "ended": how_ended(publication, sheet),
+        "casting": told_if_it_decides(publication, sheet),
+        "checksums": act.detail["checksums"],
+        "doubts": sentences_of(doubts, language, is_secret=sealed.is_aliased),
+        "because": words.because,
+        "acts": told_acts(publication, InText(language)),
+    }
+    return values, election.debvote.standing(poll, ballots)

@@ -5,39 +5,30 @@
 3. `plan_of` says which go in; after the secretary's yes `enter` enters them, if it is still the same plan.
 """
 
+import contextlib
 import dataclasses
 import pathlib
-from collections.abc import Collection, Mapping, Sequence
+from collections.abc import Collection, Iterator, Mapping, Sequence
 
 from debvote_tools import times
-from debvote_tools.book import entered, letters, queries
-from debvote_tools.book.book import Act, Book, as_text
-from debvote_tools.book.letters import KeptLetter, NewLetter
+from debvote_tools.book import letters, queries
+from debvote_tools.book.book import Act, Book
+from debvote_tools.book.letters import KeptLetter
 from debvote_tools.book.queries import NewEnvelope
-from debvote_tools.debvote import Debvote
-from debvote_tools.election.adding import KEYRING
-from debvote_tools.election.batch import OFFER
+from debvote_tools.election.batch import KEYRING, Vote, vote_of
 from debvote_tools.election.batch_words import CODE
 from debvote_tools.election.came import NOTHING_ADDED, CameFile, safe
 from debvote_tools.election.election import Election
+from debvote_tools.election.entering import Entered, entered
 from debvote_tools.election.history import History
 from debvote_tools.faults import Fault, Status
-from debvote_tools.files import LINES_LIMIT, sha256_of
+from debvote_tools.files import sha256_of
 from debvote_tools.letters.judge import Ballot, Circumstances, Decision, JudgedLetter, Outcome, judge_all
 from debvote_tools.letters.reasons import Reason
 from debvote_tools.letters.parse import ParsedLetter, as_json, from_json, parse
 from debvote_tools.letters.signatures import find_gpgv, verified
 from debvote_tools.letters.sources import PassedOver, RawLetter, letters_of_file, letters_of_folder
-from debvote_tools.lines import ballot_file
 from debvote_tools.secret.codes import looks_like_code
-
-DECISIONS = {
-    letters.ENTERED: Decision.ENTERED,
-    letters.SET_ASIDE: Decision.SET_ASIDE,
-    letters.PUT_BACK: Decision.PUT_BACK,
-    letters.TAKEN_BACK: Decision.TAKEN_BACK,
-    letters.STRUCK: Decision.STRUCK,
-}
 
 
 @dataclasses.dataclass(frozen=True)
@@ -54,22 +45,11 @@ class LetterNow:
         """Whether it waits for the secretary: to be agreed to, or to be looked at."""
         return self.judged.outcome in (Outcome.GOES_IN, Outcome.WAITS)
 
-
-class LinesByDebvote:
-    """Asks debvote about lines of letters, all of one kind at once. Where the roll has codes, no name near to one is offered."""
-
-    def __init__(self, debvote: Debvote, poll_bytes: bytes, *, has_codes: bool = False) -> None:
-        self.debvote, self.poll_bytes, self.has_codes = debvote, poll_bytes, has_codes
-
-    def answers(self, lines: Sequence[bytes]) -> Mapping[bytes, str | None]:
-        """What debvote says of each line, as `bad rank count: ..`; None of a valid ballot."""
-        answers: dict[bytes, str | None] = dict.fromkeys(lines)
-        for start in range(0, len(lines), LINES_LIMIT):
-            part = lines[start : start + LINES_LIMIT]
-            for finding in self.debvote.findings(self.poll_bytes, ballot_file(part)).refused:
-                hint = OFFER.sub("", finding.hint) if self.has_codes else finding.hint
-                answers[part[finding.envelope - 1]] = f"{finding.word}: {hint}"
-        return answers
+    @property
+    def came_in_time(self) -> bool:
+        """Whether it arrived before the end and before the close, as far as that is known."""
+        reason = self.judged.reason
+        return reason is None or reason.reason not in (Reason.AFTER_THE_END, Reason.AFTER_THE_CLOSE)
 
 
 # ---------------------------------------------------------------- what came
@@ -96,7 +76,7 @@ def parsed(election: Election, raws: Sequence[RawLetter]) -> list[ParsedLetter]:
 def keyring_of(election: Election) -> bytes | None:
     """The keyring that holds; None if letters need no signature."""
     call = election.history().call
-    if call is None or not entered.has_sealed_since(election.book, KEYRING, call.number):
+    if call is None or queries.last_act_that_sealed(election.book, KEYRING) < call.number:
         return None
     return queries.sealed(election.book, KEYRING)
 
@@ -128,9 +108,7 @@ def keep(book: Book, raws: Sequence[RawLetter], found: Sequence[ParsedLetter]) -
         for raw, letter in zip(raws, found):
             # another command may have kept it meanwhile
             if is_new(letter.digest, letter.is_parted_off, known):
-                arrival = "" if letter.arrived is None else as_text(letter.arrived)
-                new = NewLetter(safe(raw.where), raw.data, letter.identity, letter.sender, arrival, as_json(letter))
-                letters.keep_letter(act, new)
+                letters.keep_letter(act, safe(raw.where), raw.data, letter.identity, as_json(letter))
 
 
 # ---------------------------------------------------------------- how they are judged
@@ -151,14 +129,12 @@ def judged(
     numbers = {letter.key: kept_letter.number for letter, kept_letter in zip(found, kept)}
     if not kept and not looked_at:
         return []
-    poll = election.sealed()
-    has_codes = bool(history.announced("codes_on_roll"))
-    reader = LinesByDebvote(election.debvote, poll.counted.as_bytes(), has_codes=has_codes)
+    vote = vote_of(election, history)
     circumstances = circumstances_of(election, history, list(zip(found, kept)))
-    no_codes_expected = poll.counted.secret and not has_codes
+    no_codes_expected = election.sealed().counted.secret and not vote.has_codes
     return [
         LetterNow(numbers.get(one.letter.key, 0), one, code_lines(one.letter) if no_codes_expected else ())
-        for one in judge_all([*found, *looked_at], circumstances, reader)
+        for one in judge_all([*found, *looked_at], circumstances, vote)
     ]
 
 
@@ -172,7 +148,7 @@ def kept_letters(election: Election, kept: Sequence[KeptLetter]) -> list[ParsedL
     """What is known of the letters; of those that came before the keyring that holds, or that gpgv was too slow for, their
     signatures are checked anew."""
     found = [from_json(letter.known) for letter in kept]
-    sealed = letters.last_act_that_sealed(election.book, KEYRING)
+    sealed = queries.last_act_that_sealed(election.book, KEYRING)
     old = [index for index, letter in enumerate(kept) if letter.act < sealed or was_slow(found[index])]
     if old:
         raws = [
@@ -213,52 +189,47 @@ def circumstances_of(election: Election, history: History, found: Sequence[tuple
         our_letters={elector.name: ids.get(elector.number, []) for elector in electors},
         ballots=ballots,
         keys={elector.name: elector.key for elector in electors} if keyring_of(election) is not None else None,
-        decisions={letter.key: DECISIONS[kept.state] for letter, kept in found if kept.state in DECISIONS},
+        decisions={letter.key: Decision(kept.state) for letter, kept in found if kept.state != letters.WAITS},
     )
 
 
 # ---------------------------------------------------------------- what goes in
 @dataclasses.dataclass(frozen=True)
-class Plan:
+class LettersPlan:
     """Which letters go in, each with its ballot, and all others as they are now."""
 
-    seen: int = dataclasses.field(compare=False)
+    decided_at: int = dataclasses.field(compare=False)
     is_late: bool
     going_in: tuple[tuple[int, str], ...]
     letters: tuple[LetterNow, ...] = dataclasses.field(compare=False)
 
-    @property
-    def waiting(self) -> list[LetterNow]:
-        """The letters that wait after this."""
-        return [letter for letter in self.letters if letter.judged.outcome is Outcome.WAITS]
 
-
-def plan_of(election: Election, looked_at: Sequence[ParsedLetter] = ()) -> Plan:
+def plan_of(election: Election, looked_at: Sequence[ParsedLetter] = ()) -> LettersPlan:
     """What goes in now."""
     history = election.history()
     found = judged(election, history, letters.letters(election.book), looked_at)
     going_in = [letter for letter in found if letter.judged.outcome is Outcome.GOES_IN]
     pairs = tuple((letter.number, letter.judged.ballots[0].ballot) for letter in going_in)
-    return Plan(history.last.number, history.is_closed, pairs, tuple(found))
+    return LettersPlan(history.last.number, history.is_closed, pairs, tuple(found))
 
 
-def enter(election: Election, book: Book, plan: Plan) -> range:
-    """The act: the ballots go in. Raises `Overtaken` if another act came between."""
+def enter(election: Election, vote: Vote, plan: LettersPlan) -> contextlib.AbstractContextManager[Entered]:
+    """The act: the ballots go in."""
     by_number = {letter.number: letter.judged for letter in plan.letters}
-    electors, kept = entered.numbers_of(book), {letter.number: letter for letter in letters.letters(book)}
-    detail = {"letters": len(plan.going_in), "lines": len(plan.going_in)}
-    with book.act("add", detail, seen=plan.seen) as act:
-        new = [new_envelope(kept[number], ballot, electors, by_number[number]) for number, ballot in plan.going_in]
-        numbers = queries.enter(act, new, is_late=plan.is_late)
-        for number, _ in plan.going_in:
+    kept = {letter.number: letter for letter in letters.letters(election.book)}
+
+    def envelopes(act: Act) -> Iterator[NewEnvelope]:
+        for number, ballot in plan.going_in:
             letters.decide(act, number, letters.ENTERED)
-    return numbers
+            yield new_envelope(kept[number], ballot, by_number[number])
+
+    detail = {"letters": len(plan.going_in), "lines": len(plan.going_in)}
+    return entered(election.book, vote, "add", detail, envelopes, decided_at=plan.decided_at, is_late=plan.is_late)
 
 
-def new_envelope(kept: KeptLetter, ballot: str, electors: Mapping[str, int], judged_letter: JudgedLetter) -> NewEnvelope:
+def new_envelope(kept: KeptLetter, ballot: str, judged_letter: JudgedLetter) -> NewEnvelope:
     """The envelope of a ballot that came in a letter."""
-    time = judged_letter.time or times.now()
-    return NewEnvelope(electors.get(ballot.partition(" ")[0]), ballot.encode(), kept.source, "", time, kept.number)
+    return NewEnvelope(ballot.encode(), "", kept.source, kept.number, judged_letter.time)
 
 
 def is_late(history: History, letter: JudgedLetter) -> bool:
@@ -267,20 +238,3 @@ def is_late(history: History, letter: JudgedLetter) -> bool:
     if history.is_reopened and (arrived is None or arrived > history.closes[0].time):
         return True
     return history.is_closed
-
-
-def arrived_in_time(letter: LetterNow) -> bool:
-    """Whether a letter arrived before the end and before the close, as far as that is known."""
-    reason = letter.judged.reason
-    return reason is None or reason.reason not in (Reason.AFTER_END, Reason.AFTER_CLOSE)
-
-
-def decide(act: Act, numbers: Sequence[int], state: str) -> None:
-    """Notes what the secretary decided of letters."""
-    for number in numbers:
-        letters.decide(act, number, state)
-
-
-def waiting_words(count: int, held: str) -> str:
-    """How many letters wait."""
-    return f"{count} letter{' waits' if count == 1 else 's wait'} until you have looked: {held}"

@@ -21,7 +21,6 @@ def write_made(
         file = folder / name
         if not file.is_file() or file.read_bytes() != data or file.stat().st_mode & 0o777 != file_mode:
             write_whole(file, data, file_mode)
-            file.chmod(file_mode)
             written.append(file)
     for name in set(outdated) - files.keys():
         (folder / name).unlink(missing_ok=True)

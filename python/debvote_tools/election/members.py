@@ -5,6 +5,8 @@ import pathlib
 import re
 import unicodedata
 
+from debvote_tools.addresses import ADDRESS, address_key
+from debvote_tools.book.queries import Elector
 from debvote_tools.election.csv_tables import BadTable, Row, Table, read_table
 from debvote_tools.faults import Fault, Status
 from debvote_tools.files import TABLE_LIMIT, read_at_most
@@ -24,13 +26,12 @@ BELONGS = "the real names belong under `who`, the addresses under `mail`; a colu
 FINGERPRINT = re.compile(r"[0-9A-F]{40}")
 
 # several addresses of one member have spaces, commas or semicolons between; a mail program writes one within < and >
-ADDRESS = re.compile(r'[^\s<>@,;:"()\[\]\\]+@[^\s<>@,;:"()\[\]\\]+')
 IN_BRACKETS = re.compile(r"<([^<>]*)>")
 BETWEEN_ADDRESSES = re.compile(r"[\s,;]+")
 
 
 @dataclasses.dataclass(frozen=True)
-class MemberRow:
+class Member:
     """A row of the list. A cell that is empty or missing is an empty text."""
 
     line: int
@@ -39,6 +40,32 @@ class MemberRow:
     addresses: tuple[str, ...]
     # a fingerprint in capital letters
     key: str
+    # the elector of the book who is the same person; None if there is none
+    known: Elector | None = None
+    # whether the name was made
+    is_proposed: bool = False
+
+    @property
+    def is_new(self) -> bool:
+        """Whether the roll gets them now, for the first time or again."""
+        return self.known is None or self.known.position is None
+
+    @property
+    def label(self) -> str:
+        """The name, and who it is."""
+        return f"{self.name} ({shown_text(self.who)})" if self.who else self.name
+
+    @property
+    def changes(self) -> dict[str, tuple[str, str]]:
+        """What is not as the book has it of an elector on the roll: before, and now."""
+        if self.known is None or self.is_new:
+            return {}
+        before, now = ", ".join(self.known.addresses), ", ".join(self.addresses)
+        pairs = {"name": (self.known.name, self.name), "who": (self.known.who, self.who)}
+        if address_key(before) != address_key(now):
+            pairs["address"] = before, now
+        pairs["key"] = self.known.key, self.key
+        return {what: pair for what, pair in pairs.items() if pair[0] != pair[1]}
 
 
 @dataclasses.dataclass(frozen=True)
@@ -46,7 +73,7 @@ class Members:
     """The rows of a list in its order, and all that is wrong with it."""
 
     file: object
-    rows: tuple[MemberRow, ...]
+    rows: tuple[Member, ...]
     faults: tuple[Fault, ...] = ()
 
 
@@ -55,12 +82,12 @@ def members_in(file: pathlib.Path) -> Members:
     cure = f"the list of members is a CSV file, as a spreadsheet saves it: put it there, {AGAIN}"
     try:
         if file.exists() and not file.is_file():
-            return refused(file, Fault(file, "it is no file", cure, Status.BAD_WORDS))
+            return Members(file, (), (Fault(file, "it is no file", cure, Status.BAD_WORDS, None),))
         data = read_at_most(file, TABLE_LIMIT)
     except OSError as error:
-        return refused(file, Fault(file, error.strerror, cure, Status.BAD_WORDS))
+        return Members(file, (), (Fault(file, error.strerror, cure, Status.BAD_WORDS, None),))
     if len(data) > TABLE_LIMIT:
-        return refused(file, bad_list(file, "it is too long for a list of members", cure))
+        return Members(file, (), (Fault(file, "it is too long for a list of members", cure, done=None),))
     return members_of(data, file)
 
 
@@ -69,29 +96,24 @@ def members_of(data: bytes, file: object = "members.csv") -> Members:
     try:
         table = read_table(data, COLUMNS, skips_spaces=True)
     except BadTable as bad:
-        return refused(file, Fault(bad.where(file), bad.reason, f"{bad.cure}, {AGAIN}", Status.DOUBT))
-    head_faults = faults_of_head(table, file)
-    if head_faults:
-        return refused(file, *head_faults)
+        return Members(file, (), (Fault(bad.where(file), bad.reason, f"{bad.cure}, {AGAIN}", done=None),))
+    faults = faults_of_head(table, file)
+    if faults:
+        return Members(file, (), tuple(faults))
     indices = {column: table.heads.index(column) for column in COLUMNS if column in table.heads}
-    rows, faults = [], []
+    rows = []
     for row in table.rows:
         if not row.is_blank:
             rows.append(member_of(row, indices))
             faults += faults_of_row(row, rows[-1], table, file)
     if not rows:
-        faults.append(bad_list(file, "there is nobody on it", f"write a line for each member below the head line, {AGAIN}"))
+        faults.append(bad_list(file, "there is nobody on it", "write a line for each member below the head line"))
     return Members(file, tuple(rows), tuple(faults))
-
-
-def refused(file: object, *faults: Fault) -> Members:
-    """A list of which no row can be read."""
-    return Members(file, (), faults)
 
 
 def bad_list(file: object, reason: str, cure: str, line: int | None = None) -> Fault:
     """A fault of the list, or of a line of it."""
-    return Fault(file if line is None else f"{file}:{line}", reason, cure, Status.DOUBT)
+    return Fault(file if line is None else f"{file}:{line}", reason, f"{cure}, {AGAIN}", done=None)
 
 
 def faults_of_head(table: Table, file: object) -> list[Fault]:
@@ -100,28 +122,24 @@ def faults_of_head(table: Table, file: object) -> list[Fault]:
     missing = [f"`{column}`" for column in REQUIRED if column not in table.heads]
     if missing:
         reason = f"the head line has no column {' and no column '.join(missing)}, it has {table.heads_in_words}; {BELONGS}"
-        faults.append(bad_list(file, reason, f"name the columns so, {AGAIN}", table.head.line))
+        faults.append(bad_list(file, reason, "name the columns so", table.head.line))
     for column in COLUMNS:
         if table.heads.count(column) > 1:
-            cure = f"name one of them otherwise, {AGAIN}"
-            faults.append(bad_list(file, f"the head line has the column `{column}` twice", cure, table.head.line))
+            reason = f"the head line has the column `{column}` twice"
+            faults.append(bad_list(file, reason, "name one of them otherwise", table.head.line))
     return faults
 
 
-def member_of(row: Row, indices: dict[str, int]) -> MemberRow:
+def member_of(row: Row, indices: dict[str, int]) -> Member:
     """The member of a row, with each cell on one line."""
     cells = {column: unicodedata.normalize("NFC", " ".join(row.cell(index).split())) for column, index in indices.items()}
+    addresses = IN_BRACKETS.findall(cells["mail"]) or BETWEEN_ADDRESSES.split(cells["mail"])
+    each_once = dict.fromkeys(address.strip().removeprefix("mailto:") for address in addresses if address.strip())
     key = "".join(cells.get("key", "").split()).upper()
-    return MemberRow(row.line, cells.get("name", ""), cells["who"], addresses_in(cells["mail"]), key)
+    return Member(row.line, cells.get("name", ""), cells["who"], tuple(each_once), key)
 
 
-def addresses_in(cell: str) -> tuple[str, ...]:
-    """The addresses of a cell, each once."""
-    parts = IN_BRACKETS.findall(cell) or BETWEEN_ADDRESSES.split(cell)
-    return tuple(dict.fromkeys(part.strip().removeprefix("mailto:") for part in parts if part.strip()))
-
-
-def faults_of_row(row: Row, member: MemberRow, table: Table, file: object) -> list[Fault]:
+def faults_of_row(row: Row, member: Member, table: Table, file: object) -> list[Fault]:
     """All that is wrong with a row by itself."""
     found: list[tuple[str, str]] = []
     beyond = row.cells_after(table.width)
@@ -141,7 +159,6 @@ def faults_of_row(row: Row, member: MemberRow, table: Table, file: object) -> li
             found.append((f"`{shown_text(address)}` is no mail address", "put it right, or take it out"))
     if member.key and not FINGERPRINT.fullmatch(member.key):
         reason = f"`{shown_text(member.key)}` is no fingerprint of a key"
-        found.append(
-            (reason, "write all 40 digits of it (0 to 9 and A to F; spaces may be between), as gpg --fingerprint shows them")
-        )
-    return [bad_list(file, reason, f"{cure}, {AGAIN}", row.line) for reason, cure in found]
+        cure = "write all 40 digits of it (0 to 9 and A to F; spaces may be between), as gpg --fingerprint shows them"
+        found.append((reason, cure))
+    return [bad_list(file, reason, cure, row.line) for reason, cure in found]

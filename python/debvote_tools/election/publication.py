@@ -7,13 +7,13 @@ from typing import Any
 
 from debvote_tools.ballots import in_normal_form
 from debvote_tools.book import entered, letters, queries
-from debvote_tools.book.book import Book, DoneAct, as_text
+from debvote_tools.book.book import Book, DoneAct, as_text, from_text
 from debvote_tools.book.queries import Elector
 from debvote_tools.debvote import casting_words
 from debvote_tools.election import closing_letter
 from debvote_tools.election.election import Election, Sealed
 from debvote_tools.election.history import History
-from debvote_tools.faults import Fault, Status
+from debvote_tools.faults import Fault
 from debvote_tools.files import sha256_of
 from debvote_tools.language import language_of
 from debvote_tools.letters.parse import from_json
@@ -40,20 +40,10 @@ class Words:
     language: str | None = None
 
     @property
-    def are_given(self) -> bool:
-        return self != Words()
-
-    @property
     def vote(self) -> CastingVote | None:
         if self.casting is None:
             return None
         return CastingVote(self.casting, self.cast_by, datetime.date.fromisoformat(self.cast_on) if self.cast_on else None)
-
-
-def last_words(history: History) -> Words | None:
-    """The words of the last publication since the last close; None if there is none."""
-    act = last_publication(history)
-    return None if act is None else Words(**act.detail["words"])
 
 
 def last_publication(history: History) -> DoneAct | None:
@@ -77,7 +67,7 @@ def publication_of(election: Election, words: Words) -> Publication:
         ballots = ballots_in_secret(standing, electors)
         secret = SecretVote(
             codes=frozenset(elector.code for elector in electors if elector.code),
-            seal=history.closes[-1].detail.get("seal"),
+            seal=history.closes[-1].detail["seal"],
             sheet_text=election.debvote.answer("count", poll_bytes, private_ballots, *casting_words(words.casting)).text,
             late=late.count(b"\n"),
             compared=tuple(shown_by_comparison(election, sealed, history, standing, ballots)),
@@ -97,7 +87,7 @@ def publication_of(election: Election, words: Words) -> Publication:
         is_forced=words.is_forced and words.because is not None,
         doubts=tuple(doubts),
         secret=secret,
-        has_codes=bool(history.announced("codes_on_roll")),
+        has_codes=history.has_codes_on_roll,
     )
 
 
@@ -114,23 +104,20 @@ def demand_of_close(history: History, ballots: bytes) -> None:
     checksum = sealed_checksum(close["seal"], ballots) if "seal" in close else sha256_of(ballots)
     if checksum != close["checksum"]:
         words = f"the ballots have the checksum {checksum}, and the close has fixed {close['checksum']}"
-        raise Fault(None, words, "keep the folder as it is, and tell the maintainers", Status.DOUBT, "nothing was published")
+        raise Fault(None, words, "keep the folder as it is, and tell the maintainers", done="nothing was published")
 
 
 def shown_by_comparison(
     election: Election, sealed: Sealed, history: History, standing: Mapping[str, str], ballots: bytes
 ) -> list[str]:
-    """The electors of a secret vote whose ballots differ from those of the last publication: whoever compares both sees theirs alone."""
+    """The electors of a secret vote whose ballots differ from those of the last publication: a comparison shows theirs alone."""
     earlier = history.named(ACT)
     if not earlier or earlier[-1].detail["checksums"][BALLOTS] == sha256_of(ballots):
         return []
     lines = entered.lines_after(election.book, earlier[-1].number)
     before = election.debvote.standing(sealed.counted.as_bytes(), queries.ballots_of(lines))
-    return [name for name in sealed.counted.roll if normal(before.get(name)) != normal(standing.get(name))]
-
-
-def normal(ranks: str | None) -> str | None:
-    return None if ranks is None else in_normal_form(ranks)
+    then, now = ({name: in_normal_form(ranks) for name, ranks in votes.items()} for votes in (before, standing))
+    return [name for name in sealed.counted.roll if then.get(name) != now.get(name)]
 
 
 def as_kept(words: Words, checksums: Mapping[str, str], doubts: list[Doubt], *, decides: bool) -> dict[str, Any]:
@@ -148,33 +135,27 @@ def doubts_of(book: Book, history: History, poll: SealedPoll, casting: str | Non
     """What there is to doubt before anything is counted."""
     found = [] if history.is_closed else [Doubt.of(Kind.NOT_CLOSED)]
     found += late_letters_in_time(book, history)
-    earlier = dict.fromkeys(act.detail["casting"] for act in history.named(ACT))
-    others = [option for option in earlier if option is not None and casting is not None and option != casting]
     names = dict(zip(poll.plain_names, poll.names))
+    earlier = dict.fromkeys(act.detail["casting"] for act in history.named(ACT))
+    others = [option for option in earlier if option is not None and casting not in (None, option)]
     return found + [Doubt.of(Kind.OTHER_CASTING_VOTE, option=names[option]) for option in others]
 
 
 def late_letters_in_time(book: Book, history: History) -> list[Doubt]:
     """A doubt for each letter that arrived before the end and the first close, and whose ballots are late alone."""
-    late, counted = (
-        {envelope.letter for envelope in queries.envelopes(book, "late = ? AND struck.act IS NULL AND letter IS NOT NULL", is_late)}
-        for is_late in (1, 0)
-    )
-    numbers = late - counted
+    entered_letters = queries.envelopes(book, "struck.act IS NULL AND letter IS NOT NULL")
+    numbers = {envelope.letter for envelope in entered_letters} - {one.letter for one in entered_letters if not one.is_late}
     if not numbers or not history.closes:
         return []
     last = min(time for time in (history.closes[0].time, history.until) if time is not None)
+    # the zone in which the end was announced
+    zone = history.until.tzinfo if history.until else datetime.UTC
     arrivals = {kept.number: from_json(kept.known).arrived for kept in letters.letters(book) if kept.number in numbers}
     return [
-        Doubt.of(Kind.LATE_LETTER, letter=number, arrival=arrived.astimezone(zone_of(history)).isoformat())
+        Doubt.of(Kind.LATE_LETTER, letter=number, arrival=arrived.astimezone(zone).isoformat())
         for number, arrived in arrivals.items()
         if arrived is not None and arrived <= last
     ]
-
-
-def zone_of(history: History) -> datetime.tzinfo:
-    """The zone in which the end was announced."""
-    return (history.until.tzinfo if history.until else None) or datetime.UTC
 
 
 # ---------------------------------------------------------------- acts
@@ -185,67 +166,57 @@ def chronicle_of(book: Book, history: History, *, is_secret: bool) -> Chronicle:
         if before is not None and act.time < before.time:
             acts.append(inputs.ClockWentBack(act.time, before.time))
         acts += told_of(act, book, history, is_secret=is_secret)
-    return Chronicle(tuple(acts), history.until, after_the_end(book, history))
+    # lines, rows and ballots of desks that came after the end, and count
+    after = "late = 0 AND struck.act IS NULL AND letter IS NULL AND time > ?"
+    after_the_end = 0 if history.until is None else len(queries.envelopes(book, after, as_text(history.until)))
+    return Chronicle(tuple(acts), history.until, after_the_end)
 
 
 def told_of(act: DoneAct, book: Book, history: History, *, is_secret: bool) -> list[Act]:
     """What is told of an act; nothing of most. In a secret vote the reasons of `strike` and `reopen` stay in the log."""
     time, detail = act.time, act.detail
-    until = datetime.datetime.fromisoformat(detail["until"]) if detail.get("until") else None
+    told: list[Act] = []
+    until = from_text(detail["until"]) if detail.get("until") else None
     reason = None if is_secret else detail.get("because")
-    keyring: list[Act] = [inputs.KeyringChanged(time)] if detail.get("keyring") else []
     match act.name:
         case "call":
-            return [inputs.Called(time, until)]
+            told = [inputs.Called(time, until)]
         case "take back":
-            return [inputs.TakenBack(time)]
+            told = [inputs.TakenBack(time)]
         case "extend" if until is not None:
-            return [inputs.Extended(time, until), *keyring]
-        case "announce":
-            return keyring
+            told = [inputs.Extended(time, until)]
         case "addresses":
-            return [inputs.RollChanged(time, detail["electors"])]
+            told = [inputs.RollChanged(time, detail["electors"])]
         case "strike":
             struck = queries.envelopes(book, "struck.act = ?", act.number)
-            return [inputs.Struck(time, envelope.number, reason) for envelope in struck]
+            told = [inputs.Struck(time, envelope.number, reason) for envelope in struck]
         case "close":
-            return [close_of(act, book, history)]
+            told = [close_of(act, book, history)]
         case "reopen":
-            return [inputs.Reopened(time, reason)]
+            told = [inputs.Reopened(time, reason)]
         case "moved":
             noted = detail["noted"] and detail["noted"]["act"]
-            return [inputs.Moved(time, noted, detail["there"]["act"], detail["because"])]
-    return []
+            told = [inputs.Moved(time, noted, detail["there"]["act"], detail["because"])]
+    return [*told, inputs.KeyringChanged(time)] if detail.get("keyring") else told
 
 
 def close_of(act: DoneAct, book: Book, history: History) -> inputs.Closed:
-    """A close, and what changed since the one before."""
-    detail = act.detail
+    """A close, and how many lines in time came in or were struck since the one before."""
+    detail, came, struck = act.detail, None, None
     earlier = [close.number for close in history.closes if close.number < act.number]
-    came, struck = (None, None) if not earlier else changed_between(book, earlier[-1], act.number)
+    if earlier:
+        between = "late = 0 AND {0}.act > ? AND {0}.act < ?"
+        came, struck = (
+            len(queries.envelopes(book, between.format(table), earlier[-1], act.number)) for table in ("envelope", "struck")
+        )
     return inputs.Closed(
         act.time,
         detail["lines"],
         detail["checksum"],
-        is_early=detail.get("early", False),
-        waiting=detail.get("waiting", 0),
-        after_end=detail.get("after_end", 0),
+        is_early=detail["early"],
+        waiting=detail["waiting"],
+        after_end=detail["after_end"],
         because=detail.get("because"),
         came=came,
         struck=struck,
     )
-
-
-def changed_between(book: Book, first: int, last: int) -> tuple[int, int]:
-    """How many lines in time came in between two acts, and how many were struck."""
-    came = queries.envelopes(book, "late = 0 AND envelope.act > ? AND envelope.act < ?", first, last)
-    struck = queries.envelopes(book, "late = 0 AND struck.act > ? AND struck.act < ?", first, last)
-    return len(came), len(struck)
-
-
-def after_the_end(book: Book, history: History) -> int:
-    """How many lines, rows and ballots of desks came after the end, and count."""
-    if history.until is None:
-        return 0
-    condition = "late = 0 AND struck.act IS NULL AND letter IS NULL AND time > ?"
-    return len(queries.envelopes(book, condition, as_text(history.until)))

@@ -4,8 +4,6 @@ import datetime
 import textwrap
 from collections.abc import Iterable
 
-from debvote_tools.sheet import Sheet
-
 # how wide a terminal is taken to be
 WIDTH = 100
 
@@ -25,14 +23,9 @@ def wrapped(names: Iterable[str]) -> str:
     return textwrap.fill(" ".join(names), WIDTH, initial_indent="  ", subsequent_indent="  ", break_on_hyphens=False)
 
 
-def numbered_names(names: Iterable[str]) -> list[str]:
-    """The options as `1 At the lake`, the default last."""
-    return [f"{number} {name}" for number, name in enumerate(names, start=1)]
-
-
-def quorum_words(sheet: Sheet) -> str:
-    """What the quorum of a sheet asks for."""
-    multiple, least = f"{sheet.quorum_multiple}Q", sheet.quorum
-    if sheet.quorum_multiple == 0:
+def quorum_words(multiple: int, votes: int) -> str:
+    """What a quorum of so many times Q asks for, which is so many votes."""
+    if multiple == 0:
         return "Quorum: none"
-    return f"Quorum: {count_of(least, 'vote')} ({multiple}): at least {count_of(least, 'elector')} must prefer an option to the default option"
+    least = count_of(votes, "elector")
+    return f"Quorum: {count_of(votes, 'vote')} ({multiple}Q): at least {least} must prefer an option to the default option"

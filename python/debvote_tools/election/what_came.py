@@ -5,16 +5,16 @@ import dataclasses
 import datetime
 from collections.abc import Mapping, Sequence
 
+from debvote_tools.addresses import address_key
 from debvote_tools.book import letters, queries
 from debvote_tools.book.queries import Elector, Envelope
 from debvote_tools.election import letters_in
+from debvote_tools.election.batch import Vote, vote_of
 from debvote_tools.election.election import Election
 from debvote_tools.election.history import History
 from debvote_tools.election.letters_in import LetterNow
 from debvote_tools.letters.judge import Outcome
-from debvote_tools.letters.parse import address_key
 from debvote_tools.letters_out.compose import Became, Came
-from debvote_tools.sealed_poll import SealedPoll
 
 
 @dataclasses.dataclass(frozen=True)
@@ -27,12 +27,12 @@ class WhatCame:
 
 def what_came(election: Election, history: History, *, is_over: bool) -> WhatCame:
     """Judges all letters and all lines as they are now. debvote is started three times."""
-    book, counted = election.book, election.sealed().counted
-    envelopes, kept = queries.envelopes(book, "1"), letters.letters(book)
+    book = election.book
+    envelopes, kept = queries.envelopes(book), letters.letters(book)
     found = letters_in.judged(election, history, kept)
     electors = queries.electors(book)
     by_name, by_address = {elector.name: elector for elector in electors}, by_address_of(electors)
-    lines = LinesNow(election, counted, history, envelopes, is_over=is_over)
+    lines = LinesNow(vote_of(election, history), history, envelopes, is_over=is_over)
     came: dict[int, list[Came]] = {elector.number: [] for elector in electors}
     senders = {letter.number: by_address.get(letter.judged.letter.sender) for letter in found}
     for envelope in envelopes:
@@ -59,19 +59,10 @@ def by_address_of(electors: Sequence[Elector]) -> dict[str, int]:
 class LinesNow:
     """What became of the lines that were entered."""
 
-    def __init__(
-        self, election: Election, counted: SealedPoll, history: History, envelopes: Sequence[Envelope], *, is_over: bool
-    ) -> None:
+    def __init__(self, vote: Vote, history: History, envelopes: Sequence[Envelope], *, is_over: bool) -> None:
         self.history, self.is_over = history, is_over
-        lines = [envelope.line for envelope in envelopes]
-        poll = counted.as_bytes()
-        self.answers = (
-            letters_in.LinesByDebvote(election.debvote, poll, has_codes=bool(history.announced("codes_on_roll"))).answers(lines)
-            if lines
-            else {}
-        )
-        in_time = [(one.number, one.line) for one in envelopes if one.struck is None and not one.is_late]
-        self.standing = election.debvote.standing(poll, queries.ballots_of(in_time)) if in_time else {}
+        self.answers = vote.answers([envelope.line for envelope in envelopes])
+        self.standing = vote.standing([(one.number, one.line) for one in envelopes if one.struck is None and not one.is_late])
         # the last valid line of each elector stands
         self.last = {one.elector: one.number for one in envelopes if self.is_counted(one)}
 
@@ -81,8 +72,8 @@ class LinesNow:
 
     def came_of(self, envelope: Envelope) -> Came:
         """What became of a line."""
-        answer, key, became = self.answers[envelope.line], f"envelope {envelope.number}", self.became(envelope)
-        key = f"{key} struck" if envelope.struck is not None else key
+        answer, became = self.answers[envelope.line], self.became(envelope)
+        key = ("envelope", envelope.number, envelope.struck is not None)
         ranks = "" if answer is not None else envelope.line.decode("ascii").partition(" ")[2]
         return Came(key, became, envelope.time, ranks=ranks, answer=answer or "")
 
@@ -107,7 +98,8 @@ def came_of_letter(letter: LetterNow, elector: Elector, kept: datetime.datetime)
     # a program would answer, and be answered
     if is_own and judged.letter.is_automatic:
         return []
-    key, time, is_aside = f"letter {letter.number}", judged.letter.arrived or kept, judged.outcome is Outcome.SET_ASIDE
+    key, time = ("letter", letter.number, False), judged.letter.arrived or kept
+    is_aside = judged.outcome is Outcome.SET_ASIDE
     if not is_own:
         return [Came(key, Became.ELSEWHERE_SET_ASIDE if is_aside else Became.ELSEWHERE, time)]
     return [Came(key, Became.SET_ASIDE if is_aside else Became.WAITS, time, because=judged.reason, near=judged.near)]

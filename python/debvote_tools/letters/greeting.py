@@ -54,9 +54,10 @@ def is_greeting(line: str, *, may_have_digits: bool = False) -> bool:
     """Whether a line may be a greeting: it begins with a letter, and has no digit, no colon and none of `@ < > |`, of any form."""
     if not (line[:1].isalpha() or line.startswith(OPENING)):
         return False
+    # each character by itself: of many accents on one letter the time would grow with the square of their number
+    plain = line if line.isascii() else line + "".join(unicodedata.normalize("NFKC", character) for character in line)
     return not any(
-        character in REFUSED or character in COLONS or (character.isnumeric() and not may_have_digits)
-        for character in line + unicodedata.normalize("NFKC", line)
+        character in REFUSED or character in COLONS or (character.isnumeric() and not may_have_digits) for character in plain
     )
 
 

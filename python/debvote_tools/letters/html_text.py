@@ -1,25 +1,34 @@
-"""The text of a letter in HTML, line by line, and down to where its marks are plain: so plain that no mail program shows another text.
+"""The text of a letter in HTML, line by line as browsers show it, and down to where its marks are plain: so plain that no mail program
+shows another text.
 
 Python's own reader of HTML takes a time that grows with the square of the length where marks have no end, and anybody may send such a
 letter. Here one expression parts the marks, and reads each character once.
 """
 
+import collections
 import dataclasses
 import html
 import re
+import unicodedata
 
 # a comment or declaration, a mark with its attributes, or a text; what has no end ends with the text
+BLANKS = r" \t\n\r\f"
+NAME = rf"[^{BLANKS}/>][^{BLANKS}/>=]*+"
+VALUE = rf"""[{BLANKS}]*+=[{BLANKS}]*+(?:"[^"]*+"|'[^']*+'|[^{BLANKS}>"'][^{BLANKS}>]*+)?+"""
 TOKEN = re.compile(
-    r"""(?P<other><!--.*?(?:-->|\Z)|<[!?][^>]*+(?:>|\Z))"""
-    r"""|<(?P<end>/?)(?P<tag>[a-zA-Z][a-zA-Z0-9:-]*+)(?P<given>(?:[^<>"']|"[^"<>]*+"|'[^'<>]*+')*+)>|(?P<text>[^<]++|<)""",
+    r"(?P<other><!--(?:-?>|.*?(?:--!?>|\Z))|<(?:[!?]|/(?![a-zA-Z]))[^>]*+(?:>|\Z))"
+    rf"|<(?P<end>/?)(?P<tag>[a-zA-Z][^{BLANKS}/>]*+)(?P<given>(?:[{BLANKS}/]++|{NAME}(?:{VALUE})?+)*+)(?:>|\Z)|(?P<text>[^<]++|<)",
     re.DOTALL,
 )
 DOCTYPE = re.compile(r"<!doctype\s[^<>\[\]]*>", re.IGNORECASE)
-ATTRIBUTE = re.compile(r"""\s+([a-zA-Z-]++)(?:\s*=\s*(?:"([^"]*+)"|'([^']*+)'|([^\s"'>=]++)))?""")
+ATTRIBUTE = re.compile(r"""(?<!\s)\s++([a-zA-Z-]++)(?:\s*+=\s*+(?:"([^"]*+)"|'([^']*+)'|([^\s"'>=]++)))?""")
 
 # the elements and attributes of plain marks
 PLAIN = frozenset("html head meta title body div p br span font b strong i em u center blockquote".split())
-PLAIN_ATTRIBUTES = frozenset(("class", "id", "lang", "dir"))
+PLAIN_ATTRIBUTES = frozenset(("class", "id", "lang"))
+# from right to left numbers are in another order
+DIRECTIONS = frozenset(("ltr", "auto"))
+RIGHT_TO_LEFT = ("R", "AL", "RLE", "RLO", "RLI", "LRE", "LRO", "LRI", "FSI", "PDF", "PDI")
 LENGTH = r"(?:0|auto|\d{1,2}(?:\.\d+)?(?:px|pt|em|rem|cm|mm|%))"
 PLAIN_STYLES = {
     "font-family": re.compile(r"[\w\s,'\"-]+"),
@@ -34,13 +43,13 @@ PLAIN_STYLES |= {
 }
 
 # with these somewhere in a letter, nothing of it is plain
-STYLING = frozenset(("style", "script", "link", "base"))
+STYLING = re.compile(r"<(?:style|script|link|base)\b", re.IGNORECASE)
 # what they hold is no text of the letter
 HOLDING = frozenset(("title", "style", "script"))
 # they begin a line, and after their end a line begins too
 BLOCKS = frozenset(
-    "address article aside blockquote body center dd div dl dt fieldset figure footer form h1 h2 h3 h4 h5 h6 head header hr html li main "
-    "nav ol p pre section table tbody td tfoot th thead title tr ul".split()
+    "address article aside blockquote center dd div dl dt fieldset figure footer form h1 h2 h3 h4 h5 h6 header li main nav ol p pre "
+    "section table tbody td tfoot th thead tr ul".split()
 )
 # characters that end a line in some programs
 ODD_CHARACTERS = re.compile("[\v\x1c-\x1f\x85\u2028\u2029]")
@@ -61,9 +70,13 @@ class HtmlText:
 def read_html(text: str) -> HtmlText:
     """Reads a text in HTML."""
     reader = Reader()
+    # browsers leave zero characters out
+    text = text.replace("\0", "")
     for token in TOKEN.finditer(text):
         if token["text"] is not None:
             reader.read_text(token["text"])
+        elif reader.holder and not (token["end"] and token["tag"].lower() == reader.holder):
+            reader.read_text(token[0])
         elif token["other"] is not None:
             reader.read_declaration(token["other"])
         elif token["end"]:
@@ -71,7 +84,8 @@ def read_html(text: str) -> HtmlText:
         else:
             reader.begin(token["tag"].lower(), token["given"])
     reader.end_line()
-    return HtmlText(tuple(reader.lines), reader.plain_lines(), reader.first_other, tuple(reader.unseen))
+    plain_lines = reader.lines_before_other if reader.first_other else len(reader.lines)
+    return HtmlText(tuple(reader.lines), 0 if STYLING.search(text) else plain_lines, reader.first_other, tuple(reader.unseen))
 
 
 class Reader:
@@ -82,16 +96,12 @@ class Reader:
         self.unseen: list[str] = []
         # the text of the line that is not ended yet
         self.parts: list[str] = []
-        self.quotations = 0
+        # the blocks that are open, and how many of each
+        self.open: list[str] = []
+        self.open_count: collections.Counter[str] = collections.Counter()
         # the element whose text nobody sees, while it is open
         self.holder = ""
-        self.first_other, self.lines_before_other, self.has_styling = "", 0, False
-
-    def plain_lines(self) -> int:
-        """How many of the first lines have plain marks alone."""
-        if self.has_styling:
-            return 0
-        return self.lines_before_other if self.first_other else len(self.lines)
+        self.first_other, self.lines_before_other = "", 0
 
     def found_other(self, name: str) -> None:
         """A mark comes that is not plain."""
@@ -104,33 +114,49 @@ class Reader:
             self.found_other(tag)
         elif not has_plain_attributes(tag, given):
             self.found_other(f"{tag}{given}")
-        self.has_styling = self.has_styling or tag in STYLING
-        if tag in BLOCKS or tag == "br":
-            self.end_line(keeps_empty=tag == "br")
+        if tag == "title" and (self.lines or self.parts):
+            self.found_other(tag)
         if tag in HOLDING:
-            self.holder = self.holder or tag
-        self.quotations += tag == "blockquote"
+            self.holder = tag
+        if tag in ("br", "hr"):
+            self.end_line(keeps_empty=tag == "br")
+        elif tag in BLOCKS:
+            self.end_line()
+            if self.open[-1:] == ["p"]:
+                self.close("p")
+            self.open.append(tag)
+            self.open_count[tag] += 1
+
+    def close(self, tag: str) -> None:
+        """Closes a block that is open, and those within it."""
+        closed = ""
+        while closed != tag:
+            closed = self.open.pop()
+            self.open_count[closed] -= 1
 
     def end(self, tag: str) -> None:
-        """An element ends. The end of `br` begins a line in browsers, and is no plain mark."""
-        if tag not in PLAIN or tag == "br":
+        """An element ends. The end of one that is not open begins a line in browsers if it is `br` or `p`, and is no plain mark."""
+        is_open = self.open_count[tag] > 0
+        if tag not in PLAIN or tag == "br" or (tag in BLOCKS and not is_open):
             self.found_other(f"/{tag}")
-        if tag in BLOCKS or tag == "br":
+        if tag in ("br", "p") or is_open:
             self.end_line()
+        if is_open:
+            self.close(tag)
         if tag == self.holder:
             self.holder = ""
-        self.quotations = max(0, self.quotations - (tag == "blockquote"))
 
     def read_declaration(self, text: str) -> None:
         """A comment or a declaration comes. A comment may be shown by some programs, so what it holds counts as a line that nobody sees."""
         if not DOCTYPE.fullmatch(text) or self.lines or self.parts:
             self.found_other(text)
-        self.unseen += re.split(r"[\n\r<>]+", html.unescape(text))
+        self.unseen += re.split(r"(?:[\n\r<>]|!?--|!)+", html.unescape(text))
 
     def read_text(self, text: str) -> None:
         """A text comes. A sign < that begins no mark is not plain."""
         shown = html.unescape(text)
-        if text == "<" or ODD_CHARACTERS.search(shown):
+        is_turned = not shown.isascii() and any(unicodedata.bidirectional(character) in RIGHT_TO_LEFT for character in shown)
+        if text == "<" or ODD_CHARACTERS.search(shown) or is_turned:
             self.found_other(text)
         if self.holder:
             self.unseen += shown.splitlines()
@@ -142,7 +168,7 @@ class Reader:
         text = "".join(self.parts)
         self.parts.clear()
         if text.strip(" ") or keeps_empty:
-            self.lines.append(("> " if self.quotations else "") + text.strip())
+            self.lines.append(("> " if self.open_count["blockquote"] else "") + text.strip())
 
 
 def has_plain_attributes(tag: str, given: str) -> bool:
@@ -155,6 +181,7 @@ def has_plain_attributes(tag: str, given: str) -> bool:
         return True
     return all(
         name.lower() in PLAIN_ATTRIBUTES
+        or (name.lower() == "dir" and (double or single or bare_value).lower() in DIRECTIONS)
         or (name.lower() == "style" and is_plain_style(html.unescape(double or single or bare_value)))
         for name, double, single, bare_value in attributes
     )

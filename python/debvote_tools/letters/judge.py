@@ -11,8 +11,9 @@ import enum
 import functools
 from collections.abc import Callable, Collection, Mapping, Sequence
 
+from debvote_tools.addresses import address_key
 from debvote_tools.letters.greeting import is_quoted, paragraphs_of, why_not_first
-from debvote_tools.letters.parse import Body, ParsedLetter, address_key, marks_of
+from debvote_tools.letters.parse import Body, ParsedLetter, marks_of
 from debvote_tools.letters.readings import MAX_BALLOTS, BallotLine, Elector, LineReader, Near, Readings, first_ballot, readings_of
 from debvote_tools.letters.reasons import Because, Reason
 from debvote_tools.terminal_text import shown_text
@@ -186,12 +187,12 @@ def arrived_in_time(case: Case, circumstances: Circumstances) -> Because | None:
     if arrived is None:
         return Reason.NO_ARRIVAL()
     if arrived <= circumstances.called:
-        return Reason.BEFORE_CALL(called=circumstances.called)
+        return Reason.BEFORE_THE_CALL(called=circumstances.called)
     if end is not None and arrived > end:
-        return Reason.AFTER_END(end=end)
+        return Reason.AFTER_THE_END(end=end)
     if close is not None and arrived > close:
-        return Reason.AFTER_CLOSE(close=close)
-    return Reason.IN_FUTURE(arrived=arrived) if arrived > circumstances.now + AHEAD else None
+        return Reason.AFTER_THE_CLOSE(close=close)
+    return Reason.IN_THE_FUTURE(arrived=arrived) if arrived > circumstances.now + AHEAD else None
 
 
 def is_sent_by_its_elector(case: Case, circumstances: Circumstances) -> Because | None:
@@ -218,7 +219,7 @@ def is_signed_by_its_elector(case: Case, circumstances: Circumstances) -> Becaus
     if signature.fingerprint != key:
         return Reason.OTHER_KEY(key=signature.fingerprint, listed=key, elector=case.elector)
     if signature.time <= circumstances.called:
-        return Reason.SIGNED_BEFORE_CALL(time=signature.time)
+        return Reason.SIGNED_BEFORE_THE_CALL(time=signature.time)
     if letter.arrived is None or signature.time > letter.arrived + AHEAD:
         return Reason.SIGNED_AHEAD(time=signature.time)
     has_mark = any(line.strip() == f"[{circumstances.mark}]" for line in letter.body.text.lines)

@@ -14,13 +14,13 @@ import email.utils
 import hashlib
 import json
 import re
-import string
 from collections.abc import Iterator, Sequence
 from typing import Any
 
+from debvote_tools.addresses import ADDRESS, address_key
 from debvote_tools.letters.html_text import read_html
 from debvote_tools.letters.reasons import Because, Reason
-from debvote_tools.letters.sources import END_OF_HEAD, MAX_HEAD, MAX_LETTER, RawLetter
+from debvote_tools.letters.sources import BOUNDARY, END_OF_HEAD, MAX_HEAD, MAX_LETTER, RawLetter
 
 # in bytes; a text is shorter
 MAX_TEXT = 262_144
@@ -29,39 +29,43 @@ MAX_FIELD = 2_000
 # a letter has fewer parts, and a long letter has fewer within each other: each line is looked at once for each
 MAX_PARTS, MAX_BOUNDARIES, MAX_LOOKS = 100, 50, 1_500_000
 # in bytes; what is said of a part is shorter
-MAX_OF_PART = 16_384
+MAX_OF_PART = 4_096
 # in characters; no longer line reads as a ballot, which has a number or a stroke. A letter has fewer lines with one; of more some are shown
 MAX_LINE, MAX_LINES, SHOWN_LINES = 500, 5_000, 200
 RANK = re.compile("[\\d\u2010-\u2014\u2212-]")
 
-BOUNDARY = re.compile(rb"""(?i)\bboundary[ \t]*\*?\d*\*?=[ \t]*"?([^"\s;]*)""")
 MESSAGE_PART = re.compile(rb"(?im)^content-type[ \t]*:\s*message/")
 LONG_FIELD = re.compile(rb"(?im)^content-[a-z-]+[ \t]*:(?:[^\n]|\n(?=[ \t])){%d}" % MAX_OF_PART)
 LONE_RETURN = re.compile(rb"\r(?!\n)")
+# as Python's parser has them
+LINE_END, PART_LINE = re.compile(rb"\r\n?|\n"), re.compile(rb"[\r\n]--")
+# after this a line goes on as mail says it, and ends as Python reads it
+ODD_BREAK = re.compile(r"(?m)=[ \t]+\r?$")
 # what ends a line in some programs, beside LF and CR LF
 ODD_END = re.compile("[\r\v\f\x1c-\x1f\x85\u2028\u2029](?!(?<=\r)\n)")
 
-# the description of a part, each field once; of the parameters of a kind only a name may be coded or in pieces
+# the description of a part, each field once; of the parameters of a kind only a name may be coded or in pieces. No text matches in two
+# ways, or the time to find that it does not match at all would double with each parameter
 ONCE = ("content-type", "content-transfer-encoding", "content-disposition")
-PARAMETER = re.compile(r"""\s*;\s*([\w-]+|name\*?\d*\*?)\s*=\s*("[^"\\]*"|[^\s";()<>@,\\]+)""")
+PARAMETER = re.compile(r"""\s*;\s*([\w-]+|name\*\d*\*?)\s*=\s*("[^"\\]*"|[^\s";()<>@,\\]+)""")
 KIND = re.compile(rf"\s*([\w.+-]+/[\w.+-]+)((?:{PARAMETER.pattern})*)\s*;?\s*")
 ANY_KIND = re.compile(r"\s*[\w.+-]+/[\w.+-]+\s*(?:;.*)?", re.DOTALL)
 CODINGS = ("", "7bit", "8bit", "binary", "quoted-printable", "base64")
 CHARSETS = re.compile(r"utf-?8|us-ascii|ascii|iso-?8859-\d{1,2}|(?:windows-|cp)125\d", re.IGNORECASE)
+# in others a letter waits, and is shown; of those that no mail program uses some take a time that grows with the square of the length
+SHOWN_CHARSETS = re.compile(
+    r"(?:us-)?ascii|(?:big5|cp|euc|gb|hz|iso|koi|ks|latin|mac|shift|tis|utf|windows)[\w.:-]*", re.IGNORECASE
+)
 CONTAINERS = ("multipart/alternative", "multipart/mixed", "multipart/related", "multipart/signed")
 PACKED = ("multipart/encrypted", "application/pgp-encrypted", "application/pkcs7-mime", "application/x-pkcs7-mime")
 
-ADDRESS = re.compile(r'[^\s<>@,;:"()\[\]\\]+@[^\s<>@,;:"()\[\]\\]+')
-SMALL = str.maketrans(string.ascii_uppercase, string.ascii_lowercase)
+ENCODED_WORD = re.compile(r"=\?[^?\s]*\?[^?\s]*\?[^?\s]*\?=")
 MESSAGE_ID = re.compile(r"<[!-;=?-~]{1,250}>")
 MARK = re.compile(r"\[([0-9a-f]{16})\]", re.IGNORECASE)
 
 # by these a program says that it answers by itself
 AUTOMATIC_FIELDS = ("x-autoreply", "x-autorespond", "x-autoresponder")
 DAEMON = re.compile(r"(?:mailer-daemon|postmaster)@", re.IGNORECASE)
-
-# what Python's parser raises at heads that no mail program writes
-PARSER_FAULTS = (RecursionError, AssertionError, ValueError, LookupError, TypeError, AttributeError)
 
 
 @dataclasses.dataclass(frozen=True)
@@ -138,7 +142,7 @@ class ParsedLetter:
 
 
 class Unread(Exception):
-    """Why a letter can't be read with certainty."""
+    """Why a letter can't be read with certainty, or has no good signature."""
 
     def __init__(self, because: Because) -> None:
         super().__init__(because)
@@ -191,7 +195,7 @@ def decoded(value: str) -> str:
     value = value[:MAX_FIELD].encode("utf-8", "surrogateescape").decode("utf-8", "replace")
     try:
         parts = email.header.decode_header(value)
-    except PARSER_FAULTS:
+    except Exception:
         parts = [(value, None)]
     return " ".join("".join(decoded_word(word, charset) for word, charset in parts).split())
 
@@ -203,8 +207,8 @@ def decoded_word(word: str | bytes, charset: str | None) -> str:
 def decoded_bytes(data: bytes, charset: str) -> str:
     """A text as its character set has it, or as Latin-1. Halves of characters, which some character sets have, are none."""
     try:
-        return data.decode(charset).encode("utf-8", "replace").decode("utf-8")
-    except PARSER_FAULTS:
+        return data.decode(charset if SHOWN_CHARSETS.fullmatch(charset) else "latin-1").encode("utf-8", "replace").decode("utf-8")
+    except (ValueError, LookupError):
         return data.decode("latin-1")
 
 
@@ -230,30 +234,32 @@ def sender_of(senders: Sequence[str]) -> str:
     if not value or len(value) > MAX_FIELD or value[0] in ",;" or value[-1] in ",;":
         return ""
     try:
-        header: Any = email.policy.default.header_factory("From", value)
-        addresses = [] if header.defects else [address.addr_spec for address in header.addresses]
-        is_group = any(group.display_name is not None for group in header.groups)
-    except (*PARSER_FAULTS, IndexError):
+        # an encoded word is no part of an address, though Python reads it there
+        texts = dict.fromkeys((value, ENCODED_WORD.sub("word", value)))
+        headers: list[Any] = [email.policy.default.header_factory("From", text) for text in texts]
+        addresses, *plain = [[address.addr_spec for address in header.addresses] for header in headers]
+        is_odd = headers[0].defects or any(group.display_name is not None for group in headers[0].groups)
+    except Exception:
         return ""
-    if len(addresses) != 1 or is_group or not ADDRESS.fullmatch(addresses[0]):
+    if is_odd or plain not in ([], [addresses]) or len(addresses) != 1 or not ADDRESS.fullmatch(addresses[0]):
         return ""
     return address_key(addresses[0]) if addresses[0].isascii() and addresses[0].isprintable() else ""
 
 
-def address_key(address: str) -> str:
-    """An address as it is compared: without case, in ASCII."""
-    return address.strip().translate(SMALL)
-
-
 def arrival_of(received: Sequence[str]) -> datetime.datetime | None:
-    """When the letter arrived: the time of the topmost line Received, which their own mail server wrote. A time needs a zone."""
-    time = received[0][-MAX_FIELD:].rpartition(";")[2].strip() if received else ""
+    """When the letter arrived: the time of the topmost line Received, which their own mail server wrote. One with two times has none: a
+    letter whose first line begins with a blank goes on in that line.
+    """
+    if not received or len(received[0]) > MAX_FIELD:
+        return None
+    *others, time = (part.strip() for part in received[0].split(";"))
     try:
         arrived = email.utils.parsedate_to_datetime(time)
-        if arrived.tzinfo is None and not time.endswith("-0000"):
+        # a time needs a zone
+        if any(map(email.utils.parsedate, others)) or (arrived.tzinfo is None and not time.endswith("-0000")):
             return None
         return arrived.replace(tzinfo=arrived.tzinfo or datetime.UTC).astimezone(datetime.UTC).replace(microsecond=0)
-    except (ValueError, TypeError, OverflowError, IndexError):
+    except Exception:
         return None
 
 
@@ -292,13 +298,14 @@ def read_body(data: bytes) -> Body:
         trouble = trouble_of(message, leaves)
     except Unread as error:
         return Body(trouble=error.because)
-    except PARSER_FAULTS as error:
+    except Exception as error:
+        # Python's parser raises much at heads that no mail program writes
         return Body(trouble=Reason.DEFECT(defect=type(error).__name__))
     if LONE_RETURN.search(data):
         trouble = trouble or Reason.LINE_END(character="U+000D")
     first, others = (texts[0], texts[1:]) if texts else (Text(), [])
     other_lines = [line for line in first.unseen if may_be_ballot(line)]
-    other_lines += [line for text in others for line in (*text.lines, *text.joined) if may_be_ballot(line)]
+    other_lines += [line for text in others for line in (*text.lines, *text.joined, *text.unseen) if may_be_ballot(line)]
     count = len(other_lines) + sum(map(may_be_ballot, first.lines))
     if count > MAX_LINES:
         trouble = Reason.TOO_LONG(length=count, what="lines with numbers", limit=MAX_LINES)
@@ -320,11 +327,11 @@ def demand_readable(data: bytes) -> None:
     if len(data) > MAX_HEAD and END_OF_HEAD.search(data, 0, MAX_HEAD + 4) is None:
         raise Unread(Reason.TOO_LONG(length=len(data), what="bytes in its head", limit=MAX_HEAD))
     small = data.lower()
-    boundaries = BOUNDARY.findall(data) if b"boundary" in small else []
-    depth = len(boundaries) + (len(MESSAGE_PART.findall(data)) if b"message/" in small else 0)
-    if depth > MAX_BOUNDARIES or (depth + 1) * data.count(b"\n") > MAX_LOOKS or LONG_FIELD.search(data):
+    boundaries = len(BOUNDARY.findall(data)) if b"boundary" in small else 0
+    depth = boundaries + (len(MESSAGE_PART.findall(data)) if b"message/" in small else 0)
+    if depth > MAX_BOUNDARIES or (depth + 1) * len(LINE_END.findall(data)) > MAX_LOOKS or LONG_FIELD.search(data):
         raise Unread(Reason.TOO_MANY_PARTS())
-    if sum(data.count(b"\n--" + boundary) for boundary in set(boundaries)) > 2 * MAX_PARTS:
+    if boundaries and len(PART_LINE.findall(data)) > 2 * MAX_PARTS:
         raise Unread(Reason.TOO_MANY_PARTS())
 
 
@@ -339,7 +346,7 @@ class Leaf:
 def leaves_of(part: email.message.Message, *, is_own: bool = True) -> Iterator[Leaf]:
     """The parts of a letter without parts, in their order."""
     demand_plain_description(part)
-    is_own = is_own and part.get_content_disposition() != "attachment" and part.get_filename() is None
+    is_own = is_own and part.get_content_disposition() in (None, "inline") and part.get_filename() is None
     payload = part.get_payload()
     if isinstance(payload, list):
         for inner in payload:
@@ -394,7 +401,7 @@ def trouble_of_text(part: email.message.Message) -> Because | None:
     """What leaves a doubt about a text: its coding, its character set, or its line ends."""
     coding = " ".join(fields(part, "content-transfer-encoding")).strip().lower()
     charset = parameter(part, "charset") or "us-ascii"
-    if coding not in CODINGS:
+    if coding not in CODINGS or (coding == "quoted-printable" and ODD_BREAK.search(str(part.get_payload()))):
         return Reason.AMBIGUOUS(field="content-transfer-encoding")
     try:
         text = payload_of(part).decode(charset) if CHARSETS.fullmatch(charset) else None
@@ -419,13 +426,15 @@ def payload_of(part: email.message.Message) -> bytes:
 def text_of(part: email.message.Message) -> Text:
     """The lines of a part, as far as they can be read."""
     text = decoded_bytes(payload_of(part), str(part.get_content_charset() or "utf-8")).removeprefix("\ufeff")
-    if part.get_content_type() == "text/html":
-        found = read_html(text)
+    kind = part.get_content_type()
+    found = read_html("" if kind == "text/plain" else text)
+    if kind == "text/html":
         return Text(found.lines, (), (), True, found.plain_lines, found.first_other, found.unseen)
     lines = ODD_END.sub("\n", text.replace("\r\n", "\n")).split("\n")
     while lines and not lines[-1]:
         lines.pop()
-    return plain_text(part, lines)
+    # some other kinds are HTML, too
+    return dataclasses.replace(plain_text(part, lines), unseen=found.lines + found.unseen)
 
 
 def plain_text(part: email.message.Message, lines: Sequence[str]) -> Text:
@@ -462,7 +471,7 @@ def as_json(letter: ParsedLetter) -> str:
 
 
 def as_plain(value: object) -> str:
-    return str(value.value) if isinstance(value, Reason) else value.isoformat() if isinstance(value, datetime.datetime) else ""
+    return value.name if isinstance(value, Reason) else value.isoformat() if isinstance(value, datetime.datetime) else ""
 
 
 def from_json(text: str) -> ParsedLetter:
@@ -481,4 +490,4 @@ def from_json(text: str) -> ParsedLetter:
 
 
 def because_from(kept: Any) -> Because | None:
-    return None if kept is None else Because(Reason(kept["reason"]), tuple((name, value) for name, value in kept["values"]))
+    return None if kept is None else Because(Reason[kept["reason"]], tuple((name, value) for name, value in kept["values"]))

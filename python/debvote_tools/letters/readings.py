@@ -9,7 +9,7 @@ from typing import Protocol
 from debvote_tools.letters.greeting import above_end, is_quoted
 from debvote_tools.letters.parse import MAX_LINE, ParsedLetter, may_be_ballot
 from debvote_tools.lines import DASHES, changed
-from debvote_tools.plain_names import elector_name
+from debvote_tools.plain_names import without_accents
 
 # the grammar of a ballot line, and ranks alone
 RANKS = r"(?:-|[1-9][0-9]?)(?:,(?:-|[1-9][0-9]?))*"
@@ -159,8 +159,8 @@ class Reader:
 
     def is_name_of_sender(self, name: str, elector: Elector) -> bool:
         """Whether a name as somebody wrote it is that of the one elector whose address the sender has, and of no other."""
-        folds = {elector_name(name, language) for language in (self.language, "")} - {""}
-        own = {elector.name, *(elector_name(elector.real_name, language) for language in (self.language, ""))}
+        folds = {folded(name, language) for language in (self.language, "")} - {""}
+        own = {elector.name, *(folded(elector.real_name, language) for language in (self.language, ""))}
         return bool(folds & own) and not folds & (self.roll - {elector.name})
 
     def with_name(self, number: int, line: str) -> BallotLine | None:
@@ -181,6 +181,12 @@ class Reader:
         first_word = re.split(r"[\s:,;*\"']+", text.lstrip("*\"' "), maxsplit=1)[0].lower()
         is_near = BALLOT.fullmatch(text) or (first_word in self.roll and len(text) <= MAX_LOOKED_THROUGH)
         return Near(number, text, False) if is_near else None
+
+
+def folded(name: str, language: str) -> str:
+    """A name as one on a roll is made from it, whole: there a long one is cut, and other words may follow where it is."""
+    letters = re.sub(r"[^a-z0-9.-]+", "-", without_accents(name, language).lower()).strip("-")
+    return letters if re.search(r"[a-z0-9]", letters) else ""
 
 
 def repaired(line: str) -> str:

@@ -8,7 +8,7 @@ import dataclasses
 import datetime
 import enum
 
-from debvote_tools.sentences import Sentence, marked, sentence
+from debvote_tools.sentences import marked
 from debvote_tools.terminal_text import shown_text
 
 Value = str | int | datetime.datetime
@@ -23,135 +23,77 @@ class Because:
 
 
 class Reason(enum.Enum):
-    """Why a letter waits. A call gives it its values: `Reason.AFTER_END(end=..)`."""
+    """Why a letter waits, as the secretary reads it within a sentence. A call gives it its values: `Reason.AFTER_THE_END(end=..)`."""
 
     # the secretary decided
-    TAKEN_BACK = "taken back"
-    PUT_BACK = "put back"
-    SET_ASIDE = "set aside"
-    STRUCK = "struck"
+    TAKEN_BACK = "its ballot was taken back"
+    PUT_BACK = "it was put back to wait"
+    SET_ASIDE = "it was set aside"
+    STRUCK = "its ballot was struck"
     # it can't be read with certainty
-    PARTED_OFF = "parted off"
-    TOO_LONG = "too long"
-    TOO_MANY_PARTS = "too many parts"
-    AMBIGUOUS = "ambiguous"
-    DEFECT = "defect"
-    ENCRYPTED = "encrypted"
-    NO_PLAIN_TEXT = "no plain text"
-    CHARSET = "charset"
-    LINE_END = "line end"
-    HTML = "html"
-    AUTOMATIC = "automatic"
+    PARTED_OFF = "it may be text of the letter above it in the mailbox, and no letter of its own"
+    TOO_LONG = "it has {length} {what}, and {limit} are the most"
+    TOO_MANY_PARTS = "it has too many parts or lines, or parts too deep within each other"
+    AMBIGUOUS = "it describes a part in a way that programs read differently: {field}"
+    DEFECT = "it is damaged: {defect}"
+    ENCRYPTED = "it is encrypted"
+    NO_PLAIN_TEXT = "it does not begin with plain text, nor is it HTML alone"
+    CHARSET = "its text is not plain text in the character set that it names: {charset}"
+    LINE_END = "its text has a character that ends a line in some programs and not in others: {character}"
+    HTML = "it is HTML that may look different than it reads: {element}"
+    AUTOMATIC = "a program wrote it: an answer of somebody who is away, or a letter that came back"
     # when it arrived
-    NO_ARRIVAL = "no arrival"
-    BEFORE_CALL = "before the call"
-    AFTER_END = "after the end"
-    AFTER_CLOSE = "after the close"
-    IN_FUTURE = "in the future"
+    NO_ARRIVAL = "no line Received at its top says when it arrived"
+    BEFORE_THE_CALL = "it arrived before the call for votes, which was at {called}"
+    AFTER_THE_END = "it arrived after the end of the vote, {end}"
+    AFTER_THE_CLOSE = "it arrived after the vote was closed, {close}"
+    IN_THE_FUTURE = "it arrived later than the clock of this computer says"
     # who sent it
-    NO_SENDER = "no sender"
-    NO_ADDRESS = "no address"
-    OTHER_SENDER = "other sender"
+    NO_SENDER = "it does not come from one address alone: {sender}"
+    NO_ADDRESS = "the list of members has no address for {elector}"
+    OTHER_SENDER = "it came from {sender}, and the list has {listed} for {elector}"
     # where the ballot is
-    NO_BALLOT = "no ballot"
-    NO_NAME = "no name"
-    ELSEWHERE = "elsewhere"
-    QUOTED = "quoted"
-    NOT_FIRST = "not first"
-    MUCH_ABOVE = "much above"
-    JOINED = "joined"
+    NO_BALLOT = "no ballot found"
+    NO_NAME = "the ranks have no name before them"
+    ELSEWHERE = "line {number} is a ballot, but is below the end of its text, or in another part"
+    QUOTED = "a line that begins with > is beside the ballot, or above it in a letter that is no answer to one of ours"
+    NOT_FIRST = "line {number} is no greeting, and is above the ballot or beside it"
+    MUCH_ABOVE = "more is above the ballot than a greeting"
+    JOINED = "its lines say that they belong together, and then the ballot is another, or none"
     # other ballots
-    TWO_BALLOTS = "two ballots"
-    SEVERAL_ELECTORS = "several electors"
+    TWO_BALLOTS = "two ballots that differ"
+    SEVERAL_ELECTORS = "ballots of several electors: {electors}"
     # another vote
-    OTHER_MARK = "other mark"
+    OTHER_MARK = "it has the mark of another vote: [{mark}]"
     # the ballots of the elector that are in
-    LATER_BALLOT = "later ballot"
-    SAME_TIME = "same time"
-    CAME_BEFORE = "came before"
+    LATER_BALLOT = "a later ballot of {elector} is in already, of {time}"
+    SAME_TIME = "another ballot of {elector} has the same time, {time}"
+    CAME_BEFORE = "came before; {elector} has voted since"
     # its signature
     NOT_SIGNED = "not signed"
-    NOT_WHOLE = "not whole"
-    ODD_LINES = "odd lines"
-    BAD_SIGNATURE = "bad signature"
-    UNREAD_SIGNATURE = "unread signature"
-    SLOW_SIGNATURE = "slow signature"
-    EXPIRED_SIGNATURE = "expired signature"
-    EXPIRED_KEY = "expired key"
-    REVOKED_KEY = "revoked key"
-    UNKNOWN_KEY = "unknown key"
-    WEAK_DIGEST = "weak digest"
-    NO_KEY = "no key"
-    OTHER_KEY = "other key"
-    SIGNED_BEFORE_CALL = "signed before the call"
-    SIGNED_AHEAD = "signed ahead"
-    NO_MARK = "no mark"
+    NOT_WHOLE = "more is in the letter than what is signed"
+    ODD_LINES = "what is signed has a control character, or a line of more than 998 bytes"
+    BAD_SIGNATURE = "its signature is not that of this text"
+    UNREAD_SIGNATURE = "gpgv can't check its signature"
+    SLOW_SIGNATURE = "gpgv did not answer about its signature in time"
+    EXPIRED_SIGNATURE = "its signature has expired"
+    EXPIRED_KEY = "signed with a key that has expired: {key}"
+    REVOKED_KEY = "signed with a key that was revoked: {key}"
+    UNKNOWN_KEY = "signed with a key that is not in the keyring: {key}"
+    WEAK_DIGEST = "its signature uses a digest that is too weak, number {digest} of OpenPGP"
+    NO_KEY = "the list of members has no key for {elector}"
+    OTHER_KEY = "signed with the key {key}, and the list has {listed} for {elector}"
+    SIGNED_BEFORE_THE_CALL = "signed at {time}, before the call for votes"
+    SIGNED_AHEAD = "signed at {time}, which was not yet when it arrived"
+    NO_MARK = "no line of what is signed is the mark of this vote, [{mark}]"
 
     def __call__(self, **values: Value) -> Because:
         return Because(self, tuple(values.items()))
 
 
-# ---------------------------------------------------------------- for the secretary
-FOR_SECRETARY = {
-    Reason.TAKEN_BACK: "its ballot was taken back",
-    Reason.PUT_BACK: "it was put back to wait",
-    Reason.SET_ASIDE: "it was set aside",
-    Reason.STRUCK: "its ballot was struck",
-    Reason.PARTED_OFF: "it may be text of the letter above it in the mailbox, and no letter of its own",
-    Reason.TOO_LONG: "it has {length} {what}, and {limit} are the most",
-    Reason.TOO_MANY_PARTS: "it has too many parts or lines, or parts too deep within each other",
-    Reason.AMBIGUOUS: "it describes a part in a way that programs read differently: {field}",
-    Reason.DEFECT: "it is damaged: {defect}",
-    Reason.ENCRYPTED: "it is encrypted",
-    Reason.NO_PLAIN_TEXT: "it does not begin with plain text, nor is it HTML alone",
-    Reason.CHARSET: "its text is not plain text in the character set that it names: {charset}",
-    Reason.LINE_END: "its text has a character that ends a line in some programs and not in others: {character}",
-    Reason.HTML: "it is HTML that may look different than it reads: {element}",
-    Reason.AUTOMATIC: "a program wrote it: an answer of somebody who is away, or a letter that came back",
-    Reason.NO_ARRIVAL: "no line Received says when it arrived",
-    Reason.BEFORE_CALL: "it arrived before the call for votes, which was at {called}",
-    Reason.AFTER_END: "it arrived after the end of the vote, {end}",
-    Reason.AFTER_CLOSE: "it arrived after the vote was closed, {close}",
-    Reason.IN_FUTURE: "it arrived later than the clock of this computer says",
-    Reason.NO_SENDER: "it does not come from one address alone: {sender}",
-    Reason.NO_ADDRESS: "the list of members has no address for {elector}",
-    Reason.OTHER_SENDER: "it came from {sender}, and the list has {listed} for {elector}",
-    Reason.NO_BALLOT: "no ballot found",
-    Reason.NO_NAME: "the ranks have no name before them",
-    Reason.ELSEWHERE: "line {number} is a ballot, but is below the end of its text, or in another part",
-    Reason.QUOTED: "the ballot is in a quotation, or below one, and the letter is no answer to one of ours",
-    Reason.NOT_FIRST: "line {number} is no greeting, and is above the ballot or beside it",
-    Reason.MUCH_ABOVE: "more is above the ballot than a greeting",
-    Reason.JOINED: "its lines say that they belong together, and then the ballot is another, or none",
-    Reason.TWO_BALLOTS: "two ballots that differ",
-    Reason.SEVERAL_ELECTORS: "ballots of several electors: {electors}",
-    Reason.OTHER_MARK: "it has the mark of another vote: [{mark}]",
-    Reason.LATER_BALLOT: "a later ballot of {elector} is in already, of {time}",
-    Reason.SAME_TIME: "another ballot of {elector} has the same time, {time}",
-    Reason.CAME_BEFORE: "came before; {elector} has voted since",
-    Reason.NOT_SIGNED: "not signed",
-    Reason.NOT_WHOLE: "more is in the letter than what is signed",
-    Reason.ODD_LINES: "what is signed has a control character, or a line of more than 998 bytes",
-    Reason.BAD_SIGNATURE: "its signature is not that of this text",
-    Reason.UNREAD_SIGNATURE: "gpgv can't check its signature",
-    Reason.SLOW_SIGNATURE: "gpgv did not answer about its signature in time",
-    Reason.EXPIRED_SIGNATURE: "its signature has expired",
-    Reason.EXPIRED_KEY: "signed with a key that has expired: {key}",
-    Reason.REVOKED_KEY: "signed with a key that was revoked: {key}",
-    Reason.UNKNOWN_KEY: "signed with a key that is not in the keyring: {key}",
-    Reason.WEAK_DIGEST: "its signature uses a digest that is too weak, number {digest} of OpenPGP",
-    Reason.NO_KEY: "the list of members has no key for {elector}",
-    Reason.OTHER_KEY: "signed with the key {key}, and the list has {listed} for {elector}",
-    Reason.SIGNED_BEFORE_CALL: "signed at {time}, before the call for votes",
-    Reason.SIGNED_AHEAD: "signed at {time}, which was not yet when it arrived",
-    Reason.NO_MARK: "no line of what is signed is the mark of this vote, [{mark}]",
-}
-
-
 def for_secretary(because: Because) -> str:
     """The reason as the secretary reads it, as a part of a sentence."""
-    values = {name: shown_value(value) for name, value in because.values}
-    return FOR_SECRETARY[because.reason].format(**values)
+    return because.reason.value.format(**{name: shown_value(value) for name, value in because.values})
 
 
 def shown_value(value: Value) -> str:
@@ -183,10 +125,10 @@ FOR_ELECTOR = {
     Reason.HTML: marked("The reason: it has formats (HTML) with which it may look different than it reads. Send plain text alone."),
     Reason.AUTOMATIC: marked("The reason: a program wrote it."),
     Reason.NO_ARRIVAL: marked("The reason: nothing says when it arrived."),
-    Reason.BEFORE_CALL: marked("The reason: it arrived before the call for votes."),
-    Reason.AFTER_END: marked("The reason: it arrived after the end of the vote."),
-    Reason.AFTER_CLOSE: marked("The reason: it arrived after the vote was closed."),
-    Reason.IN_FUTURE: marked("The reason: the time of its arrival is in the future."),
+    Reason.BEFORE_THE_CALL: marked("The reason: it arrived before the call for votes."),
+    Reason.AFTER_THE_END: marked("The reason: it arrived after the end of the vote."),
+    Reason.AFTER_THE_CLOSE: marked("The reason: it arrived after the vote was closed."),
+    Reason.IN_THE_FUTURE: marked("The reason: the time of its arrival is in the future."),
     Reason.NO_SENDER: marked("The reason: it does not come from one address alone."),
     Reason.NO_ADDRESS: marked("The reason: the list of members has no address for the name on the ballot."),
     Reason.OTHER_SENDER: marked("The reason: the list of members has another address for the name on the ballot."),
@@ -216,7 +158,7 @@ FOR_ELECTOR = {
     Reason.WEAK_DIGEST: marked("The reason: its signature uses a digest that is too weak."),
     Reason.NO_KEY: marked("The reason: the list of members has no key for the name on the ballot."),
     Reason.OTHER_KEY: marked("The reason: it is signed with another key than the list of members has for the name on the ballot."),
-    Reason.SIGNED_BEFORE_CALL: marked("The reason: signed before the call for votes."),
+    Reason.SIGNED_BEFORE_THE_CALL: marked("The reason: signed before the call for votes."),
     Reason.SIGNED_AHEAD: marked("The reason: signed at a time that was not yet when it arrived."),
     Reason.NO_MARK: marked(
         "The reason: no line of what is signed is the mark of this vote, which is in the subject of the call, in square brackets."
@@ -224,6 +166,6 @@ FOR_ELECTOR = {
 }
 
 
-def for_elector(because: Because) -> Sentence:
+def for_elector(because: Because) -> str:
     """The reason as the elector reads it: a sentence of its own, to be translated."""
-    return sentence(FOR_ELECTOR[because.reason])
+    return FOR_ELECTOR[because.reason]

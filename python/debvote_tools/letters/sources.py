@@ -32,8 +32,9 @@ TIME = re.compile(rb"\d\d?:\d\d(?::\d\d)?")
 MAX_MISSING = 2
 
 END_OF_HEAD = re.compile(rb"\r?\n\r?\n")
-CONTENT_LENGTH = re.compile(rb"(?im)^content-length[ \t]*:[ \t]*(\d{1,15})")
-BOUNDARY = re.compile(rb'(?i)\bboundary[ \t]*=[ \t]*"?([^"\s;]+)')
+CONTENT_LENGTH = re.compile(rb"(?im)^content-length[ \t]*:\s*(\d{1,15})")
+# with all that Python takes for a blank
+BOUNDARY = re.compile(rb"""(?i)\bboundary\*?\d*\*?[\s\x1c-\x1f]*=[\s\x1c-\x1f]*"?([^"\s;]*)""")
 MAX_BOUNDARIES = 5
 
 # how files begin that have no letters which this program reads, and what Outlook calls the parts of a letter
@@ -117,12 +118,7 @@ def are_letters(data: bytes) -> bool:
 
 def letters_of_file(name: str, data: bytes) -> Source:
     """The letters of a file that was read whole; an mbox is parted."""
-    kind = kind_not_read(data)
-    if kind is not None or not are_letters(data):
-        return Source([], [PassedOver(name, kind or NotRead.NO_LETTER)])
-    if not is_mailbox(data):
-        return of_one(name, data, is_parted_off=False)
-    return letters_of_mailbox(name, data)
+    return letters_of_mailbox(name, data) if is_mailbox(data) and are_letters(data) else of_one(name, data, is_parted_off=False)
 
 
 def letters_of_folder(folder: pathlib.Path) -> Source:
@@ -150,16 +146,14 @@ def letter_of_file(file: pathlib.Path) -> Source:
     if not file.is_file():
         return Source([], [PassedOver(name, NotRead.NO_LETTER)])
     data = file.read_bytes()
-    kind = kind_not_read(data)
-    if kind is not None or not are_letters(data):
-        return Source([], [PassedOver(name, kind or NotRead.NO_LETTER)])
     return of_one(name, data, is_parted_off=is_mailbox(data) and len(from_lines(data)) > 1)
 
 
 def of_one(name: str, data: bytes, *, is_parted_off: bool) -> Source:
-    """A file that is one letter."""
-    if len(data) > MAX_LETTER:
-        return Source([], [PassedOver(name, NotRead.TOO_LONG)])
+    """A file that may be one letter."""
+    kind = kind_not_read(data) or (None if are_letters(data) else NotRead.NO_LETTER)
+    if kind is not None or len(data) > MAX_LETTER:
+        return Source([], [PassedOver(name, kind or NotRead.TOO_LONG)])
     bare = data.removeprefix(MARK).lstrip(b"\r\n")
     from_line = FROM_LINE.match(bare)
     return Source([RawLetter(name, bare if from_line is None else bare[from_line.end() :].lstrip(b"\r\n"), is_parted_off)], [])

@@ -1,7 +1,5 @@
 """The bytes of a letter that goes out. Its head has only what was checked or made here: nothing of a letter that came gets into it."""
 
-import dataclasses
-import datetime
 import email.header
 import email.utils
 import functools
@@ -9,29 +7,12 @@ import quopri
 import re
 import secrets
 
-from debvote_tools.call.data import MAIL, MAIL_LIMIT
+from debvote_tools.book.sent import SentLetter
 
 # lines that programs on the way change: these words begin a letter of an mbox, and a full stop alone ends what `sendmail -t` reads
 CHANGED_ON_THE_WAY = re.compile(rb"(?m)^(?:(?=>*From ).|\.$)")
 # in characters; mail servers break lines of a thousand
 LONGEST_LINE = 900
-
-
-@dataclasses.dataclass(frozen=True)
-class Envelope:
-    """What the head of a letter has: who sends it, where ballots go if that is another address, to whom, what about, and when."""
-
-    sender: str
-    reply_to: str
-    to: str
-    subject: str
-    message_id: str
-    time: datetime.datetime
-
-
-def is_address(text: str) -> bool:
-    """Whether a text is one plain mail address, in characters that every mail server takes."""
-    return len(text) <= MAIL_LIMIT and MAIL.fullmatch(text) is not None
 
 
 def new_message_id(sender: str) -> str:
@@ -44,16 +25,16 @@ def one_line(text: str) -> str:
     return "".join(character if character.isprintable() else " " for character in text)
 
 
-def message_of(envelope: Envelope, text: str, *, is_draft: bool) -> bytes:
-    """A letter. As a draft, mail programs offer to send it."""
+def message_of(letter: SentLetter, text: str, *, sender: str, reply_to: str | None, subject: str, is_draft: bool) -> bytes:
+    """A letter. Ballots go to `reply_to`. As a draft, mail programs offer to send it."""
     coding, body = body_of(text)
     fields = [
-        ("From", envelope.sender),
-        *([("Reply-To", envelope.reply_to)] if envelope.reply_to not in ("", envelope.sender) else []),
-        ("To", envelope.to),
-        ("Subject", subject_field(envelope.subject)),
-        ("Date", email.utils.format_datetime(envelope.time)),
-        ("Message-ID", envelope.message_id),
+        ("From", sender),
+        *([("Reply-To", reply_to)] if reply_to not in (None, sender) else []),
+        ("To", letter.address),
+        ("Subject", subject_field(subject)),
+        ("Date", email.utils.format_datetime(letter.time)),
+        ("Message-ID", letter.message_id),
         *([("X-Unsent", "1")] if is_draft else []),
         # no program answers it by itself
         ("Auto-Submitted", "auto-generated"),

@@ -25,6 +25,8 @@ CLOSING = 421
 # the name that this computer gives itself: its own is nobody's business
 OWN_NAME = "[127.0.0.1]"
 
+LOST = (smtplib.SMTPException, OSError)
+
 
 @dataclasses.dataclass(frozen=True)
 class Server:
@@ -36,26 +38,14 @@ class Server:
     user: str | None = None
     password: str | None = None
 
-    @property
-    def label(self) -> str:
-        return f"{self.host}:{self.port}"
-
-
-@dataclasses.dataclass(frozen=True)
-class Outgoing:
-    """A letter with its bytes, on its way from one address to another."""
-
-    letter: SentLetter
-    sender: str
-    data: bytes
+    def stops(self, words: str, cure: str) -> Fault:
+        """The fault of a server that takes no letters."""
+        done = "what was taken before is noted, and the next run goes on"
+        return Fault(f"{self.host}:{self.port}", words, cure, Status.BAD_OUTPUT, done)
 
 
 class NotNow(Exception):
     """The server takes no letter: it did not get this one."""
-
-
-# notes the states of letters in one act
-Noting = Callable[[Sequence[SentLetter]], None]
 
 
 def server_of(text: str) -> Server:
@@ -63,7 +53,8 @@ def server_of(text: str) -> Server:
     parts = SERVER.fullmatch(text)
     port = int(parts["port"]) if parts is not None and parts["port"] else None
     if parts is None or (port is not None and not 0 < port < 65536):
-        raise Fault("--server", "it has to be a server", "write it as mail.example.org or mail.example.org:587", Status.BAD_WORDS)
+        cure = "write it as mail.example.org or mail.example.org:587"
+        raise Fault("--server", "it has to be a server", cure, Status.BAD_WORDS, None)
     host = parts["bracketed"] or parts["host"]
     is_near = is_loopback(host)
     return Server(host, port or (LOOPBACK if is_near else SUBMISSION), is_encrypted=not is_near)
@@ -86,24 +77,26 @@ def password_in(file: str) -> str:
         raise Fault(file, words, "name the file that has the password", Status.BAD_WORDS, "nothing was sent") from None
 
 
-# ---------------------------------------------------------------- the run
-def send_all(letters: Iterable[Outgoing], server: Server, note: Noting) -> Iterator[SentLetter]:
+def send_all(
+    letters: Iterable[tuple[SentLetter, bytes]], sender: str, server: Server, note: Callable[[Sequence[SentLetter]], None]
+) -> Iterator[SentLetter]:
     """Sends letters in their order, and gives back each with what the server said.
 
-    What the server said of one is noted in one act with the beginning of the next, so there is one act more than letters.
+    `note` notes states in one act. What the server said of a letter is noted with the beginning of the next, so there is one act more
+    than letters.
     """
-    mailer = Mailer(server)
+    mailer = Mailer(server, sender)
     mailer.connection()
     told: list[SentLetter] = []
     try:
-        for outgoing in letters:
-            note([*told, dataclasses.replace(outgoing.letter, state=BEGUN, reply="")])
+        for letter, data in letters:
+            note([*told, dataclasses.replace(letter, state=BEGUN, reply="")])
             told = []
             try:
-                tried = mailer.send(outgoing)
+                tried = mailer.send(letter, data)
             except NotNow as why:
-                told = [dataclasses.replace(outgoing.letter, state=POSTPONED, reply=str(why))]
-                raise not_sent(server, f"it takes no letters now: {why}", "run the command again") from None
+                told = [dataclasses.replace(letter, state=POSTPONED, reply=str(why))]
+                raise server.stops(f"it takes no letters now: {why}", "run the command again") from None
             told = [tried]
             yield tried
     finally:
@@ -115,8 +108,8 @@ def send_all(letters: Iterable[Outgoing], server: Server, note: Noting) -> Itera
 class Mailer:
     """The connection to a server; a new one where it was closed between two letters."""
 
-    def __init__(self, server: Server) -> None:
-        self.server = server
+    def __init__(self, server: Server, sender: str) -> None:
+        self.server, self.sender = server, sender
         self.smtp: smtplib.SMTP | None = None
 
     def connection(self) -> smtplib.SMTP:
@@ -125,13 +118,13 @@ class Mailer:
             try:
                 self.smtp = connected(self.server)
             except smtplib.SMTPAuthenticationError as error:
-                raise not_sent(self.server, f"it refuses user or password: {reply_of(error)}", "write them anew") from None
+                raise self.server.stops(f"it refuses user or password: {reply_of(error)}", "write them anew") from None
             except smtplib.SMTPNotSupportedError as error:
                 cure = "name a server that takes letters from mail programs, encrypted and with a password"
-                raise not_sent(self.server, str(error), cure) from None
-            except (smtplib.SMTPException, OSError) as error:
+                raise self.server.stops(str(error), cure) from None
+            except LOST as error:
                 cure = "look whether name and port are right, and whether there is a connection"
-                raise not_sent(self.server, f"there is no connection: {reply_of(error)}", cure) from None
+                raise self.server.stops(f"there is no connection: {reply_of(error)}", cure) from None
         return self.smtp
 
     def close(self) -> None:
@@ -139,44 +132,45 @@ class Mailer:
             self.smtp.close()
         self.smtp = None
 
-    def send(self, outgoing: Outgoing) -> SentLetter:
+    def send(self, letter: SentLetter, data: bytes) -> SentLetter:
         """Sends a letter; if the connection was closed before it, by a new one. Raises `NotNow`."""
         try:
-            return self.transaction(outgoing)
+            return self.transaction(letter, data)
         except NotNow:
             self.close()
-            return self.transaction(outgoing)
+            return self.transaction(letter, data)
 
-    def transaction(self, outgoing: Outgoing) -> SentLetter:
+    def transaction(self, letter: SentLetter, data: bytes) -> SentLetter:
         """One letter. If the connection is lost while the server gets it, nobody knows whether it has it: the run stops."""
         try:
             smtp = self.connection()
-            code, reply = smtp.mail(outgoing.sender)
-            if code >= 400:
-                raise NotNow(shown(code, reply))
-            code, reply = smtp.rcpt(outgoing.letter.address)
+            code, reply = smtp.mail(self.sender)
+            is_sender_refused = code >= 400
+            if not is_sender_refused:
+                code, reply = smtp.rcpt(letter.address)
         except Fault as fault:
             raise NotNow(str(fault.reason)) from None
-        except (smtplib.SMTPException, OSError) as error:
+        except LOST as error:
             raise NotNow(reply_of(error)) from None
-        if code == CLOSING:
+        if is_sender_refused or code == CLOSING:
             raise NotNow(shown(code, reply))
         if code < 400:
-            code, reply = self.data(smtp, outgoing)
+            code, reply = self.data(smtp, letter, data)
         if code < 400:
-            return dataclasses.replace(outgoing.letter, state=TAKEN, reply="")
+            return dataclasses.replace(letter, state=TAKEN, reply="")
         self.begin_anew(code)
-        return dataclasses.replace(outgoing.letter, state=REFUSED if code >= 500 else POSTPONED, reply=shown(code, reply))
+        return dataclasses.replace(letter, state=REFUSED if code >= 500 else POSTPONED, reply=shown(code, reply))
 
-    def data(self, smtp: smtplib.SMTP, outgoing: Outgoing) -> tuple[int, bytes]:
+    def data(self, smtp: smtplib.SMTP, letter: SentLetter, data: bytes) -> tuple[int, bytes]:
         """Hands a letter over, and gives back what the server says."""
         try:
-            return smtp.data(outgoing.data.replace(b"\n", b"\r\n"))
+            return smtp.data(data.replace(b"\n", b"\r\n"))
         except smtplib.SMTPDataError as error:
             return error.smtp_code, as_bytes(error.smtp_error)
-        except (smtplib.SMTPException, OSError) as error:
+        except LOST as error:
             self.close()
-            raise cut_off(self.server, outgoing.letter, reply_of(error)) from None
+            words = f"the connection was lost while it got the letter to {letter.address}: {reply_of(error)}"
+            raise self.server.stops(words, "run the command again; it says what to do about this letter") from None
 
     def begin_anew(self, code: int) -> None:
         """After a letter that was not taken: the next one may go out, unless the server closes the connection."""
@@ -184,37 +178,27 @@ class Mailer:
             if code != CLOSING:
                 self.connection().rset()
                 return
-        except (smtplib.SMTPException, OSError):
+        except LOST:
             pass
         self.close()
 
 
 def connected(server: Server) -> smtplib.SMTP:
     """A connection that is encrypted unless the server is on this computer, and let in."""
-    if not server.is_encrypted:
-        smtp = smtplib.SMTP(server.host, server.port, OWN_NAME, PATIENCE)
-    elif server.port == ENCRYPTED:
+    smtp: smtplib.SMTP
+    if server.is_encrypted and server.port == ENCRYPTED:
         smtp = smtplib.SMTP_SSL(server.host, server.port, OWN_NAME, timeout=PATIENCE, context=ssl.create_default_context())
     else:
         smtp = smtplib.SMTP(server.host, server.port, OWN_NAME, PATIENCE)
-        smtp.starttls(context=ssl.create_default_context())
+        if server.is_encrypted:
+            smtp.starttls(context=ssl.create_default_context())
     smtp.ehlo_or_helo_if_needed()
     if server.user is not None:
         smtp.login(server.user, server.password or "")
     return smtp
 
 
-# ---------------------------------------------------------------- what is told
-def not_sent(server: Server, words: str, cure: str) -> Fault:
-    done = "what was taken before is noted, and the next run goes on"
-    return Fault(server.label, words, cure, Status.BAD_OUTPUT, done)
-
-
-def cut_off(server: Server, letter: SentLetter, words: str) -> Fault:
-    what = f"the connection was lost while it got the letter to {letter.address}: {words}"
-    return not_sent(server, what, "run the command again; it says what to do about this letter")
-
-
+# ---------------------------------------------------------------- what a server says
 def reply_of(error: Exception) -> str:
     """What a server or the system said."""
     if isinstance(error, smtplib.SMTPResponseException):

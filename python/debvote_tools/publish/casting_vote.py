@@ -1,14 +1,12 @@
 """Whose the casting vote was. No count can show it: name and date are the words of those who publish."""
 
 import datetime
-from html import escape
 
 from debvote_tools.faults import Fault, Status
 from debvote_tools.language import Language
-from debvote_tools.pages import paragraph
-from debvote_tools.publish.inputs import CastingVote
-from debvote_tools.publish.published import Published
+from debvote_tools.publish.inputs import CastingVote, Publication
 from debvote_tools.sentences import marked
+from debvote_tools.sheet import Sheet
 from debvote_tools.terminal_text import odd_sign
 from debvote_tools.times import date_in_words
 
@@ -50,12 +48,7 @@ def told(vote: CastingVote, language: Language) -> str:
     return language.say(GIVEN, name=vote.by, date=date_in_words(vote.on, language))
 
 
-def said_of(published: Published) -> list[str]:
-    """The same where one decides."""
-    winner, vote = published.sheet.winner(), published.publication.casting
-    return [told(vote, published.language)] if winner is not None and winner.is_by_casting and vote is not None else []
-
-
-def on_page(published: Published) -> list[str]:
-    """The same as a paragraph of the page."""
-    return [paragraph(f"<bdi>{escape(said)}</bdi>") for said in said_of(published)]
+def told_if_it_decides(publication: Publication, sheet: Sheet) -> str:
+    """The same, or nothing where no casting vote decides."""
+    vote = publication.casting
+    return told(vote, publication.language) if sheet.is_by_casting and vote is not None else ""

@@ -1,14 +1,14 @@
 """What debvote says of the poll and the ballots of a folder that is made. It is started six times, of a secret vote four times."""
 
 import dataclasses
-import pathlib
 
 from debvote_tools.console import tell_aside_as_it_is
-from debvote_tools.debvote import Answer, Debvote, Finding, casting_words, findings_in
+from debvote_tools.debvote import Answer, Debvote, Finding, findings_in
 from debvote_tools.faults import Fault, Status, Told
+from debvote_tools.publish.inputs import Publication
 from debvote_tools.publish.names import FILES, SHEET
 from debvote_tools.publish.picture import picture_of
-from debvote_tools.sheet import Sheet, sheet_in
+from debvote_tools.sheet import Sheet
 
 KEEP_FILES = "keep all files, and tell the maintainers"
 
@@ -17,88 +17,68 @@ KEEP_FILES = "keep all files, and tell the maintainers"
 class Counted:
     """The answers of debvote, and the picture that Graphviz draws of one, if it does."""
 
+    sheet: Sheet
     sheet_text: str
     # the exit status of the count
     status: int
     standing_text: str
-    # the lines that are refused, those behind a last envelope among them
+    # the lines that are refused, those after a last envelope among them
     refused: list[Finding]
     picture: bytes | None
     # what `verify` says of the sheet
     verified: str
     version: str
-    sheet: Sheet
 
 
-@dataclasses.dataclass(frozen=True)
-class FolderDebvote:
-    """debvote in the folder that is made, with the words of the casting vote and of the desks."""
-
-    program: Debvote
-    casting: str | None
-    desks: int
-
-    @property
-    def casting_words(self) -> list[str]:
-        return casting_words(self.casting)
-
-    @property
-    def desks_words(self) -> list[str]:
-        return ["--desks", str(self.desks)]
-
-    def count(self) -> Answer:
-        """The sheet. Stops at a casting vote for an option that is not left."""
-        answer = self.answer("count", *FILES, *self.desks_words, *self.casting_words, also=(Status.TIE, Status.CASTING_OUTSIDE))
-        demand_left(sheet_in(answer.text), self.casting)
-        return answer
-
-    def rest(self, count: Answer, standing_text: str | None) -> Counted:
-        """All else, once the sheet lies in the folder. The ballots that stand are known if they are all that are published."""
-        sheet = sheet_in(count.text)
-        refused = (
-            [] if standing_text is not None else findings_in(self.answer("explain", *FILES, also=(Status.DOUBT,)).text).refused
-        )
-        graph = self.answer("picture", *FILES, *self.desks_words, *self.casting_words, also=(Status.TIE,)).text
-        return Counted(
-            sheet_text=count.text,
-            status=count.status,
-            standing_text=self.answer("standing", *FILES).text if standing_text is None else standing_text,
-            refused=refused,
-            picture=picture_of(graph, len(sheet.names)),
-            verified=self.verify().rstrip("\n"),
-            version=self.answer("--version").text.strip(),
-            sheet=sheet,
-        )
-
-    def verify(self) -> str:
-        """What `verify` says of the sheet in the folder; a sheet that differs is a fault."""
-        answer = self.answer("verify", *FILES, "--sheet", SHEET, *self.desks_words, also=(Status.DOUBT,))
-        if answer.status == Status.DOUBT:
-            said = answer.text.strip().replace("\n", ", ")
-            raise Fault("debvote verify", said, KEEP_FILES, answer.status, "nothing was published")
-        return answer.text
-
-    def answer(self, *words: str, also: tuple[int, ...] = ()) -> Answer:
-        """What debvote answers to these words. Stops unless its exit status is 0, or one of these with a text.
-
-        Its fault lines go to standard error as they are.
-        """
-        answer = self.program.run(*words)
-        tell_aside_as_it_is(answer.faults)
-        if answer.status != Status.DONE and not (answer.text and answer.status in also):
-            raise Told(answer.status)
-        return answer
+def sheet_of(debvote: Debvote, publication: Publication) -> Answer:
+    """The sheet of the files in the folder of debvote."""
+    return answer_of(debvote, "count", *words_of(publication), also=(Status.TIE, Status.CASTING_OUTSIDE))
 
 
-def debvote_in(folder: pathlib.Path, program_folder: pathlib.Path | None, casting: str | None, desks: int) -> FolderDebvote:
-    """debvote in this folder. `program_folder` is that of the program that runs it."""
-    return FolderDebvote(Debvote(folder, program_folder), casting, desks)
+def ask_the_rest(debvote: Debvote, publication: Publication, answer: Answer, sheet: Sheet) -> Counted:
+    """All else, once the sheet lies in the folder. In a secret vote the ballots that stand are all that is published."""
+    if publication.secret is None:
+        standing = answer_of(debvote, "standing").text
+        refused = findings_in(answer_of(debvote, "explain", also=(Status.DOUBT,)).text).refused
+    else:
+        standing, refused = publication.ballots.decode(), []
+    graph = answer_of(debvote, "picture", *words_of(publication), also=(Status.TIE,)).text
+    verified = answer_of(debvote, "verify", "--sheet", SHEET, "--desks", str(publication.desks), also=(Status.DOUBT,))
+    if verified.status == Status.DOUBT:
+        said = verified.text.strip().replace("\n", ", ")
+        raise Fault("debvote verify", said, KEEP_FILES, verified.status, "nothing was published")
+    return Counted(
+        sheet=sheet,
+        sheet_text=answer.text,
+        status=answer.status,
+        standing_text=standing,
+        refused=refused,
+        picture=picture_of(graph, len(sheet.names)),
+        verified=verified.text.rstrip("\n"),
+        version=debvote.version(),
+    )
 
 
-def demand_left(sheet: Sheet, casting: str | None) -> None:
+def words_of(publication: Publication) -> list[str]:
+    return ["--desks", str(publication.desks), *publication.casting_words]
+
+
+def answer_of(debvote: Debvote, task: str, *words: str, also: tuple[int, ...] = ()) -> Answer:
+    """What debvote answers of poll and ballots. Stops unless its exit status is 0, or one of these with a text.
+
+    Its fault lines go to standard error as they are.
+    """
+    answer = debvote.run(task, *FILES, *words)
+    tell_aside_as_it_is(answer.faults)
+    if answer.status != Status.DONE and not (answer.text and answer.status in also):
+        raise Told(answer.status)
+    return answer
+
+
+def demand_left(sheet: Sheet, casting: str) -> None:
     """Stops at a casting vote for an option that is not left."""
     left = {sheet.names[option]: option for option in sheet.final_set()}
-    if casting is not None and casting not in left:
+    if casting not in left:
         are = "is" if len(left) == 1 else "are"
         shown = " and ".join(f"{option} {name}" for name, option in left.items())
         words = f"no casting vote can choose {casting}, which is not left; left {are} {shown}"

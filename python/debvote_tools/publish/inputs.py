@@ -1,13 +1,15 @@
-"""What a published folder is made from beside the answers of debvote: one value, made of two files or of the book of an election."""
+"""What a published folder is made from, beside the answers of debvote: one value, from two files or from the book of an election."""
 
 import dataclasses
 import datetime
+import functools
 from collections.abc import Mapping
-from html import escape
 
+from debvote_tools.debvote import casting_words
 from debvote_tools.language import ENGLISH, Language
 from debvote_tools.publish.doubts import Doubt
 from debvote_tools.sealed_poll import SealedPoll
+from debvote_tools.sheet import Sheet, sheet_in
 
 
 @dataclasses.dataclass(frozen=True)
@@ -66,7 +68,8 @@ class Struck(Act):
 class Closed(Act):
     """A close: the lines in time, and the checksum that it fixed.
 
-    `waiting` are the letters that had arrived in time and were left waiting, `after_end` those that had arrived after the end. `came` and `struck` are the lines that came in or were struck since the close before, where there was one.
+    `waiting` are the letters that had arrived in time and were left waiting, `after_end` those that had arrived after the end. `came` and
+    `struck` are the lines that came in or were struck since the close before, if there was one.
     """
 
     lines: int
@@ -126,6 +129,15 @@ class SecretVote:
     # the electors whose votes a comparison with the last publication would show
     compared: tuple[str, ...] = ()
 
+    @functools.cached_property
+    def sheet(self) -> Sheet:
+        return sheet_in(self.sheet_text)
+
+    @property
+    def uncounted(self) -> int:
+        """How many lines that came count for nothing."""
+        return self.sheet.refused + self.late
+
 
 @dataclasses.dataclass(frozen=True)
 class Publication:
@@ -163,23 +175,15 @@ class Publication:
         return self.poll.secret
 
     @property
-    def casting_option(self) -> str | None:
-        return None if self.casting is None else self.casting.option
+    def has_aliases(self) -> bool:
+        return self.is_secret and not self.has_codes
 
     @property
-    def default(self) -> int:
-        """The number of the default option."""
-        return len(self.poll.names)
+    def seal(self) -> str:
+        """The random line of the last close; empty if there is none."""
+        return (self.secret and self.secret.seal) or ""
 
-    def title(self) -> str:
-        """What the election is called on the page, in HTML."""
-        return shown(self.poll.name, self.poll.title)
-
-    def name(self, option: int) -> str:
-        """What an option is called on the page, in HTML."""
-        return shown(self.poll.names[option - 1], self.poll.plain_names[option - 1])
-
-
-def shown(name: str, plain_name: str) -> str:
-    """A name in HTML. One that is not plain may be written from right to left, and turns nothing around it."""
-    return escape(name) if name == plain_name else f"<bdi>{escape(name)}</bdi>"
+    @property
+    def casting_words(self) -> list[str]:
+        """The words of the casting vote for debvote."""
+        return casting_words(None if self.casting is None else self.casting.option)

@@ -1,59 +1,133 @@
-"""The page of an election: its parts in their order, and links to them."""
+"""The page of an election: what stands on it, as values for its templates."""
 
-import re
-from html import escape
+import shlex
+from collections.abc import Collection
 
 from debvote_tools import pages
-from debvote_tools.pages import listed
-from debvote_tools.publish.parts import ballots, bars, count, count_again, done, find, result, roll, verifying
-from debvote_tools.publish.parts.refused import refused
-from debvote_tools.publish.parts.unseen import unseen
-from debvote_tools.publish.parts.why import why
-from debvote_tools.publish.published import NamedFile, Published, WholeFile
+from debvote_tools.debvote import standing_in
+from debvote_tools.files import sha256_of
+from debvote_tools.language import ENGLISH, Language
+from debvote_tools.publish import done, names, scripts
+from debvote_tools.publish.ballots import COLON, ballots_of
+from debvote_tools.publish.bars import in_order, marks_of, whole_width
+from debvote_tools.publish.casting_vote import told_if_it_decides
+from debvote_tools.publish.counting import Counted
+from debvote_tools.publish.doubts import Doubt, sentences_of
+from debvote_tools.publish.inputs import Publication
+from debvote_tools.publish.options import Options
+from debvote_tools.publish.picture import ShownPicture, shown_picture
+from debvote_tools.publish.recounting import PACKAGE
+from debvote_tools.publish.refused import late_lines, refused_lines
+from debvote_tools.publish.texts import paragraphs_of
+from debvote_tools.publish.why import MOST, entry, reasons
+from debvote_tools.rendering import InHtml, render_page
+from debvote_tools.secret.aliases import sealed_checksum
+from debvote_tools.secret.words import ALIAS, BY_OPENSSL, BY_PYTHON, REMAINS
 
 
-def page_of(published: Published, counted_files: list[WholeFile], other_files: list[NamedFile]) -> str:
-    """The page, whole. It carries the files that are counted, poll, ballots and sheet, and names them and the others, in this order."""
-    data_by_name = {file.name: file.data for file in counted_files}
-    parts = [
-        *result.about(published),
-        find.find(published),
-        bars.bars(published),
-        why(published),
-        count.options(published),
-        count.votes(published),
-        count.defeats(published),
-        count.rounds(published),
-        ballots.ballots(published),
-        *([] if published.is_secret else [roll.roll(published)]),
-        refused(published),
-        done.done(published),
-        *([find.remains(published)] if published.is_secret and not published.publication.has_codes else []),
-        unseen(published),
-        count_again.count_again(data_by_name, published),
-        verifying.verifying(published, [*counted_files, *other_files]),
-    ]
-    sections = "".join([result.result(published), contents(published, parts), *parts, count_again.carried(data_by_name)])
-    head = published.say("Result: {title}", title=escape(published.publication.poll.name))
-    script = count_again.script() + find.script()
-    return pages.page(published.language, head, published.title(), sections, style=style_of(published), script=script)
-
-
-def style_of(published: Published) -> str:
-    """The style behind that of all pages."""
-    return "".join(
-        [
-            pages.STYLE + pages.FIELDS_STYLE + bars.STYLE,
-            count.style(published),
-            roll.STYLE + find.STYLE,
-            result.DOUBTS_STYLE if published.doubts else "",
-            pages.GIVEN_STYLE + count_again.STYLE,
-        ]
+def page_of(publication: Publication, counted: Counted, doubts: list[Doubt], further: Collection[str]) -> bytes:
+    """The page, whole. `further` are the names of the files beside those that are counted."""
+    language, sheet, poll = publication.language, counted.sheet, publication.poll
+    speaker = InHtml(language)
+    options = Options(sheet, poll, speaker)
+    in_words = language.say("The defeats as a graph. The list above says the same in words.")
+    picture = shown_picture(counted.picture, len(sheet.names), in_words)
+    standing = standing_in(counted.standing_text)
+    return render_page(
+        PACKAGE,
+        "page.html",
+        language,
+        style=style_of(picture),
+        script="".join(pages.resource(PACKAGE, name) for name in (names.SCRIPT, "count_again.js", "find.js", "fold.js")),
+        head=speaker.say("Result: {title}", title=poll.name),
+        title=poll.name,
+        code=speaker.code,
+        colon=language.between(COLON),
+        publication=publication,
+        counted=counted,
+        sheet=sheet,
+        options=options,
+        is_english=language.is_english,
+        is_secret=publication.is_secret,
+        has_aliases=publication.has_aliases,
+        winner=sheet.winner(),
+        numbers=deciding_numbers(options),
+        casting_vote=told_if_it_decides(publication, sheet),
+        share=share(sheet.voters, sheet.electors, language),
+        doubts=sentences_of(doubts, language, is_secret=publication.is_secret),
+        because=paragraphs_of(publication.because or ""),
+        about=paragraphs_of(publication.about or ""),
+        given_checksum=given_checksum(publication),
+        in_order=in_order(sheet),
+        marks={option: marks_of(options, option) for option in sheet.ratios},
+        whole_width=whole_width(sheet),
+        why=[entry(options, option) for option in sheet.names],
+        explanations=[paragraphs_of(text) for text in poll.explanations],
+        picture=picture,
+        ballots=ballots_of(options, standing),
+        standing=standing,
+        refused=refused_lines(counted.refused, publication.ballots, speaker),
+        late=late_lines(publication.late or b"", speaker),
+        acts=done.all_acts(publication, speaker),
+        after_the_end=done.after_the_end(publication, speaker),
+        remains=[language.say(text) for text in REMAINS] if publication.has_aliases else [],
+        checksums=checksums_of(publication),
+        files={names.POLL, names.BALLOTS, names.SHEET, names.LETTER, names.CHECKSUMS, *further},
+        casting="".join(f" {word}" for word in map(shlex.quote, publication.casting_words)),
+        example=next(iter(standing), "NAME"),
+        **script_values(publication, counted),
     )
 
 
-def contents(published: Published, parts: list[str]) -> str:
-    """Links to the parts."""
-    headings = [heading for text in parts for heading in re.findall(r'<h2 id="(.*)">(.*)</h2>', text)]
-    links = [f'<a href="#{name}">{heading}</a>' for name, heading in headings]
-    return f'<nav aria-label="{published.say("On this page")}">\n{listed("ul", links)}\n</nav>\n'
+def style_of(picture: ShownPicture) -> str:
+    """The style of the page. A picture may become smaller than it was drawn, but not too small to be read."""
+    style = pages.FIELDS_STYLE + pages.GIVEN_STYLE + pages.resource(PACKAGE, "page.css")
+    return f"{style}.picture svg {{ min-width: {picture.least_width}px; }}\n" if picture.svg else style
+
+
+def given_checksum(publication: Publication) -> str:
+    """The checksum of the file that was given as the poll, if it is not the one that is published."""
+    given = publication.given_checksum
+    return "" if given is None or given == publication.poll.checksum else given
+
+
+def checksums_of(publication: Publication) -> dict[str, str]:
+    """The checksums of the letters; in a secret vote that of the close has the line of the seal, too."""
+    checksums = {"poll": publication.poll.checksum, "ballots": sha256_of(publication.ballots)}
+    if publication.seal:
+        checksums["sealed"] = sealed_checksum(publication.seal, publication.ballots)
+    return checksums
+
+
+def script_values(publication: Publication, counted: Counted) -> dict[str, object]:
+    """What the scripts say and count, and what an elector of a secret vote does without them."""
+    carried = scripts.carried_files(publication.poll.as_bytes(), publication.ballots, counted.sheet_text.encode())
+    return {
+        "find_words": scripts.find_words(publication),
+        "find_letters": scripts.find_letters(publication.language),
+        "again_words": scripts.again_words(publication.language),
+        "carried": carried,
+        "is_carried": len(carried) > 1,
+        "alias": publication.language.say(ALIAS),
+        "by_python": BY_PYTHON,
+        "by_openssl": BY_OPENSSL,
+    }
+
+
+# ---------------------------------------------------------------- the result
+def deciding_numbers(options: Options) -> list[str]:
+    """Why the winner has won, or why options are tied; where many are tied the part `Why` alone has it."""
+    winner, left = options.sheet.winner(), options.sheet.final_set()
+    if winner is not None:
+        return [options.speaker.say("In numbers: {reasons}.", reasons=reasons(options, winner.option))]
+    return [entry(options, option) for option in left] if len(left) <= MOST else []
+
+
+def share(voters: int, electors: int, language: Language = ENGLISH) -> str:
+    """How many of the electors have voted, in per cent; all of them alone are 100 %, and none alone is 0 %."""
+    tenths = (2000 * voters + electors) // (2 * electors)
+    if 0 < voters < electors:
+        tenths = min(max(tenths, 1), 999)
+    if tenths % 10 == 0:
+        return language.say("{whole} %", whole=tenths // 10)
+    return language.say("{whole}.{tenths} %", whole=tenths // 10, tenths=tenths % 10)

@@ -1,8 +1,12 @@
 """The picture of the defeats, as Graphviz draws it."""
 
+import dataclasses
+import shlex
 import shutil
 import subprocess
 import xml.etree.ElementTree as xml
+
+from markupsafe import Markup
 
 from debvote_tools.console import tell_aside
 
@@ -40,18 +44,34 @@ def picture_of(graph: str, options: int) -> bytes | None:
     return drawn.stdout
 
 
-def least_width(picture: bytes) -> int:
-    """The least width that a picture has within the page, in pixels of the page."""
-    return round(LEAST_SHARE * float(xml.fromstring(picture).get("width", "0").removesuffix("pt")))
+@dataclasses.dataclass(frozen=True)
+class ShownPicture:
+    """The picture on the page: whether there is one, how it stands within the page unless it is too large, and its least width there.
+
+    `command` draws it.
+    """
+
+    is_drawn: bool
+    svg: Markup | None
+    least_width: int
+    command: str
 
 
-def picture_in_page(picture: bytes, words: str) -> str:
+def shown_picture(picture: bytes | None, options: int, words: str) -> ShownPicture:
+    """The picture of so many options; the words are for who does not see it."""
+    command = shlex.join(words_for_dot(options))
+    if picture is None or options > MOST_IN_PAGE:
+        return ShownPicture(picture is not None, None, 0, command)
+    svg = xml.fromstring(picture)
+    least_width = round(LEAST_SHARE * float(svg.get("width", "0").removesuffix("pt")))
+    return ShownPicture(True, picture_in_page(svg, words), least_width, command)
+
+
+def picture_in_page(svg: xml.Element, words: str) -> Markup:
     """The picture as it stands in the page: shapes and texts alone, without the names by which Graphviz calls them.
 
-    Its names, as node1, may be those of electors. The words are for who does not see it.
+    Its names, as node1, may be those of electors.
     """
-    xml.register_namespace("", SPACE[1:-1])
-    svg = xml.fromstring(picture)
     for part in list(svg.iter()):
         part.attrib.pop("id", None)
         for child in [child for child in part if child.tag not in SHAPES]:
@@ -61,4 +81,5 @@ def picture_in_page(picture: bytes, words: str) -> str:
         svg.set(side, svg.get(side, "").removesuffix("pt"))
     svg.set("role", "img")
     svg.set("aria-label", words)
-    return xml.tostring(svg, encoding="unicode")
+    xml.register_namespace("", SPACE[1:-1])
+    return Markup(xml.tostring(svg, encoding="unicode"))

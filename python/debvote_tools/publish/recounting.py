@@ -34,5 +34,5 @@ def first_there(what: str, *places: pathlib.Path) -> bytes:
     """The bytes of the first of these files that is there."""
     file = next((place for place in places if place.is_file()), None)
     if file is None:
-        raise Fault(places[0], f"{what} is not there", "install the package debvote again", Status.NOT_FOUND)
+        raise Fault(places[0], f"{what} is not there", "install the package debvote again", Status.NOT_FOUND, None)
     return file.read_bytes()

@@ -1,51 +1,27 @@
 """The second count of a folder, by the program that lies in it, before the folder takes its place."""
 
-import contextlib
-import dataclasses
 import itertools
 import pathlib
-import subprocess
-import sys
-from collections.abc import Iterator
+import runpy
 
 from debvote_tools.faults import Fault, Status
 from debvote_tools.publish.counting import KEEP_FILES
-from debvote_tools.publish.names import FILES, RECOUNT
-
-# Python runs no file but the one that is named: neither what lies beside it nor what the environment says is loaded
-ISOLATED = ("python3", "-I")
+from debvote_tools.publish.names import BALLOTS, POLL, RECOUNT
 
 
-@dataclasses.dataclass(frozen=True)
-class SecondCount:
-    """The runs of the program, by their tasks. They go on while the rest of the folder is made."""
-
-    runs: dict[str, subprocess.Popen[bytes]]
-
-    def demand_same(self, sheet_text: str, standing_text: str) -> None:
-        """Stops where the program finds another sheet, or other ballots that stand."""
-        answers = {task: run.communicate() for task, run in self.runs.items()}
-        for task, wanted in (("count", sheet_text), ("standing", standing_text)):
-            text, faults = (data.decode("utf-8", "replace") for data in answers[task])
-            if text != wanted:
-                said = f"it says `{faults.strip()}`" if faults else difference(text, wanted)
-                what = f"{RECOUNT}, the second count, does not find the same as debvote with its `{task}`"
-                raise Fault(what, said, KEEP_FILES, Status.DOUBT, "nothing was published")
-
-
-@contextlib.contextmanager
-def begun(folder: pathlib.Path, casting_words: list[str]) -> Iterator[SecondCount]:
-    """Begins to count a folder that has poll, ballots and the program."""
-    with contextlib.ExitStack() as stack:
-        runs = {}
-        for words in (["count", *FILES, *casting_words], ["standing", *FILES]):
-            program = [sys.executable, *ISOLATED[1:], RECOUNT, *words]
-            run = stack.enter_context(
-                subprocess.Popen(program, cwd=folder, stdin=subprocess.DEVNULL, stdout=subprocess.PIPE, stderr=subprocess.PIPE)
-            )
-            stack.callback(run.kill)
-            runs[words[0]] = run
-        yield SecondCount(runs)
+def demand_same(folder: pathlib.Path, casting_words: list[str], sheet_text: str, standing_text: str) -> None:
+    """Stops if the program finds another sheet, or other ballots that stand."""
+    program = runpy.run_path(str(folder / RECOUNT))
+    files = ["--poll", str(folder / POLL), "--ballots", str(folder / BALLOTS)]
+    for words, wanted in ((["count", *files, *casting_words], sheet_text), (["standing", *files], standing_text)):
+        try:
+            text, _ = program["answer"](words)
+            said = "" if text == wanted else difference(text, wanted)
+        except program["Fault"] as fault:
+            said = f"it says `{fault.args[0]}`"
+        if said:
+            what = f"{RECOUNT}, the second count, does not find the same as debvote with its `{words[0]}`"
+            raise Fault(what, said, KEEP_FILES, Status.DOUBT, "nothing was published")
 
 
 def difference(text: str, wanted: str) -> str:

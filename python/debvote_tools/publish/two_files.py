@@ -31,7 +31,7 @@ def publication_of(
     poll = sealed_of(poll_bytes, poll_path)
     if poll.secret and not all(map(ALIAS.fullmatch, poll.roll)):
         cure = "publish it from its election, with debvote-election publish"
-        raise Fault(poll_path, "the vote is secret, and this would publish each name with its vote", cure, Status.DOUBT)
+        raise Fault(poll_path, "the vote is secret, and this would publish each name with its vote", cure, Status.DOUBT, None)
     vote = None if casting is None else CastingVote(casting)
     return Publication(poll, ballots, language, casting=vote, desks=desks, given_checksum=sha256_of(poll_bytes))
 
@@ -68,8 +68,8 @@ def sealed_of(poll_bytes: bytes, file: str) -> SealedPoll:
     except (ValueError, RecursionError) as error:
         cure = "write the poll as TOML 1.0"
         raise Fault(file, f"it can't be read ({error})", cure, Status.BAD_POLL, "nothing was published") from None
-    values = {key: document[key] for key in KEYS if key in document and (key in REQUIRED or is_right(key, document))}
-    strange = [key for key in KEYS if key in document and key not in REQUIRED and not is_right(key, document)]
+    values = {key: document[key] for key in KEYS if key in document}
+    strange = [key for key in values if key not in REQUIRED and not is_right(key, document)]
     if strange:
         words = f"no sealed poll has such a value of {', '.join(strange)}"
         raise Fault(file, words, "give the poll.toml of a call, or take the key out", Status.BAD_POLL, "nothing was published")

@@ -1,78 +1,65 @@
 """`close`: the end of the vote. The time, the number of lines and the checksum of the ballots are fixed."""
 
-import argparse
 import dataclasses
 
 from debvote_tools import times
-from debvote_tools.arguments import arguments_of
+from debvote_tools.arguments import flag
 from debvote_tools.book import queries
 from debvote_tools.book.book import DoneAct
 from debvote_tools.console import tell
-from debvote_tools.election import acting, closing_letter, letters_in
-from debvote_tools.election.commands.log import demand_whole
+from debvote_tools.election import acting, closing_letter
 from debvote_tools.election.election import LETTERS, Election, Sealed
 from debvote_tools.election.history import History
-from debvote_tools.election.letters_in import LetterNow
+from debvote_tools.election.made_files import OWN, write_made
 from debvote_tools.election.publication import ballots_in_secret
 from debvote_tools.election.reporting import act_time, count_of
+from debvote_tools.election.waiting import waiting_letters
 from debvote_tools.faults import Fault, Status, stop_at
-from debvote_tools.files import sha256_of, write_whole
+from debvote_tools.files import sha256_of
 from debvote_tools.secret.aliases import seal_line, sealed_checksum
 
 HELP = "End the vote: lines that are entered later are late"
 
 
 @dataclasses.dataclass(frozen=True)
-class Arguments:
-    """The command's options."""
-
-    early: bool
-    force: bool
-    moved: bool
-    because: str | None
+class Arguments(acting.Arguments):
+    early: bool = flag("Close before the time until which one can vote; the page of the result tells it")
+    force: bool = flag("With --because: close although letters wait that arrived in time; the page tells how many")
 
 
-@dataclasses.dataclass(frozen=True)
-class Closed:
-    """What was closed, now or before."""
-
-    act: DoneAct
-    is_new: bool
-    has_made_letter: bool
-
-
-def add_arguments(parser: argparse.ArgumentParser) -> None:
-    early = "Close before the time until which one can vote; the page of the result tells it"
-    parser.add_argument("--early", action="store_true", help=early)
-    force = "With --because: close although letters wait that arrived in time; the page tells how many"
-    parser.add_argument("--force", action="store_true", help=force)
-    acting.add_arguments(parser)
-
-
-def run(election: Election, namespace: argparse.Namespace) -> int:
-    closed = close(election, arguments_of(Arguments, namespace))
-    report(election, closed)
+def run(election: Election, arguments: Arguments) -> int:
+    sealed = election.sealed()
+    is_new = not election.history().is_closed
+    if is_new:
+        close(election, sealed, arguments)
+    act = election.history().closes[-1]
+    letter = closing_letter.letter(act, sealed.public, election.language)
+    written = write_made(election.path(LETTERS), {closing_letter.NAME: letter}, OWN)
+    report(election, act, is_new=is_new, has_made_letter=bool(written))
     return Status.DONE
 
 
-def close(election: Election, arguments: Arguments) -> Closed:
-    """Closes the vote, unless it is closed already; the letter is made in any case."""
-    sealed, history = election.sealed(), election.history()
-    is_new = not history.is_closed
-    if is_new:
-        book = acting.acting(election, moved=arguments.moved, because=arguments.because)
-        demand_whole(book)
-        seen, history = book.last_number(), election.history()
-        letters = letters_in.waiting_now(election, history)
-        stop_at([*faults_of_time(election, history, is_early=arguments.early), *faults_of_letters(election, letters, arguments)])
-        detail = detail_of(election, sealed) | letters_waiting(letters, arguments) | {"early": is_early(history)}
-        with book.act("close", detail, seen=seen):
-            pass
-    act = election.history().closes[-1]
-    return Closed(act, is_new, write_letter(election, act, sealed))
+def close(election: Election, sealed: Sealed, arguments: Arguments) -> None:
+    """The act. Stops at what stands against it."""
+    book = acting.book_for_act(election, arguments)
+    acting.demand_whole(book)
+    history, now = election.history(), times.now()
+    letters = waiting_letters(election, history)
+    in_time = [number for number, came_in_time in letters.items() if came_in_time]
+    is_early = history.until is not None and now < history.until
+    because = (arguments.because or "").strip()
+    faults = []
+    if is_early and not arguments.early:
+        faults.append(still_open(election, history))
+    if in_time and not (arguments.force and because):
+        faults.append(letters_wait(election, in_time))
+    stop_at(faults)
+    waiting = {"waiting": len(in_time), "after_end": len(letters) - len(in_time)} | ({"because": because} if in_time else {})
+    with book.act("close", fixed(election, sealed) | waiting | {"early": is_early}, seen=history.last.number):
+        pass
 
 
-def detail_of(election: Election, sealed: Sealed) -> dict[str, object]:
+def fixed(election: Election, sealed: Sealed) -> dict[str, object]:
     """What the close fixes: the number of lines, and the checksum of the ballots; in a secret vote of a random line and those that
     are published."""
     lines = queries.lines_in_time(election.book)
@@ -84,70 +71,34 @@ def detail_of(election: Election, sealed: Sealed) -> dict[str, object]:
     return {"lines": len(lines), "checksum": sealed_checksum(seal, public), "seal": seal}
 
 
-def is_early(history: History) -> bool:
-    """Whether one can still vote by the time that was announced."""
-    return history.until is not None and times.now() < history.until
-
-
-def faults_of_time(election: Election, history: History, *, is_early: bool) -> list[Fault]:
-    """That one can still vote, unless the vote is to be closed early."""
-    until, now = history.until, times.now()
-    if until is None or now >= until or is_early:
-        return []
-    there = times.minute_in_words(now, until.tzinfo)
-    words = f"one can vote until {times.time_in_words(until)}, and by the clock of this computer it is {there}"
+def still_open(election: Election, history: History) -> Fault:
+    """That one can still vote by the time that was announced."""
+    assert history.until is not None
+    here = times.minute_in_words(times.now(), history.until.tzinfo)
+    words = f"one can vote until {times.time_in_words(history.until)}, and by the clock of this computer it is {here}"
     how = f"{election.command('close', '--early')}, which the page of the result tells"
-    cure = f"close when that time is over, or now with {how}"
-    return [Fault(None, words, cure, Status.DOUBT, "nothing was changed")]
+    return Fault(None, words, f"close when that time is over, or now with {how}")
 
 
-# ---------------------------------------------------------------- letters
-def faults_of_letters(election: Election, letters: list[LetterNow], arguments: Arguments) -> list[Fault]:
-    """That letters wait which arrived in time, unless it is closed all the same, with a reason."""
-    waiting = [str(letter.number) for letter in letters if letters_in.arrived_in_time(letter)]
-    if not waiting or (arguments.force and (arguments.because or "").strip()):
-        return []
-    words = f"letters wait that arrived in time: {', '.join(waiting)}"
-    cure = (
-        f"add the mailbox once more, then look at them with {election.command('held')}; or close all the same with "
-        "--force --because TEXT, which the page tells"
-    )
-    return [Fault(None, words, cure, Status.DOUBT, "nothing was changed")]
+def letters_wait(election: Election, numbers: list[int]) -> Fault:
+    """That letters wait which arrived in time."""
+    words = f"letters wait that arrived in time: {', '.join(map(str, numbers))}"
+    how = f"look at them with {election.command('held')}; or close all the same with --force --because TEXT, which the page tells"
+    return Fault(None, words, f"add the mailbox once more, then {how}")
 
 
-def letters_waiting(letters: list[LetterNow], arguments: Arguments) -> dict[str, object]:
-    """What the act keeps of letters: how many wait that arrived in time and after the end, and why it was closed all the same."""
-    waiting = [letters_in.arrived_in_time(letter) for letter in letters]
-    because = {"because": (arguments.because or "").strip()} if any(waiting) else {}
-    return {"waiting": sum(waiting), "after_end": len(waiting) - sum(waiting), **because}
-
-
-def write_letter(election: Election, act: DoneAct, sealed: Sealed) -> bool:
-    """Makes `closed.txt`, if it is not there as it has to be."""
-    folder = election.path(LETTERS)
-    folder.mkdir(mode=0o700, exist_ok=True)
-    data = closing_letter.letter(act, sealed.public, election.language)
-    file = folder / closing_letter.NAME
-    if file.is_file() and file.read_bytes() == data:
-        return False
-    write_whole(file, data, 0o600)
-    return True
-
-
-def report(election: Election, closed: Closed) -> None:
-    """Says what was closed, and what comes next."""
-    detail, letter = closed.act.detail, election.path(LETTERS) / closing_letter.NAME
-    if closed.is_new:
+def report(election: Election, act: DoneAct, *, is_new: bool, has_made_letter: bool) -> None:
+    """Says what was closed, now or before, and what comes next."""
+    detail, letter, lines = act.detail, election.path(LETTERS) / closing_letter.NAME, count_of(act.detail["lines"], "line")
+    if is_new:
         if detail["early"]:
             tell("Note: one could still vote by the time that was announced; the page of the result tells it.")
-        tell(f"Closed: {count_of(detail['lines'], 'line')} came in time. What is entered from now on is late, and does not count.")
+        tell(f"Closed: {lines} came in time. What is entered from now on is late, and does not count.")
         if detail["waiting"]:
             tell(f"{count_of(detail['waiting'], 'letter')} that arrived in time did not go in; the page of the result tells it.")
     else:
-        tell(
-            f"The vote was closed at {act_time(closed.act.time)}, with {count_of(detail['lines'], 'line')} in time. Nothing was changed."
-        )
-    if closed.has_made_letter:
+        tell(f"The vote was closed at {act_time(act.time)}, with {lines} in time. Nothing was changed.")
+    if has_made_letter:
         tell(f"Made {letter}.")
     tell(f"Checksum of the ballots{' with the random line' if 'seal' in detail else ''}: {detail['checksum']}")
     tell(f"Send {letter} to all electors before you count anything.")

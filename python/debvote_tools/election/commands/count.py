@@ -1,10 +1,10 @@
 """`count`: the result sheet."""
 
-import argparse
 import dataclasses
 import shlex
+from collections.abc import Iterable
 
-from debvote_tools.arguments import arguments_of
+from debvote_tools.arguments import option
 from debvote_tools.book import queries
 from debvote_tools.console import tell_as_it_is, tell_aside
 from debvote_tools.debvote import casting_words
@@ -16,33 +16,21 @@ from debvote_tools.sheet import Sheet, sheet_in
 
 HELP = "Print the result sheet"
 
+CASTING = (
+    "NAME",
+    "The exact name of the option that the casting vote chooses in a tie; --casting=NAME where it begins with a hyphen",
+)
+
 
 @dataclasses.dataclass(frozen=True)
 class Arguments:
-    """The command's options."""
-
-    casting: str | None
+    casting: str | None = option(*CASTING)
 
 
-def add_arguments(parser: argparse.ArgumentParser) -> None:
-    add_casting_argument(parser)
-
-
-def add_casting_argument(parser: argparse.ArgumentParser) -> None:
-    """The casting vote, as all commands have it that count."""
-    parser.add_argument(
-        "--casting",
-        metavar="NAME",
-        help="The exact name of the option that the casting vote chooses in a tie; --casting=NAME where it begins with a hyphen",
-    )
-
-
-def run(election: Election, namespace: argparse.Namespace) -> int:
-    arguments = arguments_of(Arguments, namespace)
+def run(election: Election, arguments: Arguments) -> int:
     sealed, history = election.sealed(), election.history()
     demand_countable(election, history, sealed)
-    if arguments.casting is not None:
-        demand_option(sealed.counted, arguments.casting)
+    demand_option(sealed.counted, arguments.casting)
     ballots = queries.ballots_of(queries.lines_in_time(election.book))
     answer = election.debvote.answer("count", sealed.counted.as_bytes(), ballots, *casting_words(arguments.casting))
     # the sheet alone, so that it can go into a file
@@ -54,17 +42,16 @@ def run(election: Election, namespace: argparse.Namespace) -> int:
 def demand_countable(election: Election, history: History, sealed: Sealed) -> None:
     """Stops at a secret vote that is not closed: who sees its numbers grow sees who voted what."""
     if sealed.counted.secret and not history.is_closed:
-        words = "the vote is secret, and it is counted after the close alone"
-        raise Fault(None, words, f"close it first: {election.command('close')}", Status.DOUBT, "nothing was counted")
+        words, cure = "the vote is secret, and it is counted after the close alone", f"close it first: {election.command('close')}"
+        raise Fault(None, words, cure, done="nothing was counted")
 
 
-def demand_option(poll: SealedPoll, name: str) -> None:
-    """Stops where no option of the poll has this name, and says which names there are."""
-    if name not in poll.plain_names:
+def demand_option(poll: SealedPoll, casting: str | None) -> None:
+    """Stops if a casting vote is for no option of the poll, and says which names there are."""
+    if casting is not None and casting not in poll.plain_names:
+        where = f"--casting={shlex.quote(casting)}"
         cure = f"give one of these, exactly as it stands here: {in_shell(poll.plain_names)}"
-        raise Fault(
-            f"--casting={shlex.quote(name)}", "no option has this name", cure, Status.CASTING_OUTSIDE, "nothing was counted"
-        )
+        raise Fault(where, "no option has this name", cure, Status.CASTING_OUTSIDE, "nothing was counted")
 
 
 def what_next(election: Election, history: History, sheet: Sheet, casting: str | None) -> str:
@@ -81,6 +68,6 @@ def what_next(election: Election, history: History, sheet: Sheet, casting: str |
     return f"{over}it is a tie between {in_shell(names)}{why}; who has the casting vote chooses one of them: {commands}"
 
 
-def in_shell(names: list[str] | tuple[str, ...]) -> str:
+def in_shell(names: Iterable[str]) -> str:
     """Some names, each as it is typed in a shell."""
     return ", ".join(map(shlex.quote, names))

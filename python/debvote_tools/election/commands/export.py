@@ -1,20 +1,17 @@
 """`export`: the poll, the ballots and all that came, as files."""
 
-import argparse
 import dataclasses
 import os
 import pathlib
 import re
-import shutil
 
-from debvote_tools.arguments import arguments_of
+from debvote_tools.arguments import positional
 from debvote_tools.book import queries
 from debvote_tools.console import tell
-from debvote_tools.election.commands.log import demand_whole
-from debvote_tools.election.commands.status import tell_strangeness
+from debvote_tools.election import acting
 from debvote_tools.election.election import Election
 from debvote_tools.faults import Fault, Status
-from debvote_tools.files import sync_folder, temporary_folder, write_whole
+from debvote_tools.files import whole_folder, write_whole
 
 HELP = "Write the poll, the ballots and all that came into a new folder, which only you can read"
 
@@ -25,26 +22,22 @@ LONGEST_NAME = 100
 
 @dataclasses.dataclass(frozen=True)
 class Arguments:
-    """The command's options."""
-
-    target_folder: str
+    target_folder: str = positional("FOLDER", "The folder to make")
 
 
-def add_arguments(parser: argparse.ArgumentParser) -> None:
-    parser.add_argument("target_folder", metavar="FOLDER", help="The folder to make")
-
-
-def run(election: Election, namespace: argparse.Namespace) -> int:
-    arguments = arguments_of(Arguments, namespace)
-    tell_strangeness(election)
-    demand_whole(election.book)
+def run(election: Election, arguments: Arguments) -> int:
+    acting.tell_strangeness(election.book)
+    acting.demand_whole(election.book)
     target_folder = pathlib.Path(arguments.target_folder)
     if os.path.lexists(target_folder):
         raise Fault(target_folder, "it is there already", "name a new folder", Status.BAD_WORDS, "nothing was written")
     election.demand_private(target_folder)
     with election.book.snapshot():
         files = files_of(election)
-    write(target_folder, files)
+    with whole_folder(target_folder) as folder:
+        (folder / "came").mkdir(mode=0o700)
+        for name, data in files.items():
+            write_whole(folder / name, data, 0o600)
     tell(f"Made the folder {target_folder}: poll.toml, ballots.txt, late.txt, and in came/ all that came. Only you can read it.")
     return Status.DONE
 
@@ -61,17 +54,3 @@ def files_of(election: Election) -> dict[str, bytes]:
 def safe_name(name: str) -> str:
     """A name that is no path and has no characters that a shell reads."""
     return UNSAFE.sub("-", name.rpartition("/")[2])[-LONGEST_NAME:].strip(".") or "file"
-
-
-def write(target_folder: pathlib.Path, files: dict[str, bytes]) -> None:
-    """Writes the folder beside its place, and moves it there when all is in it."""
-    made = temporary_folder(target_folder.absolute().parent)
-    try:
-        (made / "came").mkdir(mode=0o700)
-        for name, data in files.items():
-            write_whole(made / name, data, 0o600)
-        made.rename(target_folder)
-        sync_folder(target_folder.absolute().parent)
-    except BaseException:
-        shutil.rmtree(made, ignore_errors=True)
-        raise

@@ -1,21 +1,19 @@
 """`publish`: the folder of the result, for a web site."""
 
-import argparse
 import contextlib
 import dataclasses
 import pathlib
 from collections.abc import Iterator
 
 from debvote_tools import times
-from debvote_tools.arguments import arguments_of
+from debvote_tools.arguments import flag, option, positional
 from debvote_tools.book.book import Overtaken
-from debvote_tools.console import YES_OR_NO, is_terminal, is_yes, tell, tell_aside
+from debvote_tools.console import is_terminal, is_yes, tell, tell_aside
 from debvote_tools.debvote import casting_words
 from debvote_tools.election import acting
-from debvote_tools.election.commands.count import add_casting_argument, demand_countable, demand_option
-from debvote_tools.election.commands.log import demand_whole
+from debvote_tools.election.commands import count
 from debvote_tools.election.election import RESULT, Election
-from debvote_tools.election.publication import ACT, Words, as_kept, last_publication, last_words, publication_of
+from debvote_tools.election.publication import ACT, Words, as_kept, last_publication, publication_of
 from debvote_tools.election.reporting import act_time
 from debvote_tools.faults import Fault, Status
 from debvote_tools.files import locked_folder
@@ -30,88 +28,62 @@ HELP = "Make the folder of the result for a web site; without further words the 
 
 
 @dataclasses.dataclass(frozen=True)
-class Arguments:
-    """The command's options."""
-
-    casting: str | None
-    cast_by: str | None
-    cast_on: str | None
-    about: str | None
-    language: str | None
-    force: bool
-    yes: bool
-    target: str | None
-    moved: bool
-    because: str | None
-
-
-@dataclasses.dataclass(frozen=True)
-class Done:
-    """A publication: whether it is another one than the last, and what was counted."""
-
-    target_folder: pathlib.Path
-    is_new: bool
-    counted: Counted
+class Arguments(acting.Arguments):
+    casting: str | None = option(*count.CASTING)
+    cast_by: str | None = option("NAME", "Whose the casting vote was; the page says it in your name")
+    cast_on: str | None = option("DATE", "When the casting vote was given, as 2026-12-05")
+    about: str | None = option("FILE", "A plain text in UTF-8 for the page: who certifies the result, and when")
+    language: str | None = option(
+        "CODE",
+        "The language of page and letter: de, en, es or fr; that of the election if it is not given",
+        choices=sorted(LANGUAGES),
+    )
+    force: bool = flag("With --because: publish although there are doubts; the page tells them, and the reason")
+    yes: bool = flag("In a secret vote: everybody may read the texts for the page; without it you are asked at the terminal")
+    target: str | None = positional(
+        "FOLDER", "The folder to make, in place of an earlier one; the folder result of the election if it is not given", nargs="?"
+    )
 
 
-def add_arguments(parser: argparse.ArgumentParser) -> None:
-    add_casting_argument(parser)
-    parser.add_argument("--cast-by", metavar="NAME", help="Whose the casting vote was; the page says it in your name")
-    parser.add_argument("--cast-on", metavar="DATE", help="When the casting vote was given, as 2026-12-05")
-    about = "A plain text in UTF-8 for the page: who certifies the result, and when"
-    parser.add_argument("--about", metavar="FILE", help=about)
-    language = "The language of page and letter: de, en, es or fr; that of the election if it is not given"
-    parser.add_argument("--language", metavar="CODE", choices=sorted(LANGUAGES), help=language)
-    force = "With --because: publish although there are doubts; the page tells them, and the reason"
-    parser.add_argument("--force", action="store_true", help=force)
-    yes = "In a secret vote: everybody may read the texts for the page; without it you are asked at the terminal"
-    parser.add_argument("--yes", action="store_true", help=yes)
-    folder = "The folder to make, in place of an earlier one; the folder result of the election if it is not given"
-    parser.add_argument("target", metavar="FOLDER", nargs="?", help=folder)
-    acting.add_arguments(parser)
-
-
-def run(election: Election, namespace: argparse.Namespace) -> int:
-    arguments = arguments_of(Arguments, namespace)
-    done = publish(election, arguments)
-    report(election, done)
-    return done.counted.status
+def run(election: Election, arguments: Arguments) -> int:
+    target_folder = pathlib.Path(arguments.target) if arguments.target else election.path(RESULT)
+    counted, is_new = publish(election, arguments, target_folder)
+    report(election, counted, target_folder, is_new=is_new)
+    return counted.status
 
 
 # ---------------------------------------------------------------- the act
-def publish(election: Election, arguments: Arguments) -> Done:
-    """Makes the folder.
+def publish(election: Election, arguments: Arguments, target_folder: pathlib.Path) -> tuple[Counted, bool]:
+    """Makes the folder. Returns what was counted, and whether it is another publication than the last.
 
-    It is whole and counted before the act, and takes its place after it: so a kill leaves no folder that the book does not know, and
-    `publish` without words makes the folder of the last act anew.
+    It is whole and counted before the act, and takes its place after it: so a kill leaves no folder that the book does not know,
+    and `publish` without words makes the folder of the last act anew.
     """
-    target_folder = pathlib.Path(arguments.target) if arguments.target else election.path(RESULT)
     result_folder.demand_free(target_folder, can_replace=True)
-    book = acting.acting(election, moved=arguments.moved, because=arguments.because)
-    demand_whole(book)
-    seen, history, sealed = book.last_number(), election.history(), election.sealed()
-    demand_countable(election, history, sealed)
-    given = words_of(arguments)
-    words = given if given.are_given else last_words(history) or given
-    if words.casting is not None:
-        demand_option(sealed.public, words.casting)
+    book = acting.book_for_act(election, arguments)
+    acting.demand_whole(book)
+    history, sealed = election.history(), election.sealed()
+    count.demand_countable(election, history, sealed)
+    before, given = last_publication(history), words_of(arguments)
+    again = before if given == Words() else None
+    words = given if again is None else Words(**again.detail["words"])
+    count.demand_option(sealed.public, words.casting)
     publication = publication_of(election, words)
     if not arguments.yes:
-        demand_read(publication, is_same=not given.are_given and last_words(history) is not None)
+        demand_read(publication, is_again=again is not None)
     with result_folder.made(publication, target_folder, election.program_folder) as made:
-        winner = made.published.sheet.winner()
+        winner = made.counted.sheet.winner()
         decides = winner is not None and winner.is_by_casting
-        detail = as_kept(words, made.checksums, made.published.doubts, decides=decides)
-        before = last_publication(history)
+        detail = as_kept(words, made.checksums, made.doubts, decides=decides)
         is_new = before is None or before.detail != detail
         with alone(election):
             if is_new:
-                with book.act(ACT, detail, seen=seen):
+                with book.act(ACT, detail, seen=history.last.number):
                     pass
-            elif book.last_number() != seen:
+            elif book.last_number() != history.last.number:
                 raise Overtaken
             made.take_place(target_folder)
-        return Done(target_folder, is_new, made.published.counted)
+        return made.counted, is_new
 
 
 @contextlib.contextmanager
@@ -122,7 +94,7 @@ def alone(election: Election) -> Iterator[None]:
             yield
     except BlockingIOError:
         words = "another command publishes this election at the moment"
-        raise Fault(None, words, "run the command again when it is done", Status.DOUBT, "nothing was published") from None
+        raise Fault(None, words, "run the command again when it is done", done="nothing was published") from None
 
 
 def words_of(arguments: Arguments) -> Words:
@@ -145,18 +117,17 @@ def words_of(arguments: Arguments) -> Words:
     )
 
 
-def demand_read(publication: Publication, *, is_same: bool) -> None:
-    """Asks before a secret vote is published: for the texts, unless they are those of last time, and for what two results would show."""
+def demand_read(publication: Publication, *, is_again: bool) -> None:
+    """Asks before a secret vote is published: about texts, unless they are those of last time, and what two results would show."""
     if publication.secret is None:
         return
-    texts = {} if is_same else texts_of(publication)
+    texts = {} if is_again else texts_of(publication)
     for where, text in texts.items():
         tell_aside(f"{where}:", *(f"  {line}" for line in text.strip().split("\n")))
     if texts:
         demand_yes("Is this what everybody may read?", "texts for the page may tell who voted what")
-    compared = publication.secret.compared
-    if compared:
-        words = f"a comparison with the earlier result shows how these voted: {', '.join(compared)}"
+    if publication.secret.compared:
+        words = f"a comparison with the earlier result shows how these voted: {', '.join(publication.secret.compared)}"
         demand_yes(f"Publish it, although {words}?", words)
 
 
@@ -173,21 +144,18 @@ def texts_of(publication: Publication) -> dict[str, str]:
 def demand_yes(question: str, why: str) -> None:
     """Asks at a terminal, and stops unless the answer is yes; elsewhere it stops."""
     if not is_terminal():
-        words = f"the vote is secret, and {why}"
-        raise Fault(None, words, "look whether that may be, then give the command --yes", Status.DOUBT, "nothing was published")
-    if not is_yes(f"The vote is secret. {question}", YES_OR_NO):
-        raise Fault(None, "the answer was not yes", "put it right, then publish", Status.DOUBT, "nothing was published")
+        cure = "look whether that may be, then give the command --yes"
+        raise Fault(None, f"the vote is secret, and {why}", cure, done="nothing was published")
+    if not is_yes(f"The vote is secret. {question}"):
+        raise Fault(None, "the answer was not yes", "put it right, then publish", done="nothing was published")
 
 
 # ---------------------------------------------------------------- what is printed
-def report(election: Election, done: Done) -> None:
+def report(election: Election, counted: Counted, folder: pathlib.Path, *, is_new: bool) -> None:
     """Says how the vote ended, what was made, and what comes next."""
-    counted, folder = done.counted, done.target_folder
     tell(counted.sheet.last_line, counted.verified)
-    if done.is_new:
-        tell(f"Made the folder {folder}.")
-    else:
-        tell(f"Made the folder {folder} again, as it was published; nothing was changed in the book.")
+    again = "" if is_new else " again, as it was published; nothing was changed in the book"
+    tell(f"Made the folder {folder}{again}.")
     if counted.sheet.winner() is not None:
         tell(f"Next: put the folder {folder} on the web site as it is, then {election.command('letters', 'result')}")
         return

@@ -1,18 +1,20 @@
 """`reopen`: the vote is open again after a close, for what had come in time."""
 
-import argparse
 import dataclasses
 import datetime
-from collections.abc import Sequence
+from collections.abc import Iterator, Sequence
 
-from debvote_tools.arguments import arguments_of
-from debvote_tools.book import entered, queries
-from debvote_tools.book.book import Book
+from debvote_tools.arguments import flag, option
+from debvote_tools.book import entered as book_lines
+from debvote_tools.book import queries
+from debvote_tools.book.book import Act, Book
 from debvote_tools.book.queries import Envelope, NewEnvelope
 from debvote_tools.console import is_terminal, tell, typed
 from debvote_tools.election import acting
 from debvote_tools.election.commands.strike import without_code
+from debvote_tools.election.batch import vote_of
 from debvote_tools.election.election import Election
+from debvote_tools.election.entering import entered
 from debvote_tools.election.history import History
 from debvote_tools.election.reporting import act_time, count_of
 from debvote_tools.faults import Fault, Status, stop_at
@@ -21,41 +23,38 @@ HELP = "Open the vote again after a close, for ballots that had come in time; th
 
 
 @dataclasses.dataclass(frozen=True)
-class Arguments:
+class Arguments(acting.Arguments):
     """The command's options."""
 
-    in_time: list[int] | None
-    force: bool
-    moved: bool
-    because: str | None
+    in_time: list[int] | None = option(
+        "NUMBER",
+        "The envelopes of late lines that had come before the first close: they are entered anew, and count",
+        type=int,
+        nargs="*",
+    )
+    force: bool = flag("Enter them although their electors have later ballots in time")
 
 
-def add_arguments(parser: argparse.ArgumentParser) -> None:
-    in_time = "The envelopes of late lines that had come before the first close: they are entered anew, and count"
-    parser.add_argument("--in-time", metavar="NUMBER", type=int, nargs="*", help=in_time)
-    parser.add_argument("--force", action="store_true", help="Enter them although their electors have later ballots in time")
-    acting.add_arguments(parser)
-
-
-def run(election: Election, namespace: argparse.Namespace) -> int:
-    arguments = arguments_of(Arguments, namespace)
+def run(election: Election, arguments: Arguments) -> int:
     because = acting.demand_reason(arguments.because, "reopen")
     election.sealed()
-    book = acting.acting(election, moved=arguments.moved, because=because)
+    book = acting.book_for_act(election, arguments)
     history = election.history()
     demand_closed(election, history)
-    has_codes = bool(history.announced("codes_on_roll"))
-    offered = chosen(book, arguments.in_time, has_codes=has_codes)
+    vote = vote_of(election, history)
+    offered = chosen(book, arguments.in_time, has_codes=vote.has_codes)
     older = older_ones(book, offered)
     if not arguments.force:
         stop_at(older)
     detail = {"because": because, "in_time": [envelope.number for envelope in offered]} | ({"force": True} if older else {})
-    with book.act("reopen", detail, seen=history.last.number) as act:
-        new = [NewEnvelope(late.elector, late.line, late.source, late.place, late.time, late.letter) for late in offered]
-        numbers = queries.enter(act, new, is_late=False)
-    tell(f"The vote is open again; the close at {act_time(history.closes[-1].time)} stays in the log, and the page tells it.")
-    for number, envelope in zip(numbers, offered):
-        tell(f"{number} entered, which was late as {envelope.number}: {without_code(envelope.line, has_codes=has_codes)}")
+
+    def envelopes(_: Act) -> Iterator[NewEnvelope]:
+        yield from (NewEnvelope(late.line, late.place, late.source, late.letter, late.time) for late in offered)
+
+    with entered(book, vote, "reopen", detail, envelopes, decided_at=history.last.number, is_late=False) as now:
+        tell(f"The vote is open again; the close at {act_time(history.closes[-1].time)} stays in the log, and the page tells it.")
+        for number, envelope in zip(now.numbers, offered):
+            tell(f"{number} entered, which was late as {envelope.number}: {without_code(envelope.line, has_codes=vote.has_codes)}")
     tell("Only what arrived before the first close goes in as in time: add and desk ask.")
     tell(f"Next: {election.command('add', 'FILE')}, then {election.command('close')}")
     return Status.DONE
@@ -64,26 +63,26 @@ def run(election: Election, namespace: argparse.Namespace) -> int:
 def demand_closed(election: Election, history: History) -> None:
     """Stops if the vote is open, or if codes of the roll are published with its result: then everybody could vote for everybody."""
     if not history.is_closed:
-        raise Fault(None, "the vote is not closed", f"see {election.command('status')}", Status.DOUBT, "nothing was changed")
+        raise Fault(None, "the vote is not closed", f"see {election.command('status')}")
     if history.announced("codes_on_roll") and history.named("publish"):
         words = "the result has the codes of the roll, so now everybody could vote for everybody"
-        raise Fault(None, words, "hold the vote anew, with new codes", Status.DOUBT, "nothing was changed")
+        raise Fault(None, words, "hold the vote anew, with new codes")
 
 
 def chosen(book: Book, in_time: list[int] | None, *, has_codes: bool) -> list[Envelope]:
     """The late envelopes that had come in time, as the secretary says, in the order of their times."""
     late = {envelope.number: envelope for envelope in queries.envelopes(book, "late = 1 AND struck.act IS NULL")}
-    entered_before = entered.entered_anew(book)
+    entered_before = book_lines.entered_anew(book)
     if in_time is None and is_terminal():
         in_time = asked([envelope for number, envelope in late.items() if number not in entered_before], has_codes=has_codes)
     numbers = in_time or []
     if unknown := [str(number) for number in numbers if number not in late]:
         words = f"envelope {', '.join(unknown)} is not one of the late lines"
         cure = "status tells how many are late, and show NAME which"
-        raise Fault("--in-time", words, cure, Status.BAD_WORDS, "nothing was changed")
+        raise Fault("--in-time", words, cure, Status.BAD_WORDS)
     if again := [str(number) for number in numbers if number in entered_before]:
         words = f"envelope {', '.join(again)} was entered as in time by an earlier reopen"
-        raise Fault("--in-time", words, "leave it out", Status.DOUBT, "nothing was changed")
+        raise Fault("--in-time", words, "leave it out")
     return sorted((late[number] for number in set(numbers)), key=order)
 
 
@@ -113,5 +112,5 @@ def older_ones(book: Book, offered: Sequence[Envelope]) -> list[Fault]:
                 f"envelope {late.number} would replace envelope {newest.number}, a later one of the same elector that is in time"
             )
             cure = "leave it out; or if it has to count all the same, repeat it with --force"
-            faults.append(Fault("--in-time", words, cure, Status.DOUBT, "nothing was changed"))
+            faults.append(Fault("--in-time", words, cure))
     return faults

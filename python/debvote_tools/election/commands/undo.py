@@ -1,42 +1,38 @@
 """`undo`: takes back the last act that entered lines."""
 
-import argparse
 import dataclasses
 
-from debvote_tools.arguments import arguments_of
-from debvote_tools.book import entered, queries
+from debvote_tools.arguments import flag
+from debvote_tools.book import entered, letters, queries
 from debvote_tools.book.sent import sent_letters
 from debvote_tools.book.book import Book, DoneAct, Overtaken
 from debvote_tools.book.queries import Envelope
-from debvote_tools.console import YES_OR_NO, is_terminal, is_yes, tell
+from debvote_tools.console import is_terminal, is_yes, tell
 from debvote_tools.election import acting
-from debvote_tools.election.adding import envelope_words
 from debvote_tools.election.batch import Vote, vote_of
 from debvote_tools.election.batch_words import LineWords, standing_words
 from debvote_tools.election.election import Election
+from debvote_tools.election.entering import envelope_words
 from debvote_tools.election.history import History
 from debvote_tools.election.reporting import act_time, count_of
 from debvote_tools.faults import Fault, Status
+from debvote_tools.letters_out.compose import Kind
 
 HELP = "Take back the last act that entered lines; once more, and the one before"
 
-NOTHING = "nothing was changed"
-
 
 @dataclasses.dataclass(frozen=True)
-class Arguments:
+class Arguments(acting.Arguments):
     """The command's options."""
 
-    yes: bool
-    moved: bool
-    because: str | None
+    yes: bool = flag("Take it back without a question")
 
 
 @dataclasses.dataclass(frozen=True)
 class TakenBack:
     """What an `undo` takes back, or would, and what it changes."""
 
-    seen: int
+    decided_at: int = dataclasses.field(compare=False)
     act: DoneAct
     # those of the act that are not struck yet
     envelopes: tuple[Envelope, ...]
@@ -59,20 +55,10 @@ class TakenBack:
         which = f"{act_time(self.act.time)}, {envelope_words(numbers)}" if numbers else act_time(self.act.time)
         return f"{count_of(len(numbers), 'line')} (act {self.act.number}: {self.act.name}{files}, {which})"
 
-    def is_same(self, other: "TakenBack") -> bool:
-        """Whether another act changed nothing of what was shown."""
-        return dataclasses.replace(other, seen=self.seen) == self
 
-
-def add_arguments(parser: argparse.ArgumentParser) -> None:
-    parser.add_argument("--yes", action="store_true", help="Take it back without a question")
-    acting.add_arguments(parser)
-
-
-def run(election: Election, namespace: argparse.Namespace) -> int:
-    arguments = arguments_of(Arguments, namespace)
+def run(election: Election, arguments: Arguments) -> int:
     vote = vote_of(election, election.history())
-    book = acting.acting(election, moved=arguments.moved, because=arguments.because)
+    book = acting.book_for_act(election, arguments)
     words = LineWords(vote)
     is_asked = is_terminal() and not arguments.yes
     undone = undo(election, book, words, is_asked=is_asked)
@@ -88,14 +74,14 @@ def undo(election: Election, book: Book, words: LineWords, *, is_asked: bool) ->
     agreed: TakenBack | None = None
     while True:
         found = what_is_taken_back(election, book, words.vote)
-        if is_asked and not (agreed and agreed.is_same(found)):
+        if is_asked and found != agreed:
             ask(words, found)
             agreed = found
         try:
-            with book.act("undo", {"act": found.act.number}, seen=found.seen) as act:
+            with book.act("undo", {"act": found.act.number}, seen=found.decided_at) as act:
                 queries.strike(act, (envelope.number for envelope in found.envelopes))
-                states = ((letter, "taken back", "{}") for letter in found.letters)
-                act.insert_all("letter_state", ["letter", "state", "detail"], states)
+                for letter in found.letters:
+                    letters.decide(act, letter, letters.TAKEN_BACK)
             return found
         except Overtaken:
             continue
@@ -104,19 +90,19 @@ def undo(election: Election, book: Book, words: LineWords, *, is_asked: bool) ->
 def what_is_taken_back(election: Election, book: Book, vote: Vote) -> TakenBack:
     """The last act that entered lines, and what it changes to take it back. Stops if there is none, or if the vote is closed."""
     with book.snapshot():
-        history = History.of(book.acts())
+        history = History(book.acts())
         demand_open(election, history)
         number = entered.last_entering_act(book)
         if number is None:
             words = "nothing was entered that could be taken back"
-            raise Fault("undo", words, f"see {election.command('status')}", Status.DOUBT, NOTHING)
-        envelopes = tuple(envelope for envelope in queries.envelopes_of_act(book, number) if envelope.struck is None)
+            raise Fault("undo", words, f"see {election.command('status')}")
+        envelopes = tuple(queries.envelopes(book, "envelope.act = ? AND struck.act IS NULL", number))
         electors = {envelope.elector for envelope in envelopes if envelope.elector is not None}
         lines = entered.lines_of_electors(book, electors)
     gone = {envelope.number for envelope in envelopes}
     before, after = vote.standing(lines), vote.standing([line for line in lines if line[0] not in gone])
-    told = {f"envelope {number}" for number in gone}
-    receipts = [letter.elector for letter in sent_letters(book, "receipt") if told & set(letter.about)]
+    told = {("envelope", number, False) for number in gone}
+    receipts = [letter.elector for letter in sent_letters(book, Kind.RECEIPTS) if told & set(letter.about)]
     names = [elector.name for elector in queries.electors(book) if elector.number in receipts]
     return TakenBack(history.last.number, history.acts[number - 1], envelopes, before, after, tuple(names))
 
@@ -126,21 +112,15 @@ def demand_open(election: Election, history: History) -> None:
     if history.is_closed:
         words = f"the vote was closed at {act_time(history.closes[-1].time)}, and its ballots stay"
         cure = f"if they are wrong, see {election.command('reopen')}"
-        raise Fault(None, words, cure, Status.DOUBT, NOTHING)
+        raise Fault(None, words, cure)
 
 
 # ---------------------------------------------------------------- what is printed
 def ask(words: LineWords, found: TakenBack) -> None:
     """Shows what would be taken back, and asks. Stops unless the answer is yes."""
-    changes = [
-        *standing_words(words, found.before, found.after, "no ballot would stand"),
-        *letter_words(found),
-        *receipt_words(found),
-    ]
-    if changes:
-        tell(*changes)
-    if not is_yes(f"Take back {found.what}?", YES_OR_NO):
-        raise Fault("undo", "you did not say yes", "run the command again when you want to take it back", Status.DOUBT, NOTHING)
+    tell(*standing_words(words, found.before, found.after, "no ballot would stand"), *letter_words(found), *receipt_words(found))
+    if not is_yes(f"Take back {found.what}?"):
+        raise Fault("undo", "you did not say yes", "run the command again when you want to take it back")
 
 
 def letter_words(found: TakenBack) -> list[str]:

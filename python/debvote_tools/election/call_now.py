@@ -1,0 +1,40 @@
+"""What the call of an election says, by the book."""
+
+import datetime
+from typing import Any
+
+from debvote_tools.book import queries
+from debvote_tools.call.data import CallData
+from debvote_tools.election.election import Election, Sealed
+from debvote_tools.election.history import History
+
+
+def current_data(election: Election, history: History | None = None, said: dict[str, Any] | None = None) -> CallData:
+    """What the call says as it is now, and with what would be said by a further act."""
+    history, said = history or election.history(), said or {}
+    assert history.call is not None
+    so_far = {key: said.get(key) or history.announced(key) for key in ("to", "at")}
+    return call_data(election, election.sealed(), history.call.detail | so_far, time_of(said) or history.until)
+
+
+def call_data(election: Election, sealed: Sealed, detail: dict[str, Any], until: datetime.datetime | None) -> CallData:
+    """What the page and the letter say."""
+    electors = queries.electors(election.book)
+    return CallData(
+        language=election.language,
+        poll=sealed.public,
+        quorum_votes=detail["quorum_votes"],
+        until=until,
+        to=detail.get("to"),
+        at=detail.get("at"),
+        real_names={elector.name: elector.who for elector in electors} if detail["names"] else None,
+        has_form=detail["form"],
+        is_signed=detail["signed"],
+        is_secret=sealed.is_aliased,
+        is_codes_on_roll=detail["codes_on_roll"],
+    )
+
+
+def time_of(said: dict[str, Any]) -> datetime.datetime | None:
+    """The end that the command line names."""
+    return datetime.datetime.fromisoformat(said["until"]) if "until" in said else None

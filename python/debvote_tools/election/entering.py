@@ -1,0 +1,129 @@
+"""The one way into the book: an act that enters lines, and the replies to them.
+
+A command decides by the book what goes in, and may ask. Then `entered` is the act: nobody is asked and no program runs within. If another
+act came between, it raises `Overtaken`, unless what was decided is the same. After the commit debvote says the replies.
+"""
+
+import contextlib
+import dataclasses
+from collections.abc import Callable, Collection, Iterable, Iterator, Sequence
+from typing import Any
+
+from debvote_tools.book import entered as book_lines
+from debvote_tools.book import queries
+from debvote_tools.book.book import Act, Book, Overtaken
+from debvote_tools.book.queries import NewEnvelope
+from debvote_tools.console import OutputFailed
+from debvote_tools.election.batch import Vote
+from debvote_tools.election.reporting import count_of
+from debvote_tools.faults import Fault, Status
+from debvote_tools.files import BALLOTS_LIMIT, LINES_LIMIT, uninterrupted
+from debvote_tools.lines import Line, name_in
+
+LATE = "late"
+
+# in bytes; no ballot has half as many
+LONGEST_LINE = 500
+
+
+@dataclasses.dataclass(frozen=True)
+class Entered:
+    """What an act entered."""
+
+    book: Book
+    vote: Vote
+    act: int
+    numbers: range
+    lines: list[bytes]
+    electors: frozenset[int]
+    is_late: bool
+
+    def replies(self) -> list[str]:
+        """The reply to each line, by all lines as the act left them: those of its electors, on whom alone it depends."""
+        if self.is_late:
+            return [LATE] * len(self.numbers)
+        before = book_lines.lines_after(self.book, self.act - 1, self.electors)
+        try:
+            replies = self.vote.replies([*before, *zip(self.numbers, self.lines)])
+        except Fault as fault:
+            raise fault.with_done(f"all the same the lines were entered ({envelope_words(self.numbers)})") from None
+        return [replies[number] for number in self.numbers]
+
+
+@contextlib.contextmanager
+def entered(
+    book: Book,
+    vote: Vote,
+    name: str,
+    detail: dict[str, Any],
+    lines: Callable[[Act], Iterable[NewEnvelope]],
+    *,
+    decided_at: int,
+    is_late: bool,
+    is_same: Callable[[], bool] | None = None,
+    done: str = "the lines were entered",
+) -> Iterator[Entered]:
+    """The act of this name: `lines` gives what goes in. Interrupts wait until what was entered is told, which is done within.
+
+    `decided_at` was the last act when this was decided. If others came since, `is_same` says whether it would be decided so again.
+    """
+    with contextlib.ExitStack() as stack:
+        with book.act(name, detail) as act:
+            if act.number != decided_at + 1 and not (is_same and is_same()):
+                raise Overtaken
+            new = list(lines(act))
+            if not is_late:
+                demand_room(book, new)
+            # whoever enters a ballot sees the reply to it
+            stack.enter_context(uninterrupted())
+            first = queries.last_envelope(book) + 1
+            new_lines = [envelope.line for envelope in new]
+            electors = electors_of(book, vote, new_lines)
+            queries.enter(act, new, electors, is_late=is_late)
+        numbers = range(first, first + len(new))
+        try:
+            yield Entered(book, vote, act.number, numbers, new_lines, frozenset(filter(None, electors)), is_late)
+        except OutputFailed as fault:
+            done = f"all the same {done} ({envelope_words(numbers)})"
+            raise Fault(None, "the output failed", "ask debvote-election status", fault.status, done) from None
+
+
+def electors_of(book: Book, vote: Vote, lines: Sequence[bytes]) -> list[int | None]:
+    """The elector of the roll with whose name each line begins."""
+    names = [name_in(line).decode("ascii") for line in lines]
+    numbers = queries.elector_numbers(book, vote.names_on_roll.intersection(names))
+    return [numbers.get(name) for name in names]
+
+
+def demand_room(book: Book, new: Sequence[NewEnvelope]) -> None:
+    """Stops if debvote would no longer take the ballots."""
+    added = sum(len(envelope.line) + 1 for envelope in new)
+    # the file of the book is longer than all lines in it, so they are counted only if there may be too many
+    if queries.last_envelope(book) + len(new) <= LINES_LIMIT and book.size() + added <= BALLOTS_LIMIT:
+        return
+    line_count, size = book_lines.size_in_time(book)
+    if line_count + len(new) > LINES_LIMIT or size + added > BALLOTS_LIMIT:
+        words = f"with it there would be {count_of(line_count + len(new), 'line')} and {size + added} bytes of ballots"
+        cure = f"debvote takes {LINES_LIMIT} lines and {BALLOTS_LIMIT} bytes at most: add less of it"
+        raise Fault(book.path, words, cure, Status.BAD_BALLOTS, "nothing was added")
+
+
+def envelope_words(numbers: Collection[int]) -> str:
+    """Some envelopes, in their order, as `envelope 3` or `envelopes 3-5, 7`."""
+    runs: list[list[int]] = []
+    for number in numbers:
+        if runs and number == runs[-1][-1] + 1:
+            runs[-1][1:] = [number]
+        else:
+            runs.append([number])
+    return f"envelope{'s' * (len(numbers) != 1)} {', '.join('-'.join(map(str, run)) for run in runs)}"
+
+
+def is_too_long(line: Line) -> bool:
+    """Whether a line is much longer than any ballot."""
+    return len(line.came) > LONGEST_LINE
+
+
+def long_words(line: Line) -> str:
+    """What is said of a line that is much longer than any ballot."""
+    return f"the line has {len(line.came)} bytes, and a ballot has a few dozen"

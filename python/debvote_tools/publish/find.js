@@ -1,0 +1,151 @@
+// Shows electors the ballot that counts for them: by their name on the roll or their real name, in a secret vote under the alias
+// that is made here of name and code. The ballot is taken from a count of the files that the page carries. Nothing is sent or kept.
+"use strict";
+
+(() => {
+  const DIGITS = 32;
+  const CODE = /^[0-9a-f]{32}$/;
+
+  const byId = (id) => document.getElementById(id);
+  // the sentences, in the language of the page, with their places in braces; and how letters are spelled in a name on the roll
+  const words = JSON.parse(byId("find").dataset.words);
+  const letters = JSON.parse(byId("find").dataset.letters);
+  const sentence = (key, places = {}) => words[key].replace(/\{([a-z]+)\}/g, (all, place) => places[place]);
+  const nameInput = byId("name");
+  // only in a secret vote
+  const codeInput = byId("code");
+  // what was typed last; an answer to what was typed before is not shown
+  let asked = 0;
+
+  const say = (...nodes) => byId("answer").replaceChildren(...nodes);
+
+  function paragraph(...said) {
+    const node = document.createElement("p");
+    node.textContent = sentence(...said);
+    return node;
+  }
+
+  // ---- names
+  const folded = (text) => text.normalize("NFKD").replace(/[\p{M}\s]/gu, "").toLowerCase();
+  const spelled = (text) => [...text].map((letter) => letters[letter] ?? letter).join("").toLowerCase();
+
+  // The name that the roll has for a real name.
+  function nameOnRoll(realName) {
+    const plain = spelled(spelled(realName.normalize("NFC").toLowerCase()).normalize("NFKD").replace(/\p{M}/gu, ""));
+    const bare = (name) => name.replace(/^-+|-+$/g, "");
+    return bare(bare(plain.replace(/[^a-z0-9.-]+/g, "-")).slice(0, DIGITS));
+  }
+
+  // A code without the gaps that it may be written with.
+  const withoutGaps = (code) => code.replace(/[\s-]/g, "").toLowerCase();
+
+  // What may be meant: as it was typed, those whose real name the page has, by the rules of the roll, and a code on the roll.
+  function namesTyped() {
+    const typed = nameInput.value.trim();
+    const known = [...document.querySelectorAll(".roll bdi")].filter((node) => folded(node.textContent) === folded(typed));
+    const names = known.map((node) => node.parentNode.firstChild.textContent.trim());
+    const all = [typed.toLowerCase(), ...names, nameOnRoll(typed), withoutGaps(typed)];
+    return typed === "" ? [] : [...new Set(all)];
+  }
+
+
+  async function aliasOf(name, code) {
+    const bytes = new TextEncoder();
+    const how = { name: "HMAC", hash: "SHA-256" };
+    const key = await crypto.subtle.importKey("raw", bytes.encode(code), how, false, ["sign"]);
+    const digest = new Uint8Array(await crypto.subtle.sign("HMAC", key, bytes.encode(name)));
+    return [...digest].map((byte) => byte.toString(16).padStart(2, "0")).join("").slice(0, DIGITS);
+  }
+
+  // ---- ballots
+  // The ballot of each elector on the roll by the files of the page, null for those who have none; counted once.
+  let counted;
+  function ballotsOfFiles() {
+    if (counted !== undefined) return counted;
+    const [pollBytes, ballotBytes] = [carried("Poll-file"), carried("Ballots-file")];
+    if (pollBytes === null) return (counted = null);
+    const poll = readPoll(pollBytes);
+    const steps = count(poll, ballotBytes);
+    let step = steps.next();
+    while (!step.done) step = steps.next();
+    const why = whyNotSecret(poll, step.value);
+    if (why !== null) throw Object.assign(new Error(why), { key: "no_secret_vote" });
+    const lineOf = (ballot) => (ballot === null ? null : ballot.line);
+    counted = new Map([...poll.electors].map(([name, at]) => [name, lineOf(step.value.standing[at])]));
+    return counted;
+  }
+
+  // The ballot of an elector as the page has it, and where it has them, as its files have it: null if there is none, undefined if
+  // there is no such elector.
+  function ballotOf(elector) {
+    const place = byId(elector);
+    const isOnPage = place?.closest(".ballots");
+    const onPage = isOnPage ? `${elector} ${place.querySelector("code").textContent}` : place?.closest(".roll, .absent") ? null : undefined;
+    const files = ballotsOfFiles();
+    if (files !== null && files.get(elector) !== onPage) throw Object.assign(new Error(), { key: "shows_others" });
+    return onPage;
+  }
+
+  // The ballot as the page has it, without its place.
+  function ballotNode(elector) {
+    const node = document.createElement("p");
+    node.className = "found";
+    node.append(...[...byId(elector).childNodes].map((part) => part.cloneNode(true)));
+    return node;
+  }
+
+  // What there is to say of electors, of whom those count that are on the roll. Each has a name that is said.
+  function told(electors) {
+    const found = electors.filter(([elector]) => ballotOf(elector) !== undefined);
+    if (found.length === 0) return [paragraph("no_elector", { name: electors[0][1], alias: electors[0][0] })];
+    return found.flatMap(([elector, name]) => {
+      if (ballotOf(elector) === null) return [paragraph("no_ballot", { name, alias: elector })];
+      return [paragraph("counts", { name }), ballotNode(elector)];
+    });
+  }
+
+  async function show() {
+    const names = namesTyped();
+    const mine = (asked += 1);
+    if (names.length === 0) return say(paragraph("type_name"));
+    let electors = names.map((name) => [name, name]);
+    if (codeInput !== null) {
+      const code = withoutGaps(codeInput.value);
+      if (!CODE.test(code)) return say(paragraph("type_code"));
+      if (!globalThis.crypto || !crypto.subtle) return say(paragraph("no_alias"));
+      electors = await Promise.all(names.map(async (name) => [await aliasOf(name, code), name]));
+    }
+    if (mine !== asked) return undefined;
+    try {
+      return say(...told(electors));
+    } catch (fault) {
+      return say(paragraph(fault.key ?? "unread", { fault: fault.message }));
+    }
+  }
+
+  function forget() {
+    asked += 1;
+    say();
+  }
+
+  // The ballot that the address of the page names.
+  function showNamed() {
+    const elector = location.hash.slice(1);
+    if (codeInput !== null || byId(elector)?.closest(".ballots, .roll") == null) return;
+    nameInput.value = elector;
+    show();
+  }
+
+  // a telephone begins a text with a capital letter
+  for (const input of [nameInput, codeInput].filter((node) => node !== null)) {
+    input.autocapitalize = "none";
+    input.addEventListener("input", forget);
+    input.addEventListener("keydown", (event) => {
+      if (event.key === "Enter") show();
+    });
+  }
+  byId("show").addEventListener("click", show);
+  byId("find").hidden = false;
+  addEventListener("hashchange", showNamed);
+  showNamed();
+})();

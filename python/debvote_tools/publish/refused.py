@@ -1,0 +1,72 @@
+"""The lines that were refused or came late, each with its number and its cause."""
+
+import dataclasses
+from collections.abc import Iterable
+
+from markupsafe import Markup
+
+from debvote_tools.debvote import Finding
+from debvote_tools.lines import ballot_lines
+from debvote_tools.rendering import InHtml
+from debvote_tools.terminal_text import seen
+
+# so many characters of a line are shown, and texts of so many bytes in all, or a few more
+SHOWN = 100
+TEXTS_LIMIT = 1_000_000
+
+
+@dataclasses.dataclass
+class Run:
+    """Lines one after the other that have the same cause and the same text, or whose texts are not shown."""
+
+    first: int
+    last: int
+    cause: str
+    text: Markup | None
+
+
+@dataclasses.dataclass(frozen=True)
+class Lines:
+    """Lines of a file. When the texts are too many, it says from which line on they are not shown."""
+
+    runs: list[Run]
+
+    @property
+    def untold(self) -> int | None:
+        return next((run.first for run in self.runs if run.text is None), None)
+
+
+def refused_lines(findings: Iterable[Finding], ballots: bytes, speaker: InHtml) -> Lines:
+    """The lines of the ballots that count for nothing, with the causes in the words of debvote."""
+    lines = ballot_lines(ballots)
+    return lines_of(((one.envelope, lines[one.envelope - 1], f"{one.word}: {one.hint}") for one in findings), speaker)
+
+
+def late_lines(late: bytes, speaker: InHtml) -> Lines:
+    """The lines that were entered after the close."""
+    return lines_of(((number, line, "") for number, line in enumerate(ballot_lines(late), start=1)), speaker)
+
+
+def lines_of(found: Iterable[tuple[int, bytes, str]], speaker: InHtml) -> Lines:
+    """The lines, those together that stand one after the other and are alike."""
+    runs: list[Run] = []
+    left = TEXTS_LIMIT
+    for number, line, cause in found:
+        text = line_on_page(line, speaker) if left > 0 else None
+        if runs and runs[-1].last == number - 1 and (runs[-1].cause, runs[-1].text) == (cause, text):
+            runs[-1].last = number
+        else:
+            runs.append(Run(number, number, cause, text))
+            left -= len(text or "")
+    return Lines(runs)
+
+
+def line_on_page(line: bytes, speaker: InHtml) -> Markup:
+    """A line as it stands on the page: characters that are not seen stand by their numbers, and a long one is cut."""
+    if not line:
+        return speaker.say("(an empty line)")
+    text = line.decode("utf-8", "backslashreplace")
+    shown = Markup("<code><bdi>{}</bdi></code>").format("".join(map(seen, text[:SHOWN])))
+    if len(text) <= SHOWN:
+        return shown
+    return speaker.say("{text} (the first {shown} of {number} characters)", text=shown, shown=SHOWN, number=len(text))

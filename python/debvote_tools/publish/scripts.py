@@ -1,0 +1,133 @@
+"""The scripts of the page: what they say, and the files that the page carries for them. A word in braces is a place."""
+
+import base64
+import dataclasses
+import html
+import json
+import re
+
+from markupsafe import Markup
+
+from debvote_tools.language import Language
+from debvote_tools.plain_names import LETTERS, PUNCTUATION, SPELLINGS
+from debvote_tools.publish.ballots import script_words
+from debvote_tools.publish.inputs import Publication
+from debvote_tools.publish.options import OPTION, PLAIN_NAME
+from debvote_tools.sentences import marked
+
+# in bytes; larger files are not carried by the page, and the reader chooses them. Those of a secret vote, which the finding of
+# one's own ballot needs too, never come to more: a poll has at most 1,048,576 bytes, and each of 10,000 ballots at most 129
+CARRIED_LIMIT = 4_000_000
+
+FIND = {
+    "unread": marked("The files of this page can't be counted: {fault}. Tell the other electors."),
+    "no_secret_vote": marked("This is no secret vote as it is published: {fault}. Tell the other electors."),
+    "shows_others": marked("This page shows other ballots than its files have. Tell the other electors."),
+    "counts": marked("This ballot counts for {name}:"),
+    "type_name": marked("Type your name."),
+}
+FIND_BY_CODE = {
+    "no_elector": marked("No elector has this code. Type it as it is on your slip."),
+    "no_ballot": marked("The code is on the roll, and no ballot counts under it."),
+    "type_name": marked("Type your code as it is on your slip."),
+}
+FIND_IN_OPEN = {
+    "no_elector": marked("No elector has the name {name}. Type it as it is on the roll."),
+    "no_ballot": marked("{name} is on the roll, and no ballot counts for this name."),
+}
+FIND_IN_SECRET = {
+    "no_elector": marked("No elector of this vote has the alias {alias}. Type name and code as they are on your slip."),
+    "no_ballot": marked("Your alias is {alias}. It is on the roll, and no ballot counts under it."),
+    "type_name": marked("Type your name as it is on your slip."),
+    "type_code": marked("A code has 32 digits, 0 to 9 and a to f. Type yours as it is on your slip."),
+    "no_alias": marked("This browser makes no alias on a page that did not come by https. Use one of the commands below."),
+}
+
+COUNT_AGAIN = {
+    "counting": marked("Counting."),
+    "fault": marked("These files cannot be counted: {fault}."),
+    "no_secret_vote": marked("This is no secret vote as it is published: {why}."),
+    "same": marked("The same, line for line: this count comes to {sheet}, in all its {lines} lines."),
+    "differs": marked("Not the same as {sheet}: line {line} differs. There it is: {given}. By this count it is: {counted}."),
+    "with_feed": marked("{line} (with a line feed at its end)"),
+    "without_feed": marked("{line} (without a line feed at its end)"),
+    "sheet_published": marked("the published sheet"),
+    "sheet_of_page": marked("the sheet of this page"),
+    "sheet_chosen": marked("the sheet that you chose"),
+    "tell": marked("Tell the other electors."),
+    "tell_if_published": marked("If the files are as they were published, tell the other electors."),
+    "last": marked("This count ends with: {line}"),
+    "casting": marked("The sheet has a casting vote for {option}. No count shows whose it was."),
+    "page_same": marked(
+        "This page shows what its files come to: the result, the names of the options, the table of votes, and each of the {ballots} "
+        "ballots, by its ranks and in words. Other words are not compared."
+    ),
+    "page_differs": marked("This page shows something else than its files come to: {where}."),
+    "the_result": marked("the result"),
+    "the_names": marked("the names of title and options"),
+    "the_votes": marked("the table of votes"),
+    "the_ballot": marked("the ballot of {elector}"),
+    "the_ballots": marked("the ballots, which are not as many"),
+    "poll_sum": marked("The checksum of the poll, as your letter of the call has to have it, is {sum}."),
+    "ballots_sum": marked("The checksum of the ballots, as the letter of the result has to have it, is {sum}."),
+    "sealed_sum": marked("The checksum of seal.txt and the ballots, as the letter of the close has to have it, is {sum}."),
+    "sum_named": marked("This page names it too."),
+    "sum_not_named": marked("This page does not name it: the files are others than those from which it was made."),
+    "letter_same": marked("Yours is the same."),
+    "letter_other": marked(
+        "None of these is the checksum that you typed. If it is that of the poll or of the ballots, and typed right, your letter speaks "
+        "of other files: ask for them. If it is that of this page: no page can make its own."
+    ),
+    "no_sums": marked("This browser makes no checksums of a page that did not come by https. Compare them by the commands below."),
+    "second": marked("This was a second opinion, from the same web site as the page."),
+    "whole_sheet": marked("The whole sheet by this count"),
+    "choose": marked("Choose {poll} and {ballots}, by these names and one of each; {sheet} may be with them."),
+    "unreadable": marked("A file that you chose cannot be read."),
+    # those with which the page says options and ballots
+    "option": OPTION,
+    "plain_name": PLAIN_NAME,
+}
+
+
+def find_words(publication: Publication) -> str:
+    """What the script says that finds a ballot, as JSON."""
+    if publication.has_codes:
+        return publication.language.words(FIND | FIND_BY_CODE)
+    return publication.language.words(FIND | (FIND_IN_SECRET if publication.is_secret else FIND_IN_OPEN))
+
+
+def find_letters(language: Language) -> str:
+    """How letters are spelled in the name that the roll makes of a real name, as JSON."""
+    return json.dumps({**PUNCTUATION, **LETTERS, **SPELLINGS.get(language.code, {})}, ensure_ascii=False)
+
+
+def again_words(language: Language) -> str:
+    """What the script says that counts again, as JSON."""
+    said = {name: language.catalog.gettext(text) for name, text in COUNT_AGAIN.items()}
+    return json.dumps(said | script_words(language), ensure_ascii=False)
+
+
+@dataclasses.dataclass(frozen=True)
+class CarriedFile:
+    """A file at the end of the page that the browser gives back byte for byte; nobody sees it. No elector's name has a capital letter.
+
+    It stands as it is where it is plain, else in base 64: a browser changes carriage returns.
+    """
+
+    place: str
+    text: Markup
+    is_base64: bool
+
+
+def carried_files(poll: bytes, ballots: bytes, sheet: bytes) -> list[CarriedFile]:
+    """The files that are counted, or the sheet alone where they are too large."""
+    files = {"Sheet-file": sheet}
+    if len(poll) + len(ballots) <= CARRIED_LIMIT:
+        files = {"Poll-file": poll, "Ballots-file": ballots, "Sheet-file": sheet}
+    return [carried(place, data) for place, data in files.items()]
+
+
+def carried(place: str, data: bytes) -> CarriedFile:
+    is_plain = re.fullmatch(rb"[\t\n\x20-\x7e]*", data) is not None
+    text = html.escape(data.decode("ascii"), quote=False) if is_plain else base64.b64encode(data).decode("ascii")
+    return CarriedFile(place, Markup(text), not is_plain)
