@@ -13,6 +13,7 @@ import sqlite3
 import sys
 import tomllib
 import unittest.mock
+from time import sleep
 
 import page as pages
 import reading
@@ -284,8 +285,10 @@ class OfOpenVotes(OfElections):
         book = open_book(self.folder / "election.db")
         close = book.last_act().time
         with self.state_of_this(), contextlib.closing(book.connection), book.act("add") as act:
-            for minutes, line in [(-1, b"zoe-mueller 1,2,3"), (1, b"cleo 1,2,3"), (0, b"dan 2,1,3")]:
-                time = close + datetime.timedelta(minutes=minutes)
+            # the last one arrives between the first close and the second
+            lines = [(-60, b"zoe-mueller 1,2,3"), (60, b"cleo 1,2,3"), (0, b"dan 2,1,3"), (1, b"ada-lovelace 3,2,1")]
+            for seconds, line in lines:
+                time = close + datetime.timedelta(seconds=seconds)
                 data = b"Received: by mx; %s\nFrom: x@x.example\n\n%s\n" % (email.utils.format_datetime(time).encode(), line)
                 known = parse.as_json(parse.parse(RawLetter("letter.eml", data)))
                 letter = letters.keep_letter(act, "letter.eml", data, "", known)
@@ -295,9 +298,43 @@ class OfOpenVotes(OfElections):
         self.say("publish", "--force", "--because", "so be it", "--language", "en")
         self.expect("doubts", [text.partition("before")[0].partition("at ")[0] for text in self.doubts()], ["A letter arrived "] * 2)
         self.say("reopen", "--because", "they were in time", "--in-time", "2", "4")
+        sleep(max(0, (close + datetime.timedelta(seconds=1) - datetime.datetime.now(datetime.UTC)).total_seconds()))
         self.say("close")
+        self.expect("the close after that letter", self.acts()[-1].time > close, True)
         self.say("publish", "--language", "en")
-        self.expect("entered in time", (self.doubts(), (self.folder / "result" / "late.txt").read_text().count("\n")), ([], 3))
+        self.expect("entered in time", (self.doubts(), (self.folder / "result" / "late.txt").read_text().count("\n")), ([], 4))
+
+    def test_what_comes_after_the_end(self):
+        """Lines and ballots of a desk are told that came after the end; not those that were struck, nor letters, which wait."""
+        clock = self.folder / "clock"
+        where = {"PYTHONPATH": str(support.ROOT / "tests" / "clock"), "DEBVOTE_CLOCK": str(clock)}
+        clock.write_text("2027-03-01T10:00:00+00:00")
+        letter = "Received: by mx; Mon, 1 Mar 2027 12:30:00 +0000\nFrom: cleo@x.example\n\ncleo 3,2,1\n"
+        with unittest.mock.patch.dict(os.environ, where):
+            self.say("call", "--until", "2027-03-01 12:00", "--zone", "UTC")
+            self.add("ada-lovelace 1,2,3\n")
+            clock.write_text("2027-03-01T13:00:00+00:00")
+            self.add("zoe-mueller 1,2,3\ncleo 1,2,3\ndan 1,2,3\n")
+            (self.folder / "letter.eml").write_text(letter)
+            self.say("add", "letter.eml")
+            self.say("held", "1", "--enter", "1", "--force")
+            self.say("strike", "3", "--because", "on paper")
+            self.say("close")
+            self.say("publish", "--language", "en")
+        told = "2 ballots came after the end, and count, since the vote was not closed yet."
+        self.expect("what came after the end", [told in part.text() for part in self.sections().values()].count(True) > 0, True)
+
+    def test_words_of_a_publication_end_with_its_close(self):
+        """Without words the last publication is made again; after another close it is a new one, without a casting vote."""
+        self.say("call")
+        self.add(TIE)
+        self.say("close")
+        self.say("publish", "--casting", "72 Euro", "--cast-by", "Anna", "--cast-on", "2026-11-20")
+        self.add("cleo 1,2,3\n")
+        self.say("reopen", "--because", "a lost letter", "--in-time", "3")
+        self.say("strike", "1", "--because", "twice")
+        self.say("close")
+        self.expect("a tie again", self.say("publish", status=1).splitlines()[0], "Tie: 1 2")
 
     def test_bad_texts(self):
         self.say("call")
@@ -500,12 +537,13 @@ class OfSecretVotes(OfElections):
         self.called()
         self.say("close")
         self.say("publish", status=1)
-        self.add("cleo 1,2,3\n")
-        self.say("reopen", "--because", "Cleo's letter", "--in-time", "6")
+        # that of Zoë has the same order, which is published as it was
+        self.add("cleo 1,2,3\nzoe-mueller 5,4,6\ndan 1,2,3\n")
+        self.say("reopen", "--because", "Cleo's letter", "--in-time", "6", "7", "8")
         self.say("close")
-        self.stops("publish", said=["a comparison with the earlier result shows how these voted: cleo"])
+        self.stops("publish", said=["a comparison with the earlier result shows how these voted: cleo, dan"])
         self.say("publish", "--yes")
-        self.expect("cleo counts", len((self.folder / "result" / "ballots.txt").read_text().splitlines()), 3)
+        self.expect("cleo and dan count", len((self.folder / "result" / "ballots.txt").read_text().splitlines()), 4)
         self.expect("the reason stays in the log", "Cleo" in (self.folder / "result" / "index.html").read_text(), False)
 
     def test_a_sheet_that_is_not_that_of_the_votes(self):
