@@ -42,7 +42,7 @@ POLL = SealedPoll(
 )
 UNTIL = datetime.datetime(2026, 12, 4, 18, tzinfo=datetime.timezone(datetime.timedelta(hours=1)))
 SLIPS = SlipsData(language_of("en"), POLL, [Slip(name, f"{name.title()} L.", CODES[name]) for name in ROLL], UNTIL, "v@example.org")
-WITH_CODES = dataclasses.replace(SLIPS, slips=[Slip(code, "", code) for code in CODES.values()], is_codes_on_roll=True)
+WITH_CODES = dataclasses.replace(SLIPS, slips=[Slip(code, "", code) for code in CODES.values()], has_codes_on_roll=True)
 
 
 def run(*words: str, given: str = "") -> str:
@@ -190,7 +190,7 @@ class Slips(unittest.TestCase):
         with tempfile.TemporaryDirectory(prefix="debvote-slips-") as folder, Window(390, 800) as window:
             for code in LANGUAGES:
                 for data in (SLIPS, WITH_CODES):
-                    file = pathlib.Path(folder) / f"{code}-{data.is_codes_on_roll}.html"
+                    file = pathlib.Path(folder) / f"{code}-{data.has_codes_on_roll}.html"
                     file.write_bytes(slips(dataclasses.replace(data, language=language_of(code))))
                     window.open(file)
                     self.assertEqual(window.ask("document.documentElement.scrollWidth"), 390)

@@ -303,7 +303,7 @@ class CallPageTest(CallFolder):
             self.assertEqual(bool(result["line"]), re.fullmatch("[A-Za-z0-9.-]+", name) is not None, name)
 
     def test_a_secret_vote_takes_no_code_for_a_name(self) -> None:
-        page = self.called("secret", with_roll(POLL, [f"{number:x}" * 32 for number in range(9)]), is_secret=True)
+        page = self.called("secret", with_roll(POLL, [f"{number:x}" * 32 for number in range(9)]), has_aliases=True)
         names = ["ada", "Ada ", "", "0123456789abcdef" * 2, "stranger", "0123 4567 89AB cdef " * 2]
         choices = [{"name": name, "ranks": list("1234")} for name in names]
         (found,), console = browse(self.scratch, [{"page": page.as_uri(), "width": 360, "choices": choices}])

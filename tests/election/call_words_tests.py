@@ -44,8 +44,8 @@ POLL = SealedPoll(
     address=ADDRESS,
 )
 CALL = CallData(language_of("en"), POLL, 2, until=FIRST, to=ADDRESS, at=PAGE)
-SECRET = dataclasses.replace(CALL, poll=dataclasses.replace(with_roll(POLL, CODES), secret=True), is_secret=True)
-WITH_CODES = dataclasses.replace(SECRET, is_secret=False, is_codes_on_roll=True)
+SECRET = dataclasses.replace(CALL, poll=dataclasses.replace(with_roll(POLL, CODES), secret=True), has_aliases=True)
+WITH_CODES = dataclasses.replace(SECRET, has_aliases=False, has_codes_on_roll=True)
 KINDS = {"open": CALL, "secret": SECRET, "codes": WITH_CODES, "signed": dataclasses.replace(CALL, is_signed=True, has_form=True)}
 
 HOSTILE = ['</title><script>document.title = "x"</script>', '" autofocus onfocus="x', "{title} %s \u05d0\u05d1 & &amp; </bdi></b>"]

@@ -284,9 +284,11 @@ class EightDesks(support.ElectionTest):
                 desk.kill()
                 desk.communicate()
                 return typed
-            while (reply := REPLY.match(said := desk.stdout.readline().decode())) is None:
-                if not said:
-                    raise AssertionError("the desk has ended")
+            said = []
+            while (reply := REPLY.match(line_said := desk.stdout.readline().decode())) is None:
+                if not line_said:
+                    raise AssertionError(f"the desk has ended: {said}")
+                said.append(line_said)
             if int(reply[1]) in told:
                 raise AssertionError(f"envelope {reply[1]} was told twice")
             told[int(reply[1])] = line

@@ -84,7 +84,7 @@ class Texts(unittest.TestCase):
     def test_each_language_says_all_in_its_own_words(self) -> None:
         english = {line for text in texts(vote()) for line in text.splitlines() if len(line.split()) > 4}
         for code in LANGUAGES:
-            for now in (vote(code), vote(code, is_secret=True), vote(code, is_over=True), vote(code, is_signed=True)):
+            for now in (vote(code), vote(code, has_aliases=True), vote(code, is_over=True), vote(code, is_signed=True)):
                 for text in texts(now):
                     self.assertNotRegex(text, r"[{}]")
                     self.assertNotIn("\n\n\n", text)
@@ -94,7 +94,7 @@ class Texts(unittest.TestCase):
 
     def test_a_secret_vote_repeats_no_ranks(self) -> None:
         self.assertIn("(ada 1,2,3)", vote().receipt(ADA, all_that_came()))
-        self.assertNotRegex(vote(is_secret=True).receipt(ADA, all_that_came()), r"\d,\d|In words|Lake, then")
+        self.assertNotRegex(vote(has_aliases=True).receipt(ADA, all_that_came()), r"\d,\d|In words|Lake, then")
 
     def test_the_mark_ends_each_subject(self) -> None:
         for code in LANGUAGES:
@@ -118,7 +118,7 @@ class Texts(unittest.TestCase):
             "vote/#ada",
         ):
             self.assertIn(part, text)
-        text = result(vote(is_secret=True), "Winner: {option}", casting="", doubts=(), because=None, acts=())
+        text = result(vote(has_aliases=True), "Winner: {option}", casting="", doubts=(), because=None, acts=())
         text = " ".join(text.split())
         self.assertNotRegex(text, r"casting|doubt|WHAT WAS DONE|#|secretary")
         self.assertIn("find it with your name, ada, and your code", text)

@@ -1,4 +1,4 @@
-"""The book: one SQLite database that has everything an election knows. This package alone knows SQL.
+"""The book: one SQLite database that has everything an election knows. This package alone knows SQL, but for conditions on envelopes.
 
 An act adds rows, in one transaction, and is told only after its commit. Triggers refuse whatever would change or remove a row.
 """
@@ -17,6 +17,7 @@ import urllib.parse
 from collections.abc import Iterable, Iterator, Sequence
 from typing import Any
 
+from debvote_tools import times
 from debvote_tools.book import chain
 from debvote_tools.book.machine_note import MachineNote, Note
 from debvote_tools.faults import Fault, Status
@@ -111,7 +112,8 @@ class Book:
 
     def first_act(self) -> DoneAct:
         """The act `new`."""
-        return self.acts()[0]
+        [row] = self.rows("SELECT act, time, name, detail, digest FROM act WHERE act = 1")
+        return done(row)
 
     def last_act(self) -> DoneAct:
         """The last act. There always is one: that of `new`."""
@@ -165,7 +167,7 @@ class Book:
                     raise Overtaken
                 if name != MOVED:
                     self.demand_noted(note)
-                act = Act(self.connection, before.number + 1, utc_now(), name, detail or {})
+                act = Act(self.connection, before.number + 1, times.now(), name, detail or {})
                 yield act
                 with uninterrupted():
                     digest = self.finish(act, before)
@@ -257,8 +259,12 @@ class Book:
         """Stops if another book in the folder is no beginning of this one, as the copy that a sync tool leaves."""
         own = self.path.stat()
         for file in sorted(self.path.parent.iterdir()):
-            found = file.stat() if file.is_file() else None
-            if found is None or (found.st_dev, found.st_ino) == (own.st_dev, own.st_ino) or not has_our_id(file):
+            try:
+                found = file.stat()
+            except OSError:
+                # as the journal of another command, which is gone by now
+                continue
+            if os.path.samestat(found, own) or not file.is_file() or not has_our_id(file):
                 continue
             number, digest = last_digest_of(file)
             if number is None or self.digest_at(number) != digest:
@@ -307,7 +313,7 @@ def create(path: pathlib.Path, detail: dict[str, Any], final_path: pathlib.Path)
             for verb in ("UPDATE", "DELETE"):
                 connection.execute(REFUSE.format(table=table, verb=verb))
         book = Book(path, connection)
-        digest = book.finish(Act(connection, 1, utc_now(), "new", detail), None)
+        digest = book.finish(Act(connection, 1, times.now(), "new", detail), None)
         book.demand_locks()
     # before the folder is moved: a kill between both leaves a note of nothing
     MachineNote(final_path, digest).write(Note(1, digest))
@@ -360,7 +366,6 @@ def told_as_faults(path: pathlib.Path) -> Iterator[None]:
 
 
 def fault_of(path: pathlib.Path, error: sqlite3.Error) -> Fault:
-    """The fault for what SQLite says."""
     kind = getattr(error, "sqlite_errorname", "").removeprefix("SQLITE_")
     if kind.startswith("BUSY"):
         words = "other commands have worked on it for two minutes"
@@ -407,11 +412,6 @@ def last_digest_of(file: pathlib.Path) -> tuple[int | None, str | None]:
 def done(row: tuple[Any, ...]) -> DoneAct:
     number, time, name, detail, digest = row
     return DoneAct(number, from_text(time), name, json.loads(detail), digest)
-
-
-def utc_now() -> datetime.datetime:
-    """The time by the clock of this computer, in whole seconds."""
-    return datetime.datetime.now(datetime.UTC).replace(microsecond=0)
 
 
 def as_text(time: datetime.datetime) -> str:

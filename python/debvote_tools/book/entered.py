@@ -5,6 +5,7 @@ from collections.abc import Collection
 from typing import NamedTuple
 
 from debvote_tools.book.book import Book
+from debvote_tools.book.queries import ENVELOPES, IN_TIME, lines
 
 # the acts that no `undo` took back
 NOT_UNDONE = "act NOT IN (SELECT json_extract(detail, '$.act') FROM act WHERE name = 'undo')"
@@ -37,8 +38,7 @@ def lines_after(book: Book, act: int, electors: Collection[int] | None = None) -
     if electors is not None and len(electors) <= MOST_ELECTORS:
         condition += f" AND elector IN ({', '.join('?' * len(electors))})"
         values += electors
-    words = f"SELECT envelope, line FROM envelope LEFT JOIN struck USING (envelope) WHERE {condition} ORDER BY envelope"
-    return book.rows(words, *values)
+    return lines(book, condition, *values)
 
 
 def lines_of_electors(book: Book, electors: Collection[int]) -> list[tuple[int, bytes]]:
@@ -68,7 +68,7 @@ def lines_that_came(book: Book) -> collections.Counter[bytes]:
 def came_in_files(book: Book) -> dict[bytes, list[EnvelopeOfFile]]:
     """The envelopes that came in files of lines and tables and that no `undo` took back, by their line; those that are struck or late come last."""
     words = f"""
-    SELECT line, envelope, elector, struck.act IS NOT NULL, late FROM envelope LEFT JOIN struck USING (envelope)
+    SELECT line, envelope, elector, struck.act IS NOT NULL, late FROM {ENVELOPES}
     WHERE {CAME_IN_FILES} ORDER BY late OR struck.act IS NOT NULL, envelope
     """
     by_line: dict[bytes, list[EnvelopeOfFile]] = {}
@@ -79,15 +79,11 @@ def came_in_files(book: Book) -> dict[bytes, list[EnvelopeOfFile]]:
 
 def last_numbers(book: Book) -> dict[int, tuple[int, bytes]]:
     """Number and line of the last envelope of each elector that is in time and not struck."""
-    words = """
-    SELECT elector, max(envelope), line FROM envelope LEFT JOIN struck USING (envelope)
-    WHERE late = 0 AND struck.act IS NULL AND elector IS NOT NULL GROUP BY elector
-    """
+    words = f"SELECT elector, max(envelope), line FROM {ENVELOPES} WHERE {IN_TIME} AND elector IS NOT NULL GROUP BY elector"
     return {elector: (number, line) for elector, number, line in book.rows(words)}
 
 
 def size_in_time(book: Book) -> tuple[int, int]:
     """How many lines and bytes the ballots have that are counted."""
-    words = "SELECT count(*), coalesce(sum(length(line) + 1), 0) FROM envelope LEFT JOIN struck USING (envelope)"
-    [(lines, size)] = book.rows(f"{words} WHERE late = 0 AND struck.act IS NULL")
-    return int(lines), int(size)
+    [(count, size)] = book.rows(f"SELECT count(*), coalesce(sum(length(line) + 1), 0) FROM {ENVELOPES} WHERE {IN_TIME}")
+    return int(count), int(size)

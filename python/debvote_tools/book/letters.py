@@ -2,6 +2,7 @@
 
 import dataclasses
 
+from debvote_tools.book import queries
 from debvote_tools.book.book import Act, Book
 
 WAITS, ENTERED, SET_ASIDE, PUT_BACK, TAKEN_BACK, STRUCK = "waits", "entered", "set aside", "put back", "taken back", "struck"
@@ -34,7 +35,6 @@ def letters(book: Book) -> list[KeptLetter]:
 
 
 def have_come(book: Book) -> bool:
-    """Whether a letter has come."""
     return bool(book.rows("SELECT EXISTS (SELECT 1 FROM letter)")[0][0])
 
 
@@ -57,7 +57,7 @@ def undecided(kept: list[KeptLetter]) -> list[KeptLetter]:
 
 def keep_letter(act: Act, where: str, data: bytes, identity: str, known: str) -> int:
     """Keeps a letter, byte for byte, and returns its number."""
-    return act.insert("letter", source=act.insert("source", name=where, data=data), identity=identity, known=known)
+    return act.insert("letter", source=queries.keep(act, where, data), identity=identity, known=known)
 
 
 def decide(act: Act, letter: int, state: str) -> None:

@@ -101,27 +101,31 @@ class Envelope:
     struck: int | None
 
 
-ENVELOPES = """
-SELECT envelope, envelope.act, elector, line, source, letter, place, time, late, struck.act
-FROM envelope LEFT JOIN struck USING (envelope)
-"""
+# the envelopes, each with the act that struck it, and conditions on them
+ENVELOPES = "envelope LEFT JOIN struck USING (envelope)"
+NOT_STRUCK = "struck.act IS NULL"
+IN_TIME, LATE = f"late = 0 AND {NOT_STRUCK}", f"late = 1 AND {NOT_STRUCK}"
+
+COLUMNS = "envelope, envelope.act, elector, line, source, letter, place, time, late, struck.act"
 
 
 def envelopes(book: Book, condition: str = "1", *values: object) -> list[Envelope]:
     """The envelopes that meet a condition, in their order."""
-    rows = book.rows(f"{ENVELOPES} WHERE {condition} ORDER BY envelope", *values)
+    rows = book.rows(f"SELECT {COLUMNS} FROM {ENVELOPES} WHERE {condition} ORDER BY envelope", *values)
     return [
         Envelope(number, act, elector, line, source, letter, place, from_text(time), bool(late), struck)
         for number, act, elector, line, source, letter, place, time, late, struck in rows
     ]
 
 
-IN_TIME = "late = 0 AND struck.act IS NULL"
+def lines(book: Book, condition: str, *values: object) -> list[tuple[int, bytes]]:
+    """Number and line of each envelope that meets a condition, in their order."""
+    return book.rows(f"SELECT envelope, line FROM {ENVELOPES} WHERE {condition} ORDER BY envelope", *values)
 
 
 def lines_in_time(book: Book) -> list[tuple[int, bytes]]:
     """Number and line of each envelope that came in time and is not struck: the ballots that are counted, in their order."""
-    return book.rows(f"SELECT envelope, line FROM envelope LEFT JOIN struck USING (envelope) WHERE {IN_TIME} ORDER BY envelope")
+    return lines(book, IN_TIME)
 
 
 def ballots_of(lines: Iterable[tuple[int, bytes]]) -> bytes:
@@ -131,8 +135,7 @@ def ballots_of(lines: Iterable[tuple[int, bytes]]) -> bytes:
 
 def late_lines(book: Book) -> list[tuple[int, bytes]]:
     """Number and line of each envelope that was entered while the vote was closed, and is not struck."""
-    words = "SELECT envelope, line FROM envelope LEFT JOIN struck USING (envelope) WHERE late = 1 AND struck.act IS NULL ORDER BY envelope"
-    return book.rows(words)
+    return lines(book, LATE)
 
 
 def has_come(book: Book, since: int) -> bool:

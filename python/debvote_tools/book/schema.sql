@@ -32,7 +32,7 @@ CREATE TABLE elector_state (
 
 CREATE TABLE sealed (
   act INTEGER NOT NULL REFERENCES act DEFERRABLE INITIALLY DEFERRED,
-  name TEXT NOT NULL,                   -- poll, poll with names, keyring, or a file of the folder call
+  name TEXT NOT NULL,                   -- poll, poll with names, keyring, or a file of the folders call and letters
   data BLOB NOT NULL,
   PRIMARY KEY (name, act)
 ) STRICT;
@@ -80,7 +80,7 @@ CREATE TABLE sent (
   sent INTEGER PRIMARY KEY,
   act INTEGER NOT NULL REFERENCES act DEFERRABLE INITIALLY DEFERRED,
   elector INTEGER REFERENCES elector,
-  kind TEXT NOT NULL,                   -- call, receipt, reminder, closed, result
+  kind TEXT NOT NULL,                   -- call, receipts, reminders, closed, result
   state TEXT NOT NULL,                  -- written, begun, taken, refused, postponed
   detail TEXT NOT NULL                  -- JSON: Message-ID, address, what it was about
 ) STRICT;

@@ -20,6 +20,7 @@ MAIL_LIMIT = 254
 WEB = re.compile(r"[!$-;=?-_a-z~]+")
 WEB_LIMIT = 500
 
+# an option in a sentence: its number and its name do not run into each other
 OPTION = marked("Option {number}: {name}")
 SUBJECT = marked("Ballot: {title}")
 
@@ -42,14 +43,15 @@ class CallData:
     real_names: Mapping[str, str] | None = None
     has_form: bool = False
     is_signed: bool = False
-    is_secret: bool = False
+    # in a secret vote with names on the roll: ballots are published under aliases
+    has_aliases: bool = False
     # the roll has codes in place of names, so the poll is published with the result alone
-    is_codes_on_roll: bool = False
+    has_codes_on_roll: bool = False
 
     @property
     def is_open(self) -> bool:
         """Whether ballots are published under names."""
-        return not (self.is_secret or self.is_codes_on_roll)
+        return not (self.has_aliases or self.has_codes_on_roll)
 
     @property
     def is_extended(self) -> bool:

@@ -7,7 +7,6 @@ from debvote_tools.rendering import render_letter
 
 
 def call_letter(call: CallData) -> str:
-    """The letter of the call."""
     return render_letter("debvote_tools.call", "call.txt", call.language, call=call)
 
 
@@ -19,7 +18,7 @@ def extension_letter(call: CallData) -> str:
 def call_files(call: CallData) -> dict[str, bytes]:
     """The files of a call by name, the checksums last. The poll is the sealed one, byte for byte; if it has codes, it stays out."""
     files = {"index.html": call_page(call), "call.txt": call_letter(call).encode()}
-    if not call.is_codes_on_roll:
+    if not call.has_codes_on_roll:
         files["poll.toml"] = call.poll.as_bytes()
     checksums = "".join(f"{sha256_of(files[name])}  {name}\n" for name in sorted(files))
     return files | {"SHA256SUMS": checksums.encode()}

@@ -43,10 +43,9 @@ TYPE_CODE = marked("Type your code as it is on your slip.")
 
 
 def call_page(call: CallData) -> bytes:
-    """The page of a call."""
     package, sentences = "debvote_tools.call", SENTENCES
     if not call.is_open:
-        sentences = SENTENCES | {"type_name": TYPE_CODE if call.is_codes_on_roll else TYPE_NAME_IN_SECRET}
+        sentences = SENTENCES | {"type_name": TYPE_CODE if call.has_codes_on_roll else TYPE_NAME_IN_SECRET}
     style = pages.FIELDS_STYLE + pages.GIVEN_STYLE + pages.resource(package, "ballot.css")
     script, script_words = pages.resource(package, "ballot.js"), call.language.words(sentences)
     return render_page(package, "page.html", call.language, style=style, script=script, call=call, script_words=script_words)

@@ -13,19 +13,18 @@ import re
 from collections.abc import Iterator, Sequence
 from typing import Any
 
-from debvote_tools import times
 from debvote_tools.arguments import flag, option, positional
 from debvote_tools.book import queries
 from debvote_tools.book.book import Act, Book, Overtaken
 from debvote_tools.book.queries import NewEnvelope
 from debvote_tools.console import tell
 from debvote_tools.election import acting, in_time
-from debvote_tools.election.batch import KEYRING, BatchLine, Vote
+from debvote_tools.election.batch import BatchLine, Vote
 from debvote_tools.election.batch_words import LineWords, summary
 from debvote_tools.election.came import NOTHING_ADDED, CameFile
 from debvote_tools.election.came_before import NewAndRepeated, sorted_out
 from debvote_tools.election.csv_ballots import Columns, lines_of_table
-from debvote_tools.election.election import Election
+from debvote_tools.election.election import KEYRING, Election
 from debvote_tools.election.entering import LATE, entered, is_too_long, long_words
 from debvote_tools.election.history import History
 from debvote_tools.election.in_time import Openness, openness_of
@@ -94,7 +93,7 @@ class Plan:
         return [line for _, found in self.files for line in found.new]
 
     def envelopes(self, act: Act) -> Iterator[NewEnvelope]:
-        """What goes in. Each file is kept whole."""
+        """What goes in, while the act is written: each file is kept whole before its lines."""
         for file, found in self.files:
             source = queries.keep(act, file.came.kept_name, file.came.data)
             for line in found.new:
@@ -111,16 +110,16 @@ def read_lines(vote: Vote, files: Sequence[CameFile], columns: Columns | None, a
     """The lines of the files, with what debvote says of them."""
     # the many lines have no cycles, and to look for some again and again takes a while
     gc.disable()
-    came = [lines_in(file.data, file.name) if columns is None else lines_of_table(file.data, file.name, columns) for file in files]
+    lists = [lines_in(file.data, file.name) if columns is None else lines_of_table(file.data, file.name, columns) for file in files]
     what = "it has empty lines alone" if columns is None else "it has no row of a ballot"
-    empty = [file for file, lines in zip(files, came) if all(line.is_empty for line in lines)]
+    empty = [file for file, lines in zip(files, lists) if all(line.is_empty for line in lines)]
     stop_at([doubt(file.name, what, "write a ballot a line into it") for file in empty])
     if arguments.newest_first:
-        came = [lines[::-1] for lines in came]
-    filled = [[line for line in lines if not line.is_empty] for lines in came]
+        lists = [lines[::-1] for lines in lists]
+    filled = [[line for line in lines if not line.is_empty] for lines in lists]
     read = vote.read([line for lines in filled for line in lines])
     found = []
-    for file, lines, own in zip(files, came, filled):
+    for file, lines, own in zip(files, lists, filled):
         found.append(FileLines(file, tuple(read[: len(own)]), tuple(line for line in lines if line.is_empty)))
         read = read[len(own) :]
     return found
@@ -241,7 +240,7 @@ def tell_others(vote: Vote, file: FileLines) -> None:
 
 def few_ballots(file: FileLines, arguments: Arguments) -> Fault:
     """The fault of a file of which few lines are ballots, with the first of the others."""
-    refused = [line for line in file.lines if line.finding]
+    refused = [line for line in file.lines if not line.is_ballot]
     count = len(file.lines) - len(refused)
     words = f"debvote takes {f'{count} alone' if count else 'none'} of the {len(file.lines)} lines as a ballot"
     return doubt(file.came.name, words, f"{cure_of(file, refused[0], arguments)}, or {FORCE}")
@@ -283,7 +282,7 @@ def add(election: Election, book: Book, vote: Vote, files: Sequence[FileLines], 
         if not plan.new_lines:
             tell(*report(election, vote, plan, (), ()), "Nothing is new. Nothing was added.")
             return plan
-        came_before = in_time.came_before_close(plan.openness, arguments.came_before_close, NOTHING_ADDED)
+        came_before_close = in_time.came_before_close(plan.openness, arguments.came_before_close, NOTHING_ADDED)
 
         def is_same() -> bool:
             return plan_of(book, vote, files, arguments) == plan
@@ -293,10 +292,10 @@ def add(election: Election, book: Book, vote: Vote, files: Sequence[FileLines], 
                 book,
                 vote,
                 "add",
-                detail_of(plan, arguments, came_before),
+                detail_of(plan, arguments, came_before_close),
                 plan.envelopes,
                 decided_at=plan.decided_at,
-                is_late=plan.openness.is_late(came_before),
+                is_late=plan.openness.is_late(came_before_close),
                 is_same=is_same,
             ) as done:
                 replies = done.replies()
@@ -304,7 +303,7 @@ def add(election: Election, book: Book, vote: Vote, files: Sequence[FileLines], 
             return plan
 
 
-def detail_of(plan: Plan, arguments: Arguments, came_before: bool | None) -> dict[str, Any]:
+def detail_of(plan: Plan, arguments: Arguments, came_before_close: bool | None) -> dict[str, Any]:
     """What the log keeps of it."""
     detail: dict[str, Any] = {
         "files": [file.came.kept_name for file, _ in plan.files],
@@ -313,8 +312,8 @@ def detail_of(plan: Plan, arguments: Arguments, came_before: bool | None) -> dic
     }
     if again := [number for _, found in plan.files for number in found.again]:
         detail["again"] = again
-    if came_before is not None:
-        detail["came_before_close"] = came_before
+    if came_before_close is not None:
+        detail["came_before_close"] = came_before_close
     if plan.is_signed:
         detail |= {"unsigned": True, "because": acting.demand_reason(arguments.because, "--force")}
     return detail
@@ -346,7 +345,7 @@ def report(
     """What is printed about the lines, those that were entered and those that were not."""
     if numbers:
         what = "what is added" if is_entered else "what would be added"
-        yield from in_time.notes(election, plan.openness, what, times.now())
+        yield from in_time.notes(election, plan.openness, what)
     for file, found in plan.files:
         yield from (f"{line.where}: it is empty, and was left out" for line in file.empty)
         yield from repeated_words(file, found)
@@ -372,11 +371,11 @@ def repeated_words(file: FileLines, found: NewAndRepeated) -> Iterator[str]:
 
 def duplicate_words(file: FileLines, lines: Sequence[BatchLine]) -> Iterator[str]:
     """The electors of whom a file has several new ballots, in words."""
-    by_voter: dict[bytes, list[str]] = {}
+    by_voter: dict[str, list[str]] = {}
     for line in lines:
-        if line.finding is None:
-            by_voter.setdefault(line.as_entered.partition(b" ")[0], []).append(line.line.place)
+        if line.is_ballot:
+            by_voter.setdefault(line.voter, []).append(line.line.place)
     for voter, places in by_voter.items():
         if len(places) > 1:
             listed = ", ".join(place.lstrip(": ") for place in places[:5]) + (", .." if places[5:] else "")
-            yield f"Note: {file.came.name} has {len(places)} ballots of {voter.decode('ascii')} ({listed}); the last one counts."
+            yield f"Note: {file.came.name} has {len(places)} ballots of {voter} ({listed}); the last one counts."

@@ -14,9 +14,6 @@ from debvote_tools.faults import other_format
 from debvote_tools.files import LINES_LIMIT
 from debvote_tools.lines import Line, ballot_file
 
-# under this name the book has the keys that letters are signed with
-KEYRING = "keyring"
-
 # what debvote adds to a finding if names on the roll are near
 OFFER = re.compile(r"; did you mean (.+)\?\Z")
 
@@ -39,12 +36,10 @@ class BatchLine(NamedTuple):
 
     @property
     def voter(self) -> str:
-        """The elector of a ballot."""
         return self.as_entered.partition(b" ")[0].decode("ascii")
 
     @property
     def ranks(self) -> str:
-        """The ranks of a ballot."""
         return self.as_entered.partition(b" ")[2].decode("ascii")
 
 

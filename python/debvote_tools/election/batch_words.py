@@ -1,7 +1,6 @@
 """What is printed about lines: the reply to each, what was changed of it, and why debvote refuses it."""
 
 import collections
-import re
 from collections.abc import Iterable, Iterator, Sequence
 
 from debvote_tools.ballots import ranks_in_words
@@ -10,10 +9,9 @@ from debvote_tools.election.entering import LATE
 from debvote_tools.election.reporting import count_of
 from debvote_tools.language import ENGLISH
 from debvote_tools.lines import Line, differences
+from debvote_tools.secret.codes import CODE_WITHIN
 from debvote_tools.terminal_text import shown_line
 
-# what a code and an alias look like
-CODE = re.compile(rb"(?<![0-9a-f])[0-9a-f]{32}(?![0-9a-f])")
 IS_CODE = " (it has 32 digits, as codes and aliases have: a ballot has the elector's name alone, and a code is shown to nobody)"
 
 
@@ -56,7 +54,6 @@ class LineWords:
         return f"{voter}: {self.ranks(ranks)}"
 
     def ranks(self, ranks: str) -> str:
-        """The ranks of a ballot in words."""
         if ranks not in self.in_words:
             self.in_words[ranks] = ranks_in_words(ranks, self.vote.option_names)
         return self.in_words[ranks]
@@ -64,7 +61,7 @@ class LineWords:
     def more(self, line: BatchLine) -> str:
         """All other names that fit if debvote offers one, so that nobody takes one elector for another; and that a line has a code."""
         others = f" (or {ENGLISH.joined(list(line.other_names))})" if line.other_names else ""
-        return others if self.vote.has_codes or not CODE.search(line.line.repaired) else others + IS_CODE
+        return others if self.vote.has_codes or not CODE_WITHIN.search(line.line.repaired) else others + IS_CODE
 
     def right_words(self) -> str:
         """What a right line looks like."""

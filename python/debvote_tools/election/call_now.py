@@ -30,8 +30,8 @@ def call_data(election: Election, sealed: Sealed, detail: dict[str, Any], until:
         real_names={elector.name: elector.who for elector in electors} if detail["names"] else None,
         has_form=detail["form"],
         is_signed=detail["signed"],
-        is_secret=sealed.is_aliased,
-        is_codes_on_roll=detail["codes_on_roll"],
+        has_aliases=sealed.is_aliased,
+        has_codes_on_roll=detail["codes_on_roll"],
     )
 
 

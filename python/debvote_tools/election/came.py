@@ -54,14 +54,14 @@ def safe(text: str) -> str:
 OF_OUTLOOK = (NotRead.OUTLOOK_LETTER, NotRead.OUTLOOK_MAILBOX)
 
 
-def is_letters(path: str, file: CameFile | None) -> bool:
+def is_letters(file: CameFile | None) -> bool:
     """Whether what came is a mailbox, a letter, or a folder of letters."""
     return file is None or are_letters(file.data) or kind_not_read(file.data) in OF_OUTLOOK
 
 
-def demand_one_kind(files: Mapping[str, CameFile | None]) -> bool:
+def are_all_letters(files: Mapping[str, CameFile | None]) -> bool:
     """Whether all that came are letters. Stops if some are letters and some are not."""
-    kinds = {path: is_letters(path, file) for path, file in files.items()}
+    kinds = {path: is_letters(file) for path, file in files.items()}
     if len(set(kinds.values())) > 1:
         letters = ", ".join(named(path) for path, has_letters in kinds.items() if has_letters)
         cure = "add the letters and the files of lines by commands of their own"
@@ -80,7 +80,7 @@ def read(election: Election, paths: Sequence[str], *, is_table: bool) -> dict[st
         try:
             is_folder = path != HYPHEN and os.path.isdir(path)
             files[path] = file = None if is_folder else read_file(election, path)
-            if file is not None and not is_letters(path, file):
+            if file is not None and not is_letters(file):
                 demand_lines(file, is_table=is_table)
         except Fault as fault:
             faults.append(fault)

@@ -41,15 +41,15 @@ def sorted_out(book: Book, files: Sequence[Sequence[BatchLine]], *, takes_again:
     found = []
     for lines in kth:
         new, repeated, again, came_first = [], [], [], []
-        for number, line in lines:
-            is_new = number > counts[line.as_entered]
-            change = None if is_new else earlier.change_since(number, line)
+        for nth, line in lines:
+            is_new = nth > counts[line.as_entered]
+            change = None if is_new else earlier.change_since(nth, line)
             if is_new:
                 new.append(line)
                 came_first.append(line.as_entered)
             elif takes_again and change is not None:
                 new.append(line)
-                again.append(earlier.by_line[line.as_entered][number - 1].number)
+                again.append(earlier.by_line[line.as_entered][nth - 1].number)
             else:
                 repeated.append(Repeated(line, change))
         counts.update(came_first)
@@ -62,8 +62,8 @@ def with_occurrence(lines: Iterable[BatchLine]) -> Iterable[tuple[int, BatchLine
     """Each line with its number among those that are equal to it."""
     counts: dict[bytes, int] = {}
     for line in lines:
-        counts[line.as_entered] = number = counts.get(line.as_entered, 0) + 1
-        yield number, line
+        counts[line.as_entered] = nth = counts.get(line.as_entered, 0) + 1
+        yield nth, line
 
 
 class Earlier:
@@ -76,17 +76,17 @@ class Earlier:
         self.going_in: set[bytes] = set()
         self.last = entered.last_numbers(book)
         # the envelopes that the lines of the files are: a later row of the same file is nothing that came since
-        matched = (self.envelope(number, line) for number, line in lines)
+        matched = (self.envelope(nth, line) for nth, line in lines)
         self.matched = {envelope.number for envelope in matched if envelope is not None}
 
-    def envelope(self, number: int, line: BatchLine) -> EnvelopeOfFile | None:
+    def envelope(self, nth: int, line: BatchLine) -> EnvelopeOfFile | None:
         """The envelope of a line that came before; None if it comes first now."""
         envelopes = self.by_line.get(line.as_entered, [])
-        return envelopes[number - 1] if number <= len(envelopes) else None
+        return envelopes[nth - 1] if nth <= len(envelopes) else None
 
-    def change_since(self, number: int, line: BatchLine) -> str | None:
+    def change_since(self, nth: int, line: BatchLine) -> str | None:
         """Why a line that came no longer counts: it was struck, its elector has sent another ballot, or it was late before a reopen."""
-        envelope = self.envelope(number, line)
+        envelope = self.envelope(nth, line)
         if envelope is None or line.as_entered in self.going_in:
             return None
         if envelope.is_struck:

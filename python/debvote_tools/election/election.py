@@ -17,8 +17,9 @@ from debvote_tools.sealed_poll import SealedPoll, read_plain
 POLL_FILE, MEMBERS_FILE, TEXTS = "poll.toml", "members.csv", "texts"
 CALL, LETTERS, RESULT, PRIVATE = "call", "letters", "result", "private"
 
-# the names under which the book has the sealed polls: that of the call, and in a secret vote the one that has names
-POLL, POLL_WITH_NAMES = "poll", "poll with names"
+# the names under which the book has the sealed polls, that of the call, and in a secret vote the one that has names; and the keys of
+# those whose letters have to be signed
+POLL, POLL_WITH_NAMES, KEYRING = "poll", "poll with names", "keyring"
 
 # what an election of version 1 has in its folder
 OF_VERSION_1 = ("journal", "ballots", "received")

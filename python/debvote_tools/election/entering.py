@@ -56,14 +56,14 @@ def entered(
     vote: Vote,
     name: str,
     detail: dict[str, Any],
-    lines: Callable[[Act], Iterable[NewEnvelope]],
+    envelopes: Callable[[Act], Iterable[NewEnvelope]],
     *,
     decided_at: int,
     is_late: bool,
     is_same: Callable[[], bool] | None = None,
     done: str = "the lines were entered",
 ) -> Iterator[Entered]:
-    """The act of this name: `lines` gives what goes in. Interrupts wait until what was entered is told, which is done within.
+    """The act of this name: `envelopes` gives what goes in, and may write rows of its own. Interrupts wait until what was entered is told, which is done within.
 
     `decided_at` was the last act when this was decided. If others came since, `is_same` says whether it would be decided so again.
     """
@@ -71,7 +71,7 @@ def entered(
         with book.act(name, detail) as act:
             if act.number != decided_at + 1 and not (is_same and is_same()):
                 raise Overtaken
-            new = list(lines(act))
+            new = list(envelopes(act))
             if not is_late:
                 demand_room(book, new)
             # whoever enters a ballot sees the reply to it

@@ -28,7 +28,7 @@ class History:
         return [act for act in self.acts if act.name in names]
 
     def since_call(self, *names: str) -> list[DoneAct]:
-        """The acts of these names since the call that holds; none before it."""
+        """The acts of these names from the call that holds on, itself among them; none before it."""
         call = self.call
         return [] if call is None else [act for act in self.named(*names) if act.number >= call.number]
 

@@ -41,9 +41,9 @@ class Openness:
         """Whether somebody has to say of what is entered by hand, or as lines, whether it came before the first close."""
         return self.first_close is not None and not self.is_closed
 
-    def is_late(self, came_before: bool | None) -> bool:
+    def is_late(self, came_before_close: bool | None) -> bool:
         """Whether lines that are entered now are late, by the answer of whoever enters them."""
-        return self.is_closed or (self.is_reopened and not came_before)
+        return self.is_closed or (self.is_reopened and not came_before_close)
 
 
 def openness_of(history: History) -> Openness:
@@ -53,12 +53,12 @@ def openness_of(history: History) -> Openness:
     return Openness(call.number if call else 0, history.until, history.is_closed, first, last)
 
 
-def notes(election: Election, openness: Openness, what: str, now: datetime.datetime) -> list[str]:
+def notes(election: Election, openness: Openness, what: str) -> list[str]:
     """What is said before lines are entered after the end; `what` says what is done with them."""
     if openness.is_closed:
         assert openness.last_close is not None
         return [f"Note: the vote was closed at {act_time(openness.last_close)}; {what} now is late."]
-    if openness.until is not None and now >= openness.until:
+    if openness.until is not None and times.now() >= openness.until:
         over = f"one could vote until {times.time_in_words(openness.until)}, and that is over"
         counts = f"{what} counts as long as the vote is not closed, and the page of the result tells how many lines"
         return [f"Note: {over}; {counts}: {election.command('close')}"]

@@ -40,7 +40,7 @@ def going_in(letter: LetterNow, words: LineWords, *, is_late: bool) -> Iterator[
     yield from code_words(letter)
 
 
-def entered(words: LineWords, done: Entered, ballots: Sequence[str]) -> Iterator[str]:
+def reply_words(words: LineWords, done: Entered, ballots: Sequence[str]) -> Iterator[str]:
     """The reply to each ballot that went in."""
     for number, reply, ballot in zip(done.numbers, done.replies(), ballots):
         yield f"{number} {reply}  {words.ballot(ballot)}"

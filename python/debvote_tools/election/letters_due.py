@@ -22,7 +22,7 @@ from debvote_tools.publish.casting_vote import told_if_it_decides
 from debvote_tools.publish.done import told_acts
 from debvote_tools.publish.doubts import Doubt, sentences_of
 from debvote_tools.publish.inputs import Publication
-from debvote_tools.publish.result_letter import how_ended
+from debvote_tools.publish.result_letter import outcome_in_words
 from debvote_tools.rendering import InText
 from debvote_tools.secret.words import BY_PYTHON
 from debvote_tools.sheet import sheet_in
@@ -217,7 +217,7 @@ def result_of(election: Election, history: History, act: DoneAct) -> tuple[dict[
     publication = Publication(sealed.public, b"", language=language, casting=words.vote, chronicle=chronicle)
     doubts = [Doubt.from_data(doubt) for doubt in act.detail["doubts"]]
     values = {
-        "ended": how_ended(publication, sheet),
+        "ended": outcome_in_words(publication, sheet),
         "casting": told_if_it_decides(publication, sheet),
         "checksums": act.detail["checksums"],
         "doubts": sentences_of(doubts, language, is_secret=sealed.is_aliased),

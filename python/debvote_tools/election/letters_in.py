@@ -15,10 +15,9 @@ from debvote_tools.book import letters, queries
 from debvote_tools.book.book import Act, Book
 from debvote_tools.book.letters import KeptLetter
 from debvote_tools.book.queries import NewEnvelope
-from debvote_tools.election.batch import KEYRING, Vote, vote_of
-from debvote_tools.election.batch_words import CODE
+from debvote_tools.election.batch import Vote, vote_of
 from debvote_tools.election.came import NOTHING_ADDED, CameFile, safe
-from debvote_tools.election.election import Election
+from debvote_tools.election.election import KEYRING, Election
 from debvote_tools.election.entering import Entered, entered
 from debvote_tools.election.history import History
 from debvote_tools.faults import Fault, Status
@@ -28,7 +27,7 @@ from debvote_tools.letters.reasons import Reason
 from debvote_tools.letters.parse import ParsedLetter, as_json, from_json, parse
 from debvote_tools.letters.signatures import find_gpgv, verified
 from debvote_tools.letters.sources import PassedOver, RawLetter, letters_of_file, letters_of_folder
-from debvote_tools.secret.codes import looks_like_code
+from debvote_tools.secret.codes import CODE_WITHIN, looks_like_code
 
 
 @dataclasses.dataclass(frozen=True)
@@ -37,6 +36,8 @@ class LetterNow:
 
     number: int
     judged: JudgedLetter
+    # whether it arrived before the end and before the close, as far as that is known, whatever it waits for
+    came_in_time: bool
     # the lines, from 1, with what looks like a code or an alias, in a secret vote with names on the roll
     code_lines: tuple[int, ...] = ()
 
@@ -44,12 +45,6 @@ class LetterNow:
     def waits(self) -> bool:
         """Whether it waits for the secretary: to be agreed to, or to be looked at."""
         return self.judged.outcome in (Outcome.GOES_IN, Outcome.WAITS)
-
-    @property
-    def came_in_time(self) -> bool:
-        """Whether it arrived before the end and before the close, as far as that is known."""
-        reason = self.judged.reason
-        return reason is None or reason.reason not in (Reason.AFTER_THE_END, Reason.AFTER_THE_CLOSE)
 
 
 # ---------------------------------------------------------------- what came
@@ -133,15 +128,27 @@ def judged(
     circumstances = circumstances_of(election, history, list(zip(found, kept)))
     no_codes_expected = election.sealed().counted.secret and not vote.has_codes
     return [
-        LetterNow(numbers.get(one.letter.key, 0), one, code_lines(one.letter) if no_codes_expected else ())
+        LetterNow(
+            numbers.get(one.letter.key, 0),
+            one,
+            came_in_time(one.letter, circumstances),
+            code_lines(one.letter) if no_codes_expected else (),
+        )
         for one in judge_all([*found, *looked_at], circumstances, vote)
     ]
+
+
+def came_in_time(letter: ParsedLetter, circumstances: Circumstances) -> bool:
+    ends = filter(None, (circumstances.end, circumstances.first_close))
+    return letter.arrived is None or all(letter.arrived <= end for end in ends)
 
 
 def code_lines(letter: ParsedLetter) -> tuple[int, ...]:
     """The lines of a letter, from 1, with what looks like a code or an alias."""
     lines = enumerate(letter.shown_lines, start=1)
-    return tuple(number for number, line in lines if looks_like_code(line) or CODE.search(line.lower().encode("utf-8", "replace")))
+    return tuple(
+        number for number, line in lines if looks_like_code(line) or CODE_WITHIN.search(line.lower().encode("utf-8", "replace"))
+    )
 
 
 def kept_letters(election: Election, kept: Sequence[KeptLetter]) -> list[ParsedLetter]:
@@ -171,7 +178,7 @@ def circumstances_of(election: Election, history: History, found: Sequence[tuple
     assert call is not None
     by_number = {elector.number: elector.name for elector in electors}
     ballots: dict[str, list[Ballot]] = {}
-    for envelope in queries.envelopes(election.book, "elector IS NOT NULL AND struck.act IS NULL"):
+    for envelope in queries.envelopes(election.book, f"elector IS NOT NULL AND {queries.NOT_STRUCK}"):
         if envelope.elector in by_number:
             line = envelope.line.decode("ascii", "replace")
             ballots.setdefault(by_number[envelope.elector], []).append(Ballot(envelope.time, line))

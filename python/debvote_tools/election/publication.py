@@ -143,7 +143,7 @@ def doubts_of(book: Book, history: History, poll: SealedPoll, casting: str | Non
 
 def late_letters_in_time(book: Book, history: History) -> list[Doubt]:
     """A doubt for each letter that arrived before the end and the first close, and whose ballots are late alone."""
-    entered_letters = queries.envelopes(book, "struck.act IS NULL AND letter IS NOT NULL")
+    entered_letters = queries.envelopes(book, f"{queries.NOT_STRUCK} AND letter IS NOT NULL")
     numbers = {envelope.letter for envelope in entered_letters} - {one.letter for one in entered_letters if not one.is_late}
     if not numbers or not history.closes:
         return []
@@ -167,7 +167,7 @@ def chronicle_of(book: Book, history: History, *, is_secret: bool) -> Chronicle:
             acts.append(inputs.ClockWentBack(act.time, before.time))
         acts += told_of(act, book, history, is_secret=is_secret)
     # lines, rows and ballots of desks that came after the end, and count
-    after = "late = 0 AND struck.act IS NULL AND letter IS NULL AND time > ?"
+    after = f"{queries.IN_TIME} AND letter IS NULL AND time > ?"
     after_the_end = 0 if history.until is None else len(queries.envelopes(book, after, as_text(history.until)))
     return Chronicle(tuple(acts), history.until, after_the_end)
 

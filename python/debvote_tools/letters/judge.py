@@ -318,17 +318,22 @@ class Box:
 
 @dataclasses.dataclass
 class Copies:
-    """The letters with one identity that were judged so far: whether one hides the others, and the earliest time of those that do; and the
-    reasons for which some wait, each with the body of the letter.
+    """The letters with one identity that were judged so far: whether one hides the others, and which one arrived first of those that do, or
+    wait for a ballot beside them alone; and the first one that waits for each reason, with this body.
     """
 
     is_hidden: bool = False
-    first_time: datetime.datetime | None = None
-    waiting: set[tuple[Because | None, Body]] = dataclasses.field(default_factory=set)
+    first: Case | None = None
+    waiting: dict[tuple[Because | None, Body], Case] = dataclasses.field(default_factory=dict)
 
-    def hide(self, time: datetime.datetime | None) -> None:
+    def note(self, case: Case) -> None:
+        arrived, before = case.letter.arrived, None if self.first is None else self.first.letter.arrived
+        if before is None or (arrived is not None and arrived < before):
+            self.first = case
+
+    def hide(self, case: Case) -> None:
         self.is_hidden = True
-        self.first_time = min(filter(None, (self.first_time, time)), default=None)
+        self.note(case)
 
 
 class Judge:
@@ -343,8 +348,14 @@ class Judge:
         for case in cases:
             if case.decision is not None:
                 self.note_decided(case, case.decision)
-            elif case.why_by_itself is None and case.ballot is not None and case.time is not None:
-                self.at_once[case.elector, case.time].add(case.ballot.ballot)
+        # of copies the first
+        firsts: dict[str, Case] = {}
+        for case in cases:
+            if case.decision is None and case.why_by_itself is None and not self.copies[case.letter.identity].is_hidden:
+                firsts.setdefault(case.letter.identity, case)
+        for case in firsts.values():
+            assert case.ballot is not None and case.time is not None
+            self.at_once[case.elector, case.time].add(case.ballot.ballot)
 
     def note_decided(self, case: Case, decision: Decision) -> None:
         """Copies of a letter are passed over if it went in or may have gone in. One that waits by a rule hides no other, whatever an act
@@ -352,39 +363,43 @@ class Judge:
         """
         copies = self.copies[case.letter.identity]
         if decision in (Decision.ENTERED, Decision.TAKEN_BACK, Decision.STRUCK) or case.why_by_itself is None:
-            copies.hide(case.time)
-        copies.waiting.add((case.why_by_itself, case.letter.body))
+            copies.hide(case)
+        copies.waiting.setdefault((case.why_by_itself, case.letter.body), case)
 
     def judged(self) -> list[JudgedLetter]:
         for case in self.cases:
             case.outcome, case.reason = DECIDED[case.decision] if case.decision is not None else self.outcome_of(case)
         # one that waits is a copy, too, of one that came later and goes in
         for case in self.cases:
-            if case.outcome is Outcome.WAITS and case.decision is None and self.copies[case.letter.identity].is_hidden:
-                case.outcome, case.reason = self.as_copy(case)
+            copies = self.copies[case.letter.identity]
+            if case.outcome is Outcome.WAITS and case.decision is None and copies.is_hidden:
+                case.outcome, case.reason = self.as_copy(case, copies.first)
         return [self.judged_letter(case) for case in self.cases]
 
     def outcome_of(self, case: Case) -> tuple[Outcome, Because | None]:
         """What becomes of a letter, after those before it."""
         copies = self.copies[case.letter.identity]
-        if copies.is_hidden:
-            return self.as_copy(case)
+        if copies.is_hidden or (case.why_by_itself is None and copies.first is not None):
+            return self.as_copy(case, copies.first)
         why = case.why_by_itself or self.why_not_latest(case)
         if why is None and case.ballot is not None and case.time is not None:
             self.box.add(case.elector, Ballot(case.time, case.ballot.ballot))
-            copies.hide(case.time)
+            copies.hide(case)
             return Outcome.GOES_IN, None
+        if case.why_by_itself is None:
+            copies.note(case)
         if (why, case.letter.body) in copies.waiting:
-            return Outcome.COPY, None
-        copies.waiting.add((why, case.letter.body))
+            return self.as_copy(case, copies.waiting[why, case.letter.body])
+        copies.waiting[why, case.letter.body] = case
         return Outcome.WAITS, why
 
-    def as_copy(self, case: Case) -> tuple[Outcome, Because | None]:
-        """A copy is passed over, unless another ballot of its elector came between."""
-        first, arrived = self.copies[case.letter.identity].first_time, case.letter.arrived
-        if case.ballot is not None and first is not None and arrived is not None:
-            if self.box.has_between(case.elector, first, arrived):
-                return Outcome.WAITS, Reason.CAME_BEFORE(elector=case.elector)
+    def as_copy(self, case: Case, first: Case | None) -> tuple[Outcome, Because | None]:
+        """A copy of a letter that arrived before it is passed over, unless another ballot of its elector came between."""
+        arrived, before = case.letter.arrived, None if first is None else first.letter.arrived
+        if first is not None and first.time is not None and before is not None and arrived is not None and arrived > before:
+            for line in (*case.ballot_lines(), *case.readings.offered):
+                if self.box.has_between(line.elector, first.time, arrived):
+                    return Outcome.WAITS, Reason.CAME_BEFORE(elector=line.elector)
         return Outcome.COPY, None
 
     def why_not_latest(self, case: Case) -> Because | None:

@@ -255,6 +255,9 @@ def arrival_of(received: Sequence[str]) -> datetime.datetime | None:
     *others, time = (part.strip() for part in received[0].split(";"))
     try:
         arrived = email.utils.parsedate_to_datetime(time)
+        # times are shown in other zones, too, and in the last hours of the calendar some have none
+        if arrived.year == datetime.MAXYEAR:
+            return None
         # a time needs a zone
         if any(map(email.utils.parsedate, others)) or (arrived.tzinfo is None and not time.endswith("-0000")):
             return None

@@ -184,8 +184,10 @@ class Reader:
 
 
 def folded(name: str, language: str) -> str:
-    """A name as one on a roll is made from it, whole: there a long one is cut, and other words may follow where it is."""
-    letters = re.sub(r"[^a-z0-9.-]+", "-", without_accents(name, language).lower()).strip("-")
+    """A name as one on a roll is made from it, whole: there a long one is cut, and letters of other scripts are left out, so that other
+    words may be where they are.
+    """
+    letters = re.sub(r"(?:[^\w.-]|_)+", "-", without_accents(name, language).lower()).strip("-")
     return letters if re.search(r"[a-z0-9]", letters) else ""
 
 

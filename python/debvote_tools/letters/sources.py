@@ -33,8 +33,8 @@ MAX_MISSING = 2
 
 END_OF_HEAD = re.compile(rb"\r?\n\r?\n")
 CONTENT_LENGTH = re.compile(rb"(?im)^content-length[ \t]*:\s*(\d{1,15})")
-# with all that Python takes for a blank
-BOUNDARY = re.compile(rb"""(?i)\bboundary\*?\d*\*?[\s\x1c-\x1f]*=[\s\x1c-\x1f]*"?([^"\s;]*)""")
+# with all that Python takes for a blank; one in quotation marks may have blanks in it
+BOUNDARY = re.compile(rb"""(?i)\bboundary\*?\d*\*?[\s\x1c-\x1f]*=[\s\x1c-\x1f]*(?:"([^"\n]*)"|"?([^"\s;]*))""")
 MAX_BOUNDARIES = 5
 
 # how files begin that have no letters which this program reads, and what Outlook calls the parts of a letter
@@ -106,7 +106,7 @@ def kind_not_read(data: bytes) -> NotRead | None:
 
 def are_letters(data: bytes) -> bool:
     """Whether a file begins as an mbox or a message does."""
-    start = data[:MAX_HEAD].removeprefix(MARK).lstrip(b"\r\n")
+    start = without_start(data[:MAX_HEAD])
     from_line = FROM_LINE.match(start)
     if from_line is not None:
         start = start[from_line.end() :].lstrip(b"\r\n")
@@ -116,9 +116,15 @@ def are_letters(data: bytes) -> bool:
     return FIELD.match(start) is not None and len({name.lower() for name in KNOWN.findall(head)}) >= MIN_KNOWN
 
 
+def without_start(data: bytes) -> bytes:
+    """A file without what editors put before its first line."""
+    return data.removeprefix(MARK).lstrip(b"\r\n")
+
+
 def letters_of_file(name: str, data: bytes) -> Source:
     """The letters of a file that was read whole; an mbox is parted."""
-    return letters_of_mailbox(name, data) if is_mailbox(data) and are_letters(data) else of_one(name, data, is_parted_off=False)
+    bare = without_start(data)
+    return letters_of_mailbox(name, bare) if is_mailbox(bare) and are_letters(bare) else of_one(name, data)
 
 
 def letters_of_folder(folder: pathlib.Path) -> Source:
@@ -137,7 +143,7 @@ def letters_of_folder(folder: pathlib.Path) -> Source:
 
 
 def letter_of_file(file: pathlib.Path) -> Source:
-    """The letter of a file of a folder. It is never parted; one that looks like a mailbox waits, since several may be in it."""
+    """The letter of a file of a folder, which is never parted."""
     name = str(file)
     if file.is_dir():
         return Source([], [PassedOver(name, NotRead.FOLDER)])
@@ -145,18 +151,18 @@ def letter_of_file(file: pathlib.Path) -> Source:
         return Source([], [PassedOver(name, NotRead.HIDDEN)])
     if not file.is_file():
         return Source([], [PassedOver(name, NotRead.NO_LETTER)])
-    data = file.read_bytes()
-    return of_one(name, data, is_parted_off=is_mailbox(data) and len(from_lines(data)) > 1)
+    return of_one(name, file.read_bytes())
 
 
-def of_one(name: str, data: bytes, *, is_parted_off: bool) -> Source:
-    """A file that may be one letter."""
+def of_one(name: str, data: bytes) -> Source:
+    """A file that may be one letter. If it has a line as between the letters of a mailbox, it waits, since several may be in it."""
     kind = kind_not_read(data) or (None if are_letters(data) else NotRead.NO_LETTER)
     if kind is not None or len(data) > MAX_LETTER:
         return Source([], [PassedOver(name, kind or NotRead.TOO_LONG)])
-    bare = data.removeprefix(MARK).lstrip(b"\r\n")
+    bare = without_start(data)
     from_line = FROM_LINE.match(bare)
-    return Source([RawLetter(name, bare if from_line is None else bare[from_line.end() :].lstrip(b"\r\n"), is_parted_off)], [])
+    letter = bare if from_line is None else bare[from_line.end() :].lstrip(b"\r\n")
+    return Source([RawLetter(name, letter, is_parted_off=bool(from_lines(letter)))], [])
 
 
 # ---------------------------------------------------------------- an mbox
@@ -197,7 +203,8 @@ def letters_of_mailbox(name: str, data: bytes) -> Source:
         head = b"" if end_of_head is None else data[start : end_of_head.end()]
         reaches = [start + len(head) + int(length) for length in CONTENT_LENGTH.findall(head)]
         reach = max(reach, *(one for one in reaches if one <= len(data) + MAX_MISSING), 0)
-        is_open = any(data.find(b"\n--" + boundary + b"--", start, end) < 0 for boundary in BOUNDARY.findall(head)[:MAX_BOUNDARIES])
+        boundaries = [quoted.rstrip() or bare for quoted, bare in BOUNDARY.findall(head)[:MAX_BOUNDARIES]]
+        is_open = any(data.find(b"\n--" + boundary + b"--", start, end) < 0 for boundary in boundaries)
     return found
 
 

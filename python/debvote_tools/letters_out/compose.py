@@ -103,8 +103,9 @@ class Composer:
         return self.text(Kind.REMINDERS, elector, came=came, is_reminding=is_reminding)
 
     def receipt(self, elector: Elector, came: Sequence[Came]) -> str:
-        """What became of all that came of an elector. One that refuses begins with the right line."""
-        is_refusing = not self.is_over and any(one.became in REFUSING for one in came)
+        """What became of all that came of an elector. It begins with the right line if what came last was refused or waits."""
+        last = next((one.became for one in reversed(came) if one.became in (Became.COUNTS, *REFUSING)), None)
+        is_refusing = not self.is_over and last in REFUSING
         return self.text(Kind.RECEIPTS, elector, came=came, is_refusing=is_refusing)
 
     def text(self, kind: Kind, elector: Elector, **values: object) -> str:
@@ -121,7 +122,9 @@ class Composer:
         language, zone = self.call.language, self.call.until.tzinfo if self.call.until else datetime.UTC
         said = [language.say(came.became.value, time=time_in_words(came.time.astimezone(zone), language))]
         if came.because is not None:
-            near = (fault for one in came.near for fault in faults_of_near(one, name, language))
+            # the HTML of a letter repeats its text
+            firsts = {one.ballot: one for one in reversed(came.near)}
+            near = (fault for one in reversed(firsts.values()) for fault in faults_of_near(one, name, language))
             said += [language.say(for_elector(came.because)), *dict.fromkeys(near)]
         elif came.became is Became.REFUSED:
             said.append(fault_of_line(came.answer, language))

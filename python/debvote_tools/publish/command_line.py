@@ -33,7 +33,6 @@ class Arguments:
 
 
 def parser() -> argparse.ArgumentParser:
-    """The options of the program."""
     description = "Makes the folder of an election for a web site, by debvote."
     options = argparse.ArgumentParser(prog=PROGRAM, allow_abbrev=False, description=description)
     add_arguments(options, Arguments)
@@ -62,7 +61,6 @@ def main(program_folder: pathlib.Path, words: Sequence[str] | None = None) -> in
 
 
 def publish(arguments: Arguments, program_folder: pathlib.Path | None) -> Counted:
-    """Makes the folder."""
     target_folder = pathlib.Path(arguments.target)
     result_folder.demand_free(target_folder, can_replace=False)
     publication = two_files.publication_of(

@@ -13,8 +13,6 @@ from debvote_tools.times import time_in_words
 
 
 class Kind(enum.StrEnum):
-    """What there is to doubt."""
-
     NO_BALLOT = "no ballot"
     MOSTLY_REFUSED = "mostly refused"
     NOT_CLOSED = "not closed"

@@ -5,14 +5,13 @@ import functools
 
 from markupsafe import Markup
 
+from debvote_tools.call.data import OPTION
 from debvote_tools.publish.sheet_data import how_ended
 from debvote_tools.rendering import InHtml
 from debvote_tools.sealed_poll import SealedPoll
 from debvote_tools.sentences import marked
 from debvote_tools.sheet import Pair, Sheet
 
-# an option in a sentence: its number and its name do not run into each other
-OPTION = marked("Option {number}: {name}")
 # where another name is shown
 PLAIN_NAME = marked("plain name, on the result sheet: {name}")
 

@@ -9,14 +9,12 @@ from debvote_tools.faults import Fault, Status
 from debvote_tools.publish.names import GUIDE, RECOUNT, SCRIPT
 
 PACKAGE = "debvote_tools.publish"
-GUIDE_LINK = f'<a href="{GUIDE}">{GUIDE}</a>'
 
 # the folder that debvote_tools lies in; the package has recount.py and the guide there, and a checkout has them elsewhere
 PLACE = pathlib.Path(__file__).resolve().parents[2]
 
 
 def recount_program() -> bytes:
-    """The bytes of the program."""
     return first_there("the second count", PLACE / RECOUNT, PLACE.parent / "tests" / "reference.py")
 
 
@@ -26,7 +24,6 @@ def recount_script() -> bytes:
 
 
 def guide() -> bytes:
-    """The bytes of the guide."""
     return first_there("the guide for electors", PLACE / GUIDE, PLACE.parent / "docs" / GUIDE)
 
 

@@ -4,7 +4,6 @@ import contextlib
 import dataclasses
 import os
 import pathlib
-import re
 import shutil
 from collections.abc import Iterator
 
@@ -20,6 +19,7 @@ from debvote_tools.publish.page import page_of
 from debvote_tools.publish.result_letter import letter_of
 from debvote_tools.publish.second_count import demand_same
 from debvote_tools.publish.sheet_data import result_json, votes_csv
+from debvote_tools.secret.codes import CODE_WITHIN
 from debvote_tools.sheet import Sheet, sheet_in
 
 
@@ -162,6 +162,6 @@ def demand_no_code(folder: pathlib.Path, publication: Publication) -> None:
         return
     codes = {code.encode() for code in publication.secret.codes}
     for file in sorted(folder.iterdir()):
-        if codes & set(re.findall(rb"(?<![0-9a-f])[0-9a-f]{32}(?![0-9a-f])", file.read_bytes())):
+        if codes & set(CODE_WITHIN.findall(file.read_bytes())):
             words = f"{file.name} would have the code of an elector in it"
             raise Fault(None, words, "look at the texts that you gave", Status.DOUBT, "nothing was published")

@@ -1,9 +1,9 @@
 """The letter of the result: what an elector compares with the web site, sent by a way that does not lead over it."""
 
+from debvote_tools.call.data import OPTION
 from debvote_tools.files import sha256_of
 from debvote_tools.publish.casting_vote import told_if_it_decides
 from debvote_tools.publish.inputs import Publication
-from debvote_tools.publish.options import OPTION
 from debvote_tools.publish.recounting import PACKAGE
 from debvote_tools.rendering import InText, render_letter
 from debvote_tools.sheet import Sheet
@@ -16,7 +16,7 @@ def letter_of(publication: Publication, sheet: Sheet, page: bytes) -> bytes:
         "letter.txt",
         publication.language,
         title=publication.poll.name,
-        ended=how_ended(publication, sheet),
+        ended=outcome_in_words(publication, sheet),
         casting=told_if_it_decides(publication, sheet),
         poll_checksum=publication.poll.checksum,
         is_of_call=publication.given_checksum is None,
@@ -26,7 +26,7 @@ def letter_of(publication: Publication, sheet: Sheet, page: bytes) -> bytes:
     return text.encode()
 
 
-def how_ended(publication: Publication, sheet: Sheet) -> str:
+def outcome_in_words(publication: Publication, sheet: Sheet) -> str:
     speaker, winner = InText(publication.language), sheet.winner()
     left = sheet.final_set() if winner is None else [winner.option]
     options = speaker.joined(speaker.say(OPTION, number=option, name=publication.poll.names[option - 1]) for option in left)

@@ -8,11 +8,12 @@ import re
 
 from markupsafe import Markup
 
+from debvote_tools.call.data import OPTION
 from debvote_tools.language import Language
 from debvote_tools.plain_names import LETTERS, PUNCTUATION, SPELLINGS
 from debvote_tools.publish.ballots import script_words
 from debvote_tools.publish.inputs import Publication
-from debvote_tools.publish.options import OPTION, PLAIN_NAME
+from debvote_tools.publish.options import PLAIN_NAME
 from debvote_tools.sentences import marked
 
 # in bytes; larger files are not carried by the page, and the reader chooses them. Those of a secret vote, which the finding of

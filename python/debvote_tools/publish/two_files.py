@@ -13,8 +13,7 @@ from debvote_tools.language import Language
 from debvote_tools.plain_names import bad_options, bad_title
 from debvote_tools.publish.inputs import CastingVote, Publication
 from debvote_tools.sealed_poll import KEYS, REQUIRED, SealedPoll, is_set
-
-ALIAS = re.compile(r"[0-9a-f]{32}")
+from debvote_tools.secret.codes import CODE
 
 # a line that has the shape of a ballot, and the beginning of one of a poll
 BALLOT = re.compile(rb"(?m)^[a-z0-9.-]{1,32} (?:-|\d\d?)(?:,(?:-|\d\d?))*\s*$")
@@ -29,7 +28,7 @@ def publication_of(
     ballots = input_in(ballots_path, BALLOTS_LIMIT, "ballots", Status.BAD_BALLOTS)
     demand_in_order(poll_bytes, ballots, poll_path, ballots_path, Debvote(pathlib.Path(), program_folder))
     poll = sealed_of(poll_bytes, poll_path)
-    if poll.secret and not all(map(ALIAS.fullmatch, poll.roll)):
+    if poll.secret and not all(map(CODE.fullmatch, poll.roll)):
         cure = "publish it from its election, with debvote-election publish"
         raise Fault(poll_path, "the vote is secret, and this would publish each name with its vote", cure, Status.DOUBT, None)
     vote = None if casting is None else CastingVote(casting)

@@ -31,7 +31,7 @@ class SlipsData:
     until: datetime.datetime | None = None
     to: str | None = None
     at: str | None = None
-    is_codes_on_roll: bool = False
+    has_codes_on_roll: bool = False
 
 
 def slips(data: SlipsData) -> bytes:

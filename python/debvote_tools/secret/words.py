@@ -6,9 +6,6 @@ from debvote_tools.sentences import marked
 BY_PYTHON = "python3 -I -c \"import hmac; print(hmac.new(input('Code: ').replace(' ', '').encode(), input('Name: ').encode(), 'sha256').hexdigest()[:32])\""
 BY_OPENSSL = "printf %s NAME | openssl dgst -sha256 -hmac CODE -r | cut -c1-32"
 
-# the part of the page of the result where an elector types name and code
-FIND = marked("Find your ballot")
-
 ALIAS = marked(
     "An alias is made of the name and the secret code of its elector: it is the first 32 digits of HMAC-SHA-256, with the text "
     "of the code as key and the name as message."

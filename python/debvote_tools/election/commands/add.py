@@ -27,10 +27,10 @@ def run(election: Election, arguments: Arguments) -> int:
     demand_words(arguments)
     vote = vote_of(election, election.history())
     found = came.read(election, arguments.files, is_table=arguments.csv)
-    if came.demand_one_kind(found):
-        letters(election, vote, found, arguments)
+    if came.are_all_letters(found):
+        take_letters(election, vote, found, arguments)
     else:
-        lines(election, vote, [file for file in found.values() if file is not None], arguments)
+        take_lines(election, vote, [file for file in found.values() if file is not None], arguments)
     return Status.DONE
 
 
@@ -51,7 +51,7 @@ def demand_words(arguments: Arguments) -> None:
 
 
 # ---------------------------------------------------------------- lines and tables
-def lines(election: Election, vote: Vote, came_files: Sequence[CameFile], arguments: Arguments) -> None:
+def take_lines(election: Election, vote: Vote, came_files: Sequence[CameFile], arguments: Arguments) -> None:
     """Adds lines, or looks at them."""
     columns = columns_in(vote, arguments)
     if arguments.look:
@@ -77,7 +77,7 @@ def columns_in(vote: Vote, arguments: Arguments) -> Columns | None:
 
 
 # ---------------------------------------------------------------- letters
-def letters(election: Election, vote: Vote, files: Mapping[str, CameFile | None], arguments: Arguments) -> None:
+def take_letters(election: Election, vote: Vote, files: Mapping[str, CameFile | None], arguments: Arguments) -> None:
     """Adds letters, or looks at them."""
     if of_lines := given(arguments, "csv", "again", "force"):
         words = "it is about lines and tables, and these are letters"
@@ -124,7 +124,7 @@ def add_letters(
             break
         with contextlib.suppress(Overtaken):
             with letters_in.enter(election, vote, plan) as done:
-                tell(*letter_words.entered(LineWords(vote), done, [ballot for _, ballot in plan.going_in]))
+                tell(*letter_words.reply_words(LineWords(vote), done, [ballot for _, ballot in plan.going_in]))
                 tell(letter_words.counts(plan.letters, len(done.numbers)))
             break
     undo = f"{election.command('undo')} takes back what was entered last"

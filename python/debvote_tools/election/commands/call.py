@@ -15,7 +15,7 @@ from debvote_tools.election import acting
 from debvote_tools.election.call_now import call_data, current_data, time_of
 from debvote_tools.election.commands.codes import SLIPS, write_slips
 from debvote_tools.election.commands.roll import demand_read
-from debvote_tools.election.election import CALL, LETTERS, POLL, POLL_WITH_NAMES, PRIVATE, Election, Sealed
+from debvote_tools.election.election import CALL, KEYRING, LETTERS, POLL, POLL_WITH_NAMES, PRIVATE, Election, Sealed
 from debvote_tools.election.history import History
 from debvote_tools.election.made_files import OWN, PUBLIC, write_made
 from debvote_tools.election.poll_checks import checked_poll, lacks_codes, tell_poll
@@ -27,7 +27,7 @@ from debvote_tools.secret.aliases import aliased_poll
 
 HELP = "Make the call for votes, a page and a letter; the poll never changes again"
 
-KEYRING, EXTENSION = "keyring", "extension.txt"
+EXTENSION = "extension.txt"
 
 # all names that the folder of a call can have
 FILES = ("index.html", "call.txt", "poll.toml", "SHA256SUMS")
@@ -95,7 +95,7 @@ def call(election: Election, arguments: Arguments) -> None:
             act.insert("sealed", name=POLL_WITH_NAMES, data=poll.as_bytes())
         seal(act, data, keyring)
     tell_poll(poll, sheet)
-    made(election)
+    make_folders(election)
     report(election, data)
 
 
@@ -141,7 +141,7 @@ def seal(act: Act, data: CallData, keyring: bytes | None) -> None:
         act.insert("sealed", name=f"{CALL}/{name}", data=content)
 
 
-def made(election: Election) -> None:
+def make_folders(election: Election) -> None:
     """Makes the folders of the call from the book."""
     history = election.history()
     files = {name: queries.sealed(election.book, f"{CALL}/{name}") for name in FILES}
@@ -163,7 +163,7 @@ def call_again(election: Election, arguments: Arguments) -> None:
     demand_no_change(election, history, arguments)
     if is_act:
         add_to_call(election, book, history, said, arguments.keyring)
-    made(election)
+    make_folders(election)
     report(election, current_data(election))
 
 
@@ -225,12 +225,12 @@ def report(election: Election, data: CallData) -> None:
     """Says what was made, and what comes next."""
     folder = election.path(CALL)
     tell(f"Made the folder {folder} with the page index.html and the letter call.txt.")
-    if data.is_secret:
+    if data.has_aliases:
         tell("The vote is secret: the poll of the call has aliases, and no name of an elector is in the folder.")
-    if data.is_codes_on_roll:
+    if data.has_codes_on_roll:
         tell("Codes are on the roll: the call has the checksum of the poll, and no poll.toml.")
-    if data.is_secret or data.is_codes_on_roll:
-        whose = "let each elector draw one" if data.is_codes_on_roll else "give each elector their own"
+    if data.has_aliases or data.has_codes_on_roll:
+        whose = "let each elector draw one" if data.has_codes_on_roll else "give each elector their own"
         tell(f"Print {election.path(PRIVATE) / SLIPS}, cut the slips out, and {whose}.")
     tell(f"Checksum of the poll: {data.poll.checksum}", f"Mark of the poll, at the end of each subject: [{data.poll.mark}]")
     if data.until is not None:

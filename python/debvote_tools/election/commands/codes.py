@@ -88,7 +88,7 @@ def write_slips(election: Election, history: History, poll: SealedPoll) -> None:
         until=history.until,
         to=history.announced("to"),
         at=history.announced("at"),
-        is_codes_on_roll=is_on_roll,
+        has_codes_on_roll=is_on_roll,
     )
     files = {SLIPS: slips(data)}
     if not is_on_roll:

@@ -6,16 +6,15 @@ import os
 import sys
 from collections.abc import Iterator
 
-from debvote_tools import times
 from debvote_tools.book import entered as book_lines
 from debvote_tools.book import queries
 from debvote_tools.book.book import Act, Book, Overtaken
 from debvote_tools.book.queries import NewEnvelope
 from debvote_tools.console import is_yes, tell, typed
 from debvote_tools.election import acting, in_time
-from debvote_tools.election.batch import KEYRING, BatchLine, Vote, vote_of
+from debvote_tools.election.batch import BatchLine, Vote, vote_of
 from debvote_tools.election.batch_words import LineWords, change_words, summary, would_words
-from debvote_tools.election.election import Election
+from debvote_tools.election.election import KEYRING, Election
 from debvote_tools.election.entering import electors_of, entered, is_too_long, long_words
 from debvote_tools.election.history import History
 from debvote_tools.election.in_time import Openness, openness_of
@@ -57,7 +56,7 @@ class Desk:
         self.words = LineWords(self.vote)
         # what --came-before-close says, and what was said of the ballots of this desk
         self.answer = answer
-        self.came_before: bool | None = None
+        self.came_before_close: bool | None = None
         self.replies: list[str] = []
         # the number of the next line that comes
         self.next_line = 1
@@ -74,12 +73,13 @@ class Desk:
     def ask_if_reopened(self, elector: int | None = None) -> Shown:
         """The same. After the vote was opened again it is asked once whether what is cast came before the first close."""
         shown = self.now(elector)
-        if shown.openness.is_reopened and self.came_before is None:
-            self.came_before = in_time.came_before_close(shown.openness, self.answer, "what was told is cast, and nothing else")
+        if shown.openness.is_reopened and self.came_before_close is None:
+            self.came_before_close = in_time.came_before_close(
+                shown.openness, self.answer, "what was told is cast, and nothing else"
+            )
         return shown
 
     def lines_of(self, data: bytes) -> list[Line]:
-        """The lines of what came."""
         lines = lines_in(data, "desk", self.next_line)
         self.next_line += len(lines)
         return lines
@@ -95,7 +95,7 @@ class Desk:
 
         detail: dict[str, object] = {"lines": len(lines)}
         if shown.openness.is_reopened:
-            detail["came_before_close"] = self.came_before
+            detail["came_before_close"] = self.came_before_close
         with entered(
             self.book,
             self.vote,
@@ -103,7 +103,7 @@ class Desk:
             detail,
             envelopes,
             decided_at=shown.decided_at,
-            is_late=shown.openness.is_late(self.came_before),
+            is_late=shown.openness.is_late(self.came_before_close),
             is_same=is_same,
             done="what was to be told is cast",
         ) as now:
@@ -119,12 +119,12 @@ def run(election: Election, arguments: Arguments) -> int:
     book = acting.book_for_act(election, arguments)
     desk = Desk(election, book, arguments.came_before_close)
     openness = desk.now().openness
-    tell(*in_time.notes(election, openness, "what is cast", times.now()))
+    tell(*in_time.notes(election, openness, "what is cast"))
     if queries.last_act_that_sealed(book, KEYRING) >= desk.vote.call:
         words = "letters have to be signed in this vote, and a desk asks for no signature"
         tell(f"Note: {words}: enter what comes on paper, or is spoken.")
     try:
-        desk.came_before = in_time.came_before_close(openness, desk.answer, NOTHING_CAST)
+        desk.came_before_close = in_time.came_before_close(openness, desk.answer, NOTHING_CAST)
         if sys.stdin.isatty():
             at_terminal(desk)
         else:
@@ -243,7 +243,7 @@ def show(desk: Desk, line: BatchLine, shown: Shown, elector: int | None) -> str:
         tell(f"It would be refused: {would_words(line)}", desk.words.right_words())
         return "It would count for nothing. Cast it all the same?"
     tell(desk.words.of(line))
-    if shown.openness.is_late(desk.came_before):
+    if shown.openness.is_late(desk.came_before_close):
         tell("It is late, and will count for nothing.")
     elif elector is not None:
         earlier = desk.vote.standing(book_lines.lines_of_electors(desk.book, {elector})).get(line.voter)

@@ -25,8 +25,6 @@ HELP = "List the letters that wait; show one, enter its ballot, or set letters a
 
 @dataclasses.dataclass(frozen=True)
 class Arguments(acting.Arguments):
-    """The command's options."""
-
     numbers: list[int] = positional("NUMBER", "The numbers of letters", type=int, nargs="*")
     enter: str | None = option("LINE,..", "Enter these lines of the letter, by their numbers as held NUMBER shows them")
     set_aside: bool = flag("The letters are dealt with, and wait no longer")
@@ -65,7 +63,6 @@ def all_letters(election: Election) -> list[LetterNow]:
 
 
 def chosen_letters(found: Sequence[LetterNow], numbers: Sequence[int]) -> list[LetterNow]:
-    """The letters of these numbers."""
     by_number = {letter.number: letter for letter in found}
     unknown = [str(number) for number in numbers if number not in by_number]
     if unknown:
@@ -145,21 +142,20 @@ def enter(election: Election, arguments: Arguments, number: int, lines: str) -> 
     detail = {"letter": number, "lines": [line.number for line in ballots]}
     is_late = letters_in.is_late(history, letter.judged)
     with entered(book, vote, "enter", detail, envelopes, decided_at=history.last.number, is_late=is_late) as now:
-        tell(*letter_words.entered(LineWords(vote), now, [line.ballot for line in ballots]))
+        tell(*letter_words.reply_words(LineWords(vote), now, [line.ballot for line in ballots]))
     tell_waiting(election, all_letters(election))
 
 
 def chosen_ballots(letter: LetterNow, lines: str) -> list[BallotLine]:
-    """The ballots of these lines."""
     judged = letter.judged
     by_line = {line.number: line for line in (*judged.offered, *judged.ballots)}
     numbers = [text.strip() for text in lines.split(",")]
     found = [by_line.get(int(text)) if text.isdigit() else None for text in numbers]
     if not all(found):
         wrong = next(text for text, line in zip(numbers, found) if line is None)
-        can = ", ".join(map(str, sorted(by_line))) or "none"
-        words, cure = f"line {wrong} of letter {letter.number} is no ballot of this poll", f"these lines are: {can}"
-        raise Fault("--enter", words, cure)
+        can = ", ".join(map(str, sorted(by_line)))
+        cure = f"these lines are: {can}" if can else "if you know which ballot is meant, type it at a desk"
+        raise Fault("--enter", f"line {wrong} of letter {letter.number} is no ballot of this poll", cure)
     return [line for line in found if line is not None]
 
 

@@ -70,7 +70,7 @@ def publish(election: Election, arguments: Arguments, target_folder: pathlib.Pat
     count.demand_option(sealed.public, words.casting)
     publication = publication_of(election, words)
     if not arguments.yes:
-        demand_read(publication, is_again=again is not None)
+        demand_agreed(publication, is_again=again is not None)
     with result_folder.made(publication, target_folder, election.program_folder) as made:
         winner = made.counted.sheet.winner()
         decides = winner is not None and winner.is_by_casting
@@ -117,7 +117,7 @@ def words_of(arguments: Arguments) -> Words:
     )
 
 
-def demand_read(publication: Publication, *, is_again: bool) -> None:
+def demand_agreed(publication: Publication, *, is_again: bool) -> None:
     """Asks before a secret vote is published: about texts, unless they are those of last time, and what two results would show."""
     if publication.secret is None:
         return

@@ -24,8 +24,6 @@ HELP = "Open the vote again after a close, for ballots that had come in time; th
 
 @dataclasses.dataclass(frozen=True)
 class Arguments(acting.Arguments):
-    """The command's options."""
-
     in_time: list[int] | None = option(
         "NUMBER",
         "The envelopes of late lines that had come before the first close: they are entered anew, and count",
@@ -71,7 +69,7 @@ def demand_closed(election: Election, history: History) -> None:
 
 def chosen(book: Book, in_time: list[int] | None, *, has_codes: bool) -> list[Envelope]:
     """The late envelopes that had come in time, as the secretary says, in the order of their times."""
-    late = {envelope.number: envelope for envelope in queries.envelopes(book, "late = 1 AND struck.act IS NULL")}
+    late = {envelope.number: envelope for envelope in queries.envelopes(book, queries.LATE)}
     entered_before = book_lines.entered_anew(book)
     if in_time is None and is_terminal():
         in_time = asked([envelope for number, envelope in late.items() if number not in entered_before], has_codes=has_codes)

@@ -24,8 +24,6 @@ HELP = "Show one elector: the ballots and letters that came, what stands, and wh
 
 @dataclasses.dataclass(frozen=True)
 class Arguments:
-    """The command's options."""
-
     name: str = positional("NAME", "The elector's name on the roll, or the real name")
 
 

@@ -28,8 +28,6 @@ LIKE_A_CODE = re.compile(rb"[0-9a-fA-F]{16,}")
 
 @dataclasses.dataclass(frozen=True)
 class Arguments(acting.Arguments):
-    """The command's options."""
-
     number: int = positional("NUMBER", "The number of the envelope, as add, desk and show tell it", type=int)
 
 

@@ -23,8 +23,6 @@ HELP = "Take back the last act that entered lines; once more, and the one before
 
 @dataclasses.dataclass(frozen=True)
 class Arguments(acting.Arguments):
-    """The command's options."""
-
     yes: bool = flag("Take it back without a question")
 
 
@@ -63,7 +61,7 @@ def run(election: Election, arguments: Arguments) -> int:
     is_asked = is_terminal() and not arguments.yes
     undone = undo(election, book, words, is_asked=is_asked)
     ballots = [] if is_asked else standing_words(words, undone.before, undone.after, "no ballot stands now")
-    tell(f"Took back {undone.what}.", *ballots, *letter_words(undone), *receipt_words(undone))
+    tell(f"Took back {undone.what}.", *ballots, *waiting_words(undone), *receipt_words(undone))
     tell(f"Next: {election.command('status')}; once more {election.command('undo')} takes back the act before")
     return Status.DONE
 
@@ -96,7 +94,7 @@ def what_is_taken_back(election: Election, book: Book, vote: Vote) -> TakenBack:
         if number is None:
             words = "nothing was entered that could be taken back"
             raise Fault("undo", words, f"see {election.command('status')}")
-        envelopes = tuple(queries.envelopes(book, "envelope.act = ? AND struck.act IS NULL", number))
+        envelopes = tuple(queries.envelopes(book, f"envelope.act = ? AND {queries.NOT_STRUCK}", number))
         electors = {envelope.elector for envelope in envelopes if envelope.elector is not None}
         lines = entered.lines_of_electors(book, electors)
     gone = {envelope.number for envelope in envelopes}
@@ -118,13 +116,13 @@ def demand_open(election: Election, history: History) -> None:
 # ---------------------------------------------------------------- what is printed
 def ask(words: LineWords, found: TakenBack) -> None:
     """Shows what would be taken back, and asks. Stops unless the answer is yes."""
-    tell(*standing_words(words, found.before, found.after, "no ballot would stand"), *letter_words(found), *receipt_words(found))
+    tell(*standing_words(words, found.before, found.after, "no ballot would stand"), *waiting_words(found), *receipt_words(found))
     if not is_yes(f"Take back {found.what}?"):
         raise Fault("undo", "you did not say yes", "run the command again when you want to take it back")
 
 
-def letter_words(found: TakenBack) -> list[str]:
-    """What becomes of the letters."""
+def waiting_words(found: TakenBack) -> list[str]:
+    """The letters whose ballots are taken back: they wait again."""
     if not found.letters:
         return []
     verb = "waits" if len(found.letters) == 1 else "wait"
