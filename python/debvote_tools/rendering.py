@@ -170,6 +170,7 @@ def templates_of(package: str, language: Language, *, is_page: bool) -> jinja2.E
         "say": speaker.say,
         "say_number": speaker.say_number,
         "link": speaker.link,
+        "joined": speaker.joined,
         "time_in_words": functools.partial(time_in_words, language=language),
         "ranks_in_words": functools.partial(ranks_in_words, language=language),
     }

@@ -117,6 +117,36 @@ class Copies(unittest.TestCase):
             outcomes(first(), letter("ben", f"ben {RANKS}", time=hour(11)), again), [f"in: {BALLOT}", f"in: ben {RANKS}", "copy"]
         )
 
+    def test_a_copy_of_one_that_waits_for_a_ballot_beside_it(self) -> None:
+        """It is one letter, of the earliest arrival: a second delivery makes it no later one."""
+        again = first(time=hour(12))
+        later = {"ada": [Ballot(at(11), OTHER)]}
+        self.assertEqual(outcomes(first(), again, ballots=later), ["waits: later ballot", "waits: came before"])
+        self.assertEqual(outcomes(first(), b"X-Status: R\n" + first(), ballots=later), ["waits: later ballot", "copy"])
+        beside = letter("ada", OTHER, number=2, time=hour(10))
+        self.assertEqual(sorted(outcomes(first(), beside, again)), ["copy", "waits: same time", "waits: same time"])
+
+    def test_a_copy_is_no_other_ballot_of_its_second(self) -> None:
+        """A server delivers again what it has delivered, and a new letter."""
+        again, new = first(time=hour(12)), letter("ada", OTHER, number=2, time=hour(12))
+        self.assertEqual(outcomes(first(), again, new), [f"in: {BALLOT}", "copy", f"in: {OTHER}"])
+        found = judged(first())
+        self.assertEqual(outcomes(found[0].letter, again, new, **entered(*found)), ["entered", "copy", f"in: {OTHER}"])
+
+    def test_a_later_copy_of_one_that_was_entered_or_set_aside_by_hand(self) -> None:
+        """Without a Message-ID an elector's third letter may be the first one once more, and is their last word."""
+        texts = {
+            "without a name": (f"{RANKS}\n", Decision.ENTERED),
+            "of several electors": (f"ben {RANKS}\n{BALLOT}\n", Decision.ENTERED),
+            "no greeting above": (f"My vote: 1\n{BALLOT}\n", Decision.SET_ASIDE),
+        }
+        for what, (text, decision) in texts.items():
+            with self.subTest(what=what):
+                kept, again = parsed(letter("ada", text, time=hour(10))), letter("ada", text, time=hour(12))
+                since = {"decisions": {kept.digest: decision}, "ballots": {"ada": [Ballot(at(11), OTHER)]}}
+                self.assertEqual(outcomes(kept, again, **since)[1:], ["waits: came before"])
+                self.assertEqual(outcomes(kept, again, **since | {"ballots": {}})[1:], ["copy"])
+
     def test_a_letter_that_waits_hides_no_other(self) -> None:
         """Copies that somebody else made, which came before the genuine letter or after it."""
         forged = {

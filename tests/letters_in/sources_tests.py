@@ -39,6 +39,25 @@ class Files(unittest.TestCase):
                 self.assertEqual([raw.data.replace(b"\r", b"") for raw in found.letters], [ADA, BEN], line)
                 self.assertEqual(outcome_of(found), [f"in: ada {RANKS}", f"in: ben {RANKS}"])
 
+    def test_what_editors_put_before_a_mailbox(self) -> None:
+        """Else it is one letter, and all but its first ballot are text of it."""
+        box = mailbox(ADA, BEN)
+        for start in (b"\n", b"\r\n\r\n", b"\xef\xbb\xbf"):
+            self.assertEqual(outcome_of(letters_of_file("box", start + box)), [f"in: ada {RANKS}", f"in: ben {RANKS}"], start)
+
+    def test_a_mailbox_without_its_first_line(self) -> None:
+        coded = letter("ben", "YmVuIDEsMiw0LDMK\n", head="Content-Transfer-Encoding: base64\n")
+        box = mailbox(ADA, coded).removeprefix(LINE)
+        self.assertEqual(outcome_of(letters_of_file("box", box)), ["waits: parted off"])
+
+    def test_a_boundary_with_a_blank(self) -> None:
+        """Lotus Notes writes such."""
+        notes = "=_alternative 004A8E32C1256F5A_="
+        for kind in (f'multipart/alternative; boundary="{notes}"', f'multipart/alternative; boundary="{notes} "'):
+            parts = letter("ada", f"--{notes}\n\nada {RANKS}\n--{notes}--\n", kind=kind)
+            found = letters_of_file("box", mailbox(parts, BEN))
+            self.assertEqual(outcome_of(found), [f"in: ada {RANKS}", f"in: ben {RANKS}"])
+
     def test_lines_that_part_nothing(self) -> None:
         text = f"ada {RANKS}\n\nFrom Monday on\n\n>From x Mon Nov 23 10:00:00 2026\n\nfrom x Mon Nov 23 10:00:00 2026\n\nFrom 10:00 on\n"
         found = letters_of_file("box", mailbox(letter("ada", text), BEN))

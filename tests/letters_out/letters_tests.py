@@ -222,6 +222,8 @@ class Receipts(OutTest):
             letter("fay", "away\n", head="Auto-Submitted: auto-replied\n"),
             letter("gus", "I want the lake.\n"),
             letter("hal", "Hello\nI vote hal 1,2,3,4, of course\n"),
+            # the call to her that came back
+            letter("ida", "Undelivered.\n\n  ida _,_,_,_\n", sender="mailer-daemon@x.example"),
         )
         texts = self.texts("receipts")
         self.assertEqual(sorted(texts), ["ada", "ben", "dan", "eve", "gus", "hal"])
@@ -570,6 +572,7 @@ class Secret(OutTest):
         self.assertIn("find it with your name, ada, and your code, under", results["ada"])
         self.assertNotIn("#", results["ada"])
         self.assertIn("cat seal.txt ballots.txt | sha256sum", results["ada"])
+        self.assertIn("download the files index.html, poll.toml, seal.txt and ballots.txt", " ".join(results["ada"].split()))
         texts = [one_line(message) for message in found] + list(results.values())
         for text in texts:
             self.assertFalse([code for code in [*codes.values(), *aliases] if code in text])

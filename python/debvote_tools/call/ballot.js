@@ -62,10 +62,11 @@
 
   // The names on the roll that have the letters of a typed one, or whose real name has them; or else those that begin with them.
   function near(name) {
-    const typed = lettersOf(name);
-    if (typed === "") return [];
-    const same = roll.filter((other) => keys.get(other).includes(typed));
-    return same.length > 0 ? same : roll.filter((other) => keys.get(other).some((key) => key.startsWith(typed)));
+    // in German ä is ae
+    const typed = [name, name.normalize("NFC").replace(/[äöü]/gi, "$&e")].map(lettersOf).filter(Boolean);
+    const same = roll.filter((other) => keys.get(other).some((key) => typed.includes(key)));
+    const isBegun = (key) => typed.some((letters) => key.startsWith(letters));
+    return same.length > 0 ? same : roll.filter((other) => keys.get(other).some(isBegun));
   }
 
   // A question for the names that are near, or nothing.

@@ -36,10 +36,12 @@ class BatchLine(NamedTuple):
 
     @property
     def voter(self) -> str:
+        """The elector of a ballot."""
         return self.as_entered.partition(b" ")[0].decode("ascii")
 
     @property
     def ranks(self) -> str:
+        """The ranks of a ballot."""
         return self.as_entered.partition(b" ")[2].decode("ascii")
 
 

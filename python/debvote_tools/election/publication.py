@@ -72,7 +72,7 @@ def publication_of(election: Election, words: Words) -> Publication:
             late=late.count(b"\n"),
             compared=tuple(shown_by_comparison(election, sealed, history, standing, ballots)),
         )
-    demand_of_close(history, ballots)
+    demand_as_closed(history, ballots)
     return Publication(
         poll=sealed.public,
         ballots=ballots,
@@ -96,7 +96,7 @@ def ballots_in_secret(standing: Mapping[str, str], electors: Iterable[Elector]) 
     return aliased_ballots(standing, {elector.name: elector.alias or elector.name for elector in electors})
 
 
-def demand_of_close(history: History, ballots: bytes) -> None:
+def demand_as_closed(history: History, ballots: bytes) -> None:
     """Stops if the ballots are not those that the close has fixed."""
     if not history.is_closed:
         return
@@ -120,7 +120,7 @@ def shown_by_comparison(
     return [name for name in sealed.counted.roll if then.get(name) != now.get(name)]
 
 
-def as_kept(words: Words, checksums: Mapping[str, str], doubts: list[Doubt], *, decides: bool) -> dict[str, Any]:
+def detail_of(words: Words, checksums: Mapping[str, str], doubts: list[Doubt], *, decides: bool) -> dict[str, Any]:
     """The detail of the act. `decides` says whether the casting vote does."""
     return {
         "words": dataclasses.asdict(words),

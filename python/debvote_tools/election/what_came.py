@@ -95,8 +95,8 @@ def came_of_letter(letter: LetterNow, elector: Elector, kept: datetime.datetime)
     if judged.outcome not in (Outcome.WAITS, Outcome.GOES_IN, Outcome.SET_ASIDE):
         return []
     is_own = judged.letter.sender in map(address_key, elector.addresses)
-    # a program would answer, and be answered
-    if is_own and judged.letter.is_automatic:
+    # a program would answer, and be answered; and our own letter, which comes back, has the name of its elector
+    if judged.letter.is_automatic and (is_own or not judged.ballots):
         return []
     key, time = ("letter", letter.number, False), judged.letter.arrived or kept
     is_aside = judged.outcome is Outcome.SET_ASIDE

@@ -206,11 +206,11 @@ function carried(id) {
     for (const [key, bytes] of parts) {
       const sum = await sumOf(bytes);
       const said = [sentence(key, { sum }), sentence(named.includes(sum) ? "sum_named" : "sum_not_named")];
-      if (typed === sum) said.push(sentence("letter_same"));
+      if (typed === sum) said.unshift(sentence("letter_same"));
       isFound = isFound || typed === sum;
       nodes.push(element("p", said.join(" "), named.includes(sum) ? "" : "differs"));
     }
-    return isFound ? nodes : [...nodes, element("p", sentence("letter_other"), "differs")];
+    return isFound ? nodes : [element("p", sentence("letter_other"), "differs"), ...nodes];
   }
 
   // The files that were chosen, by what they are; the sheet is the page's where none is among them. Null where one is missing, or

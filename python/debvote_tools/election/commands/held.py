@@ -150,7 +150,7 @@ def chosen_ballots(letter: LetterNow, lines: str) -> list[BallotLine]:
     judged = letter.judged
     by_line = {line.number: line for line in (*judged.offered, *judged.ballots)}
     numbers = [text.strip() for text in lines.split(",")]
-    found = [by_line.get(int(text)) if text.isdigit() else None for text in numbers]
+    found = [by_line.get(int(text)) if text.isdecimal() else None for text in numbers]
     if not all(found):
         wrong = next(text for text, line in zip(numbers, found) if line is None)
         can = ", ".join(map(str, sorted(by_line)))

@@ -13,7 +13,7 @@ from debvote_tools.debvote import casting_words
 from debvote_tools.election import acting
 from debvote_tools.election.commands import count
 from debvote_tools.election.election import RESULT, Election
-from debvote_tools.election.publication import ACT, Words, as_kept, last_publication, publication_of
+from debvote_tools.election.publication import ACT, Words, detail_of, last_publication, publication_of
 from debvote_tools.election.reporting import act_time
 from debvote_tools.faults import Fault, Status
 from debvote_tools.files import locked_folder
@@ -74,7 +74,7 @@ def publish(election: Election, arguments: Arguments, target_folder: pathlib.Pat
     with result_folder.made(publication, target_folder, election.program_folder) as made:
         winner = made.counted.sheet.winner()
         decides = winner is not None and winner.is_by_casting
-        detail = as_kept(words, made.checksums, made.doubts, decides=decides)
+        detail = detail_of(words, made.checksums, made.doubts, decides=decides)
         is_new = before is None or before.detail != detail
         with alone(election):
             if is_new:

@@ -41,7 +41,7 @@ def run(election: Election, arguments: Arguments) -> int:
     demand_closed(election, history)
     vote = vote_of(election, history)
     offered = chosen(book, arguments.in_time, has_codes=vote.has_codes)
-    older = older_ones(book, offered)
+    older = faults_of_older(book, offered)
     if not arguments.force:
         stop_at(older)
     detail = {"because": because, "in_time": [envelope.number for envelope in offered]} | ({"force": True} if older else {})
@@ -99,8 +99,8 @@ def order(envelope: Envelope) -> tuple[datetime.datetime, int]:
     return envelope.time, envelope.number
 
 
-def older_ones(book: Book, offered: Sequence[Envelope]) -> list[Fault]:
-    """The envelopes that would replace a later ballot of their elector, since the last one that is entered counts."""
+def faults_of_older(book: Book, offered: Sequence[Envelope]) -> list[Fault]:
+    """A fault for each envelope that would replace a later ballot of its elector, since the last one that is entered counts."""
     last = {late.elector: late for late in offered if late.elector is not None}
     faults = []
     for elector, late in last.items():

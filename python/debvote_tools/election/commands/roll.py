@@ -116,7 +116,7 @@ def names_of(electors: Sequence[Member]) -> str:
 # ---------------------------------------------------------------- after the call
 def change_addresses(election: Election, book: Book, roll: Roll, seen: int, *, is_agreed: bool) -> None:
     """The act after the call: new addresses and keys of the same people, each of them asked about."""
-    changed = [elector for elector in roll.electors if elector.changes and (is_agreed or is_right(elector))]
+    changed = [elector for elector in roll.electors if elector.changes and (is_agreed or agreed(elector))]
     if changed:
         with book.act("addresses", {"electors": len(changed)}, seen=seen) as act:
             for elector in changed:
@@ -129,7 +129,7 @@ def change_addresses(election: Election, book: Book, roll: Roll, seen: int, *, i
     tell(f"Next: {election.command('status')}")
 
 
-def is_right(elector: Member) -> bool:
+def agreed(elector: Member) -> bool:
     """Whether the secretary agrees to a change, which is shown."""
     question = f"{elector.label}: {changes_in_words(elector)}. Is that right?"
     if not is_terminal():
