@@ -17,7 +17,7 @@ class Strike(CalledTest):
         self.assertEqual(
             output,
             f"Struck envelope 3: `ada {OTHER_RANKS}`, because: it was pencil\nWhat stands now of ada: {LAKE}\n"
-            "It is not undone: if it was wrong, enter the line anew.\nNext: debvote-election status\n",
+            "A strike cannot be undone: if it was a mistake, enter the line again.\nNext: debvote-election status\n",
         )
         self.assertEqual(self.lines(), [f"ada {RANKS}", f"ben {RANKS}", "x"])
         self.assertEqual(self.acts()[-1], ("strike", {"envelope": 3, "because": "it was pencil"}))

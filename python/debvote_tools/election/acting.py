@@ -14,10 +14,8 @@ from debvote_tools.terminal_text import LINE_ENDS, number_of, odd_sign
 class Arguments:
     """The options of each command that writes an act."""
 
-    moved: bool = flag(
-        "The election was moved to this computer or folder, or a copy was put back: go on with it; the page tells it"
-    )
-    because: str | None = option("TEXT", "With --moved, --force and the like: the reason, in your words")
+    moved: bool = flag("Go on although the election was moved here, or an older copy was restored; the result page says so")
+    because: str | None = option("TEXT", "The reason, in your words, for --moved, --force, strike or reopen")
 
 
 def book_for_act(election: Election, arguments: Arguments) -> Book:

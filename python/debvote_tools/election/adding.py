@@ -60,7 +60,7 @@ class Arguments(in_time.Arguments):
     oldest_first: bool = flag("With --csv: the rows are sorted by time, and the first is the oldest", group="order")
     newest_first: bool = flag("With --csv: the first row is the newest, so they are entered from the last one on", group="order")
     look: bool = flag("Tell what would become of them, and change nothing")
-    yes: bool = flag("Ask nothing that has a yes for an answer")
+    yes: bool = flag("Answer yes to every question")
     again: bool = flag(
         "Enter lines again that came before and no longer count, as they were struck or their electors have voted since"
     )

@@ -22,8 +22,8 @@ from debvote_tools.letters.html_text import read_html
 from debvote_tools.letters.reasons import Because, Reason
 from debvote_tools.letters.sources import BOUNDARY, END_OF_HEAD, MAX_HEAD, MAX_LETTER, RawLetter
 
-# in bytes; a text is shorter
-MAX_TEXT = 262_144
+# in bytes; a text is shorter, and so are all texts of a letter together
+MAX_TEXT, MAX_TEXTS = 262_144, 1_048_576
 # in characters; so much is read of a field of the head
 MAX_FIELD = 2_000
 # a letter has fewer parts, and a long letter has fewer within each other: each line is looked at once for each
@@ -297,6 +297,9 @@ def read_body(data: bytes) -> Body:
         demand_readable(data)
         message = email.message_from_bytes(data)
         leaves = [leaf for leaf in leaves_of(message) if leaf.part.get_content_maintype() == "text"]
+        length = sum(len(str(leaf.part.get_payload())) for leaf in leaves)
+        if length > MAX_TEXTS:
+            raise Unread(Reason.TOO_LONG(length=length, what="bytes in all its texts", limit=MAX_TEXTS))
         texts = [text_of(leaf.part) for leaf in leaves]
         trouble = trouble_of(message, leaves)
     except Unread as error:

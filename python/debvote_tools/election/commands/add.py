@@ -20,7 +20,7 @@ from debvote_tools.faults import Fault, Status
 from debvote_tools.letters.judge import Outcome
 from debvote_tools.letters.sources import PassedOver, RawLetter
 
-HELP = "Enter ballots from letters, files, tables or standard input, and tell the reply to each"
+HELP = "Enter ballots from letters, files, tables or standard input, and print the reply to each"
 
 
 def run(election: Election, arguments: Arguments) -> int:

@@ -38,9 +38,7 @@ KEYRING_LIMIT = 134_217_728
 
 @dataclasses.dataclass(frozen=True)
 class Arguments(acting.Arguments):
-    until: str | None = option(
-        "TIME", 'Until when one can vote, as "2026-12-04 18:00"; again with a later time: the vote is extended'
-    )
+    until: str | None = option("TIME", 'The end of the vote, as "2026-12-04 18:00"; a later time in a second call extends it')
     zone: str | None = option("ZONE", "The time zone of --until, as Europe/Berlin; that of this computer if it is not given")
     to: str | None = option("ADDRESS", "The mail address to which ballots are sent")
     at: str | None = option("URL", "The web address of the page: of the call, and later of the result")

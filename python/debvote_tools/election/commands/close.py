@@ -23,8 +23,8 @@ HELP = "End the vote: lines that are entered later are late"
 
 @dataclasses.dataclass(frozen=True)
 class Arguments(acting.Arguments):
-    early: bool = flag("Close before the time until which one can vote; the page of the result tells it")
-    force: bool = flag("With --because: close although letters wait that arrived in time; the page tells how many")
+    early: bool = flag("Close before the end of the vote; the result page says so")
+    force: bool = flag("With --because: close although letters wait that arrived in time; the result page says how many")
 
 
 def run(election: Election, arguments: Arguments) -> int:

@@ -22,7 +22,7 @@ from debvote_tools.faults import Fault, Status
 from debvote_tools.files import BALLOTS_LIMIT
 from debvote_tools.lines import Line, lines_in, name_in
 
-HELP = "Enter ballots by hand, and tell the reply to each; as many desks at once as there are terminals"
+HELP = "Enter ballots by hand, and print the reply to each; several desks can run at once, each in its own terminal"
 
 QUIT = b"q"
 

@@ -24,7 +24,7 @@ from debvote_tools.publish.counting import Counted
 from debvote_tools.publish.inputs import Publication
 from debvote_tools.publish.texts import reason_in, text_in
 
-HELP = "Make the folder of the result for a web site; without further words the last one again"
+HELP = "Make the folder of the result for a web site; without options, make the last one again"
 
 
 @dataclasses.dataclass(frozen=True)

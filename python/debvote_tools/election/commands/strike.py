@@ -28,7 +28,7 @@ LIKE_A_CODE = re.compile(rb"[0-9a-fA-F]{16,}")
 
 @dataclasses.dataclass(frozen=True)
 class Arguments(acting.Arguments):
-    number: int = positional("NUMBER", "The number of the envelope, as add, desk and show tell it", type=int)
+    number: int = positional("NUMBER", "The number of the envelope, as add, desk and show print it", type=int)
 
 
 def run(election: Election, arguments: Arguments) -> int:
@@ -44,7 +44,7 @@ def run(election: Election, arguments: Arguments) -> int:
         ranks = vote.standing(entered.lines_after(book, act, {envelope.elector})).get(elector)
         whose = "that code" if vote.has_codes else elector
         tell(f"What stands now of {whose}: {'no ballot' if ranks is None else LineWords(vote).ranks(ranks)}")
-    tell("It is not undone: if it was wrong, enter the line anew.", f"Next: {election.command('status')}")
+    tell("A strike cannot be undone: if it was a mistake, enter the line again.", f"Next: {election.command('status')}")
     return Status.DONE
 
 
