@@ -22,7 +22,7 @@ class Strike(CalledTest):
         self.assertEqual(self.lines(), [f"ada {RANKS}", f"ben {RANKS}", "x"])
         self.assertEqual(self.acts()[-1], ("strike", {"envelope": 3, "because": "it was pencil"}))
         self.assertIn("What stands now of ada: no ballot\n", self.told("strike", 1, *WHY))
-        self.assertIn("Struck envelope 4: `x`, because: it was pencil\nIt is not undone", self.told("strike", 4, *WHY))
+        self.assertIn("Struck envelope 4: `x`, because: it was pencil\nA strike cannot be undone", self.told("strike", 4, *WHY))
         self.assertEqual(self.lines(), [f"ben {RANKS}"])
         # the envelopes are still there, and keep their numbers
         self.assertEqual([envelope.struck is None for envelope in self.envelopes()], [False, True, False, False])
