@@ -55,6 +55,14 @@ class Close(CloseTest):
         self.assertEqual(self.read("letters/closed.txt").decode(), letter)
         self.assertEqual(self.done("log").output.splitlines()[:-2], log.splitlines())
 
+    def test_the_time_is_in_the_zone_of_the_end(self) -> None:
+        """Also if a later call announced the end."""
+        self.set_clock("2026-11-27T09:00:00+00:00")
+        self.done("call", *UNTIL)
+        self.set_clock("2026-12-04T17:30:00+00:00")
+        self.done("close")
+        self.assertIn("18:30 (UTC+01:00)", " ".join(self.read("letters/closed.txt").decode().split()))
+
     def test_without_ballots(self) -> None:
         self.assertIn("0 lines came in time", self.done("close").output)
 

@@ -2,7 +2,7 @@
 
 import datetime
 
-from debvote_tools.book.book import DoneAct
+from debvote_tools.election.history import History
 from debvote_tools.language import Language
 from debvote_tools.rendering import render_letter
 from debvote_tools.sealed_poll import SealedPoll
@@ -10,9 +10,9 @@ from debvote_tools.sealed_poll import SealedPoll
 NAME = "closed.txt"
 
 
-def letter(close: DoneAct, poll: SealedPoll, language: Language) -> bytes:
-    """The letter of this close; the poll is the public one. The time is in the zone in which the end was announced."""
-    zone = poll.deadline_time.tzinfo if poll.deadline_time else datetime.UTC
+def letter(history: History, poll: SealedPoll, language: Language) -> bytes:
+    """The letter of the last close; the poll is the public one. The time is in the zone in which the end was announced."""
+    close, zone = history.closes[-1], history.until.tzinfo if history.until else datetime.UTC
     return render_letter(
         "debvote_tools.letters_out", "closing.txt", language, close=close, time=close.time.astimezone(zone), poll=poll
     ).encode()

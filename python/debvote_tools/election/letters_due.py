@@ -133,9 +133,10 @@ class LettersDue:
         if not self.history.is_closed:
             cure = f"run {self.election.command('close')} first"
             raise Fault(self.kind, "the vote is not closed", cure, Status.DOUBT, "nothing was written")
-        close = self.history.closes[-1]
-        text = closing_letter.letter(close, self.composer.call.poll, self.election.language).decode()
-        return self.to_each(close.number, lambda elector, letter: self.composer.text(self.kind, elector, letter=text))
+        text = closing_letter.letter(self.history, self.composer.call.poll, self.election.language).decode()
+        return self.to_each(
+            self.history.closes[-1].number, lambda elector, letter: self.composer.text(self.kind, elector, letter=text)
+        )
 
     def result(self) -> Plan:
         """The result to each elector."""

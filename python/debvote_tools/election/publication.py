@@ -80,7 +80,7 @@ def publication_of(election: Election, words: Words) -> Publication:
         casting=words.vote,
         chronicle=chronicle,
         late=None if sealed.counted.secret else late,
-        closed=closing_letter.letter(history.closes[-1], sealed.public, election.language) if history.closes else None,
+        closed=closing_letter.letter(history, sealed.public, election.language) if history.closes else None,
         real_names={elector.name: elector.who for elector in electors} if history.announced("names") else {},
         about=words.about,
         because=words.because,

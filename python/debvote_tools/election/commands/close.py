@@ -32,10 +32,10 @@ def run(election: Election, arguments: Arguments) -> int:
     is_new = not election.history().is_closed
     if is_new:
         close(election, sealed, arguments)
-    act = election.history().closes[-1]
-    letter = closing_letter.letter(act, sealed.public, election.language)
+    history = election.history()
+    letter = closing_letter.letter(history, sealed.public, election.language)
     written = write_made(election.path(LETTERS), {closing_letter.NAME: letter}, OWN)
-    report(election, act, is_new=is_new, has_made_letter=bool(written))
+    report(election, history.closes[-1], is_new=is_new, has_made_letter=bool(written))
     return Status.DONE
 
 
