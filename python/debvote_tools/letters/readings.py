@@ -184,10 +184,10 @@ class Reader:
 
 
 def folded(name: str, language: str) -> str:
-    """A name as one on a roll is made from it, whole: there a long one is cut, and letters of other scripts are left out, so that other
-    words may be where they are.
+    """A name as one on a roll is made from it, but whole: there a long one is cut, and letters of other scripts are left out, so other words
+    may be where they were. The signs that are written as an apostrophe are no letters.
     """
-    letters = re.sub(r"(?:[^\w.-]|_)+", "-", without_accents(name, language).lower()).strip("-")
+    letters = re.sub(r"(?:[^\w.-]|[_\u02b0-\u02ff])+", "-", without_accents(name, language).lower()).strip("-")
     return letters if re.search(r"[a-z0-9]", letters) else ""
 
 
