@@ -77,8 +77,7 @@ of_runs bars inputs old new before end is runs =
     let text = runs.writes.0 in
     let tells = runs.writes.1 in
     let counted = tells.1 in
-    let printed = counted.2.1 in
-    (
+    let printed = counted.2.1 in (
       text,
       record {
         poll = counted.0;
@@ -111,11 +110,10 @@ of_task file_bytes poll_name ballots_name desks option_name poll ballots before 
     let files = done.3 in
     let counted = of_counts _ (inputs_at done.0 done.1 desks option_name) written performed before end old is done.4.0 in
     let same_poll : done.0.now ≡ poll = whole _ _ _ poll_is files.poll_is.0 in
-    let same_ballots : done.1.now ≡ ballots = whole _ _ _ ballots_are files.ballots_are.0 in
-    (
+    let same_ballots : done.1.now ≡ ballots = whole _ _ _ ballots_are files.ballots_are.0 in (
       counted.0,
       subst (λ text. IsSheetOfFiles text ballots (option_copied option_name) counted.0) same_poll
-      (subst (λ text. IsSheetOfFiles done.0.now text (option_copied option_name) counted.0) same_ballots counted.1),
+          (subst (λ text. IsSheetOfFiles done.0.now text (option_copied option_name) counted.0) same_ballots counted.1),
       counted.2,
     )
 
@@ -141,9 +139,9 @@ of_asked file_bytes words written performed end poll ballots before casting (wor
     let same_poll = same_value _ _ _ wanted.2.0 (subst (λ found. HasText found (codes "poll") poll_name.now) (sym rows) given.2.0) in
     let same_ballots = same_value _ _ _ wanted.2.1 (subst (λ found. HasText found (codes "ballots") ballots_name.now) (sym rows) given.2.1) in
     let same_casting : option_copied option_name ≡ casting =
-      subst (λ found. HasPurpose found (option_copied option_name) purpose.Sheet) (sym rows) given.2.3 ∙ sym wanted.2.3 ∙ sheet.casting_is in
+    subst (λ found. HasPurpose found (option_copied option_name) purpose.Sheet) (sym rows) given.2.3 ∙ sym wanted.2.3 ∙ sheet.casting_is in
     let told = of_task file_bytes poll_name ballots_name desks option_name poll ballots before written performed end
-      (ap file_bytes same_poll ∙ sheet.poll_is) (ap file_bytes same_ballots ∙ sheet.ballots_are) old is ends in
+    (ap file_bytes same_poll ∙ sheet.poll_is) (ap file_bytes same_ballots ∙ sheet.ballots_are) old is ends in
     (told.0, subst (λ named. IsSheetOfFiles poll ballots named told.0) same_casting told.1, told.2)
 of_asked file_bytes words written performed end poll ballots before casting (work.Count poll_name ballots_name desks option_name purpose.Picture) sheet asks old is ends =
     absurd (no_count _ (same_asked _ _ _ _ _ sheet.asked.1.1 asks.1.1).0 (λ e. omega (arith, e)))
