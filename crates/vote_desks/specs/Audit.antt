@@ -14,11 +14,11 @@ use Rattle.vote_steps.specs.HeldLines.{HasSizes, HoldsLines}
 use Rattle.vote_desks_box.specs.Slips.{slips_from}
 use Rattle.vote_desks_box.specs.Desks.{SealedState, sheet_at}
 
--- the sheet of each desk is the slips of its casts, so a desk without a sheet has cast nothing
+-- each desk's slips are those of its casts; a desk that handed in none has cast nothing
 abbrev pub HasSlips : List Step → List (List Slip) → Type 0
 HasSlips steps sheets = (desk : ℕ) → 1 ≤ desk → desk ≤ MAX_DESKS → sheet_at sheets desk ≡ slips_from 1 steps desk
 
--- the box holds the lines of the poll, and the sheets are those of its desks
+-- the box holds the lines of the poll, and the slips are those of its desks
 pub record IsAudited (poll : PollContent) (lines : List (List ℕ)) (b : BoxState) (sheets : List (List Slip)) : Type 0 where
   pub holds : HoldsLines poll lines b
   pub sheets_are : HasSlips b.steps sheets
@@ -45,20 +45,20 @@ pub record DiffersFirst (poll : PollContent) (lines : List (List ℕ)) (steps : 
 abbrev pub FindsReading : Option ℕ → PollContent → List (List ℕ) → List Step → Type 0
 FindsReading found poll lines steps = MatchOption found (HasOwnReadings poll lines steps) (DiffersFirst poll lines steps)
 
--- two sheets differ first at this place, counted from 1; one may have ended there
+-- two lists of slips differ first at this place, counted from 1; one may have ended there
 pub record PartAt (sheet other : List Slip) (place : ℕ) : Type 0 where
   pub before : ℕ
   pub place_is : place ≡ before + 1
   pub so_far : take before sheet ≡ take before other
   pub differ : slice_get sheet before ≢ slice_get other before
 
--- the first desk whose sheet is not the slips of its casts, and the first place where they differ
+-- the first desk whose slips are not those of its casts, and the first place where they differ
 pub record SheetDiffers (steps : List Step) (sheets : List (List Slip)) (desk place : ℕ) : Type 0 where
   pub is_desk : (1 ≤ desk) × (desk ≤ MAX_DESKS)
   pub others : (other : ℕ) → 1 ≤ other → other < desk → sheet_at sheets other ≡ slips_from 1 steps other
   pub part : PartAt (sheet_at sheets desk) (slips_from 1 steps desk) place
 
--- each sheet is the slips of its desk's casts, or this is the first desk where it is not, with the first place where they differ
+-- each desk's slips are those of its casts, or this is the first desk where they are not, with the first place where they differ
 abbrev pub FindsSheet : Option (ℕ × ℕ) → List Step → List (List Slip) → Type 0
 FindsSheet found steps sheets = MatchOption found (HasSlips steps sheets) (λ at. SheetDiffers steps sheets at.0 at.1)
 

@@ -11,7 +11,7 @@ use Rattle.vote_desks.specs.declared.fault.VoteFault.{VoteFault}
 use Rattle.vote_desks.specs.declared.fault.VoteFault.TheVariants.{Memory, Thread, Gate, Enter, Desk, Audit}
 use Rattle.vote_desks.specs.Audit.{IsFaultOf}
 
--- a gate stops only those desks that it bars; box and sheets have room for each line, so a cast can be refused for a used stamp alone;
+-- a gate stops only those desks that it bars; box and desks have room for each line, so a cast can be refused for a used stamp alone;
 -- no desk is missing; and the box has the sizes of the poll and as many casts as lines
 abbrev pub CanStopVotes : (ℕ → Bool) → VoteFault → Type 0
 CanStopVotes bars Memory = Unit {0}
@@ -35,7 +35,7 @@ CanStopAudit (Enter desk fault) = ⊥
 CanStopAudit (Desk fault) = ⊥
 CanStopAudit (Audit fault) = (fault ≢ SizeDiffers) × (fault ≢ CountDiffers)
 
--- a fault that names a desk names one of so many, which are numbered from 1
+-- the fault of a gate, or of a cast, names one of so many desks, which are numbered from 1; that of an audit may name any desk
 abbrev pub IsOfDesk : ℕ → VoteFault → Type 0
 IsOfDesk desks Memory = Unit {0}
 IsOfDesk desks Thread = Unit {0}
@@ -57,11 +57,11 @@ IsAuditFaultOf poll lines s (Enter desk fault) = ⊥
 IsAuditFaultOf poll lines s (Desk fault) = ⊥
 IsAuditFaultOf poll lines s (Audit fault) = IsFaultOf poll lines s.ballot_box s.sheets fault
 
--- these are the sheets of so many desks, and the stamps of each rise
+-- these are the slips of so many desks, and the stamps of each desk rise
 abbrev pub AreSheetsOf : ℕ → List (List Slip) → Type 0
 AreSheetsOf desks sheets = (length sheets ≡ desks) × All Rises sheets
 
--- if it is an audit's, the audit finds it in a legal box with sheets of this kind
+-- if it is an audit's, the audit finds it in a legal box with slips of this kind
 abbrev pub IsFoundIn : (List (List Slip) → Type 0) → PollContent → List (List ℕ) → VoteFault → Type 0
 IsFoundIn Are poll lines (Audit fault) = (s : SealedState) × Are s.sheets × IsLegal s.ballot_box × IsFaultOf poll lines s.ballot_box s.sheets fault
 IsFoundIn Are poll lines other = Unit {0}

@@ -7,7 +7,7 @@ use std::fmt;
 use thiserror::Error;
 use vote_desks_box::{DeskFault, EnterFault};
 
-/// Where a box and its sheets are not what the lines give. Steps, and the slips of a sheet, are
+/// Where a box and its slips are not what the lines give. Steps, and the slips of a desk, are
 /// counted from 1.
 #[derive(Clone, Copy, Debug, PartialEq, Eq, Error)]
 pub enum AuditFault {
@@ -21,7 +21,7 @@ pub enum AuditFault {
     /// This step is the first cast that does not have the reading of the line with its stamp.
     #[error("step {0} does not have the reading of its line")]
     StepDiffers(u64),
-    /// This desk is the least whose sheet is not the slips of its casts, and this is where the two
+    /// This desk is the least whose slips are not those of its casts, and this is where the two
     /// first differ.
     #[error("the sheet of desk {0} differs from its casts at slip {1}")]
     SlipDiffers(u8, u64),

@@ -273,9 +273,9 @@ fn serve<
 
 /// Takes the votes of all lines at desks 1 to `desks`.
 ///
-/// If it returns Ok, the box is audited for the poll and its lines, there is a sheet for each desk, and the stamps of each sheet
-/// rise. An error is one of those that may stop votes with this gate, and if it names a desk, one of these desks. If it is an
-/// audit's, there is a legal box with a sheet for each desk, the sheets rise, and the audit finds it there.
+/// If it returns Ok, the box is audited for the poll and its lines, each desk has handed in its slips, and their stamps rise. An
+/// error is one of those that may stop votes with this gate; that of a gate or of a cast names one of these desks. If it is an
+/// audit's, there is a legal box with rising slips of each desk, and the audit finds it there.
 pub fn take_votes<G: Gate + Sync, R: Threads + Wait + Sync>(
     rt: &R,
     alloc: Global,

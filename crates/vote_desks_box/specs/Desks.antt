@@ -109,7 +109,7 @@ HasSlipsForCasts s = sum_by length s.sheets ≡ count_by is_cast s.ballot_box.st
 abbrev pub slips_of : {Z : Type 0} → Vec DeskState Z → List (List Slip)
 slips_of desks = map (λ desk. desk.slips) desks.items
 
--- the slips on these sheets, in their order
+-- the lists of slips, in their order
 abbrev pub slips_on : {Z : Type 0} → List (Vec Slip Z) → List (List Slip)
 slips_on sheets = map vec_items sheets
 
@@ -125,6 +125,6 @@ AreSlipsInOrder desks sheets = IsPermutation (map (λ desk. (desk.number, desk.s
 abbrev pub AreAllDesks : {Z : Type 0} → Vec DeskState Z → ℕ → Type 0
 AreAllDesks desks count = IsPermutation (map (λ desk. desk.number) desks.items) (range_with_len 1 count)
 
--- the sheet of a desk, which is empty where there is none
+-- the slips of a desk, none if it handed in none
 abbrev pub sheet_at : List (List Slip) → ℕ → List Slip
 sheet_at sheets desk = unwrap_or (slice_get sheets (desk - 1)) []

@@ -4,3 +4,4 @@ pub mod Unread
 pub mod WordStatus
 pub mod Doing
 pub mod Answering
+pub mod SheetOfFiles

@@ -4,6 +4,7 @@ ghost use Rattle.std.specs.Prelude.{◌≡◌, ◌<◌, ◌↔◌, None, Some, l
 ghost use Rattle.vote_job_words.specs.Words.{texts_of};
 ghost use Rattle.vote_job_files.specs.Answering.{AnswersJoined, AnswersWorded, AnswersWords};
 ghost use Rattle.vote_job_files.specs.Doing.{written_by};
+ghost use Rattle.vote_job_files.specs.SheetOfFiles.{WritesTheSheet};
 ghost use Rattle.vote_job_files.specs.WordStatus.{order_status};
 
 use crate::doing::{carry_out, print_joined};
@@ -101,6 +102,8 @@ pub fn answer<
     sink: &mut W,
 ) -> u8
     requires unanswered { note.old ≡ None }
+    ensures sheet { 0 < length words.now
+        → WritesTheSheet (S.file_bytes files.now) (texts_of words.now) (written_by W.contents W.flushed sink.old sink.new) result }
     ensures alone { length words.now ≡ 0 → AnswersJoined (I.standard_bytes input.now) (written_by W.contents W.flushed sink.old sink.new) result }
     ensures worded { 0 < length words.now
         → AnswersWorded (S.file_bytes files.now) (texts_of words.now) (written_by W.contents W.flushed sink.old sink.new) result }

@@ -33,11 +33,11 @@ HasNumber rows name n = (text : Text) × (one_of name rows ≡ Some text) × IsN
 abbrev pub HasDesks : List Row → ℕ → Type 0
 HasDesks rows desks = (1 ≤ desks) × (desks ≤ MAX_DESKS) × HasNumber rows (codes "desks") desks
 
--- the name stands for standard input or a pipe, which a later command can't read again
+-- a later command may not read the same bytes by this name: it is a stream, or `-`, which is a file to debvote, and standard input to other programs
 abbrev pub is_stream : Text → Bool
 is_stream name = bytes_eq name (codes "-") || bytes_eq name (codes "/dev/stdin") || starts_with nat_eq name (codes "/dev/fd/")
 
--- the name of a file that a later command can read
+-- any other name
 abbrev pub told_name : Text → Option Text
 told_name name = if is_stream name then None else Some name
 

@@ -281,14 +281,14 @@ fn text_given<'a>(given: &ArgMatches<'a>, id: &str) -> Option<&'a str>
     given.get_str(id)
 }
 
-/// Whether a name stands for standard input or a pipe, which a later command can't read again.
+/// Whether a later command may read other bytes by this name: a stream, or `-`, which other programs take for standard input.
 fn is_stream(name: &[u8]) -> bool
     ensures { result ≡ is_stream name.now }
 {
     name == b"-".as_slice() || name == b"/dev/stdin".as_slice() || name.starts_with(b"/dev/fd/")
 }
 
-/// The name of a file that a later command can read.
+/// Any other name.
 fn told_name(name: &str) -> Option<&str>
     ensures { option_copied result ≡ told_name name.now }
 {

@@ -45,7 +45,7 @@ pub record IsNamed (poll : PollContent) (named : Option Text) (option : Option �
   pub option_is : option ≡ casting_option poll named
   pub range : IfSome option (IsOption (option_count poll))
 
--- Allowed are both: the votes are taken, or a fault of theirs stops them that they can have at so many desks, by a gate that may stop these. A fault of the audit is one that it finds in some legal box of these lines, with a sheet for each desk.
+-- Allowed are both: the votes are taken, or a fault of theirs stops them that they can have at so many desks, by a gate that may stop these. A fault of the audit is one that it finds in some legal box of these lines, with the slips of each desk.
 abbrev pub StopsAtVotes : (ℕ → Bool) → ℕ → PollContent → List Text → Option RunFault → Type 0
 StopsAtVotes bars desks poll lines (Some (run.Vote fault)) =
     (fault ≢ vote.Memory) × CanStopVotes bars fault × IsOfDesk desks fault × IsFoundIn (AreSheetsOf desks) poll lines fault
@@ -69,7 +69,7 @@ ended_by_verification verification.Differs = ended.Differs
 ended_by_verification verification.Matches = ended.Done
 ended_by_verification (verification.MatchesCasting option) = ended.Done
 
--- this is an audited box of the lines of the inputs, with a sheet for each of their desks, whose stamps rise
+-- this is an audited box of the lines of the inputs, with the slips of each of their desks, whose stamps rise
 pub record IsCountedIn (inputs : Inputs) (sealed : SealedState) : Type 0 where
   pub poll : PollContent
   pub meant : poll_in inputs.poll ≡ Ok poll
