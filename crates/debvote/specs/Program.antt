@@ -1,15 +1,15 @@
 -- The exit status that the program answers to its words.
 use Rattle.std.specs.Prelude.{◌≡◌, ◌<◌, ◌⊎◌, ℕ, List, Option, None, Some, drop, length}
 use Rattle.std.proofs.Common.{Bor}
-use Rattle.vote_job_words.specs.Words.{texts_of}
-use Rattle.vote_job_words.specs.declared.OrderFault.{OrderFault}
-use Rattle.vote_job_words.specs.declared.OrderFault.TheVariants.{NotUtf8, Memory}
-use Rattle.vote_job_files.specs.Answering.{AnswersJoined, AnswersWorded}
-use Rattle.vote_job_files.specs.Doing.{Written}
-use Rattle.vote_job_files.specs.WordStatus.{order_status}
+use Rattle.vote_command_line.specs.Words.{texts_of}
+use Rattle.vote_command_line.specs.declared.ArgsFault.{ArgsFault}
+use Rattle.vote_command_line.specs.declared.ArgsFault.TheVariants.{NotUtf8, Memory}
+use Rattle.vote_program.specs.ProgramAnswers.{AnswersJoined, AnswersWorded}
+use Rattle.vote_program.specs.RequestEnds.{Written}
+use Rattle.vote_program.specs.ArgsStatus.{args_status}
 
 -- the system gives words that are not UTF-8, or more than there is memory for
-abbrev pub AreNotGiven : OrderFault → Type 0
+abbrev pub AreNotGiven : ArgsFault → Type 0
 AreNotGiven fault = (fault ≡ NotUtf8) ⊎ (fault ≡ Memory)
 
 -- this is answered, for some output, to these words, or without any to a joined input, where files and standard input tell these bytes
@@ -22,4 +22,4 @@ Answers file_bytes standard_bytes words answered =
 abbrev pub AnswersRun : (List ℕ → Option (List ℕ)) → Option (List ℕ) → List (List ℕ) → Option ℕ → ℕ → Type 0
 AnswersRun file_bytes standard_bytes given noted answered =
     ((words : List (Bor (List ℕ))) × (texts_of words ≡ drop 1 given) × Answers file_bytes standard_bytes words answered × (noted ≡ Some answered))
-    ⊎ ((answered ≡ order_status Memory) × (noted ≡ None))
+    ⊎ ((answered ≡ args_status Memory) × (noted ≡ None))

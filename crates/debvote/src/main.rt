@@ -7,11 +7,11 @@
 //! standard input, joined by a line `%%`, and acts as `steps`.
 //!
 //! The program gives its words, the files and the standard input of the system, which can be read and nothing else, and standard
-//! output to one call of `vote_job_files`, which answers them.
+//! output to one call of `vote_program`, which answers them.
 #![tactic(auto)]
 
 ghost use Rattle.std.specs.Prelude.{◌≡◌, None, Some, IfErr, IfOk, drop, map, string_bytes};
-ghost use Rattle.vote_job_words.specs.Words.{texts_of};
+ghost use Rattle.vote_command_line.specs.Words.{texts_of};
 ghost use Rattle.debvote.specs.Program.{Answers, AnswersRun, AreNotGiven};
 
 use std::alloc::{AllocError, Global};
@@ -23,18 +23,18 @@ use std::sync::Wait;
 use std::sync::ledger::{Blank, Ledger};
 use std::thread::Threads;
 use std::{env, io};
+use vote_command_line::ArgsFault;
 use vote_files::{Meter, ReadableFiles, ReadableInput, Sources, StandardInput, WriterSink};
-use vote_job_files::{StatusNote, answer, refuse};
-use vote_job_words::OrderFault;
+use vote_program::{StatusNote, answer, refuse};
 
 /// The words of the run, the first of which is the program's name, as the system gives them: which they are, no contract of std says.
-fn words_given<R: Env + AllocGlobal>(rt: &R) -> Result<Vec<String>, OrderFault>
+fn words_given<R: Env + AllocGlobal>(rt: &R) -> Result<Vec<String>, ArgsFault>
     ensures { IfErr result AreNotGiven }
 {
     match env::args(rt) {
         Ok(args) => Ok(args.collect(rt.alloc())?),
-        Err(error) if error.kind() == ErrorKind::InvalidData => Err(OrderFault::NotUtf8),
-        Err(_) => Err(OrderFault::Memory),
+        Err(error) if error.kind() == ErrorKind::InvalidData => Err(ArgsFault::NotUtf8),
+        Err(_) => Err(ArgsFault::Memory),
     }
 }
 
@@ -104,7 +104,7 @@ fn run_program<
             note,
             Blank::new(2),
         ),
-        Err(fault) => refuse(rt, &OrderFault::from(fault)),
+        Err(fault) => refuse(rt, &ArgsFault::from(fault)),
     }
 }
 

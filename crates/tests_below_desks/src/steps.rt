@@ -186,7 +186,7 @@ fn count_of(ballot_box: &BallotBox, wanted: Reply) -> usize {
 // Whether a box of these numbers says that nothing was done yet.
 fn is_new(ballot_box: &BallotBox, limit: u32, last: u32) -> bool {
     ballot_box.limit() == limit
-        && ballot_box.last_envelope() == last
+        && ballot_box.last_in_time() == last
         && ballot_box.is_open()
         && ballot_box.steps().is_empty()
         && ballot_box.standing(0).is_none()

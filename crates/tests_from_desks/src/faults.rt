@@ -3,8 +3,8 @@
 use crate::inputs::assert_same;
 use std::alloc::{AllocError, Global};
 use std::test::Fail;
+use vote_commands::{Ended, InputFault, InputFile, RunFault, status};
 use vote_desks::{AuditFault, DeskFault, EnterFault, VoteFault};
-use vote_jobs::{Ended, InputFault, InputFile, RunFault, status};
 use vote_poll::{PollFault, PollKey};
 
 /// How runs end, and their exit statuses.

@@ -3,7 +3,7 @@
 //!
 //! Those of the calls up to the box are in `tests_below_desks`. A module has the tests of one crate and is named by it, as `sheet` by
 //! `vote_sheet`; `desks` has those of `vote_desks_box` and of the audit, `votes` the others of `vote_desks`, `faults` more of
-//! `vote_jobs`, `reports` those of `vote_job_files`, and `inputs` what several of them read. It names public calls alone.
+//! `vote_commands`, `reports` those of `vote_program`, and `inputs` what several of them read. It names public calls alone.
 
 #![tactic(auto)]
 

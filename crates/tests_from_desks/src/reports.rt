@@ -6,10 +6,10 @@ use std::cell::Cell;
 use std::fmt::Display;
 use std::io;
 use std::test::Fail;
+use vote_commands::{Ended, InputFault, InputFile, RunFault};
 use vote_desks::{AuditFault, DeskFault, EnterFault, VoteFault};
-use vote_job_files::report;
-use vote_jobs::{Ended, InputFault, InputFile, RunFault};
 use vote_poll::{PollFault, PollKey};
+use vote_program::report;
 
 /// A standard error that keeps the last line, and counts them.
 #[derive(Drop)]

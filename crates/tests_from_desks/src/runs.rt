@@ -1,12 +1,12 @@
 //! What no clause says: that runs succeed. And writers that fail, gates that stop a desk, and memory and threads that may be
 //! refused.
 //!
-//! Each test `memory_of_perform_on_..` and `threads_of_perform_on_..` has `perform_on` do one job, on a writer with room. It ends well where the call gave its
+//! Each test `memory_of_perform_on_..` and `threads_of_perform_on_..` has `perform_on` do one request, on a writer with room. It ends well where the call gave its
 //! whole right answer, and says `refused` where the call answered its want of memory or of a thread, with nothing written. So
 //! whoever runs it with one growth or one start refused after another sees whether any other answer comes.
 
 ghost use Rattle.std.specs.Prelude.{◌≡◌};
-ghost use Rattle.vote_work.specs.Asked.{DesksFit};
+ghost use Rattle.vote_request.specs.Requests.{DesksFit};
 ghost use Rattle.vote_steps.specs.Desks.{AreDesks};
 
 use crate::inputs::{BALLOTS, CYCLE, SHEET, assert_same, lines_of, poll_of};
@@ -18,13 +18,14 @@ use std::sync::Wait;
 use std::sync::ledger::{Blank, Ledger};
 use std::test::Fail;
 use std::thread::Threads;
+use vote_commands::{
+    Ended, LoadedRequest, RunFault, perform_on, print_steps, run, sheet, split_joined, status,
+    steps_joined,
+};
 use vote_desks::{Gate, NoGate, Slip, VoteFault, take_votes};
 use vote_files::{Meter, WriterSink};
-use vote_jobs::{
-    Ended, Job, RunFault, perform_on, print_steps, run, sheet, split_joined, status, steps_joined,
-};
 use vote_poll::{Lines, Poll};
-use vote_work::{Listing, Purpose, Work};
+use vote_request::{Listing, Purpose, Request};
 
 /// A writer in memory that takes so many bytes at once, fails once it holds as many as its limit, and counts its flushes.
 #[derive(Drop)]
@@ -85,14 +86,14 @@ fn written_of_cycle<R: Threads + Wait + Sync>(
     paper.at_once = at_once;
     paper.limit = limit;
     paper.can_flush = can_flush;
-    let job = Work::Count {
+    let request = Request::Count {
         poll: CYCLE.as_bytes(),
         ballots: BALLOTS.as_bytes(),
         desks: 1,
         casting: None,
         purpose: Purpose::Sheet,
     };
-    let (paper, done) = perform_on(rt, alloc, &job, &NoGate, paper);
+    let (paper, done) = perform_on(rt, alloc, &request, &NoGate, paper);
     let ended = done.end;
     let is_front = SHEET.as_bytes().starts_with(paper.written.as_slice());
     let flushed = (paper.flushes, paper.is_flushed);
@@ -200,18 +201,18 @@ impl Gate for StopsAt {
     fn after(&self, _desk: u8, _slip: &Slip) {}
 }
 
-/// Does a job on a paper with room: whether this text is written, how much is, and how the job ends.
+/// Performs a request on a paper with room: whether this text is written, how much is, and how the run ends.
 fn performed<G: Gate + Sync, R: Threads + Wait + Sync>(
     rt: &R,
     alloc: Global,
-    job: &Job<'_>,
+    request: &LoadedRequest<'_>,
     gate: &G,
     text: &str,
 ) -> Result<(bool, usize, Result<Ended, RunFault>), AllocError>
-    requires { DesksFit job.now }
+    requires { DesksFit request.now }
 {
     let paper = endless(alloc)?;
-    let (paper, done) = perform_on(rt, alloc, job, gate, paper);
+    let (paper, done) = perform_on(rt, alloc, request, gate, paper);
     let ended = done.end;
     let is_text = paper.written.as_slice() == text.as_bytes();
     let len = paper.written.len();
@@ -228,14 +229,14 @@ fn ended_through<R: Threads + Wait + Sync>(
 ) -> Result<(usize, Result<Ended, RunFault>), AllocError>
     requires { AreDesks desks }
 {
-    let job = Work::Count {
+    let request = Request::Count {
         poll: CYCLE.as_bytes(),
         ballots: BALLOTS.as_bytes(),
         desks,
         casting: None,
         purpose: Purpose::Sheet,
     };
-    let (_, len, ended) = performed(rt, alloc, &job, &gate, SHEET)?;
+    let (_, len, ended) = performed(rt, alloc, &request, &gate, SHEET)?;
     Ok((len, ended))
 }
 
@@ -249,17 +250,17 @@ fn a_gate_stops_a_count(rt: HostRuntime) -> Result<(), Fail> {
     Ok(())
 }
 
-/// The fault by which a job is refused, with nothing written and status 5, or none where it is done right.
+/// The fault by which a request is refused, with nothing written and status 5, or none where it is performed right.
 fn fault_of<R: Threads + Wait + Sync>(
     rt: &R,
     alloc: Global,
-    job: &Job<'_>,
+    request: &LoadedRequest<'_>,
     text: &str,
     end: Ended,
 ) -> Result<Option<RunFault>, Fail>
-    requires { DesksFit job.now }
+    requires { DesksFit request.now }
 {
-    let (is_text, len, ended) = performed(rt, alloc, job, &NoGate, text)?;
+    let (is_text, len, ended) = performed(rt, alloc, request, &NoGate, text)?;
     match ended {
         Ok(found) if found == end && is_text => Ok(None),
         Err(fault) if len == 0 && status(&ended) == 5 => Ok(Some(fault)),
@@ -267,17 +268,17 @@ fn fault_of<R: Threads + Wait + Sync>(
     }
 }
 
-/// Ends well where the job is done right, and says `refused` where memory was, or a thread.
+/// Ends well where the request is performed right, and says `refused` where memory was, or a thread.
 fn walk<R: Threads + Wait + Sync>(
     rt: &R,
     alloc: Global,
-    job: &Job<'_>,
+    request: &LoadedRequest<'_>,
     text: &str,
     end: Ended,
 ) -> Result<(), Fail>
-    requires { DesksFit job.now }
+    requires { DesksFit request.now }
 {
-    match fault_of(rt, alloc, job, text, end)? {
+    match fault_of(rt, alloc, request, text, end)? {
         None => Ok(()),
         Some(RunFault::Memory) => Err(Fail::from("refused")),
         Some(RunFault::Vote(VoteFault::Thread)) => Err(Fail::from("refused a thread")),
@@ -287,14 +288,14 @@ fn walk<R: Threads + Wait + Sync>(
 
 /// The count of the cycle at two desks.
 fn walk_count<R: Threads + Wait + Sync>(rt: &R, alloc: Global) -> Result<(), Fail> {
-    let job = Work::Count {
+    let request = Request::Count {
         poll: CYCLE.as_bytes(),
         ballots: BALLOTS.as_bytes(),
         desks: 2,
         casting: None,
         purpose: Purpose::Sheet,
     };
-    walk(rt, alloc, &job, SHEET, Ended::Decided(1))
+    walk(rt, alloc, &request, SHEET, Ended::Decided(1))
 }
 
 #[test]
@@ -309,31 +310,31 @@ fn threads_of_perform_on_count(rt: HostRuntime) -> Result<(), Fail> {
 
 #[test]
 fn memory_of_perform_on_steps(rt: HostRuntime) -> Result<(), Fail> {
-    let job = Work::List {
+    let request = Request::List {
         poll: CYCLE.as_bytes(),
         ballots: b"v0 1,2\nv1 1,2,3,4\nv1 4,3,2,1",
         listing: Listing::Steps,
     };
     let replies = "1 bad rank count\n2 counted\n3 replaced\n";
-    walk(&rt, rt.alloc(), &job, replies, Ended::Done)
+    walk(&rt, rt.alloc(), &request, replies, Ended::Done)
 }
 
 #[test]
 fn memory_of_perform_on_standing(rt: HostRuntime) -> Result<(), Fail> {
-    let job = Work::List {
+    let request = Request::List {
         poll: CYCLE.as_bytes(),
         ballots: b"v1 1,2,3,4\nv0 -,2,99,1\nv1 4,3,2,1",
         listing: Listing::Standing,
     };
     let standing = "v0 -,2,99,1\nv1 4,3,2,1\n";
-    walk(&rt, rt.alloc(), &job, standing, Ended::Done)
+    walk(&rt, rt.alloc(), &request, standing, Ended::Done)
 }
 
 /// The comparison of a sheet with the count of the cycle.
-fn verify(sheet: &'static [u8]) -> Job<'static>
+fn verify(sheet: &'static [u8]) -> LoadedRequest<'static>
     ensures { DesksFit result }
 {
-    Work::Count {
+    Request::Count {
         poll: CYCLE.as_bytes(),
         ballots: BALLOTS.as_bytes(),
         desks: 1,
@@ -350,7 +351,7 @@ fn memory_of_perform_on_verify(rt: HostRuntime) -> Result<(), Fail> {
 
 #[test]
 fn memory_of_perform_on_explain(rt: HostRuntime) -> Result<(), Fail> {
-    let job = Work::Explain {
+    let request = Request::Explain {
         poll: CYCLE.as_bytes(),
         ballots: Some(b"v0 1,2\nv1 1,2,3,4\r\n"),
         file: Some("my ballots"),
@@ -358,16 +359,16 @@ fn memory_of_perform_on_explain(rt: HostRuntime) -> Result<(), Fail> {
     };
     let findings =
         "the ballot file comes from Windows: carriage returns end its lines of bad shape; take them out with tr -d '\\r' < 'my ballots' > 'my ballots'.new\nballots:1: bad rank count: 2 ranks, the poll has 4 options; 2 are missing: ask the elector\nballots:2: bad shape: column 11: carriage return; the line ends with the last rank\na ballot line of this poll: v0 1,2,3,4\n2 lines: 0 valid, 2 refused, 0 of them late; 0 of 9 electors have a ballot\n";
-    walk(&rt, rt.alloc(), &job, findings, Ended::Found)
+    walk(&rt, rt.alloc(), &request, findings, Ended::Found)
 }
 
 #[test]
 fn memory_of_perform_on_check(rt: HostRuntime) -> Result<(), Fail> {
-    let job = Work::Check {
+    let request = Request::Check {
         poll: CYCLE.as_bytes(),
     };
     let sizes = "poll ok: 4 options, 9 electors\n";
-    walk(&rt, rt.alloc(), &job, sizes, Ended::Done)
+    walk(&rt, rt.alloc(), &request, sizes, Ended::Done)
 }
 
 /// A poll and its ballots in one input.
@@ -377,13 +378,13 @@ const JOINED: &[u8] =
 #[test]
 fn memory_of_perform_on_joined(rt: HostRuntime) -> Result<(), Fail> {
     let (poll, ballots) = split_joined(JOINED);
-    let job = Work::List {
+    let request = Request::List {
         poll,
         ballots,
         listing: Listing::Steps,
     };
     let replies = "1 counted\n2 counted\n3 replaced\n";
-    walk(&rt, rt.alloc(), &job, replies, Ended::Done)
+    walk(&rt, rt.alloc(), &request, replies, Ended::Done)
 }
 
 /// The sheet of a poll and its lines, whose votes are taken at two desks.

@@ -12,7 +12,7 @@ use Rattle.vote_poll.proofs.OptionLaws.{at_option-next}
 use Rattle.vote_count.specs.Votes.{Votes, votes}
 use Rattle.vote_count.specs.Changes.{AreTurns, Moves, kept_at, key_vote, sum_at, turn_of, votes_of}
 use Rattle.vote_count.specs.Rows.{vote_by}
-use Rattle.vote_count.specs.declared.running.RunningMatrix.TheInside.{Inside}
+use Rattle.vote_count.specs.declared.running_matrix.RunningMatrix.TheInside.{Inside}
 use Rattle.vote_count.proofs.Cells.{AreSortKeys, preferred_by_keys, votes_at}
 use Rattle.vote_count.proofs.Counts.{one_of}
 

@@ -4,7 +4,7 @@ use Rattle.std.specs.List.{range_with_len}
 use Rattle.vote_poll.specs.declared.TheConstants.{MAX_OPTIONS}
 use Rattle.vote_count.specs.Rows.{key_at, vote_by}
 use Rattle.vote_count.specs.Votes.{Votes, votes}
-use Rattle.vote_count.specs.declared.running.RunningMatrix.TheInside.{Inside}
+use Rattle.vote_count.specs.declared.running_matrix.RunningMatrix.TheInside.{Inside}
 
 -- the turn in which an option of the rows meets one of the columns: sixteen turns for each square of their halves
 abbrev pub turn_of : ℕ → ℕ → ℕ

@@ -41,7 +41,7 @@ mod options;
 mod pairs;
 mod rounds;
 mod rules;
-mod running;
+mod running_matrix;
 mod tally;
 
 pub use laws::{
@@ -56,5 +56,5 @@ pub use options::{OptionSet, Word};
 pub use pairs::{Chains, Defeats, reach};
 pub use rounds::{Cause, Decision, Round, Verdict, decide, outcome};
 pub use rules::{meets_majority, meets_quorum, quorum_votes, schwartz, standing_options, weakest};
-pub use running::RunningMatrix;
+pub use running_matrix::RunningMatrix;
 pub use tally::{Matrix, recount};

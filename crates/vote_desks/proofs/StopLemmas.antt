@@ -12,8 +12,8 @@ use Rattle.vote_desks_box.specs.Desks.{SealedState}
 use Rattle.vote_desks.specs.declared.fault.AuditFault.TheVariants.{SizeDiffers, CountDiffers, StepDiffers, SlipDiffers, ClosedEarly}
 use Rattle.vote_desks.specs.declared.fault.VoteFault.{VoteFault}
 use Rattle.vote_desks.specs.declared.fault.VoteFault.TheVariants.{Memory, Thread, Gate, Enter, Desk, Audit}
-use Rattle.vote_desks.specs.declared.worked.Stop.{Stop}
-use Rattle.vote_desks.specs.declared.worked.Stop.TheVariants.{Barred, Refused}
+use Rattle.vote_desks.specs.declared.worker_result.Stop.{Stop}
+use Rattle.vote_desks.specs.declared.worker_result.Stop.TheVariants.{Barred, Refused}
 use Rattle.vote_desks_box.specs.declared.EnterFault.{EnterFault}
 use Rattle.vote_desks_box.specs.declared.EnterFault.TheVariants.{StampUsed}
 use Rattle.vote_desks.specs.Faults.{CanStopAudit, CanStopCasts, CanStopVotes, IsOfDesk, IsAuditFaultOf, IsFoundIn}

@@ -2,8 +2,8 @@
 use Rattle.std.specs.Prelude.{◌≡◌, ℕ, Bool, ◌≤◌, ◌⊎◌, List, Option, Some, None, All, Contains, IsTrue}
 use Rattle.vote_desks_box.specs.declared.EnterFault.{EnterFault}
 use Rattle.vote_desks_box.specs.declared.EnterFault.TheVariants.{StampUsed}
-use Rattle.vote_desks.specs.declared.worked.Stop.{Stop}
-use Rattle.vote_desks.specs.declared.worked.Stop.TheVariants.{Barred, Refused}
+use Rattle.vote_desks.specs.declared.worker_result.Stop.{Stop}
+use Rattle.vote_desks.specs.declared.worker_result.Stop.TheVariants.{Barred, Refused}
 use Rattle.vote_desks.specs.declared.fault.VoteFault.{VoteFault}
 use Rattle.vote_desks.specs.declared.fault.VoteFault.TheVariants.{Memory, Gate, Enter}
 

@@ -5,8 +5,8 @@ use Rattle.vote_tray.specs.Passes.{TrayId, PassState}
 use Rattle.vote_desks_box.specs.declared.desk.Tally as Tally
 use Rattle.vote_desks_box.specs.Desks.{DeskState}
 use Rattle.vote_desks.specs.declared.work.WorkerPromise.{WorkerPromise}
-use Rattle.vote_desks.specs.declared.worked.Stop.{Stop}
-use Rattle.vote_desks.specs.declared.worked.WorkerResult.{WorkerResult}
+use Rattle.vote_desks.specs.declared.worker_result.Stop.{Stop}
+use Rattle.vote_desks.specs.declared.worker_result.WorkerResult.{WorkerResult}
 use Rattle.vote_desks.specs.Stops.{IsBarredBy}
 use Rattle.vote_desks.specs.Work.{tray_and_parts}
 

@@ -27,7 +27,7 @@ fn has_sizes(poll: &Poll, lines: &Lines<'_>, ballot_box: &BallotBox) -> bool
     ballot_box.options() == poll.options()
         && ballot_box.electors() == poll.electors()
         && ballot_box.limit() as usize == lines.len()
-        && ballot_box.last_envelope() == poll.last_in_time()
+        && ballot_box.last_in_time() == poll.last_in_time()
 }
 
 /// The number of casts of a closed box: it was closed once, and each other step is a cast.

@@ -31,7 +31,7 @@ mod no_gate;
 mod sheets;
 mod votes;
 mod work;
-mod worked;
+mod worker_result;
 
 pub use auditing::{AuditWitness, Audited, audit, compare};
 pub use fault::{AuditFault, VoteFault};

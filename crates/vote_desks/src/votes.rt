@@ -21,7 +21,7 @@ ghost use Rattle.vote_desks.specs.Workers.{AreBarredBy, numbers_back, numbers_of
 use crate::auditing::{Audited, audit};
 use crate::fault::VoteFault;
 use crate::work::{Gate, Workplace, work_all};
-use crate::worked::{Stop, WorkerResult};
+use crate::worker_result::{Stop, WorkerResult};
 use std::alloc::Global;
 use std::marker::Brand;
 use std::sync::ledger::Blank;
@@ -106,9 +106,9 @@ fn take_back<VL: Tally, RL: Tally, G: Gate>(
     hand_in(alloc, tray, all)
 }
 
-/// Has the desks cast all envelopes of the tray, and takes them back with one pass that all passes
-/// were joined into.
-fn cast_all<
+/// Runs a worker for each desk until the tray is empty, and takes the desks back, with one pass that
+/// all passes were joined into.
+fn run_workers<
     VL: Tally + Send + Sync,
     RL: Tally + Send + Sync,
     G: Gate + Sync,
@@ -133,8 +133,8 @@ fn cast_all<
     take_back::<VL, RL, G>(alloc, workplace.tray, all)
 }
 
-/// Has desks that have cast nothing cast all lines, and takes them back.
-fn cast_lines<
+/// Runs desks that have cast nothing until all lines are cast, and takes them back.
+fn run_desks<
     VL: Tally + Send + Sync,
     RL: Tally + Send + Sync,
     G: Gate + Sync,
@@ -174,7 +174,7 @@ fn cast_lines<
             tray: &tray,
             turn: &turn,
         };
-        cast_all(rt, alloc, &workplace, opened, passes)?
+        run_workers(rt, alloc, &workplace, opened, passes)?
     };
     tray.finish(joined);
     Ok(back)
@@ -267,7 +267,7 @@ fn serve<
         Ok(made) => made,
         Err(_) => return Err(VoteFault::Memory),
     };
-    let back = cast_lines(rt, alloc, poll, lines, gate, &shared, opened)?;
+    let back = run_desks(rt, alloc, poll, lines, gate, &shared, opened)?;
     gather_and_audit(rt, alloc, poll, lines, shared, back)
 }
 

@@ -10,7 +10,7 @@ ghost use Rattle.vote_desks.specs.Faults.{IsStartFault};
 
 use crate::batch::{BATCH, read_batch, take_batch};
 use crate::fault::VoteFault;
-use crate::worked::{Stop, WorkerResult};
+use crate::worker_result::{Stop, WorkerResult};
 use std::alloc::Global;
 use std::marker::PhantomData;
 use std::snapshot::Snapshot;
@@ -84,7 +84,7 @@ impl<VL: Tally, RL: Tally, G: Gate> Promise<WorkerResult<VL, RL>> for WorkerProm
 
 /// Casts the envelopes with these stamps, each as one step, until the gate or the box stops the
 /// desk. For more than one the desk has taken its turn.
-fn cast_each<VL: Tally, RL: Tally, G: Gate, R: Wait>(
+fn enter_envelopes<VL: Tally, RL: Tally, G: Gate, R: Wait>(
     rt: &R,
     workplace: &Workplace<'_, '_, VL, RL, G>,
     desk: &mut Desk<VL, RL>,
@@ -126,7 +126,7 @@ fn cast_each<VL: Tally, RL: Tally, G: Gate, R: Wait>(
 /// Each cast takes the lock of the box anew. Around a longer batch the desk takes its turn, so that
 /// the others wait once for the batch and not for each cast. To wait is what costs, and meanwhile
 /// the matrix stays with one processor.
-fn cast_batch<VL: Tally, RL: Tally, G: Gate, R: Wait>(
+fn enter_batch<VL: Tally, RL: Tally, G: Gate, R: Wait>(
     rt: &R,
     workplace: &Workplace<'_, '_, VL, RL, G>,
     desk: &mut Desk<VL, RL>,
@@ -150,14 +150,14 @@ fn cast_batch<VL: Tally, RL: Tally, G: Gate, R: Wait>(
     } else {
         None
     };
-    cast_each(rt, workplace, desk, stamps, readings, &turn)
+    enter_envelopes(rt, workplace, desk, stamps, readings, &turn)
 }
 
 /// Casts envelopes at one desk until the tray is empty, or the gate or the box stops the desk. It
 /// takes no memory.
 ///
 /// It takes a batch of envelopes at once, and reads all their lines before it casts the first.
-fn cast_batches<VL: Tally, RL: Tally, G: Gate, R: Wait>(
+fn desk_loop<VL: Tally, RL: Tally, G: Gate, R: Wait>(
     rt: &R,
     workplace: &Workplace<'_, '_, VL, RL, G>,
     desk: &mut Desk<VL, RL>,
@@ -183,7 +183,7 @@ fn cast_batches<VL: Tally, RL: Tally, G: Gate, R: Wait>(
         }
         let batch = &stamps[..count];
         read_batch(workplace.poll, workplace.lines, batch, &mut readings);
-        let stopped = cast_batch(rt, workplace, desk, batch, &readings);
+        let stopped = enter_batch(rt, workplace, desk, batch, &readings);
         if stopped.is_some() {
             return stopped;
         }
@@ -204,7 +204,7 @@ fn work<VL: Tally, RL: Tally, G: Gate, R: Wait>(
     ensures pass { (result.pass.tray ≡ pass.tray) × (result.pass.parts ≡ pass.parts) }
     ensures barred { IsBarredBy G.bars desk.number result.stopped }
 {
-    let stopped = cast_batches(rt, workplace, &mut desk, &mut pass);
+    let stopped = desk_loop(rt, workplace, &mut desk, &mut pass);
     WorkerResult {
         desk,
         pass,

@@ -8,6 +8,6 @@ pub mod Laws
 pub mod HeldLines
 pub mod Standing
 -- what types stand for, and what private functions say of their parts
-pub mod KeptReadings
+pub mod PackedReadings
 pub mod Keeping
 pub mod Receiving

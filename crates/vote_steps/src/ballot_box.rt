@@ -7,7 +7,7 @@ ghost use Rattle.vote_steps.specs.Boxes.{AddsCast, AddsClose, CountsRefused, Cou
 ghost use Rattle.vote_steps.specs.Totals.{totals_of};
 
 use crate::MAX_DESKS;
-use crate::kept::KeptReading;
+use crate::packed_reading::PackedReading;
 use crate::roll::Roll;
 use crate::step::{Received, Reply, Step};
 use std::alloc::{AllocError, Global};
@@ -173,7 +173,7 @@ impl BallotBox {
         let step = Step::Cast {
             desk,
             stamp,
-            reading: KeptReading::of(&reading),
+            reading: PackedReading::of(&reading),
             reply,
         };
         push_step(&mut self.steps, step);
@@ -273,7 +273,7 @@ impl BallotBox {
     }
 
     /// The greatest stamp that is not late.
-    pub fn last_envelope(&self) -> u32
+    pub fn last_in_time(&self) -> u32
         ensures same { result ≡ self.now.last_in_time }
         ensures at_most { result ≤ MAX_LINES }
     {

@@ -26,14 +26,14 @@
 
 mod ballot_box;
 mod casting;
-mod kept;
 pub mod laws;
+mod packed_reading;
 mod roll;
 mod step;
 
 pub use ballot_box::{AlreadyClosed, BallotBox, StepFault, Totals};
 pub use casting::cast_all;
-pub use kept::KeptReading;
+pub use packed_reading::PackedReading;
 pub use step::{Received, Reply, Step};
 
 /// The most desks at which envelopes are cast. Desks are numbered from 1.

@@ -1,5 +1,5 @@
 //! The steps of a ballot box, and the replies to its casts.
-use crate::kept::KeptReading;
+use crate::packed_reading::PackedReading;
 use vote_poll::{LineFault, Ranks};
 
 /// What a cast is answered: the first of these that fits, in the order `BoxClosed`, `Late`, `BadLine`, `Superseded`,
@@ -31,7 +31,7 @@ pub enum Step {
         /// Its stamp, from 1 to the limit of the box.
         stamp: u32,
         /// What the poll reads in its line.
-        reading: KeptReading,
+        reading: PackedReading,
         /// What the cast was answered.
         reply: Reply,
     },

@@ -1,5 +1,5 @@
 use Rattle.std.proofs.Common.{◌≡◌, map, string_bytes, take}
-use Rattle.vote_job_words.specs.Words.{texts_of}
+use Rattle.vote_command_line.specs.Words.{texts_of}
 use Rattle.debvote.proofs.borrowed.Given as goal
 
 -- the words before this one are borrowed

@@ -1,6 +1,6 @@
 use Rattle.std.proofs.Common.{rules, ◌≡◌, ◌∙◌, ap, inl, map, string_bytes, sym}
 use Rattle.std.proofs.lemmas.List.{drop-map}
-use Rattle.vote_job_words.specs.Words.{texts_of}
+use Rattle.vote_command_line.specs.Words.{texts_of}
 use Rattle.debvote.proofs.run_program.Goals as goal
 
 pub returns-in-Ok : goal.returns-in-Ok

@@ -1,0 +1,6 @@
+-- what the contracts of public calls say
+pub mod CommandLine
+pub mod ParsedArgs
+pub mod Words
+-- what private functions say of their parts
+pub mod Subcommands

@@ -1,0 +1,13 @@
+-- what the contracts of public calls say
+pub mod Inputs
+pub mod TextAndEnd
+pub mod Joined
+pub mod Runs
+pub mod Counting
+pub mod TakenVotes
+pub mod Explaining
+pub mod Performing
+pub mod Status
+pub mod Words
+-- what private functions say of their parts
+pub mod Reading

@@ -1,0 +1,41 @@
+-- The votes of the inputs, taken: what each run that counts begins with.
+use Rattle.std.specs.Prelude.{◌≡◌, ◌≢◌, ℕ, Bool, List, All, Some, IfSome, Ok, length}
+use Rattle.vote_poll_text.specs.Lines.{HasTooManyLines, lines_of}
+use Rattle.vote_poll.specs.Options.{IsOption}
+use Rattle.vote_poll.specs.PollContent.{PollContent, option_count}
+use Rattle.vote_poll.specs.PollFile.{poll_in}
+use Rattle.vote_desks_box.specs.Slips.{Rises}
+use Rattle.vote_desks.specs.Audit.{IsAudited}
+use Rattle.vote_desks.specs.declared.Audited.{Audited}
+use Rattle.vote_sheet.specs.Texts.{Text}
+use Rattle.vote_commands.specs.Counting.{IsNamed, StopsCount}
+use Rattle.vote_commands.specs.Inputs.{Inputs}
+use Rattle.vote_commands.specs.Runs.{Stops}
+use Rattle.vote_commands.specs.declared.fault.RunFault.{RunFault}
+use Rattle.vote_commands.specs.declared.fault.RunFault.TheVariants as run
+use Rattle.vote_commands.specs.declared.votes.TakenVotes.{TakenVotes}
+
+-- the box is audited for its poll and its lines, and the casting vote is for an option of the poll
+pub record CanBeCounted (taken : TakenVotes) : Type 0 where
+  pub audited : IsAudited taken.poll taken.lines taken.audited.ballot_box taken.audited.sheets
+  pub range : IfSome taken.casting (IsOption (option_count taken.poll))
+
+-- the lines of the inputs, and a box that is audited for them and this poll, with a sheet for each of so many desks, whose
+-- stamps rise
+pub record AreBallotsTaken (poll : PollContent) (inputs : Inputs) (taken : List Text × Audited) : Type 0 where
+  pub lines : taken.0 ≡ lines_of inputs.ballots
+  pub few : ¬ HasTooManyLines inputs.ballots
+  pub audited : IsAudited poll taken.0 taken.1.ballot_box taken.1.sheets
+  pub desks : length taken.1.sheets ≡ inputs.desks
+  pub rising : All Rises taken.1.sheets
+
+-- the poll of the inputs, the option of it that is named, and those of its ballots
+pub record AreTaken (inputs : Inputs) (taken : TakenVotes) : Type 0 where
+  pub poll : poll_in inputs.poll ≡ Ok taken.poll
+  pub casting : IsNamed taken.poll inputs.casting taken.casting
+  pub ballots : AreBallotsTaken taken.poll inputs (taken.lines, taken.audited)
+
+-- the votes of the inputs are not taken, for this fault, and nothing was written
+pub record StopsTaking (bars : ℕ → Bool) (inputs : Inputs) (fault : RunFault) : Type 0 where
+  pub stops : Stops (StopsCount bars inputs) (Some fault)
+  pub unwritten : fault ≢ run.Output

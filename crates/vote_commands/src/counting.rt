@@ -1,0 +1,159 @@
+//! The runs that count: the sheet of a poll file and a ballot file, and what else is made of the same count.
+
+ghost use Rattle.std.specs.Prelude.{◌≡◌, ◌≢◌, ◌<◌, ◌↔◌, true, Err, IfOk, IsErrOf, OnOk};
+ghost use Rattle.std.specs.Result.{result_err};
+ghost use Rattle.vote_steps.specs.Desks.{AreDesks};
+ghost use Rattle.vote_commands.specs.Counting.{IsCountFor, IsCountedIn, IsMade, StopsCount, ended_by_decision, ended_by_verification};
+ghost use Rattle.vote_commands.specs.Inputs.{inputs_at};
+ghost use Rattle.vote_commands.specs.Performing.{Counts};
+ghost use Rattle.vote_commands.specs.Runs.{Stops};
+ghost use Rattle.vote_commands.specs.TakenVotes.{CanBeCounted};
+
+use crate::fault::{Ended, RunFault};
+use crate::finished_run::{FinishedRun, unaudited};
+use crate::output::{RunText, write_run};
+use crate::votes::{CountInputs, TakenVotes, take_inputs};
+use std::alloc::{AllocError, Global};
+use std::sync::Wait;
+use std::thread::Threads;
+use vote_count::Decision;
+use vote_desks::{AuditWitness, Gate};
+use vote_files::Sink;
+use vote_request::Purpose;
+use vote_sheet::{Verification, picture_of_box, sheet_of_box, verify_sheet};
+
+/// How a count ends that is decided so.
+fn ended_by_decision(decision: Decision) -> Ended
+    ensures { result ≡ ended_by_decision decision }
+{
+    match decision {
+        Decision::Winner(option) => Ended::Decided(option),
+        Decision::Tie => Ended::Tie,
+        Decision::CastingOutside(option) => Ended::CastingOutside(option),
+    }
+}
+
+/// How a run ends that finds this of a published sheet.
+fn ended_by_verification(found: Verification) -> Ended
+    ensures { result ≡ ended_by_verification found }
+{
+    match found {
+        Verification::Matches | Verification::MatchesCasting(_) => Ended::Done,
+        Verification::Differs => Ended::Differs,
+    }
+}
+
+/// The text that the votes were taken for.
+fn text_of_taken(
+    alloc: Global,
+    taken: &TakenVotes<'_>,
+    purpose: Purpose<&[u8]>,
+) -> Result<RunText, AllocError>
+    requires { CanBeCounted taken.now }
+    ensures { IfOk result (IsMade purpose.entry taken.now.poll taken.now.lines taken.now.casting) }
+{
+    let TakenVotes {
+        poll,
+        lines,
+        casting,
+        audited,
+    } = taken;
+    let ballot_box = audited.ballot_box();
+    match purpose {
+        Purpose::Sheet => {
+            let (text, decision) = sheet_of_box(alloc, poll, lines, ballot_box, *casting)?;
+            let ended = ended_by_decision(decision);
+            Ok(RunText { text, ended })
+        }
+        Purpose::Picture => {
+            let (text, decision) = picture_of_box(alloc, poll, lines, ballot_box, *casting)?;
+            let ended = ended_by_decision(decision);
+            Ok(RunText { text, ended })
+        }
+        Purpose::Verification(sheet) => {
+            let (text, found) = verify_sheet(alloc, poll, lines, ballot_box, sheet)?;
+            let ended = ended_by_verification(found);
+            Ok(RunText { text, ended })
+        }
+    }
+}
+
+/// The text of a count of the inputs, and the witness of its audit.
+fn count_inputs<G: Gate + Sync, R: Threads + Wait + Sync>(
+    rt: &R,
+    alloc: Global,
+    inputs: &CountInputs<'_>,
+    purpose: Purpose<&[u8]>,
+    gate: &G,
+) -> Result<(RunText, AuditWitness), RunFault>
+    requires { AreDesks inputs.now.desks }
+    ensures counted { IfOk result (λ counted. IsCountFor purpose.entry inputs.now counted.0) }
+    ensures desks { IfOk result (λ counted. IsCountedIn inputs.now counted.1) }
+    ensures stops { Stops (StopsCount G.bars inputs.now) (result_err result) }
+    ensures unwritten { result ≢ Err RunFault.Output }
+{
+    let taken = match take_inputs(rt, alloc, inputs, gate) {
+        Ok(taken) => taken,
+        Err(fault) => return Err(fault),
+    };
+    let text = text_of_taken(alloc, &taken, purpose)?;
+    Ok((text, taken.audited.witness()))
+}
+
+/// Takes the votes of a ballot file at so many desks, and writes what they are taken for, with the option that the casting vote
+/// names. A run that is stopped has written nothing, but for one whose output fails, which has written a prefix.
+#[tactic(auto, using(crate::proofs::Stopping::stops_at_output))]
+pub fn count_for<G: Gate + Sync, W: Sink, R: Threads + Wait + Sync>(
+    rt: &R,
+    alloc: Global,
+    inputs: &CountInputs<'_>,
+    purpose: Purpose<&[u8]>,
+    gate: &G,
+    sink: &mut W,
+) -> FinishedRun
+    requires { AreDesks inputs.now.desks }
+    ensures counts { Counts G.bars purpose.entry inputs.now (W.contents sink.old) (W.contents sink.new) result }
+    ensures output { IsErrOf result.end RunFault.Output ↔ (W.faults sink.old < W.faults sink.new) }
+    ensures flushed { OnOk result.end (W.flushed sink.new ≡ true) }
+{
+    let (counted, witness) = match count_inputs(rt, alloc, inputs, purpose, gate) {
+        Ok(counted) => counted,
+        Err(fault) => return unaudited(Err(fault)),
+    };
+    match write_run(sink, counted.text.as_bytes()) {
+        Ok(()) => FinishedRun {
+            end: Ok(counted.ended),
+            audited: Some(witness),
+        },
+        Err(fault) => unaudited(Err(fault)),
+    }
+}
+
+/// Takes the votes of a ballot file at so many desks, each in a thread of its own, and writes the sheet of the audited box,
+/// with the option that the casting vote names. Nothing is written before the sheet is whole.
+///
+/// For callers of the library; the program calls `perform`.
+pub fn run<G: Gate + Sync, W: Sink, R: Threads + Wait + Sync>(
+    rt: &R,
+    alloc: Global,
+    poll_text: &[u8],
+    ballots: &[u8],
+    desks: u8,
+    casting: Option<&[u8]>,
+    gate: &G,
+    sink: &mut W,
+) -> FinishedRun
+    requires { AreDesks desks }
+    ensures counts { let inputs = inputs_at poll_text.entry ballots.entry desks casting.entry in
+        Counts G.bars Purpose.Sheet inputs (W.contents sink.old) (W.contents sink.new) result }
+    ensures output { IsErrOf result.end RunFault.Output ↔ (W.faults sink.old < W.faults sink.new) }
+    ensures flushed { OnOk result.end (W.flushed sink.new ≡ true) }
+{
+    let inputs = CountInputs {
+        poll: poll_text,
+        ballots,
+        desks,
+        casting,
+    };
+    count_for(rt, alloc, &inputs, Purpose::Sheet, gate, sink)
+}

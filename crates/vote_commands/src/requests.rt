@@ -1,0 +1,117 @@
+//! What the program does with the bytes of its inputs.
+
+ghost use Rattle.std.specs.Prelude.{◌≡◌, ◌<◌, ◌↔◌, true, IsErrOf, OnOk};
+ghost use Rattle.std.specs.Result.{result_err};
+ghost use Rattle.vote_request.specs.Requests.{DesksFit};
+ghost use Rattle.vote_commands.specs.Performing.{EndsDone, Performs, TellsNoBox};
+
+use crate::checking::check_poll;
+use crate::counting::count_for;
+use crate::explaining::explain;
+use crate::fault::{Ended, RunFault};
+use crate::finished_run::{FinishedRun, unaudited};
+use crate::listing::print_listing;
+use crate::votes::CountInputs;
+use std::alloc::Global;
+use std::io::Write;
+use std::marker::Brand;
+use std::sync::Wait;
+use std::sync::ledger::{Blank, Ledger};
+use std::thread::Threads;
+use vote_desks::Gate;
+use vote_files::{Meter, Sink, WriterSink};
+use vote_request::Request;
+
+/// A request with the bytes of its files.
+pub type LoadedRequest<'a> = Request<'a, &'a [u8]>;
+
+/// How a run ends that decides nothing.
+fn ended_as_done(outcome: Result<(), RunFault>) -> FinishedRun
+    ensures stop { result_err result.end ≡ result_err outcome }
+    ensures end { EndsDone result.end }
+    ensures none { TellsNoBox result }
+{
+    match outcome {
+        Ok(()) => unaudited(Ok(Ended::Done)),
+        Err(fault) => unaudited(Err(fault)),
+    }
+}
+
+/// Performs a request: writes the output that these bytes, this casting vote and this number of desks call for, and returns how
+/// the run ended.
+pub fn perform<G: Gate + Sync, W: Sink, R: Threads + Wait + Sync>(
+    rt: &R,
+    alloc: Global,
+    request: &LoadedRequest<'_>,
+    gate: &G,
+    sink: &mut W,
+) -> FinishedRun
+    requires { DesksFit request.now }
+    ensures performs { Performs G.bars request.now (W.contents sink.old) (W.contents sink.new) result }
+    ensures output { IsErrOf result.end RunFault.Output ↔ (W.faults sink.old < W.faults sink.new) }
+    ensures flushed { OnOk result.end (W.flushed sink.new ≡ true) }
+{
+    match request {
+        Request::Count {
+            poll,
+            ballots,
+            desks,
+            casting,
+            purpose,
+        } => {
+            let inputs = CountInputs {
+                poll,
+                ballots,
+                desks: *desks,
+                casting: *casting,
+            };
+            count_for(rt, alloc, &inputs, *purpose, gate, sink)
+        }
+        Request::List {
+            poll,
+            ballots,
+            listing,
+        } => ended_as_done(print_listing(alloc, poll, ballots, *listing, sink)),
+        Request::Check { poll } => ended_as_done(check_poll(alloc, poll, sink)),
+        Request::Explain {
+            poll,
+            ballots,
+            file,
+            poll_name,
+        } => unaudited(explain(alloc, poll, *ballots, *file, *poll_name, sink)),
+    }
+}
+
+/// Performs a request on a sink over a writer, which counts by this blank, and gives the writer back.
+fn perform_metered<G: Gate + Sync, W: Write, L: Ledger, R: Threads + Wait + Sync>(
+    rt: &R,
+    alloc: Global,
+    request: &LoadedRequest<'_>,
+    gate: &G,
+    writer: W,
+    blank: Blank,
+) -> (W, FinishedRun)
+    requires desks { DesksFit request.now }
+    requires name { blank.name ≡ L.name }
+    requires parts { blank.parts ≡ L.parts }
+    requires two { blank.parts ≡ 2 }
+    ensures { Performs G.bars request.now (W.contents writer) (W.contents result.0) result.1 }
+{
+    let mut sink = WriterSink::new(writer, Meter::<L>::new(blank));
+    let finished = perform(rt, alloc, request, gate, &mut sink);
+    (sink.into_writer(), finished)
+}
+
+/// [`perform`] on a writer of std, which it gives back.
+pub fn perform_on<G: Gate + Sync, W: Write, R: Threads + Wait + Sync>(
+    rt: &R,
+    alloc: Global,
+    request: &LoadedRequest<'_>,
+    gate: &G,
+    writer: W,
+) -> (W, FinishedRun)
+    requires { DesksFit request.now }
+    ensures { Performs G.bars request.now (W.contents writer) (W.contents result.0) result.1 }
+{
+    perform_metered::<G, W, Brand, R>(rt, alloc, request, gate, writer, Blank::new(2))
+}

@@ -1,0 +1,134 @@
+//! The votes of a poll file and a ballot file, taken and audited: what each run that counts begins with.
+
+ghost use Rattle.std.specs.Prelude.{◌≡◌, IfErr, IfNone, IfOk, IfSome, option_copied};
+ghost use Rattle.vote_poll.specs.PollFile.{poll_in};
+ghost use Rattle.vote_steps.specs.Desks.{AreDesks};
+ghost use Rattle.vote_commands.specs.Counting.{IsNamed, NamesNoOption};
+ghost use Rattle.vote_commands.specs.TakenVotes.{AreBallotsTaken, AreTaken, StopsTaking};
+
+use crate::fault::RunFault;
+use crate::reading::{lines_of_file, poll_of_file};
+use std::alloc::Global;
+use std::marker::Model;
+use std::sync::Wait;
+use std::thread::Threads;
+use vote_desks::{Audited, Gate, take_votes};
+use vote_poll::{Lines, Poll};
+
+/// What a run that counts is given.
+#[derive(Drop)]
+pub struct CountInputs<'a> {
+    /// The bytes of the poll file.
+    pub poll: &'a [u8],
+    /// The bytes of the ballot file.
+    pub ballots: &'a [u8],
+    /// From 1 to [`MAX_DESKS`](vote_steps::MAX_DESKS).
+    pub desks: u8,
+    /// The name of the option that the casting vote chooses in a tie.
+    pub casting: Option<&'a [u8]>,
+}
+
+impl<'a> Model for CountInputs<'a> {
+    ghost use Rattle.vote_commands.specs.Inputs.{Inputs, inputs_at};
+
+    ghost Value = { Inputs };
+
+    ghost view = { λ given. inputs_at given.poll given.ballots given.desks given.casting };
+}
+
+/// A poll and its lines, the option of the casting vote, and the audited box of the votes.
+#[derive(Drop)]
+pub(crate) struct TakenVotes<'t> {
+    pub poll: Poll,
+    pub lines: Lines<'t>,
+    pub casting: Option<u8>,
+    pub audited: Audited,
+}
+
+/// The option that the casting vote names, if there is one; `None` where no option has the name.
+fn named_option(poll: &Poll, casting: Option<&[u8]>) -> Option<Option<u8>>
+    ensures none { IfNone result (NamesNoOption poll.now (option_copied casting.entry)) }
+    ensures named { IfSome result (IsNamed poll.now (option_copied casting.entry)) }
+{
+    match casting {
+        None => Some(None),
+        Some(name) => {
+            let option = poll.option_of(name)?;
+            Some(Some(option))
+        }
+    }
+}
+
+/// The poll of the poll file, and the option of it that the casting vote names, if there is one.
+#[tactic(auto, using(crate::proofs::Stopping::count_without_poll, crate::proofs::Stopping::count_without_option))]
+fn read_poll<G: Gate>(
+    alloc: Global,
+    inputs: &CountInputs<'_>,
+) -> Result<(Poll, Option<u8>), RunFault>
+    ensures poll { IfOk result (λ read. poll_in inputs.now.poll ≡ Ok read.0) }
+    ensures casting { IfOk result (λ read. IsNamed read.0 inputs.now.casting read.1) }
+    ensures stopped { IfErr result (StopsTaking G.bars inputs.now) }
+{
+    let poll = match poll_of_file(alloc, inputs.poll) {
+        Ok(poll) => poll,
+        Err(fault) => return Err(fault),
+    };
+    let Some(casting) = named_option(&poll, inputs.casting) else {
+        return Err(RunFault::NoSuchOption);
+    };
+    Ok((poll, casting))
+}
+
+/// The lines of the ballot file and the audited box of their votes, which are taken at so many desks, each in a thread of its own.
+/// The poll is that of the poll file, and has the option that the casting vote names.
+#[tactic(auto, using(crate::proofs::Stopping::count_without_votes))]
+fn take_ballots<'t, G: Gate + Sync, R: Threads + Wait + Sync>(
+    rt: &R,
+    alloc: Global,
+    poll: &Poll,
+    inputs: &CountInputs<'t>,
+    gate: &G,
+) -> Result<(Lines<'t>, Audited), RunFault>
+    requires desks { AreDesks inputs.now.desks }
+    requires poll { poll_in inputs.now.poll ≡ Ok poll.now }
+    requires casting { ¬ NamesNoOption poll.now inputs.now.casting }
+    ensures taken { IfOk result (AreBallotsTaken poll.now inputs.now) }
+    ensures stopped { IfErr result (StopsTaking G.bars inputs.now) }
+{
+    let lines = match lines_of_file(alloc, inputs.ballots) {
+        Ok(lines) => lines,
+        Err(fault) => return Err(fault),
+    };
+    let audited = match take_votes(rt, alloc, poll, &lines, inputs.desks, gate) {
+        Ok(audited) => audited,
+        Err(fault) => return Err(RunFault::from(fault)),
+    };
+    Ok((lines, audited))
+}
+
+/// Reads the poll, then the casting vote, then the lines, and takes the votes at so many desks, each in a thread of its own.
+pub(crate) fn take_inputs<'t, G: Gate + Sync, R: Threads + Wait + Sync>(
+    rt: &R,
+    alloc: Global,
+    inputs: &CountInputs<'t>,
+    gate: &G,
+) -> Result<TakenVotes<'t>, RunFault>
+    requires { AreDesks inputs.now.desks }
+    ensures taken { IfOk result (AreTaken inputs.now) }
+    ensures stopped { IfErr result (StopsTaking G.bars inputs.now) }
+{
+    let (poll, casting) = match read_poll::<G>(alloc, inputs) {
+        Ok(read) => read,
+        Err(fault) => return Err(fault),
+    };
+    let (lines, audited) = match take_ballots(rt, alloc, &poll, inputs, gate) {
+        Ok(taken) => taken,
+        Err(fault) => return Err(fault),
+    };
+    Ok(TakenVotes {
+        poll,
+        lines,
+        casting,
+        audited,
+    })
+}

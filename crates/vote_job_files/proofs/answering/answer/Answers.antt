@@ -1,5 +1,0 @@
-use Rattle.vote_job_files.proofs.Sheets.{of_words}
-use Rattle.vote_job_files.proofs.answering.answer.Goals as goal
-
-pub returns-clause-sheet : goal.returns-clause-sheet
-returns-clause-sheet g c some = of_words _ _ _ _ (c.answer_either-status.ensures.worded some)

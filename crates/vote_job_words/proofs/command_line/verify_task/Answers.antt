@@ -1,6 +1,0 @@
-use Rattle.clap.specs.Words.{found_of, rows_of}
-use Rattle.vote_job_words.proofs.Orders.{no_verify}
-use Rattle.vote_job_words.proofs.command_line.verify_task.Goals as goal
-
-pub returns-in_err-desks_given : goal.returns-in_err-desks_given
-returns-in_err-desks_given c = rw c.from_residual-in_err-desks_given.ensures (no_verify (rows_of (found_of c.args.given.now)) c.in_err-desks_given.ensures.none)

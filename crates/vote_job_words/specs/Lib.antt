@@ -1,6 +1,0 @@
--- what the contracts of public calls say
-pub mod CommandLine
-pub mod Order
-pub mod Words
--- what private functions say of their parts
-pub mod Subcommands

@@ -1,7 +1,0 @@
-use Rattle.std.proofs.Common.{◌≡◌, ◌<◌, ℕ, false}
-use Rattle.vote_jobs.specs.Joined.{is_separator_at}
-use Rattle.vote_jobs.proofs.joined.split_joined.Given as goal
-
--- the separator is not before this place
-abbrev pub invariant-loop-at : goal.invariant-loop-at
-invariant-loop-at l = (k : ℕ) → k < l.at → is_separator_at l.input k ≡ false

@@ -1,5 +1,0 @@
-use Rattle.vote_jobs.proofs.JoinedLaws.{inputs_are_parted}
-use Rattle.vote_jobs.proofs.laws.inputs_are_parted_at_separator.Goals as goal
-
-pub returns : goal.returns
-returns c = inputs_are_parted

@@ -1,5 +1,0 @@
-use Rattle.std.proofs.Common.{rules}
-use Rattle.vote_jobs.proofs.listing.list_lines.Goals as goal
-
-pub returns-in-Steps : goal.returns-in-Steps
-returns-in-Steps c = rw c.in-Steps.is (search rules)

@@ -1,7 +1,0 @@
--- What a run tells: the text that it writes, and how it ends.
-use Rattle.vote_sheet.specs.Texts.{Text}
-use Rattle.vote_jobs.specs.declared.fault.Ended.{Ended}
-
-pub record Told : Type 0 where
-  pub text : Text
-  pub end : Ended

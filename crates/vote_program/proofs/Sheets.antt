@@ -1,0 +1,173 @@
+-- A count that ends with status 0 or 1 has written the sheet of its files.
+use Rattle.std.proofs.Common.{◌≡◌, ◌≢◌, ◌≤◌, ◌⊎◌, ◌++◌, ◌∙◌, ℕ, Bool, ap, arith, Bor, Err, List, None, Ok, Option, Result, Some, inl, inr, refl, subst, sym}
+use Rattle.std.specs.Prelude.{codes, option_copied, slice_index, unwrap_or}
+use Rattle.std.specs.Io.KnownBytes.{Appends}
+use Rattle.std.specs.Result.{result_err}
+use Rattle.vote_files.specs.Device.{IsWhole}
+use Rattle.vote_poll_text.specs.Lines.{lines_of}
+use Rattle.vote_poll.specs.PollContent.{PollContent}
+use Rattle.vote_poll.specs.PollFile.{poll_in}
+use Rattle.vote_poll_keys.specs.declared.fault.PollFault.TheVariants as poll_fault
+use Rattle.vote_desks_box.specs.declared.DeskFault.TheVariants as desk
+use Rattle.vote_desks.specs.declared.VoteFault.TheVariants as vote
+use Rattle.vote_sheet.specs.Texts.{Text}
+use Rattle.vote_request.specs.declared.Listing.TheVariants as listing
+use Rattle.vote_request.specs.declared.Purpose.TheVariants as purpose
+use Rattle.vote_request.specs.declared.Request.TheVariants as request
+use Rattle.vote_command_line.specs.ParsedArgs.{HasPurpose, HasText, NamedRequest}
+use Rattle.vote_command_line.specs.Words.{AreArgsOf, HaveArgsFault}
+use Rattle.vote_command_line.specs.declared.ArgsFault.{ArgsFault}
+use Rattle.vote_command_line.specs.declared.ArgsFault.TheVariants.{Help, Refused, NotUtf8, Memory}
+use Rattle.vote_commands.specs.Counting.{IsCountFor, NamesNoOption, StopsAtVotes, StopsCount}
+use Rattle.vote_commands.specs.Inputs.{Inputs, inputs_at}
+use Rattle.vote_commands.specs.Performing.{Counts}
+use Rattle.vote_commands.specs.Runs.{Runs, StopsAtLines, StopsWhere, Tells}
+use Rattle.vote_commands.specs.Status.{fault_status, status}
+use Rattle.vote_commands.specs.declared.Ended.{Ended}
+use Rattle.vote_commands.specs.declared.InputFile.TheVariants as file
+use Rattle.vote_commands.specs.declared.FinishedRun.{FinishedRun}
+use Rattle.vote_commands.specs.declared.RunFault.{RunFault}
+use Rattle.vote_commands.specs.declared.RunFault.TheVariants as run
+use Rattle.vote_program.specs.ProgramAnswers.{AnswersWorded, AnswersWords}
+use Rattle.vote_program.specs.RequestEnds.{EndsRequest, Written}
+use Rattle.vote_program.specs.SheetOfFiles.{AskForSheet, IsSheetOfFiles, WritesTheSheet}
+
+-- ---- which statuses are 0 or 1
+not_few : (n : ℕ) → 2 ≤ n → (n ≡ 0) ⊎ (n ≡ 1) → ⊥
+not_few n most (inl none) = absurd (omega arith)
+not_few n most (inr one) = absurd (omega arith)
+
+of_fault : (fault : RunFault) → 2 ≤ fault_status fault
+of_fault (run.Input file.Poll fault) = omega arith
+of_fault (run.Input file.Ballots fault) = omega arith
+of_fault (run.Input file.Sheet fault) = omega arith
+of_fault (run.Poll poll_fault.Memory) = omega arith
+of_fault (run.Poll fault) = omega arith
+of_fault run.NoSuchOption = omega arith
+of_fault run.TooManyLines = omega arith
+of_fault (run.Vote vote.Memory) = omega arith
+of_fault (run.Vote vote.Thread) = omega arith
+of_fault (run.Vote (vote.Desk desk.Memory)) = omega arith
+of_fault (run.Vote fault) = omega arith
+of_fault run.Memory = omega arith
+of_fault run.Output = omega arith
+
+-- a run with such a status came to its end
+ended : (result : Result Ended RunFault) (answered : ℕ) → answered ≡ status result → (answered ≡ 0) ⊎ (answered ≡ 1) → (end : Ended) × (result ≡ Ok end)
+ended (Ok end) answered is few = (end, refl)
+ended (Err fault) answered is few = absurd (not_few (fault_status fault) (of_fault fault) (subst (λ n. (n ≡ 0) ⊎ (n ≡ 1)) is few))
+
+-- ---- what a count that came to its end has written
+grown : (old new : Option Text) (before text : Text) → old ≡ Some before → Appends old new text → new ≡ Some (before ++ text)
+grown old None before text is appends = absurd (subst (λ o. Appends o None text) is appends)
+grown old (Some after) before text is appends = ap Some (subst (λ o. Appends o (Some after) text) is appends)
+
+past : (IsSo : Type 0) (fault : RunFault) (Next : Option RunFault → Type 0) → StopsWhere IsSo fault Next None → ¬ IsSo
+past IsSo fault Next (inl due) = let wrong = due.1 in λ so. cc
+past IsSo fault Next (inr on) = on.0
+
+names_an_option : (bars : ℕ → Bool) (inputs : Inputs) (poll : PollContent) → poll_in inputs.poll ≡ Ok poll → StopsCount bars inputs None → ¬ NamesNoOption poll inputs.casting
+names_an_option bars inputs poll meant stops =
+    past (NamesNoOption poll inputs.casting) run.NoSuchOption (StopsAtLines inputs.ballots (StopsAtVotes bars inputs.desks poll (lines_of inputs.ballots))) (rw meant at stops)
+
+of_runs : (bars : ℕ → Bool) (inputs : Inputs) (old new : Option Text) (before : Text) (end : Ended) → old ≡ Some before
+    → Runs (StopsCount bars inputs) (Tells (IsCountFor purpose.Sheet inputs) (Ok end)) old new None
+    → (sheet : Text) × IsSheetOfFiles inputs.poll inputs.ballots inputs.casting sheet × (new ≡ Some (before ++ sheet))
+of_runs bars inputs old new before end is runs =
+    let text = runs.writes.0 in
+    let tells = runs.writes.1 in
+    let counted = tells.1 in
+    let printed = counted.2.1 in (
+      text,
+      record {
+        poll = counted.0;
+        meant = counted.1;
+        named = names_an_option bars inputs counted.0 counted.1 runs.stops;
+        is_sheet = (printed.0, printed.1, tells.2 ∙ printed.2);
+      },
+      grown old new before text is runs.writes.2,
+    )
+
+of_counts : (bars : ℕ → Bool) (inputs : Inputs) (written : Written) (finished : FinishedRun) (before : Text) (end : Ended)
+    → written.old ≡ Some before → finished.end ≡ Ok end → Counts bars purpose.Sheet inputs written.old written.new finished
+    → (sheet : Text) × IsSheetOfFiles inputs.poll inputs.ballots inputs.casting sheet × (written.new ≡ Some (before ++ sheet))
+of_counts bars inputs written finished before end old is counts =
+    of_runs bars inputs written.old written.new before end old
+    (subst (λ r. Runs (StopsCount bars inputs) (Tells (IsCountFor purpose.Sheet inputs) r) written.old written.new (result_err r)) is counts.runs)
+
+-- ---- on the files of a request
+whole : (known : Option Text) (bytes told : Text) → known ≡ Some told → IsWhole known bytes → bytes ≡ told
+whole known bytes told is read = subst (λ k. IsWhole k bytes) is read
+
+of_task : (file_bytes : Text → Option Text) (poll_name ballots_name : Bor Text) (desks : ℕ) (option_name : Option (Bor Text)) (poll ballots before : Text) (written : Written)
+    (finished : FinishedRun) (end : Ended)
+    → file_bytes poll_name.now ≡ Some poll → file_bytes ballots_name.now ≡ Some ballots → written.old ≡ Some before → finished.end ≡ Ok end
+    → EndsRequest file_bytes (request.Count poll_name ballots_name desks option_name purpose.Sheet) written finished
+    → (sheet : Text) × IsSheetOfFiles poll ballots (option_copied option_name) sheet × (written.new ≡ Some (before ++ sheet))
+of_task file_bytes poll_name ballots_name desks option_name poll ballots before written finished end poll_is ballots_are old is (inl unread) =
+    let wrong = unread.1 in cc
+of_task file_bytes poll_name ballots_name desks option_name poll ballots before written finished end poll_is ballots_are old is (inr done) =
+    let files = done.3 in
+    let counted = of_counts _ (inputs_at done.0 done.1 desks option_name) written finished before end old is done.4.0 in
+    let same_poll : done.0.now ≡ poll = whole _ _ _ poll_is files.poll_is.0 in
+    let same_ballots : done.1.now ≡ ballots = whole _ _ _ ballots_are files.ballots_are.0 in (
+      counted.0,
+      subst (λ text. IsSheetOfFiles text ballots (option_copied option_name) counted.0) same_poll
+          (subst (λ text. IsSheetOfFiles done.0.now text (option_copied option_name) counted.0) same_ballots counted.1),
+      counted.2,
+    )
+
+-- ---- which request words ask for
+same_asked : {R : Type 0} (subcommand : Option (Text × R)) (name other : Text) (rows others : R) → subcommand ≡ Some (name, rows) → subcommand ≡ Some (other, others)
+    → (name ≡ other) × (rows ≡ others)
+same_asked subcommand name other rows others is also =
+    let same = ap (λ named. unwrap_or named (name, rows)) (sym is ∙ also) in (ap (λ pair. pair.0) same, ap (λ pair. pair.1) same)
+
+no_count : (name : Text) → codes "count" ≡ name → slice_index name 1 ≢ 111 → ⊥
+no_count name is other = other (ap (λ text. slice_index text 1) (sym is))
+
+same_value : {A : Type 0} (given : Option A) (x y : A) → given ≡ Some x → given ≡ Some y → y ≡ x
+same_value given x y is also = let both = sym is ∙ also in cc
+
+of_asked : (file_bytes : Text → Option Text) (words : List Text) (written : Written) (finished : FinishedRun) (end : Ended) (poll ballots before : Text) (casting : Option Text) (request : NamedRequest)
+    → AskForSheet file_bytes words poll ballots casting → AreArgsOf words request → written.old ≡ Some before → finished.end ≡ Ok end → EndsRequest file_bytes request written finished
+    → (sheet : Text) × IsSheetOfFiles poll ballots casting sheet × (written.new ≡ Some (before ++ sheet))
+of_asked file_bytes words written finished end poll ballots before casting (request.Count poll_name ballots_name desks option_name purpose.Sheet) sheet asks old is ends =
+    let wanted = sheet.request.1 in
+    let given = asks.1 in
+    let rows = (same_asked _ _ _ _ _ wanted.1 given.1).1 in
+    let same_poll = same_value _ _ _ wanted.2.0 (subst (λ found. HasText found (codes "poll") poll_name.now) (sym rows) given.2.0) in
+    let same_ballots = same_value _ _ _ wanted.2.1 (subst (λ found. HasText found (codes "ballots") ballots_name.now) (sym rows) given.2.1) in
+    let same_casting : option_copied option_name ≡ casting =
+    subst (λ found. HasPurpose found (option_copied option_name) purpose.Sheet) (sym rows) given.2.3 ∙ sym wanted.2.3 ∙ sheet.casting_is in
+    let told = of_task file_bytes poll_name ballots_name desks option_name poll ballots before written finished end
+    (ap file_bytes same_poll ∙ sheet.poll_is) (ap file_bytes same_ballots ∙ sheet.ballots_are) old is ends in
+    (told.0, subst (λ named. IsSheetOfFiles poll ballots named told.0) same_casting told.1, told.2)
+of_asked file_bytes words written finished end poll ballots before casting (request.Count poll_name ballots_name desks option_name purpose.Picture) sheet asks old is ends =
+    absurd (no_count _ (same_asked _ _ _ _ _ sheet.request.1.1 asks.1.1).0 (λ e. omega (arith, e)))
+of_asked file_bytes words written finished end poll ballots before casting (request.Count poll_name ballots_name desks option_name (purpose.Verification other)) sheet asks old is ends =
+    absurd (no_count _ (same_asked _ _ _ _ _ sheet.request.1.1 asks.1.1).0 (λ e. omega (arith, e)))
+of_asked file_bytes words written finished end poll ballots before casting (request.List poll_name ballots_name listing.Steps) sheet asks old is ends =
+    absurd (no_count _ (same_asked _ _ _ _ _ sheet.request.1.1 asks.1.1).0 (λ e. omega (arith, e)))
+of_asked file_bytes words written finished end poll ballots before casting (request.List poll_name ballots_name listing.Standing) sheet asks old is ends =
+    absurd (no_count _ (same_asked _ _ _ _ _ sheet.request.1.1 asks.1.1).0 (λ e. omega (arith, e)))
+of_asked file_bytes words written finished end poll ballots before casting (request.Check poll_name) sheet asks old is ends =
+    absurd (no_count _ (same_asked _ _ _ _ _ sheet.request.1.1 asks.1.1).0 (λ e. omega (arith, e)))
+of_asked file_bytes words written finished end poll ballots before casting (request.Explain poll_name given told_file told_poll) sheet asks old is ends =
+    absurd (no_count _ (same_asked _ _ _ _ _ sheet.request.1.1 asks.1.1).0 (λ e. omega (arith, e)))
+
+-- words that ask for a sheet are a request
+is_task : (words : List Text) (request : NamedRequest) (fault : ArgsFault) (written : Written) (answered : ℕ) → AreArgsOf words request → HaveArgsFault words fault → AnswersWords fault written answered
+    → (answered ≡ 0) ⊎ (answered ≡ 1) → ⊥
+is_task words request (Help text) written answered asks none answers few = (rw asks.0 at none).2
+is_task words request (Refused text) written answered asks none answers few = not_few answered (omega (arith, answers.0)) few
+is_task words request NotUtf8 written answered asks none answers few = none
+is_task words request Memory written answered asks none answers few = not_few answered (omega (arith, answers.0)) few
+
+pub of_words : (file_bytes : Text → Option Text) (words : List Text) (written : Written) (answered : ℕ) → AnswersWorded file_bytes words written answered → WritesTheSheet file_bytes words written answered
+of_words file_bytes words written answered (inl done) poll ballots before casting sheet old few =
+    let came = ended done.1.end answered done.4 few in
+    of_asked file_bytes words written done.1 came.0 poll ballots before casting done.0 sheet done.2 old came.1 done.3
+of_words file_bytes words written answered (inr none) poll ballots before casting sheet old few =
+    let request = request.Count sheet.poll_name sheet.ballots_name sheet.desks sheet.option_name purpose.Sheet in
+    absurd (is_task words request none.0 written answered sheet.request none.1 none.2 few)

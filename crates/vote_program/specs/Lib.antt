@@ -1,0 +1,7 @@
+-- what the contracts of public calls say
+pub mod LoadedRequests
+pub mod Unread
+pub mod ArgsStatus
+pub mod RequestEnds
+pub mod ProgramAnswers
+pub mod SheetOfFiles

@@ -1,0 +1,40 @@
+-- What one believes when one believes a sheet: which text a count writes, of the bytes of two files.
+use Rattle.std.specs.Prelude.{◌≡◌, ◌⊎◌, ◌++◌, ℕ, List, Ok, Option, Some, option_copied}
+use Rattle.std.proofs.Common.{Bor}
+use Rattle.vote_poll_text.specs.Lines.{lines_of}
+use Rattle.vote_poll.specs.PollContent.{PollContent}
+use Rattle.vote_poll.specs.PollFile.{poll_in}
+use Rattle.vote_sheet.specs.SheetOf.{IsSheet}
+use Rattle.vote_sheet.specs.Texts.{Text}
+use Rattle.vote_request.specs.declared.Purpose.TheVariants as purpose
+use Rattle.vote_request.specs.declared.Request.TheVariants as request
+use Rattle.vote_command_line.specs.Words.{AreArgsOf}
+use Rattle.vote_commands.specs.Counting.{NamesNoOption, casting_option}
+use Rattle.vote_program.specs.RequestEnds.{Written}
+
+-- The words ask for the sheet of two files, of which these bytes are told, with this casting vote, if there is one. The number of desks is any.
+pub record AskForSheet (file_bytes : Text → Option Text) (words : List Text) (poll ballots : Text) (casting : Option Text) : Type 0 where
+  pub poll_name : Bor Text
+  pub ballots_name : Bor Text
+  pub option_name : Option (Bor Text)
+  pub desks : ℕ
+  pub request : AreArgsOf words (request.Count poll_name ballots_name desks option_name purpose.Sheet)
+  pub poll_is : file_bytes poll_name.now ≡ Some poll
+  pub ballots_are : file_bytes ballots_name.now ≡ Some ballots
+  pub casting_is : option_copied option_name ≡ casting
+
+-- The text is the sheet of a poll file and a ballot file of these bytes: of the poll that the first one means, of the lines of the second
+-- one, and of the option of this poll that the casting vote names, if there is one.
+pub record IsSheetOfFiles (poll_text ballots : Text) (casting : Option Text) (sheet : Text) : Type 0 where
+  pub poll : PollContent
+  pub meant : poll_in poll_text ≡ Ok poll
+  pub named : ¬ NamesNoOption poll casting
+  pub is_sheet : IsSheet poll (lines_of ballots) (casting_option poll casting) sheet
+
+-- If words ask for the sheet of files that tell their bytes, if the output tells its bytes too, and if the exit status is 0 or 1, then
+-- the output has grown by one text, which is the sheet of these files.
+abbrev pub WritesTheSheet : (Text → Option Text) → List Text → Written → ℕ → Type 0
+WritesTheSheet file_bytes words written answered =
+    (poll ballots before : Text) (casting : Option Text)
+    → AskForSheet file_bytes words poll ballots casting → written.old ≡ Some before → (answered ≡ 0) ⊎ (answered ≡ 1)
+    → (sheet : Text) × IsSheetOfFiles poll ballots casting sheet × (written.new ≡ Some (before ++ sheet))

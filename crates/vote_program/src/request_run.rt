@@ -1,0 +1,88 @@
+//! The run of a request, or of a joined input, from its files to its end.
+
+ghost use Rattle.std.specs.Prelude.{◌≡◌, ◌<◌, ◌↔◌, Err, IsErrOf};
+ghost use Rattle.vote_request.specs.Requests.{DesksFit};
+ghost use Rattle.vote_commands.specs.Performing.{TellsNoBox};
+ghost use Rattle.vote_program.specs.RequestEnds.{EndsJoined, EndsRequest, IsRequestDone, written_by};
+
+use crate::inputs::{Inputs, read_inputs, read_joined};
+use crate::loaded_request::with_bytes;
+use std::alloc::Global;
+use std::sync::Wait;
+use std::thread::Threads;
+use vote_command_line::NamedRequest;
+use vote_commands::{FinishedRun, RunFault, perform, split_joined};
+use vote_desks::NoGate;
+use vote_files::{Sink, Sources, StandardInput};
+use vote_request::{Listing, Request};
+
+/// How a run ends whose inputs were not all read.
+fn unread(fault: RunFault) -> FinishedRun
+    ensures end { result.end ≡ Err fault }
+    ensures none { TellsNoBox result }
+{
+    FinishedRun {
+        end: Err(fault),
+        audited: None,
+    }
+}
+
+/// Performs a request whose files were read. It is a function of its own, since a loaded request borrows words and bytes for the
+/// same lifetime: here both are lent.
+fn perform_with<W: Sink, R: Threads + Wait + Sync>(
+    rt: &R,
+    alloc: Global,
+    request: &NamedRequest<'_>,
+    inputs: &Inputs,
+    sink: &mut W,
+) -> FinishedRun
+    requires { DesksFit request.now }
+    ensures done { IsRequestDone request.now inputs.now (written_by W.contents W.flushed sink.old sink.new) result }
+    ensures output { IsErrOf result.end RunFault.Output ↔ (W.faults sink.old < W.faults sink.new) }
+{
+    let loaded = with_bytes(request, inputs);
+    perform(rt, alloc, &loaded, &NoGate, sink)
+}
+
+/// Reads the files of a request, before anything is checked, and performs it.
+#[tactic(auto, using(crate::proofs::OnFiles::done_on_its_files))]
+pub fn carry_out<S: Sources, W: Sink, R: Threads + Wait + Sync>(
+    rt: &R,
+    alloc: Global,
+    files: &S,
+    request: &NamedRequest<'_>,
+    sink: &mut W,
+) -> FinishedRun
+    requires { DesksFit request.now }
+    ensures ends { EndsRequest (S.file_bytes files.now) request.now (written_by W.contents W.flushed sink.old sink.new) result }
+    ensures output { IsErrOf result.end RunFault.Output ↔ (W.faults sink.old < W.faults sink.new) }
+{
+    let inputs = match read_inputs(files, alloc, request) {
+        Ok(inputs) => inputs,
+        Err(fault) => return unread(fault),
+    };
+    perform_with(rt, alloc, request, &inputs, sink)
+}
+
+/// Writes the reply to each ballot of standard input, a poll and its ballots joined by a line `%%`.
+pub fn print_joined<I: StandardInput, W: Sink, R: Threads + Wait + Sync>(
+    rt: &R,
+    alloc: Global,
+    input: &I,
+    sink: &mut W,
+) -> FinishedRun
+    ensures ends { EndsJoined (I.standard_bytes input.now) (written_by W.contents W.flushed sink.old sink.new) result }
+    ensures output { IsErrOf result.end RunFault.Output ↔ (W.faults sink.old < W.faults sink.new) }
+{
+    let text = match read_joined(input, alloc) {
+        Ok(text) => text,
+        Err(fault) => return unread(fault),
+    };
+    let (poll, ballots) = split_joined(text.as_slice());
+    let loaded = Request::List {
+        poll,
+        ballots,
+        listing: Listing::Steps,
+    };
+    perform(rt, alloc, &loaded, &NoGate, sink)
+}

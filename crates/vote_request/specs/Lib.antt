@@ -1,0 +1,2 @@
+-- what contracts say of requests
+pub mod Requests

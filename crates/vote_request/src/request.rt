@@ -1,0 +1,149 @@
+//! The kinds of request, and the files of each.
+
+ghost use Rattle.std.specs.Prelude.{◌≡◌};
+ghost use Rattle.vote_request.specs.Requests.{ballot_file, poll_file, purpose_on, request_on, sheet_file};
+
+/// What a count is made for.
+#[derive(Clone, Copy)]
+pub enum Purpose<T> {
+    /// The result sheet.
+    Sheet,
+    /// The outcome as a graph for Graphviz.
+    Picture,
+    /// Whether this file is a sheet of the count, whatever the casting vote.
+    Verification(T),
+}
+
+/// What is listed of the ballots, which one desk casts in their order.
+#[derive(Clone, Copy)]
+pub enum Listing {
+    /// The reply to each ballot.
+    Steps,
+    /// The ballots that count: the last valid one of each elector.
+    Standing,
+}
+
+/// What is asked for, on files of which this is known: their names, or their bytes.
+#[derive(Clone, Copy)]
+pub enum Request<'a, T> {
+    /// Count the ballots, and print what the count is made for.
+    Count {
+        poll: T,
+        ballots: T,
+        /// From 1 to [`MAX_DESKS`](crate::MAX_DESKS).
+        desks: u8,
+        /// The name of the option that the casting vote chooses in a tie.
+        casting: Option<&'a [u8]>,
+        purpose: Purpose<T>,
+    },
+    /// Print a list of something of the ballots.
+    List {
+        poll: T,
+        ballots: T,
+        listing: Listing,
+    },
+    /// Check the poll file.
+    Check {
+        poll: T,
+    },
+    /// Print all that is wrong with the poll, and with the ballots where they are given.
+    Explain {
+        poll: T,
+        ballots: Option<T>,
+        /// The name of the ballot file, for a command that mends it.
+        file: Option<&'a str>,
+        /// The name of the poll file, for the same.
+        poll_name: Option<&'a str>,
+    },
+}
+
+impl<T: Copy> Purpose<T> {
+    /// The same purpose, with this sheet in place of the one that is compared.
+    fn with_sheet<U: Copy>(&self, sheet: U) -> Purpose<U>
+        ensures { result ≡ purpose_on self.now sheet }
+    {
+        match self {
+            Purpose::Sheet => Purpose::Sheet,
+            Purpose::Picture => Purpose::Picture,
+            Purpose::Verification(_) => Purpose::Verification(sheet),
+        }
+    }
+}
+
+impl<'a, T: Copy> Request<'a, T> {
+    /// The poll file.
+    pub fn poll(&self) -> T
+        ensures { result ≡ poll_file self.now }
+    {
+        match self {
+            Request::Count { poll, .. }
+            | Request::List { poll, .. }
+            | Request::Check { poll }
+            | Request::Explain { poll, .. } => *poll,
+        }
+    }
+
+    /// The ballot file, if there is one.
+    pub fn ballots(&self) -> Option<T>
+        ensures { result ≡ ballot_file self.now }
+    {
+        match self {
+            Request::Count { ballots, .. } | Request::List { ballots, .. } => Some(*ballots),
+            Request::Explain { ballots, .. } => *ballots,
+            Request::Check { .. } => None,
+        }
+    }
+
+    /// The published sheet, if one is compared.
+    pub fn sheet(&self) -> Option<T>
+        ensures { result ≡ sheet_file self.now }
+    {
+        match self {
+            Request::Count {
+                purpose: Purpose::Verification(sheet),
+                ..
+            } => Some(*sheet),
+            _ => None,
+        }
+    }
+
+    /// The same request on these files.
+    pub fn on<U: Copy>(&self, poll: U, ballots: U, sheet: U) -> Request<'a, U>
+        ensures { result ≡ request_on self.now poll ballots sheet }
+    {
+        match self {
+            Request::Count {
+                desks,
+                casting,
+                purpose,
+                ..
+            } => Request::Count {
+                poll,
+                ballots,
+                desks: *desks,
+                casting: *casting,
+                purpose: purpose.with_sheet(sheet),
+            },
+            Request::List { listing, .. } => Request::List {
+                poll,
+                ballots,
+                listing: *listing,
+            },
+            Request::Check { .. } => Request::Check { poll },
+            Request::Explain {
+                ballots: given,
+                file,
+                poll_name,
+                ..
+            } => Request::Explain {
+                poll,
+                ballots: match given {
+                    Some(_) => Some(ballots),
+                    None => None,
+                },
+                file: *file,
+                poll_name: *poll_name,
+            },
+        }
+    }
+}

@@ -1,2 +1,0 @@
--- what contracts say of the work that is asked for
-pub mod Asked
