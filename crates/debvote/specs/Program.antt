@@ -12,7 +12,7 @@ use Rattle.vote_program.specs.ArgsStatus.{args_status}
 abbrev pub AreNotGiven : ArgsFault → Type 0
 AreNotGiven fault = (fault ≡ NotUtf8) ⊎ (fault ≡ Memory)
 
--- this is answered, for some output, to these words, or without any to a joined input, where files and standard input tell these bytes
+-- this is answered, for some output, to these words, or without any to a joined input, where these bytes of files and standard input are known
 abbrev pub Answers : (List ℕ → Option (List ℕ)) → Option (List ℕ) → List (Bor (List ℕ)) → ℕ → Type 0
 Answers file_bytes standard_bytes words answered =
     (written : Written) × (length words ≡ 0 → AnswersJoined standard_bytes written answered)

@@ -27,7 +27,7 @@ use vote_command_line::ArgsFault;
 use vote_files::{Meter, ReadableFiles, ReadableInput, Sources, StandardInput, WriterSink};
 use vote_program::{StatusNote, answer, refuse};
 
-/// The words of the run, the first of which is the program's name, as the system gives them: which they are, no contract of std says.
+/// The program's arguments, its own name first. The contracts of std do not say what they are.
 fn words_given<R: Env + AllocGlobal>(rt: &R) -> Result<Vec<String>, ArgsFault>
     ensures { IfErr result AreNotGiven }
 {
@@ -38,7 +38,7 @@ fn words_given<R: Env + AllocGlobal>(rt: &R) -> Result<Vec<String>, ArgsFault>
     }
 }
 
-/// Answers words, on a standard output that counts by this blank; and gives the exit status that was answered, which is noted.
+/// Answers words, on a standard output that counts by this blank. Returns the exit status that was answered, which is noted.
 fn run_metered<
     S: Sources,
     I: StandardInput,
@@ -74,7 +74,7 @@ fn after_name(given: &[String]) -> &[String]
     }
 }
 
-/// The words, borrowed.
+/// Borrows the arguments.
 fn borrowed<'a>(alloc: Global, words: &'a [String]) -> Result<Vec<&'a str>, AllocError>
     ensures { IfOk result (λ all. texts_of all.items ≡ map string_bytes words.now) }
 {
@@ -85,7 +85,7 @@ fn borrowed<'a>(alloc: Global, words: &'a [String]) -> Result<Vec<&'a str>, Allo
     Ok(all)
 }
 
-/// Answers the words that a run is given, and gives the exit status.
+/// Answers the arguments of a run, and returns the exit status.
 fn run_program<
     S: Sources,
     I: StandardInput,

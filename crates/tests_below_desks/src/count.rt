@@ -8,8 +8,7 @@ use std::alloc::{AllocError, Global};
 use std::process::Abort;
 use std::test::Fail;
 use vote_count::{
-    Chains, Defeats, Matrix, RunningMatrix, Verdict, Word, outcome, reach, recount,
-    standing_options,
+    Defeats, Matrix, RunningMatrix, Verdict, Word, outcome, reach, recount, standing_options,
 };
 use vote_poll::{LineFault, MAX_ELECTORS, MAX_OPTIONS, Poll, PollFault, Ranks, Reading, read_line};
 
@@ -269,7 +268,7 @@ fn reach_by_pairs(defeats: &Defeats, last: u8, pairs: &mut Vec<(u8, u8)>) -> Res
 }
 
 /// Whether the chains are just these pairs, up to the last option.
-fn are_pairs(chains: &Chains, pairs: &[(u8, u8)], last: u8) -> bool {
+fn are_pairs(chains: &Defeats, pairs: &[(u8, u8)], last: u8) -> bool {
     for a in 1..=last {
         for c in 1..=last {
             if chains.has(a, c) != pairs.contains(&(a, c)) {

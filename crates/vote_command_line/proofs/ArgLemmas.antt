@@ -1,4 +1,4 @@
--- What the getters of the matches read, by the rows.
+-- The getters of `clap` read the values that the rows of the matches have; and only a command with the flag has a number of desks.
 use Rattle.std.proofs.Common.{Bor, ◌≡◌, ◌≢◌, ◌∙◌, ◌<◌, ℕ, Option, Some, None, Result, Ok, Err, refl, sym, subst, ap, arith, List, codes, slice_index}
 use Rattle.std.specs.Str.Parse.{IsNumeral, ParsesUnsigned, digits_value, without_leading_plus}
 use Rattle.clap.specs.Words.{ReadsOne, Row, Text, first_of, first_value, one_text, rows_of}
@@ -24,7 +24,7 @@ number_read gives reads found id n result is none value = go (one_text found id)
     go None e = let absent = none e in cc
     go (Some text) e = let number = reads text n (subst (λ r. ReadsOne gives text r) is (value text e)) in (text, sym (one_text-rows found id) ∙ e, number.0, number.1)
 
--- where a typed getter reads no number that is told, the option has none
+-- a number that a typed getter does not return is not the value of the option
 pub no_number_read : {E : Type 0} (gives : Text → Result ℕ E → Type 0) → ((text : Text) (r : Result ℕ E) → gives text r → ParsesUnsigned 8 10 text r)
     → (found : Found) (id : Text) (n : ℕ) (result : Option ℕ) → n < 256 → (result ≡ Some n → ⊥)
     → ((text : Text) → one_text found id ≡ Some text → ReadsOne gives text result)
@@ -34,7 +34,7 @@ no_number_read gives parses found id n (Some read) few other value has =
 no_number_read gives parses found id n None few other value has =
     let err = value has.0 (one_text-rows found id ∙ has.1) in parses has.0 (Err err.0) err.1 (has.2, omega (arith, has.3))
 
--- the name is none of a command that has no desks, by its second letter
+-- the name is not that of a command without desks, by its second letter
 abbrev CountsByName : Text → Type 0
 CountsByName name = (slice_index name 1 ≢ 116) × (slice_index name 1 ≢ 104) × (slice_index name 1 ≢ 120)
 

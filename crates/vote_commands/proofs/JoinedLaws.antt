@@ -42,7 +42,7 @@ pieces_at_feed (b ∷ bs) rest =
           ∙ ap (λ pieces. pieces ++ pieces_of rest) (sym (slice_split-cons_no p b bs other))
     ]
 
--- behind a line feed at the end there is an empty piece, which is no line
+-- after a line feed at the end there is an empty piece, which is no line
 pieces-lines_of : (b : ℕ) (bs : Text) → (pieces_of (b ∷ bs) ≡ lines_of (b ∷ bs)) ⊎ (pieces_of (b ∷ bs) ≡ lines_of (b ∷ bs) ++ [] ∷ [])
 pieces-lines_of b bs =
     elim (cases_Bool (ends_with nat_eq (b ∷ bs) line_feed)) [

@@ -1,4 +1,4 @@
--- What a count is refused for, what it tells, and how it ends.
+-- What a count is refused for, what it returns, and how it ends.
 use Rattle.std.specs.Prelude.{◌≡◌, ◌≢◌, ◌+◌, ℕ, Bool, List, All, length, Option, Some, None, option_map, IfSome, Ok}
 use Rattle.std.proofs.Common.{Bor}
 use Rattle.vote_count.specs.declared.Decision.{Decision}
@@ -77,7 +77,7 @@ pub record IsCountedIn (inputs : Inputs) (sealed : SealedState) : Type 0 where
   pub desks : length sealed.sheets ≡ inputs.desks
   pub rising : All Rises sealed.sheets
 
--- what is told of a count for this purpose, of the poll, the lines and the option of the casting vote
+-- the text and the end of a count for this purpose, of the poll, the lines and the option of the casting vote
 abbrev pub IsMade : Purpose (Bor Text) → PollContent → List Text → Option ℕ → TextAndEnd → Type 0
 IsMade purpose.Picture poll lines casting told =
     (decision : Decision) × IsPictureAndDecision poll lines casting told.text decision × (told.end ≡ ended_by_decision decision)
@@ -87,7 +87,7 @@ IsMade (purpose.Verification sheet) poll lines casting told =
     (verification : Verification) × IsVerification poll lines sheet.now verification
     × AreVerificationWords poll lines sheet.now verification told.text × (told.end ≡ ended_by_verification verification)
 
--- what is told of a count for this purpose, of the bytes of both files
+-- the text and the end of a count for this purpose, of the bytes of both files
 abbrev pub IsCountFor : Purpose (Bor Text) → Inputs → TextAndEnd → Type 0
 IsCountFor made_for inputs told =
     (poll : PollContent) × (poll_in inputs.poll ≡ Ok poll) × IsMade made_for poll (lines_of inputs.ballots) (casting_option poll inputs.casting) told

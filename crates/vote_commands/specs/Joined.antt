@@ -17,7 +17,7 @@ EndsALine text = (text ≡ []) ⊎ ((front : Text) × (text ≡ front ++ line_fe
 abbrev pub IsJoined : Text → Text → Text → Type 0
 IsJoined input poll ballots = (input ≡ poll ++ codes "%%\n" ++ ballots) ⊎ ((input ≡ poll ++ codes "%%") × (ballots ≡ []))
 
--- the input has no line `%%`, so all of it is the poll; or poll and ballots stand before and after its first line `%%`
+-- the input has no line `%%`, so all of it is the poll; or the poll comes before its first line `%%`, and the ballots after it
 abbrev pub AreParts : Text → Text → Text → Type 0
 AreParts input poll ballots =
     (LacksSeparator input × (poll ≡ input) × (ballots ≡ [])) ⊎ (LacksSeparator poll × EndsALine poll × IsJoined input poll ballots)

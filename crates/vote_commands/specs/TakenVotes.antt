@@ -20,8 +20,7 @@ pub record CanBeCounted (taken : TakenVotes) : Type 0 where
   pub audited : IsAudited taken.poll taken.lines taken.audited.ballot_box taken.audited.sheets
   pub range : IfSome taken.casting (IsOption (option_count taken.poll))
 
--- the lines of the inputs, and a box that is audited for them and this poll, with a sheet for each of so many desks, whose
--- stamps rise
+-- the lines of the inputs, and a box that is audited for them and this poll, with a sheet for each desk, on which the stamps rise
 pub record AreBallotsTaken (poll : PollContent) (inputs : Inputs) (taken : List Text × Audited) : Type 0 where
   pub lines : taken.0 ≡ lines_of inputs.ballots
   pub few : ¬ HasTooManyLines inputs.ballots

@@ -1,4 +1,4 @@
--- What a run tells: the text that it writes, and how it ends.
+-- The text that a run writes, and how the run ends.
 use Rattle.vote_sheet.specs.Texts.{Text}
 use Rattle.vote_commands.specs.declared.fault.Ended.{Ended}
 

@@ -100,8 +100,8 @@ fn count_inputs<G: Gate + Sync, R: Threads + Wait + Sync>(
     Ok((text, taken.audited.witness()))
 }
 
-/// Takes the votes of a ballot file at so many desks, and writes what they are taken for, with the option that the casting vote
-/// names. A run that is stopped has written nothing, but for one whose output fails, which has written a prefix.
+/// Takes the votes of a ballot file, and writes what they are taken for, with the option that the casting vote names. A run that
+/// stops has written nothing; if its output failed, it has written a prefix.
 #[tactic(auto, using(crate::proofs::Stopping::stops_at_output))]
 pub fn count_for<G: Gate + Sync, W: Sink, R: Threads + Wait + Sync>(
     rt: &R,
@@ -129,8 +129,8 @@ pub fn count_for<G: Gate + Sync, W: Sink, R: Threads + Wait + Sync>(
     }
 }
 
-/// Takes the votes of a ballot file at so many desks, each in a thread of its own, and writes the sheet of the audited box,
-/// with the option that the casting vote names. Nothing is written before the sheet is whole.
+/// Takes the votes of a ballot file, with a thread for each desk, and writes the sheet of the audited box, with the option that the
+/// casting vote names. Nothing is written before the sheet is complete.
 ///
 /// For callers of the library; the program calls `perform`.
 pub fn run<G: Gate + Sync, W: Sink, R: Threads + Wait + Sync>(

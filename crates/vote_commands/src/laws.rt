@@ -2,7 +2,7 @@
 //! does nothing.
 ghost use Rattle.vote_commands.specs.Joined.{InputsArePartedAtSeparator, PartsAreUnique};
 
-/// The poll of a joined input stands before its first line `%%`, and its ballots after that line. Without such a line all of
+/// The poll of a joined input comes before its first line `%%`, and its ballots after that line. Without such a line all of
 /// the input is the poll, and there are no ballots.
 pub fn inputs_are_parted_at_separator()
     ensures { InputsArePartedAtSeparator }

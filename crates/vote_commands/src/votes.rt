@@ -79,8 +79,8 @@ fn read_poll<G: Gate>(
     Ok((poll, casting))
 }
 
-/// The lines of the ballot file and the audited box of their votes, which are taken at so many desks, each in a thread of its own.
-/// The poll is that of the poll file, and has the option that the casting vote names.
+/// Takes the votes of the ballot file, with a thread for each desk, and returns the lines and the audited box. The poll is that of
+/// the poll file, and has the option that the casting vote names.
 #[tactic(auto, using(crate::proofs::Stopping::count_without_votes))]
 fn take_ballots<'t, G: Gate + Sync, R: Threads + Wait + Sync>(
     rt: &R,
@@ -106,7 +106,7 @@ fn take_ballots<'t, G: Gate + Sync, R: Threads + Wait + Sync>(
     Ok((lines, audited))
 }
 
-/// Reads the poll, then the casting vote, then the lines, and takes the votes at so many desks, each in a thread of its own.
+/// Reads the poll, then the casting vote, then the lines, and takes the votes with a thread for each desk.
 pub(crate) fn take_inputs<'t, G: Gate + Sync, R: Threads + Wait + Sync>(
     rt: &R,
     alloc: Global,

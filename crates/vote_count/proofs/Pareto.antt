@@ -1,4 +1,4 @@
--- An option to which each ballot prefers another.
+-- An option to which each ballot prefers the same other one is not in the final set.
 use Rattle.std.proofs.Common.{◌≢◌, ℕ, suc, ◌<◌, ◌≤◌, List, [], inl, inr, refl, sym, arith}
 use Rattle.std.specs.Prelude.{IsTrue, Option, Some, None, IfSome}
 use Rattle.std.specs.List.{All}

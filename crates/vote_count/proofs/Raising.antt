@@ -1,4 +1,4 @@
--- Ranking an option higher.
+-- If ballots rank an option of the final set higher, it stays in that set.
 use Rattle.std.proofs.Common.{◌≡◌, ◌≢◌, ℕ, suc, ◌∙◌, ◌*◌, ◌-◌, ◌<◌, ◌≤◌, ◌⊎◌, List, [], ◌∷◌, ◌++◌, inl, inr, refl, sym, subst, arith}
 use Rattle.std.specs.Prelude.{Option}
 use Rattle.std.specs.List.{AllZip}
@@ -69,7 +69,7 @@ module _ (K L : ℕ → Type 0) (to : (o : ℕ) → K o → L o) (from : (o : �
   abbrev D' : ℕ → ℕ → Type 0
   D' = PairwiseDefeats L n
 
-  -- the defeats of either matrix that are no weaker than so many votes for and against
+  -- the defeats of either matrix that are no weaker than these votes for and against
   abbrev S : ℕ → ℕ → ℕ → ℕ → Type 0
   S = Strong m D
 

@@ -1,4 +1,4 @@
--- The votes that a running matrix stands for.
+-- The votes of a running matrix: each is the settled number and the change that is kept for it, and a ballot moves it by one.
 use Rattle.std.proofs.Common.{◌≡◌, ℕ, ◌+◌, ◌-◌, ◌%◌, ◌<◌, ◌≤◌, Bool, cond, List, [], Option, map, length, get_or, replicate, if◌then◌else◌, nat_lt, sym, subst, ap, ap₂, ◌∙◌, inl, inr, arith}
 use Rattle.std.specs.Prelude.{IsTrue}
 use Rattle.std.specs.List.{range_with_len}

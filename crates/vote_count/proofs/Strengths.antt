@@ -51,7 +51,7 @@ measure_below v w x y won won' h =
       | inr same ↦ let squares : v * v ≡ x * x = ap (λ z. z * z) same.0 in omega arith
     ]
 
--- the defeats that are no weaker than so many votes for and against
+-- the defeats that are no weaker than these votes for and against
 abbrev pub Strong : Votes → (ℕ → ℕ → Type 0) → ℕ → ℕ → ℕ → ℕ → Type 0
 Strong m E v w a b = E a b × ¬ IsBelow (votes m a b) (votes m b a) v w
 

@@ -1,4 +1,4 @@
--- What the lanes of a turn hold.
+-- What one operation on the sixteen lanes of a turn does to each of them: a vote is moved by one, or a change is added.
 use Rattle.std.proofs.Common.{◌≡◌, ℕ, ◌+◌, ◌-◌, ◌%◌, ◌<◌, ◌≤◌, List, Bool, false, cond, nat_le, length, get_or, take, map, replicate, ap, sym, ◌∙◌, inl, inr, arith}
 use Rattle.std.specs.Simd.Lanes.{zip2, sel_l, put_chunk}
 use Rattle.std.proofs.lemmas.Simd.{length-zip2, get_or-zip2, get_or-replicate, length-sel_l, get_or-sel_l, length-chunk, get_or-chunk, get_or-put_chunk_at}

@@ -1,4 +1,4 @@
--- Turns of which some are moved.
+-- Some turns are moved, and the others stay.
 use Rattle.std.proofs.Common.{◌≡◌, ◌≢◌, ℕ, ◌+◌, ◌-◌, ◌%◌, ◌<◌, List, [], length, get_or, set, take, drop, sym, subst, ap, ◌∙◌, inl, inr, arith}
 use Rattle.std.proofs.lemmas.Bool.{cases_lt}
 use Rattle.std.proofs.lemmas.List.{get_or-set_same, get_or-set_other, length-set}
@@ -6,7 +6,7 @@ use Rattle.std.proofs.lemmas.Simd.{get_or-chunk}
 use Rattle.vote_count.specs.Changes.{AreTurns, IsMoved, Moves}
 use Rattle.vote_count.proofs.Cells.{rows_with}
 
--- keys that stand twice
+-- keys that are there twice
 pub around-each : (keys once twice : List ℕ) (first : ℕ) → ((k : ℕ) → k < 16 → get_or once (0 + k) 0 ≡ get_or (take 16 (drop first keys)) k 0)
     → ((k : ℕ) → k < 16 → get_or twice (16 + k) 0 ≡ get_or (take 16 (drop first keys)) k 0) → ((k : ℕ) → k < 16 → get_or twice k 0 ≡ get_or once k 0)
     → (k : ℕ) → k < 32 → get_or twice k 0 ≡ get_or keys (first + k % 16) 0

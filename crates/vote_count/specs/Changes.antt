@@ -36,7 +36,7 @@ IsSum settled changes row column =
 abbrev pub IsSettled : ℕ → ℕ → ℕ → Type 0
 IsSettled settled change sum = 128 ≤ settled + change → settled + change < 2 ^ 32 + 128 → sum + 128 ≡ settled + change
 
--- so many ballots made the change of two options
+-- this many ballots made the change of two options
 abbrev pub IsWithin : ℕ → List (List ℕ) → ℕ → ℕ → Type 0
 IsWithin pending changes row column = (128 ≤ kept_at changes row column + pending) × (kept_at changes row column ≤ 128 + pending)
 
@@ -118,7 +118,7 @@ abbrev pub AreOthersSame : ℕ → ℕ → List (List ℕ) → List (List ℕ) �
 AreOthersSame square from before after =
     (turn : ℕ) → (turn < 16 * square + from) ⊎ (16 * square + 16 ≤ turn) → slice_index_or after turn [] ≡ slice_index_or before turn []
 
--- the sixteen keys from the first on stand there twice
+-- the sixteen keys from the first on are there twice
 abbrev pub IsAround : ℕ → List ℕ → List ℕ → Type 0
 IsAround first keys twice = (k : ℕ) → k < 32 → key_at twice k ≡ key_at keys (first + k % 16)
 

@@ -40,11 +40,11 @@ FinalSetIsOne =
     let kept = IsKept poll matrix in
     AreRounds kept matrix (PairwiseDefeats kept matrix) rounds → (o : ℕ) → In (final_set rounds) o ↔ IsInFinalSet kept matrix o
 
--- two matrices have the same votes between so many options
+-- two matrices have the same votes between this many options
 abbrev pub HaveSameVotes : ℕ → Votes → Votes → Type 0
 HaveSameVotes options matrix other = (a b : ℕ) → IsOption options a → IsOption options b → votes matrix a b ≡ votes other a b
 
--- two outcomes drop the same of so many options for the same causes, and have the same defeats and the same rounds
+-- two outcomes of this many options drop the same ones for the same causes, and have the same defeats and the same rounds
 pub record AreSameOutcomes (options : ℕ) (outcome other : VerdictState) : Type 0 where
   pub causes : (o : ℕ) → IsOption options o → cause_of outcome o ≡ cause_of other o
   pub defeats : (a b : ℕ) → Pairs outcome.defeats a b ↔ Pairs other.defeats a b
@@ -131,7 +131,7 @@ FinalSetIsSchulze =
     let kept = IsKept poll matrix in
     1 ≤ option_count poll → IsInFinalSet kept matrix a ↔ IsSchulzeWinner kept matrix (PairwiseDefeats kept matrix) a
 
--- Of so many options A is liked no less in the second matrix than in the first, and nothing else has changed: each other option has no more votes over A, and A no fewer over it; between other options the votes are the same.
+-- Of these options A is liked no less in the second matrix than in the first, and nothing else has changed: each other option has no more votes over A, and A no fewer over it; between other options the votes are the same.
 pub record IsRaised (options : ℕ) (a : ℕ) (matrix raised : Votes) : Type 0 where
   pub for : (b : ℕ) → IsOption options b → b ≢ a → votes matrix a b ≤ votes raised a b
   pub against : (b : ℕ) → IsOption options b → b ≢ a → votes raised b a ≤ votes matrix b a
@@ -143,13 +143,13 @@ RaisedWinnersWin =
     (poll : PollContent) (matrix raised : Votes) (a : ℕ) →
     IsPoll poll → IsRaised (option_count poll) a matrix raised → IsInFinalSet (IsKept poll matrix) matrix a → IsInFinalSet (IsKept poll raised) raised a
 
--- Of so many options the second entry prefers A to whatever the first prefers it to, prefers nothing to A that the first does not, and prefers as the first does between other options.
+-- Of these options the second entry prefers A to whatever the first prefers it to, prefers nothing to A that the first does not, and prefers as the first does between other options.
 pub record IsRaisedEntry (options : ℕ) (a : ℕ) (entry raised : Option (List (Option ℕ))) : Type 0 where
   pub for : (b : ℕ) → IsOption options b → b ≢ a → IsTrue (entry_prefers a b entry) → IsTrue (entry_prefers a b raised)
   pub against : (b : ℕ) → IsOption options b → b ≢ a → IsTrue (entry_prefers b a raised) → IsTrue (entry_prefers b a entry)
   pub same : (b c : ℕ) → IsOption options b → IsOption options c → b ≢ a → c ≢ a → entry_prefers b c raised ≡ entry_prefers b c entry
 
--- the matrix has the votes of these ballots, between so many options
+-- the matrix has the votes of these ballots, between this many options
 abbrev pub IsMatrixOf : ℕ → List (Option (List (Option ℕ))) → Votes → Type 0
 IsMatrixOf options ballots matrix =
     (a b : ℕ) → IsOption options a → IsOption options b → votes matrix a b ≡ count_by (entry_prefers a b) ballots
@@ -181,7 +181,7 @@ FinalSetIsCloneproof =
     let fewer = IsInFinalSet (Except (IsKept poll matrix) d) matrix in
     AreClones (IsKept poll matrix) matrix c d → ((x : ℕ) → x ≢ c → x ≢ d → all x ↔ fewer x) × (fewer c ↔ (all c ⊎ all d))
 
--- Two of so many options are clones on an entry: it ranks no further option between the two, nor as high as one of them alone.
+-- Two of these options are clones on an entry: it ranks no further option between the two, nor as high as one of them alone.
 pub record AreClonesOn (options : ℕ) (c d : ℕ) (entry : Option (List (Option ℕ))) : Type 0 where
   pub for : (x : ℕ) → IsOption options x → x ≢ c → x ≢ d → entry_prefers c x entry ≡ entry_prefers d x entry
   pub against : (x : ℕ) → IsOption options x → x ≢ c → x ≢ d → entry_prefers x c entry ≡ entry_prefers x d entry
@@ -217,7 +217,7 @@ CloneSetsAreIndependent =
     IsCloneSet (IsKept poll matrix) matrix clones → ((a : ℕ) → In removed a → In clones a) → In clones c → ¬ In removed c →
     ((x : ℕ) → ¬ In clones x → all x ↔ fewer x) × (Meet clones all ↔ Meet clones fewer)
 
--- The options of a set, of so many, are clones on an entry: it ranks no option outside the set between two of them, nor as high as one of two alone.
+-- The options of a set are clones on an entry: it ranks no option outside the set between two of them, nor as high as one of two alone.
 pub record IsCloneSetOn (options : ℕ) (clones : List Bool) (entry : Option (List (Option ℕ))) : Type 0 where
   pub for : (c d x : ℕ) → In clones c → In clones d → IsOption options x → ¬ In clones x → entry_prefers c x entry ≡ entry_prefers d x entry
   pub against : (c d x : ℕ) → In clones c → In clones d → IsOption options x → ¬ In clones x → entry_prefers x c entry ≡ entry_prefers x d entry

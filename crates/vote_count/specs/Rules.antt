@@ -5,7 +5,7 @@ use Rattle.vote_poll.specs.declared.wording.Wording.{Wording}
 use Rattle.vote_poll.specs.declared.wording.Wording.TheVariants.{AtLeast, MoreThan}
 use Rattle.vote_count.specs.Votes.{Votes, votes}
 
--- `n` votes are at least the quorum R of A.5.2: so many times Q as the poll says, Q being half of the square root of the electors. Both sides are doubled and squared, so nothing is rounded.
+-- `n` votes are at least the quorum R of A.5.2: the poll's multiple of Q, which is half of the square root of the number of electors. Both sides are doubled and squared, so nothing is rounded.
 -- 4.2.7: "Q is half of the square root of the number of current Developers." "Q and K need not be integers and are not rounded."
 abbrev pub MeetsQuorum : PollContent → ℕ → Type 0
 MeetsQuorum poll n = poll.quorum_multiple ^ 2 * elector_count poll ≤ (2 * n) ^ 2
@@ -14,7 +14,7 @@ MeetsQuorum poll n = poll.quorum_multiple ^ 2 * elector_count poll ≤ (2 * n) ^
 abbrev pub IsQuorum : PollContent → ℕ → Type 0
 IsQuorum poll n = MeetsQuorum poll n × ((m : ℕ) → MeetsQuorum poll m → n ≤ m)
 
--- So many votes for an option and so many for the default are a majority of this ratio. In the Constitution's wording they are at least the ratio times as many, and strictly more; in the other one more than the ratio times as many.
+-- These numbers of votes for an option and for the default are a majority of this ratio. In the Constitution's wording they are at least the ratio times as many, and strictly more; in the other one more than the ratio times as many.
 -- A.5.3: "An option A defeats the default option D by a majority ratio N, if V(A,D) is greater or equal to N * V(D,A) and V(A,D) is strictly greater than V(D,A)."
 abbrev pub IsMajority : Wording → ℕ → ℕ → ℕ → Type 0
 IsMajority AtLeast ratio won lost = (ratio * lost ≤ won) × (lost < won)

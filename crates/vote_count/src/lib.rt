@@ -53,7 +53,7 @@ pub use laws::{
     rounds_exist, winners_are_in_the_set,
 };
 pub use options::{OptionSet, Word};
-pub use pairs::{Chains, Defeats, reach};
+pub use pairs::{Defeats, reach};
 pub use rounds::{Cause, Decision, Round, Verdict, decide, outcome};
 pub use rules::{meets_majority, meets_quorum, quorum_votes, schwartz, standing_options, weakest};
 pub use running_matrix::RunningMatrix;

@@ -9,8 +9,9 @@ use crate::{Matrix, OptionSet, Word};
 use std::marker::Model;
 use vote_poll::MAX_OPTIONS;
 
-/// A list of pairwise defeats, each of one option by another (Appendix A, Vote Counting). Their
-/// order says nothing, so it is a set: for each option a row of those that it defeats.
+/// A list of defeats, each of one option by another: pairwise defeats, or the transitive defeats
+/// that [`reach`] makes of them (Appendix A, Vote Counting). Their order says nothing, so it is a
+/// set: for each option a row of those that it defeats.
 #[derive(Clone, Copy)]
 pub struct Defeats {
     rows: [OptionSet; MAX_OPTIONS],
@@ -147,53 +148,12 @@ fn is_defeat(set: &OptionSet, matrix: &Matrix, a: u8, b: u8) -> bool
     set.has(a) && set.has(b) && matrix.votes(a, b) > matrix.votes(b, a)
 }
 
-/// The transitive defeats of a list of defeats (Appendix A, Vote Counting): for each option a row
-/// of those that it transitively defeats.
-#[derive(Clone, Copy)]
-pub struct Chains {
-    reached: [OptionSet; MAX_OPTIONS],
-}
-
-impl Model for Chains {
-    ghost use Rattle.std.specs.Prelude.{◌≡◌, List, Bool, length};
-    ghost use Rattle.vote_poll.specs.declared.TheConstants.{MAX_OPTIONS};
-
-    ghost Value = { List (List Bool) };
-
-    ghost view = { λ c. c.reached };
-
-    ghost invariant = { λ c. length c.reached ≡ MAX_OPTIONS };
-
-    ghost inverse = { λ rows. record { reached = rows } };
-}
-
-#[tactic(auto, using(vote_poll::proofs::OptionLaws::options))]
-impl Chains {
-    /// Whether `a` transitively defeats `c`. What is no option does not, and is not defeated.
-    pub fn has(&self, a: u8, c: u8) -> bool
-        ensures { result ≡ has_pair self.now a c }
-    {
-        let a = a as usize;
-        a >= 1 && a <= MAX_OPTIONS && self.reached[a - 1].has(c)
-    }
-
-    /// The options that `a` transitively defeats, as a word in which option `c` has bit `c - 1`. `a`
-    /// is from 1 to `MAX_OPTIONS`.
-    /// For callers of the library; the program does not call it.
-    pub fn row(&self, a: u8) -> Word
-        requires { IsOption MAX_OPTIONS a }
-        ensures { (c : ℕ) → 1 ≤ c → (bit_at result (c - 1) ≡ 1) ↔ Pairs self.now a c }
-    {
-        self.reached[a as usize - 1].word()
-    }
-}
-
 /// The transitive defeats: A transitively defeats C where A defeats C, or where A defeats some B
 /// that transitively defeats C (Appendix A, Vote Counting).
 ///
 /// For one option after another, each row that has it takes in the row of that option. Each other
 /// row takes in nothing, so that LLVM makes vector code of a turn.
-pub fn reach(defeats: &Defeats) -> Chains
+pub fn reach(defeats: &Defeats) -> Defeats
     ensures { (a c : ℕ) → Pairs result a c ↔ TransitivelyDefeats (Pairs defeats.now) a c }
 {
     let mut rows = defeats.rows;
@@ -210,5 +170,5 @@ pub fn reach(defeats: &Defeats) -> Chains
             row.union_with(&more);
         }
     }
-    Chains { reached: rows }
+    Defeats { rows }
 }

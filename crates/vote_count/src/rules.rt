@@ -6,7 +6,7 @@ ghost use Rattle.vote_count.specs.Rules.{MeetsQuorum, IsQuorum, MeetsMajority, I
 ghost use Rattle.vote_count.specs.Weakest.{IsWeakerOf, IsOneWeakest, IsNoStronger, AreOptions, AreBetween};
 ghost use Rattle.vote_count.specs.Sets.{In, Pairs};
 
-use crate::{Chains, Defeats, Matrix, OptionSet};
+use crate::{Defeats, Matrix, OptionSet};
 use vote_poll::{MAX_OPTIONS, Poll, Wording};
 
 /// The fewest votes that meet the quorum (section 4.2): the poll's multiple of Q, which is half of
@@ -95,14 +95,14 @@ pub(crate) fn kept_with(poll: &Poll, matrix: &Matrix, quorum: u64) -> OptionSet
 }
 
 // Whether `b` transitively defeats `a`, which does not transitively defeat it.
-fn is_beaten_by(chains: &Chains, a: u8, b: u8) -> bool
+fn is_beaten_by(chains: &Defeats, a: u8, b: u8) -> bool
     ensures { IsTrue result ↔ (Pairs chains.now b a × ¬ Pairs chains.now a b) }
 {
     chains.has(b, a) && !chains.has(a, b)
 }
 
 // Whether `a` transitively defeats each option of the set that transitively defeats it.
-fn is_unbeaten(set: &OptionSet, chains: &Chains, a: u8) -> bool
+fn is_unbeaten(set: &OptionSet, chains: &Defeats, a: u8) -> bool
     requires { (o : ℕ) → In set.now o → IsOption MAX_OPTIONS o }
     ensures { IsTrue result ↔ ((b : ℕ) → In set.now b → Pairs chains.now a b ⊎ ¬ Pairs chains.now b a) }
 {
@@ -116,7 +116,7 @@ fn is_unbeaten(set: &OptionSet, chains: &Chains, a: u8) -> bool
 
 /// The Schwartz set of a set of options (Appendix A, Vote Counting): each of them that, for each
 /// option B of the set, transitively defeats B or is not transitively defeated by B.
-pub fn schwartz(set: &OptionSet, chains: &Chains) -> OptionSet
+pub fn schwartz(set: &OptionSet, chains: &Defeats) -> OptionSet
     requires { (o : ℕ) → In set.now o → IsOption MAX_OPTIONS o }
     ensures { (a : ℕ) → In result a ↔ InSchwartzSet (In set.now) (Pairs chains.now) a }
 {

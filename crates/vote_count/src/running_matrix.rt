@@ -26,7 +26,7 @@ const TURNS: usize = 4 * LANES;
 /// What is kept for no change.
 const EVEN: u8 = 128;
 
-/// After so many ballots each change still fits in its byte.
+/// The most ballots after which each change still fits in its byte.
 const MOST_PENDING: u8 = 127;
 
 /// V(A,B) for each two options A and B, of ballots that come and go. Contracts see what they see of a [`Matrix`].
@@ -52,7 +52,7 @@ impl Model for RunningMatrix {
 }
 
 impl RunningMatrix {
-    /// The matrix of no votes, of so many options.
+    /// The matrix of no votes, of this many options.
     pub fn zero(options: u8) -> Self
         requires { options ≤ MAX_OPTIONS }
         ensures options { result.options ≡ options }
@@ -206,7 +206,7 @@ fn settle(settled: &mut [[u32; LANES]], changes: &mut [[u8; LANES]], options: us
     }
 }
 
-// How many turns so many options have.
+// How many turns this many options have.
 #[inline(always)]
 fn turns_of(options: usize) -> usize
     requires { options ≤ MAX_OPTIONS }

@@ -32,7 +32,7 @@ impl Model for Matrix {
 
 #[tactic(auto, using(vote_poll::proofs::OptionLaws::options))]
 impl Matrix {
-    /// The matrix of no votes, of so many options.
+    /// The matrix of no votes, of this many options.
     pub fn zero(options: u8) -> Self
         requires { options ≤ MAX_OPTIONS }
         ensures options { result.options ≡ options }
@@ -100,7 +100,7 @@ impl Matrix {
     }
 }
 
-// One more vote, in the row of the option with this sort key, over each option behind it.
+// One more vote, in the row of the option with this sort key, over each option after it.
 fn raise(row: &mut [u32], key: u8, keys: &[u8], options: u8)
     requires row { length row.old ≡ MAX_OPTIONS }
     requires keys { length keys.now ≡ MAX_OPTIONS }
@@ -113,7 +113,7 @@ fn raise(row: &mut [u32], key: u8, keys: &[u8], options: u8)
     }
 }
 
-// One vote less, in the row of the option with this sort key, over each option behind it.
+// One vote less, in the row of the option with this sort key, over each option after it.
 fn lower(row: &mut [u32], key: u8, keys: &[u8], options: u8)
     requires row { length row.old ≡ MAX_OPTIONS }
     requires keys { length keys.now ≡ MAX_OPTIONS }
@@ -126,7 +126,7 @@ fn lower(row: &mut [u32], key: u8, keys: &[u8], options: u8)
     }
 }
 
-/// The matrix of a list of ballots of so many options, with one entry for each voter: `None` where a
+/// The matrix of a list of ballots of this many options, with one entry for each voter: `None` where a
 /// voter has none. There are at most `MAX_ELECTORS` entries.
 /// For callers of the library; the program does not call it.
 pub fn recount(options: u8, ballots: &[Option<Ranks>]) -> Matrix

@@ -1,4 +1,4 @@
--- What the workers give back, one after the other.
+-- What the workers returned is what they promised: the desks in order, with passes that took each place of the tray once.
 use Rattle.std.proofs.Common.{◌≡◌, ℕ, ◌+◌, ◌<◌, zero, suc, List, [], ◌∷◌, ◌++◌, max, length, map, sum_by, Contains, refl, sym, ap, ◌∙◌, subst, arith, length-append}
 use Rattle.std.specs.List.{All, AllByRecursion, range_with_len, enumerate_from}
 use Rattle.std.proofs.lemmas.List.{length-map, map-append}

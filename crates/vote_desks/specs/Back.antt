@@ -1,4 +1,4 @@
--- What all workers give back.
+-- What all workers return.
 use Rattle.std.specs.Prelude.{◌≡◌, ℕ, ◌+◌, List, [], ◌∷◌, length, map, sum_by, All}
 use Rattle.std.specs.List.{range_with_len}
 use Rattle.vote_tray.specs.Passes.{TrayId, PassState}

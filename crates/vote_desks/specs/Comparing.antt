@@ -14,7 +14,7 @@ abbrev pub HasDesk : Step → Type 0
 HasDesk Close = Unit {0}
 HasDesk (Cast desk stamp reading reply) = (1 ≤ desk) × (desk ≤ MAX_DESKS)
 
--- a cast is of one of so many envelopes
+-- the envelope of a cast is one of the box
 abbrev pub HasEnvelope : ℕ → Step → Type 0
 HasEnvelope limit Close = Unit {0}
 HasEnvelope limit (Cast desk stamp reading reply) = (1 ≤ stamp) × (stamp ≤ limit)

@@ -35,7 +35,7 @@ CanStopAudit (Enter desk fault) = ⊥
 CanStopAudit (Desk fault) = ⊥
 CanStopAudit (Audit fault) = (fault ≢ SizeDiffers) × (fault ≢ CountDiffers)
 
--- the fault of a gate, or of a cast, names one of so many desks, which are numbered from 1; that of an audit may name any desk
+-- the fault of a gate, or of a cast, names one of the desks, which are numbered from 1; that of an audit may name any desk
 abbrev pub IsOfDesk : ℕ → VoteFault → Type 0
 IsOfDesk desks Memory = Unit {0}
 IsOfDesk desks Thread = Unit {0}
@@ -57,7 +57,7 @@ IsAuditFaultOf poll lines s (Enter desk fault) = ⊥
 IsAuditFaultOf poll lines s (Desk fault) = ⊥
 IsAuditFaultOf poll lines s (Audit fault) = IsFaultOf poll lines s.ballot_box s.sheets fault
 
--- these are the slips of so many desks, and the stamps of each desk rise
+-- these are the slips of this many desks, and the stamps of each desk rise
 abbrev pub AreSheetsOf : ℕ → List (List Slip) → Type 0
 AreSheetsOf desks sheets = (length sheets ≡ desks) × All Rises sheets
 

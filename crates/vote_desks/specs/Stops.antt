@@ -1,4 +1,4 @@
--- Why desks stop early, and which stop is told.
+-- Why desks stop early, and which of these stops is returned.
 use Rattle.std.specs.Prelude.{◌≡◌, ℕ, Bool, ◌≤◌, ◌⊎◌, List, Option, Some, None, All, Contains, IsTrue}
 use Rattle.vote_desks_box.specs.declared.EnterFault.{EnterFault}
 use Rattle.vote_desks_box.specs.declared.EnterFault.TheVariants.{StampUsed}

@@ -1,4 +1,4 @@
--- What a worker is given, and what it gives back.
+-- What a worker is given, and what it returns.
 use Rattle.std.specs.Prelude.{◌≡◌, ℕ, ◌+◌, ◌-◌, ◌*◌, ◌/◌, ◌<◌, ◌≤◌, min, Bool, if◌then◌else◌, List, [], ◌++◌, map, length, slice_get, slice_index, slice_index_or, All}
 use Rattle.std.specs.List.{range_with_len}
 use Rattle.std.specs.List.Sorted.{IsStrictlyIncreasing}
@@ -39,11 +39,11 @@ pub record HasCastAll (desk : DeskState) (pass : PassState) : Type 0 where
 abbrev pub tray_and_parts : PassState → TrayId × List ℕ
 tray_and_parts pass = (pass.tray, pass.parts)
 
--- the stamp of one of so many lines, which are numbered from 1
+-- the stamp of a line, if there are this many; lines are numbered from 1
 abbrev pub IsStampOf : ℕ → ℕ → Type 0
 IsStampOf lines stamp = (1 ≤ stamp) × (stamp ≤ lines)
 
--- at the place of each of these stamps stands what the poll reads in its line
+-- at the place of each of these stamps is what the poll reads in its line
 abbrev pub AreReadAt : PollContent → List (List ℕ) → List ℕ → List Reading → Type 0
 AreReadAt poll lines stamps read = (place : ℕ) → place < length stamps → slice_get read place ≡ slice_get (readings poll lines) (slice_index stamps place - 1)
 
@@ -62,11 +62,11 @@ pub record IsRising (pass : PassState) : Type 0 where
 abbrev pub last_stamp : PassState → ℕ
 last_stamp pass = slice_index_or (stamps_taken pass) (length (stamps_taken pass) - 1) 0
 
--- how many lines come behind the last one that the pass took
+-- how many lines come after the last one that the pass took
 abbrev pub left_behind : PassState → ℕ
 left_behind pass = pass.tray.size - last_stamp pass
 
--- how many envelopes a worker takes at once if so many lines are left: one if its gate may wait; else one, and one more for each LEFT_FOR_EACH of them, but at most BATCH
+-- how many envelopes a worker takes at once if this many lines are left: one if its gate may wait; otherwise one, and one more for each LEFT_FOR_EACH of them, but at most BATCH
 abbrev pub batch_length : Bool → ℕ → ℕ
 batch_length may_wait left = if may_wait then 1 else min BATCH (left / LEFT_FOR_EACH + 1)
 

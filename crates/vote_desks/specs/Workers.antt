@@ -1,4 +1,4 @@
--- What workers promised when they were started, and what they gave back, one after the other.
+-- What workers promised when they were started, and what they returned, one after the other.
 use Rattle.std.specs.Prelude.{ℕ, Bool, List, Option, All, map}
 use Rattle.std.specs.declared.thread.PromisedHandle.{PromisedHandle}
 use Rattle.vote_tray.specs.Passes.{TrayId, PassState}

@@ -35,8 +35,8 @@ fn batch_length(may_wait: bool, left: usize) -> usize
     }
 }
 
-/// Takes the places of the next envelopes, and notes their stamps, if `left` lines come behind the
-/// last one that the pass took. There are fewer than in a batch only if no place is left.
+/// Takes the places of the next envelopes, and notes their stamps. `left` is the number of lines
+/// after the last one that the pass took. It takes less than a batch only if no place is left.
 pub(crate) fn take_batch<VL: Tally, RL: Tally, G: Gate>(
     workplace: &Workplace<'_, '_, VL, RL, G>,
     pass: &mut Pass,

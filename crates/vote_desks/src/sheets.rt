@@ -61,7 +61,7 @@ fn has_slip(sheet: &[Slip], place: usize, slip: &Slip) -> bool
     sheet.get(place) == Some(slip)
 }
 
-/// The sheet of a desk, which is empty where there is none.
+/// The sheet of a desk; empty if the desk has none.
 fn sheet_of(sheets: &[Vec<Slip>], desk: u8) -> &[Slip]
     requires { 1 ≤ desk }
     ensures { result.now ≡ sheet_at (slips_on sheets.now) desk }

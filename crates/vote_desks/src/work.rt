@@ -83,7 +83,7 @@ impl<VL: Tally, RL: Tally, G: Gate> Promise<WorkerResult<VL, RL>> for WorkerProm
 }
 
 /// Casts the envelopes with these stamps, each as one step, until the gate or the box stops the
-/// desk. For more than one the desk has taken its turn.
+/// desk. If there are several, the desk has taken its turn.
 fn enter_envelopes<VL: Tally, RL: Tally, G: Gate, R: Wait>(
     rt: &R,
     workplace: &Workplace<'_, '_, VL, RL, G>,
@@ -286,7 +286,7 @@ fn start_all<
     Ok(handles)
 }
 
-/// Serves each desk in a thread of its own, and gives back all desks when all workers have ended.
+/// Serves each desk in a thread of its own, and returns all desks when all workers have ended.
 pub(crate) fn work_all<
     VL: Tally + Send + Sync,
     RL: Tally + Send + Sync,

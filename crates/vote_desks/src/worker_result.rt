@@ -1,4 +1,4 @@
-//! What a worker gives back.
+//! What a worker returns.
 ghost use Rattle.std.specs.Prelude.{◌≡◌, None};
 ghost use Rattle.vote_desks.specs.Stops.{IsRefusedAsUsed};
 ghost use Rattle.vote_desks.specs.Work.{HasCastAll};

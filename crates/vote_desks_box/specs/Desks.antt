@@ -113,7 +113,7 @@ slips_of desks = map (λ desk. desk.slips) desks.items
 abbrev pub slips_on : {Z : Type 0} → List (Vec Slip Z) → List (List Slip)
 slips_on sheets = map vec_items sheets
 
--- the slips of these desks stand after those that were there
+-- the slips of these desks come after those that were there
 abbrev pub AddsSlips : {Y Z : Type 0} → Vec DeskState Y → List (Vec Slip Z) → List (Vec Slip Z) → Type 0
 AddsSlips desks before after = slips_on after ≡ slips_on before ++ slips_of desks
 

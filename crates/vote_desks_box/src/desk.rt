@@ -10,7 +10,7 @@ use std::sync::ledger::{Book, Ledger, Share};
 use vote_steps::{BallotBox, MAX_DESKS};
 
 /// A ledger of what the desks of one box have done. It names the box: a desk of another box has
-/// another type. What a box keeps from its opening on stands in the ledger of its valid lines.
+/// another type. What a box keeps from its opening on is in the ledger of its valid lines.
 pub trait Tally: Ledger {
     /// How many desks there are.
     ghost desks: { ℕ };
@@ -19,6 +19,10 @@ pub trait Tally: Ledger {
     ghost opened: { BoxState };
 }
 
+/// `Brand`, of the kit, is the type that a caller passes for a ledger: it has no bytes, and does
+/// nothing. A function over `VL: Tally` is proved whatever the members of `VL` are, so the proof of a
+/// call that passes `Brand` picks them, in its file `Invariants.antt`: how many desks there are, and
+/// which box was opened. The members here are those of a call that picks none.
 impl Tally for Brand {
     ghost desks = { 0 };
 
@@ -31,7 +35,7 @@ impl Tally for Brand {
     } };
 }
 
-/// A box, with the books of what was valid and what was refused. It stands behind the lock of a
+/// A box, with the books of what was valid and what was refused. It is behind the lock of a
 /// shared box, and no call hands one out: it is public for the contract of `enter`.
 #[derive(Drop)]
 pub struct Held<VL: Tally, RL: Tally> {

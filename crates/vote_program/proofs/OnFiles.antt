@@ -17,7 +17,7 @@ use Rattle.vote_program.specs.declared.inputs.TheConstants.{BALLOTS_LIMIT, POLL_
 use Rattle.vote_request.specs.Requests.{DesksFit, ballot_file, poll_file, request_on, sheet_file}
 use Rattle.vote_request.specs.declared.Request.TheVariants as request
 
--- why a file was not read is of that file, and one is told as too long only if it is
+-- the fault of a file that was not read names that file, and says that it is too long only if it is
 is_unread_for : (file : InputFile) (known : Option (List ℕ)) (limit : ℕ) (fault : ReadFault)
     → (fault ≡ read.TooLong → IsTooLong known limit) → IsUnread file known limit (unread file fault)
 is_unread_for file known limit read.Device too_long = refl

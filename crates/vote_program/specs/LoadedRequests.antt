@@ -8,11 +8,11 @@ use Rattle.vote_commands.specs.Performing.{LoadedRequest}
 use Rattle.vote_program.specs.declared.inputs.Inputs.{Inputs}
 use Rattle.vote_program.specs.declared.inputs.TheConstants.{BALLOTS_LIMIT, POLL_LIMIT, SHEET_LIMIT}
 
--- these bytes are the whole input, if its device tells it, and they are no more than the limit
+-- these bytes are the whole input, if that is known, and at most as many as the limit
 abbrev pub IsReadWithin : ℕ → Option (List ℕ) → List ℕ → Type 0
 IsReadWithin limit known bytes = IsWhole known bytes × (length bytes ≤ limit)
 
--- each file that the request names has just the bytes that are told of its name, and no more than its limit
+-- each file that the request names has just the bytes known of its name, and at most as many as its limit
 pub record AreFilesOf (file_bytes : List ℕ → Option (List ℕ)) (request : NamedRequest) (poll ballots sheet : List ℕ) : Type 0 where
   pub poll_is : IsReadWithin POLL_LIMIT (file_bytes (poll_file request).now) poll
   pub ballots_are : IfSome (ballot_file request) (λ name. IsReadWithin BALLOTS_LIMIT (file_bytes name.now) ballots)

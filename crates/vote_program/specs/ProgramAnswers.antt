@@ -23,13 +23,13 @@ abbrev pub AnswersWords : ArgsFault → Written → ℕ → Type 0
 AnswersWords (Help text) written answered = AnswersHelp (string_bytes text) written answered
 AnswersWords fault written answered = (answered ≡ args_status fault) × Keeps written.old written.new
 
--- the words make a request, which ends so on the bytes that are told of the names of its files; or they make none, for this fault
+-- the words make a request, which ends so on the bytes known of the names of its files; or they make none, for this fault
 abbrev pub AnswersWorded : (List ℕ → Option (List ℕ)) → List (List ℕ) → Written → ℕ → Type 0
 AnswersWorded file_bytes words written answered =
     ((request : NamedRequest) × (finished : FinishedRun) × AreArgsOf words request × EndsRequest file_bytes request written finished × (answered ≡ status finished.end))
     ⊎ ((fault : ArgsFault) × HaveArgsFault words fault × AnswersWords fault written answered)
 
--- without words a joined input ends so, by the bytes that are told of standard input
+-- without words a joined input ends so, by the bytes known of standard input
 abbrev pub AnswersJoined : Option (List ℕ) → Written → ℕ → Type 0
 AnswersJoined standard_bytes written answered =
     (finished : FinishedRun) × EndsJoined standard_bytes written finished × (answered ≡ status finished.end)

@@ -16,7 +16,7 @@ use Rattle.vote_program.specs.Unread.{IsOneUnread, IsUnread}
 use Rattle.vote_program.specs.declared.inputs.Inputs.{Inputs}
 use Rattle.vote_program.specs.declared.inputs.TheConstants.{JOINED_LIMIT}
 
--- what the output holds before and after a run, if it tells its bytes; and whether it has passed on all of it then
+-- what the output holds before and after a run, if its bytes are known; and whether it is flushed then
 pub record Written : Type 0 where
   pub old : Option (List ℕ)
   pub new : Option (List ℕ)
@@ -26,12 +26,12 @@ pub record Written : Type 0 where
 abbrev pub written_by : {S : Type 0} → (S → Option (List ℕ)) → (S → Bool) → S → S → Written
 written_by contents flushed old new = record { old = contents old; new = contents new; flushed = flushed new }
 
--- a file was not read, for this fault, and nothing is written, nor a box told
+-- a file was not read, for this fault; nothing is written, and no box is returned
 abbrev pub StopsUnread : (RunFault → Type 0) → Written → FinishedRun → Type 0
 StopsUnread IsFault written finished =
     (fault : RunFault) × (finished.end ≡ Err fault) × IsFault fault × Keeps written.old written.new × TellsNoBox finished
 
--- the request is performed, with no gate that may stop a desk; if the run comes to its end, what it wrote is passed on
+-- the request is performed, with no gate that may stop a desk; if the run comes to its end, the output is flushed
 abbrev pub IsDone : LoadedRequest → Written → FinishedRun → Type 0
 IsDone loaded written finished = Performs (λ desk. false) loaded written.old written.new finished × OnOk finished.end (written.flushed ≡ true)
 
@@ -39,7 +39,7 @@ IsDone loaded written finished = Performs (λ desk. false) loaded written.old wr
 abbrev pub IsRequestDone : NamedRequest → Inputs → Written → FinishedRun → Type 0
 IsRequestDone request inputs written finished = (loaded : LoadedRequest) × IsLoadedWith request inputs loaded × IsDone loaded written finished
 
--- a file that the request names was not read; or it is performed on the bytes that are told of the names
+-- a file that the request names was not read; or the request is performed on the bytes known of the names
 abbrev pub EndsRequest : (List ℕ → Option (List ℕ)) → NamedRequest → Written → FinishedRun → Type 0
 EndsRequest file_bytes request written finished =
     StopsUnread (IsOneUnread file_bytes request) written finished

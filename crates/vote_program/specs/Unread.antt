@@ -1,4 +1,4 @@
--- Which fault a file of a request gives that was not read.
+-- The fault of a file that was not read.
 use Rattle.std.specs.Prelude.{◌≡◌, ◌⊎◌, ℕ, IsSomeAnd, List, Option}
 use Rattle.vote_files.specs.Device.{IsTooLong}
 use Rattle.vote_command_line.specs.ParsedArgs.{NamedRequest}
@@ -10,8 +10,8 @@ use Rattle.vote_commands.specs.declared.RunFault.TheVariants as run
 use Rattle.vote_request.specs.Requests.{ballot_file, poll_file, sheet_file}
 use Rattle.vote_program.specs.declared.inputs.TheConstants.{BALLOTS_LIMIT, POLL_LIMIT, SHEET_LIMIT}
 
--- this file, of which these bytes are told, was not read: it has more than the limit, if they are told; or reading it failed, as it may
--- at any time; or there was no memory for it
+-- this file was not read, and these are its bytes, if they are known: they are more than the limit; or reading failed, as it may at
+-- any time; or there was no memory for them
 abbrev pub IsUnread : InputFile → Option (List ℕ) → ℕ → RunFault → Type 0
 IsUnread unread known limit (run.Input other input.TooLong) = (other ≡ unread) × IsTooLong known limit
 IsUnread unread known limit (run.Input other input.Unreadable) = other ≡ unread

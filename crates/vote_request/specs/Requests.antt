@@ -1,4 +1,4 @@
--- What is asked for, on files of which names or bytes are known.
+-- Requests on files, which are known by their names or by their bytes.
 use Rattle.std.specs.Prelude.{◌≤◌, Option, Some, None, option_map}
 use Rattle.vote_request.specs.declared.TheConstants.{MAX_DESKS}
 use Rattle.vote_request.specs.declared.request.Purpose.{Purpose}
@@ -6,7 +6,7 @@ use Rattle.vote_request.specs.declared.request.Purpose.TheVariants as purpose
 use Rattle.vote_request.specs.declared.request.Request.{Request}
 use Rattle.vote_request.specs.declared.request.Request.TheVariants as request
 
--- a count is asked for at so many desks as there may be
+-- the number of desks of a count is in range
 abbrev pub DesksFit : {T : Type 0} → Request T → Type 0
 DesksFit (request.Count poll ballots desks casting made_for) = (1 ≤ desks) × (desks ≤ MAX_DESKS)
 DesksFit other = Unit {0}

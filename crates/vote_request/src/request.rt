@@ -23,7 +23,7 @@ pub enum Listing {
     Standing,
 }
 
-/// What is asked for, on files of which this is known: their names, or their bytes.
+/// A request, on files that are known by a `T`: their names, or their bytes.
 #[derive(Clone, Copy)]
 pub enum Request<'a, T> {
     /// Count the ballots, and print what the count is made for.

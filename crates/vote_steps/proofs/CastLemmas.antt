@@ -25,7 +25,7 @@ use Rattle.vote_steps.proofs.StandingLemmas.{as_long}
 abbrev reading_at : List Reading → ℕ → Reading
 reading_at readings k = get_or readings k (Bad Shape)
 
--- the casts of so many of the lines
+-- the casts of the first lines, this many
 pub casts_of : ℕ → List Reading → ℕ → List Step
 casts_of last readings zero = []
 casts_of last readings (suc k) =

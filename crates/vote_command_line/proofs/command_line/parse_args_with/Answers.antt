@@ -1,3 +1,4 @@
+-- A request is returned only for words in which `clap` finds no fault, and each fault has its reason in them.
 use Rattle.std.proofs.Common.{List, [], Option, ◌≡◌, ◌≢◌, ◌∙◌, ap, refl, subst, sym, true, inl, inr}
 use Rattle.clap.proofs.OnLiterals.{clap_on_literals}
 use Rattle.clap.specs.Faults.{fault_of, is_simple_and_free}

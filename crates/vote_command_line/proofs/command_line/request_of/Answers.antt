@@ -1,3 +1,4 @@
+-- Each command has the request of its options: the subcommand that `clap` found is the one whose function is called.
 use Rattle.std.proofs.Common.{◌≡◌, ◌∙◌, IfNone, IfSome, List, Option, Some, None, ap, option_map, subst, sym, unwrap_or}
 use Rattle.clap.specs.Words.{Row, Text, found_of, rows_of, subcommand_name_of, subcommand_rows_of}
 use Rattle.clap.specs.declared.parser.matches.ArgMatches.{ArgMatches}

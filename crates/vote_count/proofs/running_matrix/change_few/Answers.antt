@@ -1,3 +1,4 @@
+-- Each pass of the loop moves the turn and the one as far back; up to eight options meet in no other turn.
 use Rattle.std.proofs.Common.{◌≡◌, ◌≢◌, ℕ, ◌+◌, ◌-◌, ◌<◌, [], get_or, set, subst, sym, ap₂, ◌∙◌, refl, inl, inr, arith}
 use Rattle.std.proofs.lemmas.Bool.{cases_eq}
 use Rattle.std.proofs.lemmas.List.{get_or-set_other}

@@ -1,3 +1,4 @@
+-- Each desk goes to one worker with the pass at its place, and the handles promise them in the order of the desks.
 use Rattle.std.proofs.Common.{◌≡◌, ℕ, Bool, true, List, [], ◌∷◌, ◌++◌, length, map, sym, ap, ◌∙◌, subst, append_assoc, arith}
 use Rattle.std.specs.Prelude.{◌==◌, vec_len}
 use Rattle.std.specs.List.{AllByRecursion}

@@ -1,3 +1,4 @@
+-- If all desks are there, their shares are the books, and the sealed box has the sheet of each; otherwise one is missing.
 use Rattle.std.proofs.Common.{◌≡◌, ℕ, List, Result, Ok, Err, map, length, refl, sym, ap, ◌∙◌, subst, arith, rules}
 use Rattle.std.proofs.lemmas.Bool.{false≢true}
 use Rattle.std.proofs.lemmas.Grind.{common_steps, elements, moves, pieces}

@@ -1,3 +1,4 @@
+-- Whether the voter has no ballot, a newer or an older one: roll, totals and matrix are then those of the ballots that stand.
 use Rattle.std.proofs.Common.{◌≡◌, ℕ, ◌+◌, ◌<◌, ◌≤◌, Bool, false, cond, List, [], Option, Some, None, length, get_or, set, refl, sym, ap, ◌∙◌, subst, ⊎_elim, arith, Vec, vec_len, Global}
 use Rattle.std.specs.Prelude.{is_some, IsTrue}
 use Rattle.std.specs.List.{count_by}
