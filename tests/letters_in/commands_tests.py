@@ -178,7 +178,8 @@ class Held(LettersTest):
         self.assertIn(f"line 5: ada {RANKS}", listed)
         self.assertIn("2 letters wait.", listed)
         self.assertIn(f"   5  ada {RANKS}\n", self.done("held", "1").output)
-        self.assert_fault(self.election("held", "1", "--enter", "3"), 9, "line 3 of letter 1 is no ballot", "5")
+        for number in ("3", "\u00b2", "x", "-1", ""):
+            self.assert_fault(self.election("held", "1", f"--enter={number}"), 9, f"line {number} of letter 1 is no ballot", "5")
         self.assertIn(f"1 counted  ada: {LAKE}", self.done("held", "1", "--enter", "5").output)
         self.assertEqual(self.exported()[0], f"ada {RANKS}\n")
         self.assertEqual(self.numbers()["waiting"], 1)
