@@ -1,8 +1,8 @@
 """A ballot in words, from its ranks as `standing` and the ballot file spell them, such as `1,2,-,3`."""
 
-import dataclasses
 import functools
 from collections.abc import Sequence
+from typing import NamedTuple
 
 from debvote_tools.language import ENGLISH, Language
 
@@ -12,8 +12,7 @@ UNRANKED = "-"
 NUMBERS = {str(rank): rank for rank in range(1, 100)} | {UNRANKED: 100}
 
 
-@dataclasses.dataclass(frozen=True)
-class Preferences:
+class Preferences(NamedTuple):
     """The options of a ballot by their numbers, from the first preference on: equal ones stand together."""
 
     steps: list[list[int]]
@@ -22,11 +21,12 @@ class Preferences:
 
 def preferences(ranks: str) -> Preferences:
     """What the ranks of a valid ballot prefer to what."""
-    by_rank: dict[str, list[int]] = {}
-    for option, rank in enumerate(ranks.split(","), start=1):
-        by_rank.setdefault(rank, []).append(option)
-    unranked = by_rank.pop(UNRANKED, [])
-    return Preferences([by_rank[rank] for rank in sorted(by_rank, key=int)], unranked)
+    numbers = [NUMBERS[rank] for rank in ranks.split(",")]
+    steps: dict[int, list[int]] = {}
+    for place in sorted(range(len(numbers)), key=numbers.__getitem__):
+        steps.setdefault(numbers[place], []).append(place + 1)
+    unranked = steps.pop(NUMBERS[UNRANKED], [])
+    return Preferences(list(steps.values()), unranked)
 
 
 def in_normal_form(ranks: str) -> str:
@@ -42,7 +42,7 @@ def ranks_in_words(ranks: str, names: Sequence[str], language: Language = ENGLIS
 
     The names are those of the options in the order of their numbers, the default option last.
     """
-    # `add` says 100,000 ballots in words: `preferences` would take twice the time
+    # `add` says 100,000 ballots in words: `preferences` would take a quarter more time
     numbers = [NUMBERS[rank] for rank in ranks.split(",")]
     steps: dict[int, tuple[str, ...]] = {}
     for option in sorted(range(len(numbers)), key=numbers.__getitem__):

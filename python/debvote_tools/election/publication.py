@@ -2,6 +2,7 @@
 
 import dataclasses
 import datetime
+import json
 from collections.abc import Iterable, Mapping
 from typing import Any
 
@@ -16,11 +17,10 @@ from debvote_tools.election.history import History
 from debvote_tools.faults import Fault
 from debvote_tools.files import sha256_of
 from debvote_tools.language import language_of
-from debvote_tools.letters.parse import from_json
 from debvote_tools.publish import inputs
 from debvote_tools.publish.doubts import Doubt, Kind
 from debvote_tools.publish.inputs import Act, CastingVote, Chronicle, Publication, SecretVote
-from debvote_tools.publish.names import BALLOTS
+from debvote_tools.publish.names import BALLOTS, PAGE, POLL
 from debvote_tools.sealed_poll import SealedPoll
 from debvote_tools.secret.aliases import aliased_ballots, sealed_checksum
 
@@ -56,11 +56,12 @@ def publication_of(election: Election, words: Words) -> Publication:
     """What is published, by the book as it is now."""
     with election.book.snapshot():
         history, sealed, book = election.history(), election.sealed(), election.book
-        lines, late = queries.lines_in_time(book), queries.ballots_of(queries.late_lines(book))
-        electors = queries.electors(book)
+        ballots, late = (queries.ballots_of(lines(book)) for lines in (queries.lines_in_time, queries.late_lines))
+        has_names = history.announced("names")
+        electors = queries.electors(book) if has_names or sealed.counted.secret else []
         chronicle = chronicle_of(book, history, is_secret=sealed.counted.secret)
         doubts = doubts_of(book, history, sealed.public, words.casting)
-    ballots, secret = queries.ballots_of(lines), None
+    secret = None
     if sealed.counted.secret:
         private_ballots, poll_bytes = ballots, sealed.counted.as_bytes()
         standing = election.debvote.standing(poll_bytes, ballots)
@@ -81,7 +82,7 @@ def publication_of(election: Election, words: Words) -> Publication:
         chronicle=chronicle,
         late=None if sealed.counted.secret else late,
         closed=closing_letter.letter(history, sealed.public, election.language) if history.closes else None,
-        real_names={elector.name: elector.who for elector in electors} if history.announced("names") else {},
+        real_names={elector.name: elector.who for elector in electors} if has_names else {},
         about=words.about,
         because=words.because,
         is_forced=words.is_forced and words.because is not None,
@@ -121,11 +122,11 @@ def shown_by_comparison(
 
 
 def detail_of(words: Words, checksums: Mapping[str, str], doubts: list[Doubt], *, decides: bool) -> dict[str, Any]:
-    """The detail of the act. `decides` says whether the casting vote does."""
+    """The detail of the act, with the checksums that the letter of the result names. `decides` says whether the casting vote does."""
     return {
         "words": dataclasses.asdict(words),
         "casting": words.casting if decides else None,
-        "checksums": dict(checksums),
+        "checksums": {name: checksums[name] for name in (POLL, BALLOTS, PAGE)},
         "doubts": [doubt.as_data() for doubt in doubts],
     }
 
@@ -150,11 +151,11 @@ def late_letters_in_time(book: Book, history: History) -> list[Doubt]:
     last = min(time for time in (history.closes[0].time, history.until) if time is not None)
     # the zone in which the end was announced
     zone = history.until.tzinfo if history.until else datetime.UTC
-    arrivals = {kept.number: from_json(kept.known).arrived for kept in letters.letters(book) if kept.number in numbers}
+    arrivals = {kept.number: json.loads(kept.known)["arrived"] for kept in letters.letters(book) if kept.number in numbers}
     return [
-        Doubt.of(Kind.LATE_LETTER, letter=number, arrival=arrived.astimezone(zone).isoformat())
+        Doubt.of(Kind.LATE_LETTER, letter=number, arrival=from_text(arrived).astimezone(zone).isoformat())
         for number, arrived in arrivals.items()
-        if arrived is not None and arrived <= last
+        if arrived is not None and from_text(arrived) <= last
     ]
 
 

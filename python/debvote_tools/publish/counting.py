@@ -37,11 +37,8 @@ def sheet_of(debvote: Debvote, publication: Publication) -> Answer:
 
 def ask_the_rest(debvote: Debvote, publication: Publication, answer: Answer, sheet: Sheet) -> Counted:
     """All else, once the sheet lies in the folder. In a secret vote the ballots that stand are all that is published."""
-    if publication.secret is None:
-        standing = answer_of(debvote, "standing").text
-        refused = findings_in(answer_of(debvote, "explain", also=(Status.DOUBT,)).text).refused
-    else:
-        standing, refused = publication.ballots.decode(), []
+    standing = answer_of(debvote, "standing").text if publication.secret is None else publication.ballots.decode()
+    refused = findings_in(answer_of(debvote, "explain", also=(Status.DOUBT,)).text).refused if sheet.refused else []
     graph = answer_of(debvote, "picture", *words_of(publication), also=(Status.TIE,)).text
     verified = answer_of(debvote, "verify", "--sheet", SHEET, "--desks", str(publication.desks), also=(Status.DOUBT,))
     if verified.status == Status.DOUBT:

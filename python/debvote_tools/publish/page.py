@@ -1,11 +1,10 @@
 """The page of an election: what stands on it, as values for its templates."""
 
 import shlex
-from collections.abc import Collection
+from collections.abc import Mapping
 
 from debvote_tools import pages
 from debvote_tools.debvote import standing_in
-from debvote_tools.files import sha256_of
 from debvote_tools.language import ENGLISH, Language
 from debvote_tools.publish import done, names, scripts
 from debvote_tools.publish.ballots import COLON, ballots_of
@@ -25,8 +24,8 @@ from debvote_tools.secret.aliases import sealed_checksum
 from debvote_tools.secret.words import ALIAS, BY_OPENSSL, BY_PYTHON, REMAINS
 
 
-def page_of(publication: Publication, counted: Counted, doubts: list[Doubt], further: Collection[str]) -> bytes:
-    """The page, whole. `further` are the names of the files beside those that are counted."""
+def page_of(publication: Publication, counted: Counted, doubts: list[Doubt], checksums: Mapping[str, str]) -> bytes:
+    """The page, whole. `checksums` are those of the files beside it, by their names."""
     language, sheet, poll = publication.language, counted.sheet, publication.poll
     speaker = InHtml(language)
     options = Options(sheet, poll, speaker)
@@ -57,7 +56,7 @@ def page_of(publication: Publication, counted: Counted, doubts: list[Doubt], fur
         doubts=sentences_of(doubts, language, is_secret=publication.is_secret),
         because=paragraphs_of(publication.because or ""),
         about=paragraphs_of(publication.about or ""),
-        given_checksum=given_checksum(publication),
+        given_checksum=None if publication.given_checksum == checksums[names.POLL] else publication.given_checksum,
         in_order=in_order(sheet),
         marks={option: marks_of(options, option) for option in sheet.ratios},
         whole_width=whole_width(sheet),
@@ -71,8 +70,10 @@ def page_of(publication: Publication, counted: Counted, doubts: list[Doubt], fur
         acts=done.all_acts(publication, speaker),
         after_the_end=done.after_the_end(publication, speaker),
         remains=[language.say(text) for text in REMAINS] if publication.has_aliases else [],
-        checksums=checksums_of(publication),
-        files={names.POLL, names.BALLOTS, names.SHEET, names.LETTER, names.CHECKSUMS, *further},
+        checksums=checksums,
+        # in a secret vote that of the close has the line of the seal, too
+        sealed_checksum=sealed_checksum(publication.seal, publication.ballots) if publication.seal else None,
+        files={*checksums, names.LETTER, names.CHECKSUMS},
         casting="".join(f" {word}" for word in map(shlex.quote, publication.casting_words)),
         example=next(iter(standing), "NAME"),
         **script_values(publication, counted),
@@ -83,20 +84,6 @@ def style_of(picture: ShownPicture) -> str:
     """The style of the page. A picture may become smaller than it was drawn, but not too small to be read."""
     style = pages.FIELDS_STYLE + pages.GIVEN_STYLE + pages.resource(PACKAGE, "page.css")
     return f"{style}.picture svg {{ min-width: {picture.least_width}px; }}\n" if picture.svg else style
-
-
-def given_checksum(publication: Publication) -> str:
-    """The checksum of the file that was given as the poll, if it is not the one that is published."""
-    given = publication.given_checksum
-    return "" if given is None or given == publication.poll.checksum else given
-
-
-def checksums_of(publication: Publication) -> dict[str, str]:
-    """The checksums of the letters; in a secret vote that of the close has the line of the seal, too."""
-    checksums = {"poll": publication.poll.checksum, "ballots": sha256_of(publication.ballots)}
-    if publication.seal:
-        checksums["sealed"] = sealed_checksum(publication.seal, publication.ballots)
-    return checksums
 
 
 def script_values(publication: Publication, counted: Counted) -> dict[str, object]:

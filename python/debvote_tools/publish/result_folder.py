@@ -30,12 +30,8 @@ class Made:
     folder: pathlib.Path
     counted: Counted
     doubts: list[Doubt]
-
-    @property
-    def checksums(self) -> dict[str, str]:
-        """Those of poll, ballots and page, as the letter of the result names them."""
-        files = names.POLL, names.BALLOTS, names.PAGE
-        return {name: sha256_of((self.folder / name).read_bytes()) for name in files}
+    # of each file by its name
+    checksums: dict[str, str]
 
     def take_place(self, target_folder: pathlib.Path) -> None:
         """Moves the folder to its place; a published folder that is there goes."""
@@ -91,27 +87,28 @@ def made(publication: Publication, target_folder: pathlib.Path, program_folder: 
 # ---------------------------------------------------------------- what is in it
 def fill(folder: pathlib.Path, publication: Publication, program_folder: pathlib.Path | None) -> Made:
     """Writes all files of a folder, and counts them."""
-    debvote = Debvote(folder, program_folder)
-    write_all(folder, {names.POLL: publication.poll.as_bytes(), names.BALLOTS: publication.ballots})
+    debvote, checksums = Debvote(folder, program_folder), dict[str, str]()
+
+    def write(files: dict[str, bytes]) -> None:
+        for name, data in files.items():
+            demand_no_code(name, data, publication)
+            write_public(folder / name, data)
+            checksums[name] = sha256_of(data)
+
+    write({names.POLL: publication.poll.as_bytes(), names.BALLOTS: publication.ballots})
     answer = sheet_of(debvote, publication)
     sheet = sheet_in(answer.text)
     doubts = demand_publishable(publication, sheet, answer.text)
-    write_all(folder, {names.SHEET: answer.text.encode()})
+    write({names.SHEET: answer.text.encode()})
     counted = ask_the_rest(debvote, publication, answer, sheet)
-    further = further_files(publication, counted)
-    write_all(folder, further)
+    write(further_files(publication, counted))
     demand_same(folder, publication.casting_words, answer.text, counted.standing_text)
-    # the letter and the checksums have the checksum of the page
-    page = page_of(publication, counted, doubts, further.keys())
-    write_all(folder, {names.PAGE: page, names.LETTER: letter_of(publication, sheet, page)})
-    write_all(folder, {names.CHECKSUMS: checksums_of(folder)})
-    demand_no_code(folder, publication)
-    return Made(folder, counted, doubts)
-
-
-def write_all(folder: pathlib.Path, files: dict[str, bytes]) -> None:
-    for name, data in files.items():
-        write_public(folder / name, data)
+    # each of these has checksums of those above
+    write({names.PAGE: page_of(publication, counted, doubts, checksums)})
+    write({names.LETTER: letter_of(publication, sheet, checksums)})
+    lines = (f"{checksum}  {name}\n" for name, checksum in sorted(checksums.items()))
+    write({names.CHECKSUMS: "".join(lines).encode()})
+    return Made(folder, counted, doubts, checksums)
 
 
 def demand_publishable(publication: Publication, sheet: Sheet, sheet_text: str) -> list[Doubt]:
@@ -151,17 +148,9 @@ def further_files(publication: Publication, counted: Counted) -> dict[str, bytes
     return files
 
 
-def checksums_of(folder: pathlib.Path) -> bytes:
-    """The checksums of the files of a folder, as `sha256sum` writes them."""
-    return "".join(f"{sha256_of(file.read_bytes())}  {file.name}\n" for file in sorted(folder.iterdir())).encode()
-
-
-def demand_no_code(folder: pathlib.Path, publication: Publication) -> None:
-    """Stops if a file has the code of an elector: somebody may have given the list of codes as a text."""
-    if publication.secret is None:
-        return
-    codes = {code.encode() for code in publication.secret.codes}
-    for file in sorted(folder.iterdir()):
-        if codes & set(CODE_WITHIN.findall(file.read_bytes())):
-            words = f"{file.name} would have the code of an elector in it"
-            raise Fault(None, words, "look at the texts that you gave", Status.DOUBT, "nothing was published")
+def demand_no_code(name: str, data: bytes, publication: Publication) -> None:
+    """Stops if a file would have the code of an elector: somebody may have given the list of codes as a text."""
+    codes = publication.secret.codes if publication.secret else frozenset[str]()
+    if codes and not codes.isdisjoint(code.decode() for code in CODE_WITHIN.findall(data)):
+        words = f"{name} would have the code of an elector in it"
+        raise Fault(None, words, "look at the texts that you gave", Status.DOUBT, "nothing was published")

@@ -1,7 +1,9 @@
 """The letter of the result: what an elector compares with the web site, sent by a way that does not lead over it."""
 
+from collections.abc import Mapping
+
 from debvote_tools.call.data import OPTION
-from debvote_tools.files import sha256_of
+from debvote_tools.publish import names
 from debvote_tools.publish.casting_vote import told_if_it_decides
 from debvote_tools.publish.inputs import Publication
 from debvote_tools.publish.recounting import PACKAGE
@@ -9,8 +11,8 @@ from debvote_tools.rendering import InText, render_letter
 from debvote_tools.sheet import Sheet
 
 
-def letter_of(publication: Publication, sheet: Sheet, page: bytes) -> bytes:
-    """The letter, in plain text."""
+def letter_of(publication: Publication, sheet: Sheet, checksums: Mapping[str, str]) -> bytes:
+    """The letter, in plain text, with checksums of the files by their names."""
     text = render_letter(
         PACKAGE,
         "letter.txt",
@@ -18,10 +20,10 @@ def letter_of(publication: Publication, sheet: Sheet, page: bytes) -> bytes:
         title=publication.poll.name,
         ended=outcome_in_words(publication, sheet),
         casting=told_if_it_decides(publication, sheet),
-        poll_checksum=publication.poll.checksum,
         is_of_call=publication.given_checksum is None,
-        ballots_checksum=sha256_of(publication.ballots),
-        page_checksum=sha256_of(page),
+        poll_checksum=checksums[names.POLL],
+        ballots_checksum=checksums[names.BALLOTS],
+        page_checksum=checksums[names.PAGE],
     )
     return text.encode()
 

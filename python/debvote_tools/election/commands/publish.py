@@ -72,9 +72,7 @@ def publish(election: Election, arguments: Arguments, target_folder: pathlib.Pat
     if not arguments.yes:
         demand_agreed(publication, is_again=again is not None)
     with result_folder.made(publication, target_folder, election.program_folder) as made:
-        winner = made.counted.sheet.winner()
-        decides = winner is not None and winner.is_by_casting
-        detail = detail_of(words, made.checksums, made.doubts, decides=decides)
+        detail = detail_of(words, made.checksums, made.doubts, decides=made.counted.sheet.is_by_casting)
         is_new = before is None or before.detail != detail
         with alone(election):
             if is_new:
