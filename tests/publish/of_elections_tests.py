@@ -187,10 +187,11 @@ class OfOpenVotes(OfElections):
             said = self.say("publish")
         finally:
             os.umask(umask)
-        self.expect("no act", (len(self.acts()), "again, as it was published" in said), (acts, True))
+        self.expect("no act", (len(self.acts()), "Made the folder result, as it was published before; " in said), (acts, True))
         self.whole()
         shutil.rmtree(self.folder / "result")
-        self.say("publish", "elsewhere")
+        said = self.say("publish", "elsewhere")
+        self.expect("a new folder", "Made the folder elsewhere, as it was published before; " in said, True)
         self.expect("the same bytes", (self.files("elsewhere") == files, (self.folder / "result").exists()), (True, False))
         self.expect("still no act", len(self.acts()), acts)
         self.say("publish", "--language", "fr")

@@ -172,8 +172,11 @@ class ScriptsTest(support.PublishTest):
             for typed in (sums["poll.toml"], f"{sums['poll.toml'].upper()}  poll.toml", f"\\{sums['poll.toml']} *a\\nb", f" {sums['ballots.txt']}\n"):
                 said = " ".join(window.count_again(typed))
                 self.expect(f"typed {typed}", ("Yours is the same." in said, LETTER_OTHER in said), (True, False))
-            for typed in (sums["index.html"], sums["poll.toml"][:-1]):
-                self.expect(f"typed {typed}", LETTER_OTHER in " ".join(window.count_again(typed)), True)
+            self.expect("that of another file", LETTER_OTHER in window.count_again(sums["index.html"])[3], True)
+            sum_of_poll = sums["poll.toml"]
+            for typed, number in ((sum_of_poll[:63], 63), (f"{sum_of_poll[:16]} {sum_of_poll[16:20]}", 20), (f"{sum_of_poll}0", 65), ("?", 0)):
+                part = f"A checksum has 64 digits, 0 to 9 and a to f, and you have typed {number}."
+                self.expect(f"typed {typed}", window.count_again(typed)[3], part)
 
     @NEEDS_BROWSER
     def test_counting_again_on_changed_pages(self):

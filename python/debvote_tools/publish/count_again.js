@@ -193,6 +193,12 @@ function carried(id) {
     return (/^\\?([0-9a-f]{64})(?:\s|$)/i.exec(typed)?.[1] ?? typed.replace(/\s/g, "")).toLowerCase();
   }
 
+  // What to say of a typed checksum that none of the files has: a part of one is not called another one.
+  function unlike(typed) {
+    const number = typed.match(/[0-9a-f]/g)?.length ?? 0;
+    return number === 64 ? ["letter_other"] : ["letter_digits", { number }];
+  }
+
   // The checksums of both files, beside those that the page names and the one that was typed.
   async function aboutChecksums(files) {
     if (!globalThis.crypto || !crypto.subtle) return [paragraph("no_sums")];
@@ -210,7 +216,7 @@ function carried(id) {
       isFound = isFound || typed === sum;
       nodes.push(element("p", said.join(" "), named.includes(sum) ? "" : "differs"));
     }
-    return isFound ? nodes : [element("p", sentence("letter_other"), "differs"), ...nodes];
+    return isFound ? nodes : [element("p", sentence(...unlike(typed)), "differs"), ...nodes];
   }
 
   // The files that were chosen, by what they are; the sheet is the page's where none is among them. Null where one is missing, or

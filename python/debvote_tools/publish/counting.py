@@ -1,4 +1,4 @@
-"""What debvote says of the poll and the ballots of a folder that is made. It is started six times, of a secret vote four times."""
+"""What debvote says of the poll and the ballots of a folder that is made. It is started at most six times, of a secret vote four times."""
 
 import dataclasses
 

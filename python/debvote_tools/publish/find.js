@@ -12,7 +12,7 @@
   const letters = JSON.parse(byId("find").dataset.letters);
   const sentence = (key, places = {}) => words[key].replace(/\{([a-z]+)\}/g, (all, place) => places[place]);
   const nameInput = byId("name");
-  // only in a secret vote
+  // only in a secret vote; where codes are on the roll, they are typed as the name
   const codeInput = byId("code");
   // what was typed last; an answer to what was typed before is not shown
   let asked = 0;
@@ -109,9 +109,9 @@
     const mine = (asked += 1);
     if (names.length === 0) return say(paragraph("type_name"));
     let electors = names.map((name) => [name, name]);
+    const code = withoutGaps((codeInput ?? nameInput).value);
+    if ("type_code" in words && !CODE.test(code)) return say(paragraph("type_code"));
     if (codeInput !== null) {
-      const code = withoutGaps(codeInput.value);
-      if (!CODE.test(code)) return say(paragraph("type_code"));
       if (!globalThis.crypto || !crypto.subtle) return say(paragraph("no_alias"));
       electors = await Promise.all(names.map(async (name) => [await aliasOf(name, code), name]));
     }

@@ -27,10 +27,12 @@ FIND = {
     "counts": marked("This ballot counts for {name}:"),
     "type_name": marked("Type your name."),
 }
+TYPE_CODE = marked("A code has 32 digits, 0 to 9 and a to f. Type yours as it is on your slip.")
 FIND_BY_CODE = {
     "no_elector": marked("No elector has this code. Type it as it is on your slip."),
     "no_ballot": marked("The code is on the roll, and no ballot counts under it."),
     "type_name": marked("Type your code as it is on your slip."),
+    "type_code": TYPE_CODE,
 }
 FIND_IN_OPEN = {
     "no_elector": marked("No elector has the name {name}. Type it as it is on the roll."),
@@ -40,7 +42,7 @@ FIND_IN_SECRET = {
     "no_elector": marked("No elector of this vote has the alias {alias}. Type name and code as they are on your slip."),
     "no_ballot": marked("Your alias is {alias}. It is on the roll, and no ballot counts under it."),
     "type_name": marked("Type your name as it is on your slip."),
-    "type_code": marked("A code has 32 digits, 0 to 9 and a to f. Type yours as it is on your slip."),
+    "type_code": TYPE_CODE,
     "no_alias": marked("This browser makes no alias on a page that did not come by https. Use one of the commands below."),
 }
 
@@ -79,6 +81,7 @@ COUNT_AGAIN = {
         "None of these is the checksum that you typed. If it is that of the poll or of the ballots, and typed right, your letter speaks "
         "of other files: ask for them. If it is that of this page: no page can make its own."
     ),
+    "letter_digits": marked("A checksum has 64 digits, 0 to 9 and a to f, and you have typed {number}."),
     "no_sums": marked("This browser makes no checksums of a page that did not come by https. Compare them by the commands below."),
     "second": marked("This was a second opinion, from the same web site as the page."),
     "whole_sheet": marked("The whole sheet by this count"),

@@ -152,8 +152,8 @@ def demand_yes(question: str, why: str) -> None:
 def report(election: Election, counted: Counted, folder: pathlib.Path, *, is_new: bool) -> None:
     """Says how the vote ended, what was made, and what comes next."""
     tell(counted.sheet.last_line, counted.verified)
-    again = "" if is_new else " again, as it was published; nothing was changed in the book"
-    tell(f"Made the folder {folder}{again}.")
+    as_before = "" if is_new else ", as it was published before; nothing was changed in the book"
+    tell(f"Made the folder {folder}{as_before}.")
     if counted.sheet.winner() is not None:
         tell(f"Next: put the folder {folder} on the web site as it is, then {election.command('letters', 'result')}")
         return
