@@ -1,7 +1,7 @@
 """Pages and letters are made from templates of jinja2. A page escapes what it is given, a letter does not; an unknown name is an error.
 
 A template says its sentences itself, by `say` and `say_number`. One that pages and letters share uses what both have, as the filters
-`paragraph` and `given`; code that makes sentences for both is given a `Speaker`. The templates of a package lie in its folder `templates`;
+`paragraph` and `given`; code that makes sentences for both is given a speaker. The templates of a package lie in its folder `templates`;
 those that all packages share lie in that of debvote_tools.
 """
 
@@ -9,7 +9,6 @@ import dataclasses
 import functools
 import re
 from collections.abc import Callable, Iterable
-from typing import Protocol
 
 import jinja2
 from markupsafe import Markup, escape
@@ -28,44 +27,9 @@ QUOTATION_MARKS = {
 }
 
 
-class Speaker(Protocol):
-    """Says sentences in a language. What stands at their places is escaped as the result needs it."""
-
-    @property
-    def language(self) -> Language:
-        ...
-
-    def say(self, text: str, /, **places: object) -> str:
-        """A sentence."""
-
-    def say_number(self, one: str, many: str, number: int, /, **places: object) -> str:
-        """A sentence in its form for a number."""
-
-    def given(self, text: str) -> str:
-        """A text that is not the program's, as a name. It may be written from right to left, and turns nothing around it."""
-
-    def strong(self, text: str) -> str:
-        """A text that a reader has to see."""
-
-    def quoted(self, text: str) -> str:
-        """A text that is not the program's, between the quotation marks of the language."""
-
-    def code(self, text: str) -> str:
-        """A text that a reader compares sign by sign."""
-
-    def link(self, address: str, text: str) -> str:
-        """A link; in plain text, the text alone."""
-
-    def joined(self, entries: Iterable[str]) -> str:
-        """The entries as they stand in a sentence; there is at least one."""
-
-    def in_a_row(self, said: Iterable[str]) -> str:
-        """Sentences one after another, with semicolons."""
-
-
 @dataclasses.dataclass(frozen=True)
 class InText:
-    """Says sentences in plain text."""
+    """Says sentences in a language, in plain text."""
 
     language: Language
 
@@ -73,36 +37,41 @@ class InText:
         return self.language.say(text, **places)
 
     def say_number(self, one: str, many: str, number: int, /, **places: object) -> str:
+        """A sentence in its form for a number."""
         return self.language.say_number(one, many, number, **places)
 
     def given(self, text: str) -> str:
+        """A text that is not the program's, as a name. It may be written from right to left, and turns nothing around it."""
         return text
 
     def strong(self, text: str) -> str:
+        """A text that a reader has to see."""
         return text
 
     def quoted(self, text: str) -> str:
+        """A text that is not the program's, between the quotation marks of the language."""
         before, after = QUOTATION_MARKS[self.language.code]
         return f"{before}{text}{after}"
 
     def code(self, text: str) -> str:
+        """A text that a reader compares sign by sign."""
         return text
 
     def link(self, address: str, text: str) -> str:
+        """A link; in plain text, the text alone."""
         return text
 
     def joined(self, entries: Iterable[str]) -> str:
+        """The entries as they stand in a sentence; there is at least one."""
         return self.language.joined(entries)
 
     def in_a_row(self, said: Iterable[str]) -> str:
+        """Sentences one after another, with semicolons."""
         return self.language.in_a_row(said)
 
 
-@dataclasses.dataclass(frozen=True)
-class InHtml:
-    """Says sentences in HTML."""
-
-    language: Language
+class InHtml(InText):
+    """The same in HTML: what stands at the places of a sentence is escaped."""
 
     def say(self, text: str, /, **places: object) -> Markup:
         return Markup(self.language.catalog.gettext(text)).format(**places)
@@ -127,10 +96,10 @@ class InHtml:
         return Markup('<a href="{}">{}</a>').format(address, text)
 
     def joined(self, entries: Iterable[str]) -> Markup:
-        return Markup(self.language.joined(map(escape, entries)))
+        return Markup(super().joined(map(escape, entries)))
 
     def in_a_row(self, said: Iterable[str]) -> Markup:
-        return Markup(self.language.in_a_row(map(escape, said)))
+        return Markup(super().in_a_row(map(escape, said)))
 
 
 # ---------------------------------------------------------------- templates
@@ -152,9 +121,7 @@ LETTER_FILTERS: dict[str, Callable[..., str]] = {
 @functools.cache
 def templates_of(package: str, language: Language, *, is_page: bool) -> jinja2.Environment:
     """The templates of a package, and those that all share. They say their sentences in the language."""
-    speaker: Speaker = InText(language)
-    if is_page:
-        speaker = InHtml(language)
+    speaker = InHtml(language) if is_page else InText(language)
     environment = jinja2.Environment(
         loader=jinja2.ChoiceLoader([jinja2.PackageLoader(package), jinja2.PackageLoader("debvote_tools")]),
         autoescape=is_page,

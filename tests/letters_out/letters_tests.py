@@ -478,7 +478,7 @@ class Result(OutTest):
         self.assertIn(f"Dear Ada, {TITLE} Winner: Option 1: At the lake The result is published at: {AT} ", texts["ada"])
         self.assertIn(f"Your own ballot, in words: {AT}#ada What was done", texts["ada"].replace("WHAT WAS DONE", "What was done"))
         self.assertIn(f"{AT}#ben", texts["ben"])
-        self.assertIn("No ballot of yours that counts is there.", texts["cleo"])
+        self.assertIn("It has no ballot of yours that counts.", texts["cleo"])
         self.assertNotIn("#", texts["cleo"])
         for name in ("poll.toml", "ballots.txt", "index.html"):
             [checksum] = re.findall(rf"(?m)^([0-9a-f]{{64}})  {name}$", self.read("result/SHA256SUMS").decode())
@@ -501,7 +501,7 @@ class Result(OutTest):
         self.done("publish", "--casting", "In the town hall", *words)
         text = self.texts("result")["ada"]
         self.assertIn("Winner: Option 2: In the town hall by casting vote", text)
-        self.assertIn('The secretary says that the casting vote was the one of "the chair", given on 23 November 2026.', text)
+        self.assertIn('The secretary says that the casting vote was that of "the chair", given on 23 November 2026.', text)
         self.assertIn(
             "The secretary struck envelope 2: its line does not count. The reason, in the secretary's words: “a mistake of 'ours' & <yours>”",
             text,

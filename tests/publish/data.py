@@ -376,9 +376,9 @@ def casting_chose(found, option, count):
 
 REMOVED = r"but (?:this defeat was|these defeats were) the weakest, and (?:was|were) removed in round (?P<round>\d+)"
 CLAUSES = [
-    (r"it reached the quorum: (\d+) prefers? it to the default option, (\d+) (?:is|are) wanted", reached),
-    (r"it did not reach the quorum: (\d+) prefers? it to the default option, (\d+) (?:is|are) wanted", missed),
-    (r"it has (its|no) majority: (\d+) to (\d+)(?:, and its ratio is (\d+), so (\d+) (?:is|are) wanted)?", majority),
+    (r"it reached the quorum: (\d+) prefers? it to the default option, (\d+) (?:is|are) needed", reached),
+    (r"it did not reach the quorum: (\d+) prefers? it to the default option, (\d+) (?:is|are) needed", missed),
+    (r"it has (its|no) majority: (\d+) to (\d+)(?:, and its ratio is (\d+), so (\d+) (?:is|are) needed)?", majority),
     (r"it needs no quorum and no majority", needs_nothing),
     (rf"it loses to {PAIR}(?:, which loses to {PAIR})*", loses),
     (rf"it defeats ((?:.(?!but))*), {REMOVED}", own_removed),

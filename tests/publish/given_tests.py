@@ -86,7 +86,7 @@ def try_honest_words(expect, scratch):
     for start, check in [
         ("A ballot that came and was left out, if its elector does not look. ", "Look for your own ballot under Find your ballot"),
         ("A vote in the name of an elector who did not vote. ", "you must be among those who did not"),
-        ("An elector that is no person, or a person with two names. ", "with your list of members"),
+        ("An elector who is not a person, or a person with two names. ", "with your list of members"),
         ("The hand that typed: ", "Keep a copy of what you send, and compare your ballot here with it"),
         ("The clock: ", "Keep what shows when you sent your ballot"),
         ("Another page for another reader: ", "with the letter of the result"),
@@ -192,14 +192,14 @@ def try_commands(expect, scratch):
     expect("commands: its status", publish(room, *FILES, "--casting", "Bottle", "result")[1:], ("", 0))
     folder = room / "result"
     before = {file.name: file.read_bytes() for file in folder.iterdir()}
-    said = "Whose casting vote it was, and when it was given, those who publish this page do not say."
+    said = "Those who publish this page do not say whose casting vote it was, or when it was given."
     expect("commands: whose casting vote", said in (folder / "index.html").read_text(), True)
     # files that somebody has laid there change nothing of what the commands answer, but that they are named
     others = {"package.json": '{"type": "module"}', "hmac.py": "boom", "a\nb": "", 'c"d': ""}
     for name, text in others.items():
         (folder / name).write_text(text)
     page = (folder / "index.html").read_text().partition('<h2 id="How-to-verify">')[2]
-    found = re.findall(r"<pre><code>(.*?)</code></pre>\n(?:<p>It answers:</p>\n<pre><code>(.*?)</code></pre>)?", page, re.DOTALL)
+    found = re.findall(r"<pre><code>(.*?)</code></pre>\n(?:<p>It prints:</p>\n<pre><code>(.*?)</code></pre>)?", page, re.DOTALL)
     expect("commands: how many", len({command for command, _ in found}), 15)
     answers = {}
     for command, wanted in found:

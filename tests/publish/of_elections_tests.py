@@ -93,9 +93,9 @@ class OfElections(support.PublishTest):
         self.expect(f"{words}: {faults}", (output, [text for text in said if text not in faults], found), ("", [], status))
         self.expect(f"{words}: nothing is made", (len(self.acts()), (self.folder / folder).exists()), (acts, before))
 
-    def add(self, lines, **how):
+    def add(self, lines, words=(), **how):
         (self.folder / "lines").write_text(lines)
-        return self.say("add", "lines", **how)
+        return self.say("add", "lines", *words, **how)
 
     def acts(self):
         book = open_book(self.folder / "election.db")
@@ -321,9 +321,13 @@ class OfOpenVotes(OfElections):
             self.say("held", "1", "--enter", "1", "--force")
             self.say("strike", "3", "--because", "on paper")
             self.say("close")
+            clock.write_text("2027-03-01T14:00:00+00:00")
+            self.say("reopen", "--because", "a lost letter", "--in-time")
+            self.add("dan 1,3,2\n", words=("--came-before-close", "yes"))
+            self.say("close")
             self.say("publish", "--language", "en")
         told = "2 ballots came after the end, and count, since the vote was not closed yet."
-        self.expect("what came after the end", [told in part.text() for part in self.sections().values()].count(True) > 0, True)
+        self.expect("what came after the end, and before the first close", told in self.sections()["What-was-done"].text(), True)
 
     def test_words_of_a_publication_end_with_its_close(self):
         """Without words the last publication is made again; after another close it is a new one, without a casting vote."""
@@ -375,7 +379,7 @@ class OfOpenVotes(OfElections):
         ]:
             self.stops("publish", *words, said=[said], status=status)
         self.say("publish", "--casting", "72 Euro", *cast, "--language", "en")
-        said = 'The secretary says that the casting vote was the one of "Anna <b>", given on 20 November 2026. No count can show this.'
+        said = 'The secretary says that the casting vote was that of "Anna <b>", given on 20 November 2026. No count can show this.'
         self.expect("on the page", said in self.sections()["Result"].text(), True)
         self.expect("in the letter", said in (self.folder / "result" / "letter.txt").read_text().replace("\n", " "), True)
         said = "Winner: Option 1: 72 Euro by casting vote"
@@ -516,7 +520,7 @@ class OfSecretVotes(OfElections):
         public = files["sheet.txt"].decode()
         self.expect("the sheet from Voters on", public.partition("\nVoters")[2], private.partition("\nVoters")[2])
         sections = self.sections()
-        self.expect("numbers alone", "3 lines that came were refused: 2 as no valid ballot, and 1 since" in sections["Refused-lines"].text(), True)
+        self.expect("numbers alone", "3 lines that came were refused: 2 as invalid, and 1 because" in sections["Refused-lines"].text(), True)
         struck = "The secretary struck an envelope: its line does not count."
         self.expect("a strike without number and reason", [struck in item.text() for item in sections["What-was-done"].all("li")].count(True), 1)
         self.expect("who voted is not told", "Who-voted" in sections, False)

@@ -307,7 +307,7 @@ def least_of(count):
 
 
 def wanted_words(number):
-    return "1 is wanted" if number == 1 else f"{number} are wanted"
+    return "1 is needed" if number == 1 else f"{number} are needed"
 
 
 def in_words(texts):

@@ -1,16 +1,23 @@
 """The scripts of a page in a browser: finding one's own ballot, and counting again; also on pages that somebody has changed."""
 
 import base64
+import dataclasses
 import hashlib
 import hmac
 import json
 import pathlib
 import re
+import sys
 import unittest
 
 import at_browser
 import support
 from support import FILES, plain_room, publish
+
+sys.path.append(str(support.ROOT / "python"))
+
+from debvote_tools.language import ENGLISH  # noqa: E402
+from debvote_tools.publish import result_folder, two_files  # noqa: E402
 
 NEEDS_BROWSER = unittest.skipUnless(at_browser.BROWSER, "chromium is not installed")
 
@@ -136,7 +143,24 @@ class ScriptsTest(support.PublishTest):
             ]:
                 self.page_of(window, lambda text, before=before, after=after: text.replace(before, after), room=self.secret)
                 odd = window.find("ada", self.code)[0]
-                self.expect(f"{what}: {odd}", (odd.startswith("This is no secret vote as it is published: "), said in odd), (True, True))
+                self.expect(f"{what}: {odd}", (odd.startswith("This is not how a secret vote is published: "), said in odd), (True, True))
+
+    @NEEDS_BROWSER
+    def test_finding_a_ballot_by_its_code(self):
+        """Where codes are on the roll, half a code is not called the code of nobody."""
+        room, programs = self.secret, support.PROGRAM.parent
+        two = two_files.publication_of(str(room / "poll.toml"), str(room / "ballots"), ENGLISH, casting=None, desks=1, program_folder=programs)
+        by_code = plain_room(self.scratch / "codes")
+        with result_folder.made(dataclasses.replace(two, has_codes=True), by_code / "result", programs) as made:
+            made.take_place(by_code / "result")
+        code = alias_of(self.code, "zoe-muller")
+        with Page() as window:
+            self.page_of(window, room=by_code)
+            self.expect("in groups", window.find(f"{code[:16].upper()} {code[16:]}")[1:], [f"{code} 2,1,-: Option 2: B; then Option 1: A; not ranked: Option 3: N"])
+            short = "A code has 32 digits, 0 to 9 and a to f. Type yours as it is on your slip."
+            self.expect("half of it", window.find(code[:16]), [short])
+            self.expect("no ballot", window.find(alias_of(self.code, "cleo")), ["The code is on the roll, and no ballot counts under it."])
+            self.expect("nobody's", window.find("f" * 32), ["No elector has this code. Type it as it is on your slip."])
 
     @NEEDS_BROWSER
     def test_folded_parts(self):
@@ -191,7 +215,7 @@ class ScriptsTest(support.PublishTest):
         with Page() as window:
             for what, (before, after) in changes.items():
                 self.page_of(window, lambda text, before=before, after=after: text.replace(before, after, 1))
-                said = [row for row in window.count_again() if row.startswith("This page shows something else than its files come to: ")]
+                said = [row for row in window.count_again() if row.startswith("This page does not show what its files come to: ")]
                 self.expect(f"changed: {what}", [what.strip() in row for row in said], [True])
 
     @NEEDS_BROWSER

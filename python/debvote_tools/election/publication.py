@@ -167,9 +167,12 @@ def chronicle_of(book: Book, history: History, *, is_secret: bool) -> Chronicle:
         if before is not None and act.time < before.time:
             acts.append(inputs.ClockWentBack(act.time, before.time))
         acts += told_of(act, book, history, is_secret=is_secret)
-    # lines, rows and ballots of desks that came after the end, and count
-    after = f"{queries.IN_TIME} AND letter IS NULL AND time > ?"
-    after_the_end = 0 if history.until is None else len(queries.envelopes(book, after, as_text(history.until)))
+    # lines, rows and ballots of desks that came after the end, and count; what came in after a close had come before it, as its act says
+    after_the_end = 0
+    if history.until is not None:
+        condition = f"{queries.IN_TIME} AND letter IS NULL AND time > ? AND envelope.act < ?"
+        first_close = history.closes[0].number if history.closes else history.last.number + 1
+        after_the_end = len(queries.lines(book, condition, as_text(history.until), first_close))
     return Chronicle(tuple(acts), history.until, after_the_end)
 
 
@@ -208,7 +211,7 @@ def close_of(act: DoneAct, book: Book, history: History) -> inputs.Closed:
     if earlier:
         between = "late = 0 AND {0}.act > ? AND {0}.act < ?"
         came, struck = (
-            len(queries.envelopes(book, between.format(table), earlier[-1], act.number)) for table in ("envelope", "struck")
+            len(queries.lines(book, between.format(table), earlier[-1], act.number)) for table in ("envelope", "struck")
         )
     return inputs.Closed(
         act.time,

@@ -16,8 +16,8 @@ LONGEST = 200
 # the name stands between quotation marks, so that nothing in it reads as words of the program
 QUOTATION_MARKS = '"\u201c\u201d\u201e\u201f\u2033\uff02\u00ab\u00bb'
 
-GIVEN = marked('The secretary says that the casting vote was the one of "{name}", given on {date}. No count can show this.')
-UNSAID = marked("Whose casting vote it was, and when it was given, those who publish this page do not say.")
+GIVEN = marked('The secretary says that the casting vote was that of "{name}", given on {date}. No count can show this.')
+UNSAID = marked("Those who publish this page do not say whose casting vote it was, or when it was given.")
 
 
 def casting_vote_of(option: str, by: str | None, on: str | None, today: datetime.date) -> CastingVote:

@@ -108,7 +108,7 @@ class Options:
         )
 
     def wanted(self, number: int) -> Markup:
-        return self.speaker.say_number("{number} is wanted", "{number} are wanted", number)
+        return self.speaker.say_number("{number} is needed", "{number} are needed", number)
 
 
 def verdict_of(sheet: Sheet, option: int) -> str:

@@ -22,7 +22,7 @@ CARRIED_LIMIT = 4_000_000
 
 FIND = {
     "unread": marked("The files of this page can't be counted: {fault}. Tell the other electors."),
-    "no_secret_vote": marked("This is no secret vote as it is published: {fault}. Tell the other electors."),
+    "no_secret_vote": marked("This is not how a secret vote is published: {fault}. Tell the other electors."),
     "shows_others": marked("This page shows other ballots than its files have. Tell the other electors."),
     "counts": marked("This ballot counts for {name}:"),
     "type_name": marked("Type your name."),
@@ -49,7 +49,7 @@ FIND_IN_SECRET = {
 COUNT_AGAIN = {
     "counting": marked("Counting."),
     "fault": marked("These files cannot be counted: {fault}."),
-    "no_secret_vote": marked("This is no secret vote as it is published: {why}."),
+    "no_secret_vote": marked("This is not how a secret vote is published: {why}."),
     "same": marked("The same, line for line: this count comes to {sheet}, in all its {lines} lines."),
     "differs": marked("Not the same as {sheet}: line {line} differs. There it is: {given}. By this count it is: {counted}."),
     "with_feed": marked("{line} (with a line feed at its end)"),
@@ -65,7 +65,7 @@ COUNT_AGAIN = {
         "This page shows what its files come to: the result, the names of the options, the table of votes, and each of the {ballots} "
         "ballots, by its ranks and in words. Other words are not compared."
     ),
-    "page_differs": marked("This page shows something else than its files come to: {where}."),
+    "page_differs": marked("This page does not show what its files come to: {where}."),
     "the_result": marked("the result"),
     "the_names": marked("the names of title and options"),
     "the_votes": marked("the table of votes"),
@@ -85,7 +85,7 @@ COUNT_AGAIN = {
     "no_sums": marked("This browser makes no checksums of a page that did not come by https. Compare them by the commands below."),
     "second": marked("This was a second opinion, from the same web site as the page."),
     "whole_sheet": marked("The whole sheet by this count"),
-    "choose": marked("Choose {poll} and {ballots}, by these names and one of each; {sheet} may be with them."),
+    "choose": marked("Choose {poll} and {ballots}, one file of each and under these names; you may add {sheet}."),
     "unreadable": marked("A file that you chose cannot be read."),
     # those with which the page says options and ballots
     "option": OPTION,

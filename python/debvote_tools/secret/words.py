@@ -15,22 +15,23 @@ REMAINS = (
     marked("The secretary knows how each elector voted, since ballots came with names."),
     marked("With few voters, or where all are of one mind, the numbers of the sheet alone tell how somebody voted."),
     marked(
-        "Whoever shows their code shows their vote. Of the ranks their order alone is published: 17,33,99 becomes 1,2,3. What is left "
-        "to know a ballot by is the order, which options are equal, and which are not ranked: where an elector tells somebody "
-        "beforehand of an unusual order of many options, that ballot is found."
+        "Whoever shows their code shows their vote. Of the ranks only the order is published: 17,33,99 becomes 1,2,3. What can "
+        "still give a ballot away is the order, which options are equal, and which are not ranked: if an elector tells somebody "
+        "beforehand of an unusual order of many options, that ballot can be found."
     ),
     marked(
-        "Two electors who have each a name of their own cannot take one ballot for theirs: an alias is made of the "
-        "name. So look whether the name on your slip is yours alone: one that could be somebody else's may be on two "
-        "slips."
+        "Two electors who each have a name of their own cannot take the same ballot for theirs: an alias is made of the name. "
+        "So check whether the name on your slip is yours alone: one that could be somebody else's may be on two slips."
     ),
     marked(
         "Ballots come without the codes, so a code does not show who sent a ballot. Whoever votes in the name of another is found "
         "out where that elector looks."
     ),
     marked(
-        "Whoever keeps the web site can show each reader another folder: compare the checksum of ballots.txt with other electors, or "
-        "with one that the secretary sends by letter."
+        "Whoever runs the web site can show each reader a different folder: compare the checksum of ballots.txt with other "
+        "electors, or with one that the secretary sends by letter."
     ),
-    marked("That there is a person behind each alias is not seen here: compare the number of electors with the list of members."),
+    marked(
+        "You cannot see here whether there is a person behind each alias: compare the number of electors with the list of members."
+    ),
 )
