@@ -17,9 +17,8 @@ from debvote_tools.election.history import History
 from debvote_tools.faults import Fault
 from debvote_tools.files import sha256_of
 from debvote_tools.language import language_of
-from debvote_tools.publish import inputs
 from debvote_tools.publish.doubts import Doubt, Kind
-from debvote_tools.publish.inputs import Act, CastingVote, Chronicle, Publication, SecretVote
+from debvote_tools.publish.inputs import Act, CastingVote, Chronicle, Closed, Done, Publication, SecretVote
 from debvote_tools.publish.names import BALLOTS, PAGE, POLL
 from debvote_tools.sealed_poll import SealedPoll
 from debvote_tools.secret.aliases import aliased_ballots, sealed_checksum
@@ -165,7 +164,7 @@ def chronicle_of(book: Book, history: History, *, is_secret: bool) -> Chronicle:
     acts: list[Act] = []
     for before, act in zip([None, *history.acts], history.acts):
         if before is not None and act.time < before.time:
-            acts.append(inputs.ClockWentBack(act.time, before.time))
+            acts.append(Act(act.time, Done.CLOCK, {"before": before.time}))
         acts += told_of(act, book, history, is_secret=is_secret)
     # lines, rows and ballots of desks that came after the end, and count; what came in after a close had come before it, as its act says
     after_the_end = 0
@@ -180,31 +179,33 @@ def told_of(act: DoneAct, book: Book, history: History, *, is_secret: bool) -> l
     """What is told of an act; nothing of most. In a secret vote the reasons of `strike` and `reopen` stay in the log."""
     time, detail = act.time, act.detail
     told: list[Act] = []
-    until = from_text(detail["until"]) if detail.get("until") else None
+    until = {"until": from_text(detail["until"])} if detail.get("until") else {}
     reason = None if is_secret else detail.get("because")
     match act.name:
         case "call":
-            told = [inputs.Called(time, until)]
+            told = [Act(time, Done.CALLED_UNTIL if until else Done.CALLED, until)]
         case "take back":
-            told = [inputs.TakenBack(time)]
-        case "extend" if until is not None:
-            told = [inputs.Extended(time, until)]
+            told = [Act(time, Done.TAKEN_BACK)]
+        case "extend" if until:
+            told = [Act(time, Done.EXTENDED, until)]
         case "addresses":
-            told = [inputs.RollChanged(time, detail["electors"])]
+            told = [Act(time, Done.ROLL_CHANGED, {"number": detail["electors"]})]
         case "strike":
-            struck = queries.envelopes(book, "struck.act = ?", act.number)
-            told = [inputs.Struck(time, envelope.number, reason) for envelope in struck]
+            done = Done.STRUCK_IN_SECRET if is_secret else Done.STRUCK
+            struck = queries.lines(book, "struck.act = ?", act.number)
+            told = [Act(time, done, {"envelope": envelope}, reason) for envelope, _ in struck]
         case "close":
             told = [close_of(act, book, history)]
         case "reopen":
-            told = [inputs.Reopened(time, reason)]
+            told = [Act(time, Done.REOPENED, because=reason)]
         case "moved":
-            noted = detail["noted"] and detail["noted"]["act"]
-            told = [inputs.Moved(time, noted, detail["there"]["act"], detail["because"])]
-    return [*told, inputs.KeyringChanged(time)] if detail.get("keyring") else told
+            noted, there = detail["noted"] and detail["noted"]["act"], detail["there"]["act"]
+            done = Done.MOVED if noted else Done.MOVED_UNKNOWN
+            told = [Act(time, done, {"noted": noted, "there": there}, detail["because"])]
+    return [*told, Act(time, Done.KEYRING)] if detail.get("keyring") else told
 
 
-def close_of(act: DoneAct, book: Book, history: History) -> inputs.Closed:
+def close_of(act: DoneAct, book: Book, history: History) -> Closed:
     """A close, and how many lines in time came in or were struck since the one before."""
     detail, came, struck = act.detail, None, None
     earlier = [close.number for close in history.closes if close.number < act.number]
@@ -213,10 +214,10 @@ def close_of(act: DoneAct, book: Book, history: History) -> inputs.Closed:
         came, struck = (
             len(queries.lines(book, between.format(table), earlier[-1], act.number)) for table in ("envelope", "struck")
         )
-    return inputs.Closed(
+    return Closed(
         act.time,
-        detail["lines"],
-        detail["checksum"],
+        lines=detail["lines"],
+        checksum=detail["checksum"],
         is_early=detail["early"],
         waiting=detail["waiting"],
         after_end=detail["after_end"],

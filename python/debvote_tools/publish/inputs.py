@@ -2,13 +2,16 @@
 
 import dataclasses
 import datetime
+import enum
 import functools
 from collections.abc import Mapping
+from typing import Any
 
 from debvote_tools.debvote import casting_words
 from debvote_tools.language import ENGLISH, Language
 from debvote_tools.publish.doubts import Doubt
 from debvote_tools.sealed_poll import SealedPoll
+from debvote_tools.sentences import marked
 from debvote_tools.sheet import Sheet, sheet_in
 
 
@@ -22,49 +25,43 @@ class CastingVote:
 
 
 # ---------------------------------------------------------------- acts
+class Done(enum.Enum):
+    """What can be done in an election, as it is said; two are said in a form for their numbers."""
+
+    CALLED = marked("The call was made; it named no time until which one could vote.")
+    CALLED_UNTIL = marked("The call was made; one could vote until {until}.")
+    TAKEN_BACK = marked("This call was taken back, before any ballot had come.")
+    EXTENDED = marked("The time was extended: one could vote until {until}.")
+    KEYRING = marked("The secretary took newer keys of the electors.")
+    ROLL_CHANGED = "roll changed"
+    STRUCK = marked("The secretary struck envelope {envelope}: its line does not count.")
+    STRUCK_IN_SECRET = marked("The secretary struck an envelope: its line does not count.")
+    CLOSED = "closed"
+    REOPENED = marked("The vote was opened again, for what had come before the first close.")
+    MOVED = marked(
+        "The secretary went on with a book of this election in which act {there} was the last, though this computer had noted act "
+        "{noted} of it."
+    )
+    MOVED_UNKNOWN = marked(
+        "The secretary went on with the book of this election on a computer or in a folder that did not know it yet."
+    )
+    CLOCK = marked("The clock of the secretary's computer went back: the act before has a later time, {before}.")
+
+
 @dataclasses.dataclass(frozen=True)
 class Act:
-    """Something that was done in an election, at a time by the clock of the secretary's computer."""
+    """Something that was done in an election, at a time by the clock of the secretary's computer.
+
+    `places` has what stands at the places of its sentence. `because` is None where no reason was given, or it is not published.
+    """
 
     time: datetime.datetime
+    done: Done
+    places: Mapping[str, Any] = dataclasses.field(default_factory=dict)
+    because: str | None = None
 
 
-@dataclasses.dataclass(frozen=True)
-class Called(Act):
-    until: datetime.datetime | None
-
-
-@dataclasses.dataclass(frozen=True)
-class TakenBack(Act):
-    """The call before this act was taken back."""
-
-
-@dataclasses.dataclass(frozen=True)
-class Extended(Act):
-    until: datetime.datetime
-
-
-@dataclasses.dataclass(frozen=True)
-class KeyringChanged(Act):
-    """Newer keys of the electors were taken."""
-
-
-@dataclasses.dataclass(frozen=True)
-class RollChanged(Act):
-    """After the call this many electors got other addresses or keys."""
-
-    electors: int
-
-
-@dataclasses.dataclass(frozen=True)
-class Struck(Act):
-    """An envelope was struck. The reason is None where it is not published."""
-
-    envelope: int
-    because: str | None
-
-
-@dataclasses.dataclass(frozen=True)
+@dataclasses.dataclass(frozen=True, kw_only=True)
 class Closed(Act):
     """A close: the lines in time, and the checksum that it fixed.
 
@@ -72,35 +69,19 @@ class Closed(Act):
     `struck` are the lines that came in or were struck since the close before, if there was one.
     """
 
+    done: Done = Done.CLOSED
     lines: int
     checksum: str
-    is_early: bool = False
-    waiting: int = 0
-    after_end: int = 0
-    because: str | None = None
-    came: int | None = None
-    struck: int | None = None
+    is_early: bool
+    waiting: int
+    after_end: int
+    came: int | None
+    struck: int | None
 
-
-@dataclasses.dataclass(frozen=True)
-class Reopened(Act):
-    because: str | None
-
-
-@dataclasses.dataclass(frozen=True)
-class Moved(Act):
-    """The book was taken for the right one, though this computer knew another. None of `noted`: it knew none."""
-
-    noted: int | None
-    there: int
-    because: str | None
-
-
-@dataclasses.dataclass(frozen=True)
-class ClockWentBack(Act):
-    """The act before has a later time."""
-
-    before: datetime.datetime
+    @property
+    def is_plain(self) -> bool:
+        """Whether nothing else is to be told of it."""
+        return not (self.is_early or self.waiting or self.after_end or self.because or self.came is not None)
 
 
 # ---------------------------------------------------------------- the one value

@@ -134,7 +134,7 @@ def texts_of(publication: Publication) -> dict[str, str]:
     texts = {"--about": publication.about, "--because": publication.because}
     texts["--cast-by"] = publication.casting.by if publication.casting else None
     acts = publication.chronicle.acts if publication.chronicle else ()
-    texts |= {f"the reason of what was done at {act_time(act.time)}": getattr(act, "because", None) for act in acts}
+    texts |= {f"the reason of what was done at {act_time(act.time)}": act.because for act in acts}
     texts |= {f"texts/{number}.txt": text for number, text in enumerate(publication.poll.explanations, start=1)}
     return {where: text for where, text in texts.items() if text is not None and text.strip()}
 
