@@ -25,30 +25,19 @@ class Run:
     text: Markup | None
 
 
-@dataclasses.dataclass(frozen=True)
-class Lines:
-    """Lines of a file. When the texts are too many, it says from which line on they are not shown."""
-
-    runs: list[Run]
-
-    @property
-    def untold(self) -> int | None:
-        return next((run.first for run in self.runs if run.text is None), None)
-
-
-def refused_lines(findings: Iterable[Finding], ballots: bytes, speaker: InHtml) -> Lines:
+def refused_lines(findings: Iterable[Finding], ballots: bytes, speaker: InHtml) -> list[Run]:
     """The lines of the ballots that count for nothing, with the causes in the words of debvote."""
     lines = ballot_lines(ballots)
-    return lines_of(((one.envelope, lines[one.envelope - 1], f"{one.word}: {one.hint}") for one in findings), speaker)
+    return runs_of(((one.envelope, lines[one.envelope - 1], f"{one.word}: {one.hint}") for one in findings), speaker)
 
 
-def late_lines(late: bytes, speaker: InHtml) -> Lines:
+def late_lines(late: bytes, speaker: InHtml) -> list[Run]:
     """The lines that were entered after the close."""
-    return lines_of(((number, line, "") for number, line in enumerate(ballot_lines(late), start=1)), speaker)
+    return runs_of(((number, line, "") for number, line in enumerate(ballot_lines(late), start=1)), speaker)
 
 
-def lines_of(found: Iterable[tuple[int, bytes, str]], speaker: InHtml) -> Lines:
-    """The lines, those together that stand one after the other and are alike."""
+def runs_of(found: Iterable[tuple[int, bytes, str]], speaker: InHtml) -> list[Run]:
+    """The lines, those together that stand one after the other and are alike. When the texts are too many, the last have none."""
     runs: list[Run] = []
     left = TEXTS_LIMIT
     for number, line, cause in found:
@@ -58,7 +47,7 @@ def lines_of(found: Iterable[tuple[int, bytes, str]], speaker: InHtml) -> Lines:
         else:
             runs.append(Run(number, number, cause, text))
             left -= len(text or "")
-    return Lines(runs)
+    return runs
 
 
 def line_on_page(line: bytes, speaker: InHtml) -> Markup:

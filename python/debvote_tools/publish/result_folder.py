@@ -17,7 +17,6 @@ from debvote_tools.publish.doubts import Doubt, doubts_about, stop
 from debvote_tools.publish.inputs import Publication
 from debvote_tools.publish.page import page_of
 from debvote_tools.publish.result_letter import letter_of
-from debvote_tools.publish.second_count import demand_same
 from debvote_tools.publish.sheet_data import result_json, votes_csv
 from debvote_tools.secret.codes import CODE_WITHIN
 from debvote_tools.sheet import Sheet, sheet_in
@@ -102,7 +101,7 @@ def fill(folder: pathlib.Path, publication: Publication, program_folder: pathlib
     write({names.SHEET: answer.text.encode()})
     counted = ask_the_rest(debvote, publication, answer, sheet)
     write(further_files(publication, counted))
-    demand_same(folder, publication.casting_words, answer.text, counted.standing_text)
+    recounting.demand_same(folder, publication.casting_words, answer.text, counted.standing_text)
     # each of these has checksums of those above
     write({names.PAGE: page_of(publication, counted, doubts, checksums)})
     write({names.LETTER: letter_of(publication, sheet, checksums)})
