@@ -197,7 +197,16 @@ def try_sentences(page, count, shown):
         kinds = [kind_of(clause, option, count) for clause in found[2].split("; ")]
         met.update(kinds)
         demand_whole(kinds, option, count)
+    try_deciding_numbers(page, entries, count)
     return met
+
+
+def try_deciding_numbers(page, entries, count):
+    """What decided stands below who has won, as Why has it: for the winner, or for each of a few options that are tied."""
+    result = page.partition('<h2 id="Result">')[2].partition("</section>")[0]
+    said = [f"In numbers: {entry.partition(': ')[2].partition(': ')[2]}" for entry in entries]
+    told = [said[count.winner - 1]] if count.winner else [entries[option - 1] for option in count.final if len(count.final) <= 3]
+    demand([text for text in [*said, *entries] if f"<p>{text}</p>" in result] == told, f"{told} in {result}")
 
 
 def demand_whole(kinds, option, count):

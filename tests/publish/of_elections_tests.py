@@ -97,6 +97,12 @@ class OfElections(support.PublishTest):
         (self.folder / "lines").write_text(lines)
         return self.say("add", "lines", *words, **how)
 
+    def reopened_with(self, lines):
+        """Opens the vote for lines that had come before the close, and closes it again."""
+        self.say("reopen", "--because", "lost letters", "--in-time")
+        self.add(lines, words=("--came-before-close", "yes"))
+        self.say("close")
+
     def acts(self):
         book = open_book(self.folder / "election.db")
         with contextlib.closing(book.connection):
@@ -228,7 +234,57 @@ class OfOpenVotes(OfElections):
         self.add("ada-lovelace 1,2,3\n")
         self.say("close")
         self.say("publish", "--force", "--because", "nothing", "--language", "en")
+        self.expect("half of the lines are refused", json.loads(self.files()["result.json"])["refused"], 1)
         self.expect("force where nothing stops", (self.doubts(), "nothing" in self.sections()["Result"].text()), ([], False))
+
+    def test_each_act_is_told(self):
+        """Each kind of act is told on the page, and all but what is plain in the letters of the result."""
+        self.say("call")
+        self.say("call", "--take-back")
+        self.say("call", "--until", "2099-12-04 18:00", "--zone", "Europe/Berlin", "--at", "https://x.example/")
+        self.add("ada-lovelace 1,2,3\n")
+        checksum = hashlib.sha256(b"ada-lovelace 1,2,3\n").hexdigest()
+        plain = {"lines": 1, "checksum": checksum, "early": False, "waiting": 0, "after_end": 0}
+        book = open_book(self.folder / "election.db")
+        with self.state_of_this(), contextlib.closing(book.connection):
+            for name, detail in [
+                ("addresses", {"electors": 1}),
+                ("addresses", {"electors": 2}),
+                ("extend", {"keyring": "a checksum"}),
+                ("moved", {"noted": {"act": 7}, "there": {"act": 5}, "because": "an old copy"}),
+                ("close", plain),
+                ("reopen", {"because": "a look"}),
+                ("close", plain | {"early": True, "waiting": 2, "after_end": 1, "because": "in a hurry"}),
+            ]:
+                with book.act(name, detail):
+                    pass
+        self.say("publish", "--language", "en")
+        because = " The reason, in the secretary's words:"
+        end = "one could vote until Friday, 4 December 2099, 18:00 (UTC+01:00)."
+        closed = f"The vote was closed. Lines in time: 1. Checksum: {checksum}."
+        between = "Since the close before this one, lines that came in: 0; lines that were struck: 0."
+        quiet = ["The call was made; it named no time until which one could vote.", "This call was taken back, before any ballot had come."]
+        quiet += [f"The call was made; {end}", "The secretary took newer keys of the electors.", closed]
+        told = [
+            "1 elector got another address or key.",
+            "2 electors got other addresses or keys.",
+            "The secretary went on with a book of this election in which act 5 was the last, though this computer had noted act 7 of it."
+            f"{because} an old copy",
+            f"The vote was opened again, for what had come before the first close.{because} a look",
+            f"{closed} That was before the time until which one could vote. 2 letters that had arrived in time were left waiting. "
+            f"1 letter that had arrived after the end did not go in. {between}{because} in a hurry",
+        ]
+        done = [item.text().partition("): ")[2] for item in self.sections()["What-was-done"].all("li")]
+        self.expect("on the page", done, [*quiet[:3], *told[:2], quiet[3], told[2], quiet[4], *told[3:]])
+        self.say("publish", "--language", "de")
+        self.say("letters", "result", "--from", "vote@x.example")
+        letters = [email.message_from_bytes(file.read_bytes()) for file in (self.folder / "letters" / "result").rglob("*.eml")]
+        text = letters[0].get_payload(decode=True).decode().partition("WAS GESCHEHEN IST\n\n")[2]
+        acts = re.findall(r"(?m)^- ((?:.+\n)+(?:  .+\n)*)", text)
+        self.expect("in the letters", (len(letters), len(acts)), (3, len(told)))
+        close = " ".join(acts[-1].split())
+        words = ("2 rechtzeitig eingetroffene Schreiben", "1 Schreiben, das nach dem Ende", "\u201ein a hurry\u201c")
+        self.expect(f"the close: {close}", [word in close for word in words], [True] * 3)
 
     def test_what_was_done_after_the_close(self):
         self.say("call", "--until", "2099-12-04 18:00", "--zone", "Europe/Berlin")
@@ -236,7 +292,7 @@ class OfOpenVotes(OfElections):
         self.add("ada-lovelace 1,2,3\n")
         self.say("close", "--early")
         self.add("zoe-mueller 1,2,3\ncleo 1,2,3\n")
-        self.say("reopen", "--because", "Zoë's letter lay in the <hall>", "--in-time", "2")
+        self.say("reopen", "--because", "Zoë's letter lay in the <hall>", "--in-time", "2", "3")
         self.say("strike", "1", "--because", "wrong hand")
         self.say("close", "--early")
         self.say("publish", "--language", "en")
@@ -250,13 +306,13 @@ class OfOpenVotes(OfElections):
             f"The vote was closed. Lines in time: 1. Checksum: {sums[0]}. {early}",
             f"The vote was opened again, for what had come before the first close. {because} Zoë's letter lay in the <hall>",
             f"The secretary struck envelope 1: its line does not count. {because} wrong hand",
-            f"The vote was closed. Lines in time: 1. Checksum: {sums[1]}. {early} Since the close before this one, lines that came in: 1; lines that were struck: 1.",
+            f"The vote was closed. Lines in time: 2. Checksum: {sums[1]}. {early} Since the close before this one, lines that came in: 2; lines that were struck: 1.",
         ]
         self.expect("what was done", done, wanted)
         self.expect("the late ones stay late", (self.folder / "result" / "late.txt").read_bytes(), b"zoe-mueller 1,2,3\ncleo 1,2,3\n")
         self.expect("the times are in one zone", self.sections()["What-was-done"].text().count("(UTC+01:00): "), 6)
 
-    def test_a_moved_book_and_a_clock_that_went_back(self):
+    def test_a_moved_book(self):
         self.say("call")
         self.add("ada-lovelace 1,2,3\n")
         self.say("close")
@@ -320,14 +376,23 @@ class OfOpenVotes(OfElections):
             self.say("add", "letter.eml")
             self.say("held", "1", "--enter", "1", "--force")
             self.say("strike", "3", "--because", "on paper")
+            clock.write_text("2027-03-01T12:50:00+00:00")
             self.say("close")
             clock.write_text("2027-03-01T14:00:00+00:00")
             self.say("reopen", "--because", "a lost letter", "--in-time")
             self.add("dan 1,3,2\n", words=("--came-before-close", "yes"))
             self.say("close")
+            (self.folder / "letter.eml").write_text(letter.replace("12:30", "12:40").replace("cleo 3", "zoe-mueller 3"))
+            self.say("add", "letter.eml")
+            self.say("held", "2", "--enter", "1", "--force")
+            # a late one that arrived after the end is no doubt
             self.say("publish", "--language", "en")
         told = "2 ballots came after the end, and count, since the vote was not closed yet."
-        self.expect("what came after the end, and before the first close", told in self.sections()["What-was-done"].text(), True)
+        done = self.sections()["What-was-done"].text()
+        self.expect("what came after the end, and before the first close", told in done, True)
+        later = "Monday, 1 March 2027, 13:00 (UTC)"
+        back = f"12:50 (UTC): The clock of the secretary's computer went back: the act before has a later time, {later}."
+        self.expect("a clock that went back", back in done, True)
 
     def test_words_of_a_publication_end_with_its_close(self):
         """Without words the last publication is made again; after another close it is a new one, without a casting vote."""
@@ -385,6 +450,11 @@ class OfOpenVotes(OfElections):
         said = "Winner: Option 1: 72 Euro by casting vote"
         self.expect("so does the letter say who has won", said in (self.folder / "result" / "letter.txt").read_text(), True)
         self.stops("publish", "--casting", "Groesse", *cast, said=["an earlier publication has a casting vote for 72 Euro"])
+        self.reopened_with("cleo 1,2,3\n")
+        self.say("publish", "--casting", "72 Euro", *cast, "--language", "en")
+        texts = (self.sections()["Result"].text(), (self.folder / "result" / "letter.txt").read_text())
+        self.expect("one that decides nothing is not told", ["casting vote" in text for text in texts], [False, False])
+        self.reopened_with("dan 2,1,3\n")
         self.say("publish", "--casting", "Groesse", *cast, "--force", "--because", "She had meant this", "--language", "en")
         earlier = ["An earlier result of this vote was published with another casting vote, for 72 Euro."]
         self.expect("another casting vote", self.doubts(), earlier)
@@ -525,6 +595,15 @@ class OfSecretVotes(OfElections):
         self.expect("a strike without number and reason", [struck in item.text() for item in sections["What-was-done"].all("li")].count(True), 1)
         self.expect("who voted is not told", "Who-voted" in sections, False)
 
+    def test_doubts_about_what_came(self):
+        """The doubts are about the lines that came, and not about those that are published."""
+        self.say("call")
+        self.add("ada-lovelace 1,2,3\nno-one 1,2,3\ncleo 1,2\n", words=("--force",))
+        self.say("close")
+        self.stops("publish", said=["more than half of the lines are refused, 2 of 3"])
+        self.say("publish", "--force", "--because", "so be it", "--yes", "--language", "en")
+        self.expect("without numbers", self.doubts(), ["More than half of the lines that came are refused."])
+
     def test_texts_are_asked_for(self):
         self.called()
         self.say("close")
@@ -549,6 +628,7 @@ class OfSecretVotes(OfElections):
         self.stops("publish", said=["a comparison with the earlier result shows how these voted: cleo, dan"])
         self.say("publish", "--yes")
         self.expect("cleo and dan count", len((self.folder / "result" / "ballots.txt").read_text().splitlines()), 4)
+        self.checksums_of_letters(self.files(), "-")
         self.expect("the reason stays in the log", "Cleo" in (self.folder / "result" / "index.html").read_text(), False)
 
     def test_a_sheet_that_is_not_that_of_the_votes(self):

@@ -1,5 +1,7 @@
-"""The words for a ballot and for a share, which are written down here one by one."""
+"""The words for a ballot and for a share, which are written down here one by one; and of which closes letters tell."""
 
+import dataclasses
+import datetime
 import sys
 
 import expecting
@@ -8,6 +10,7 @@ import support
 sys.path.append(str(support.ROOT / "python"))
 
 from debvote_tools.ballots import ranks_in_words  # noqa: E402
+from debvote_tools.publish.inputs import Closed  # noqa: E402
 from debvote_tools.publish.page import share  # noqa: E402
 
 
@@ -33,7 +36,19 @@ def try_shares(expect):
         expect(f"{voters} of {electors}", share(voters, electors), words)
 
 
+def try_plain_closes(expect):
+    """The letters of the result tell each close of which more is to be told than its time."""
+    time = datetime.datetime.now(datetime.UTC)
+    close = Closed(time, lines=1, checksum="", is_early=False, waiting=0, after_end=0, came=None, struck=None)
+    expect("a plain close", close.is_plain, True)
+    for more in ({"is_early": True}, {"waiting": 1}, {"after_end": 1}, {"because": "a reason"}, {"came": 0, "struck": 0}):
+        expect(f"a close with {more}", dataclasses.replace(close, **more).is_plain, False)
+
+
 class WordsTest(expecting.Expecting):
+    def test_plain_closes(self):
+        try_plain_closes(self.expect)
+
     def test_ballots_in_words(self):
         try_ballots_in_words(self.expect)
 
