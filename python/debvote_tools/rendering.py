@@ -111,7 +111,6 @@ PAGE_FILTERS: dict[str, Callable[..., str]] = {
 }
 LETTER_FILTERS: dict[str, Callable[..., str]] = {
     "paragraph": plain_letter.wrapped,
-    "wrapped": plain_letter.wrapped,
     "line": plain_letter.line,
     "copied": plain_letter.copied,
     "heading": plain_letter.heading,

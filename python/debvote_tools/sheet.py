@@ -7,9 +7,9 @@ from debvote_tools.faults import other_format
 
 Pair = tuple[int, int]
 
-OPTION = re.compile(r" *(\d+) (?:ratio (\d+)|default) (.*)")
-QUORUM = re.compile(r"(\d+)Q, (\d+) votes")
-DEFEAT = re.compile(r"(\d+) over (\d+)")
+OPTION_LINE = re.compile(r" *(\d+) (?:ratio (\d+)|default) (.*)")
+QUORUM_LINE = re.compile(r"(\d+)Q, (\d+) votes")
+DEFEAT_LINE = re.compile(r"(\d+) over (\d+)")
 
 
 @dataclasses.dataclass(frozen=True)
@@ -97,8 +97,8 @@ def sheet_of(lines: list[str]) -> Sheet:
     options, votes, dropped, defeats = (lines.index(head, 1) for head in ("Options:", "Votes:", "Dropped:", "Defeats:"))
     end = next((place for place in range(defeats, len(lines)) if lines[place].startswith("Round ")), len(lines))
     facts = dict(line.split(": ", 1) for line in lines[:options])
-    multiple, quorum = parts_of(QUORUM, facts["Quorum"])
-    shown = [parts_of(OPTION, line) for line in lines[options + 1 : votes]]
+    multiple, quorum = parts_of(QUORUM_LINE, facts["Quorum"])
+    shown = [parts_of(OPTION_LINE, line) for line in lines[options + 1 : votes]]
     rows = [line.split() for line in lines[votes + 2 : dropped]]
     causes = [line.split() for line in lines[dropped + 1 : defeats] if line != "  none"]
     return Sheet(
@@ -135,7 +135,7 @@ def rounds_in(lines: list[str]) -> list[Round]:
 
 def pair_in(line: str) -> Pair:
     """The two options of a line such as `1 over 2 by 4 to 2`."""
-    pair = DEFEAT.search(line)
+    pair = DEFEAT_LINE.search(line)
     if pair is None:
         raise ValueError(line)
     return int(pair[1]), int(pair[2])

@@ -149,7 +149,7 @@ class ScriptsTest(support.PublishTest):
     def test_finding_a_ballot_by_its_code(self):
         """Where codes are on the roll, half a code is not called the code of nobody."""
         room, programs = self.secret, support.PROGRAM.parent
-        two = two_files.publication_of(str(room / "poll.toml"), str(room / "ballots"), ENGLISH, casting=None, desks=1, program_folder=programs)
+        two = two_files.publication_of_files(str(room / "poll.toml"), str(room / "ballots"), ENGLISH, casting=None, desks=1, program_folder=programs)
         by_code = plain_room(self.scratch / "codes")
         with result_folder.made(dataclasses.replace(two, has_codes=True), by_code / "result", programs) as made:
             made.take_place(by_code / "result")

@@ -2,7 +2,7 @@
 
 import dataclasses
 import functools
-from collections.abc import Callable, Mapping, Sequence
+from collections.abc import Callable, Mapping
 
 from markupsafe import Markup
 
@@ -35,14 +35,11 @@ class Ballots:
 
 
 def ballots_of(options: Options, standing: Mapping[str, str]) -> Ballots:
+    """What says the ballots in words, from the first preference on. Many ballots are alike."""
+    language, joined = options.speaker.language, options.speaker.language.joined
     have_names = len(standing) * sum(map(len, options.named.values())) <= NAMES_LIMIT
-    shown = [named if have_names else str(option) for option, named in options.named.items()]
-    return Ballots(words_of_ballots(options.speaker.language, ["", *shown]), have_names)
-
-
-def words_of_ballots(language: Language, shown: Sequence[str]) -> Callable[[str], Markup]:
-    """What says a ballot in words, from the first preference on; the options are in HTML. Many ballots are alike."""
-    joined, then, equally, not_ranked = language.joined, language.between(THEN), language.form(EQUALLY), language.form(NOT_RANKED)
+    shown = ["", *(str(named) if have_names else str(option) for option, named in options.named.items())]
+    then, equally, not_ranked = language.between(THEN), language.form(EQUALLY), language.form(NOT_RANKED)
 
     def step_in_words(step: list[int]) -> str:
         return equally(options=joined(shown[option] for option in step)) if step[1:] else shown[step[0]]
@@ -57,7 +54,7 @@ def words_of_ballots(language: Language, shown: Sequence[str]) -> Callable[[str]
             said = not_ranked(ranked=said, unranked=joined(shown[option] for option in found.unranked))
         return Markup(said)
 
-    return in_words
+    return Ballots(in_words, have_names)
 
 
 def script_words(language: Language) -> dict[str, str]:

@@ -3,9 +3,7 @@
 import datetime
 
 from debvote_tools.faults import Fault, Status
-from debvote_tools.language import Language
 from debvote_tools.publish.inputs import CastingVote, Publication
-from debvote_tools.sentences import marked
 from debvote_tools.sheet import Sheet
 from debvote_tools.terminal_text import odd_sign
 from debvote_tools.times import date_in_words
@@ -14,10 +12,7 @@ from debvote_tools.times import date_in_words
 LONGEST = 200
 
 # the name stands between quotation marks, so that nothing in it reads as words of the program
-QUOTATION_MARKS = '"\u201c\u201d\u201e\u201f\u2033\uff02\u00ab\u00bb'
-
-GIVEN = marked('The secretary says that the casting vote was that of "{name}", given on {date}. No count can show this.')
-UNSAID = marked("Those who publish this page do not say whose casting vote it was, or when it was given.")
+REFUSED_IN_NAME = '"\u201c\u201d\u201e\u201f\u2033\uff02\u00ab\u00bb'
 
 
 def casting_vote_of(option: str, by: str | None, on: str | None, today: datetime.date) -> CastingVote:
@@ -25,7 +20,7 @@ def casting_vote_of(option: str, by: str | None, on: str | None, today: datetime
     if by is None or on is None:
         cure = 'say it with --cast-by "NAME" --cast-on 2026-12-05'
         raise refused("--casting", "the page has to say whose casting vote it was, and when it was given", cure)
-    if not by.strip() or odd_sign(by, refused=QUOTATION_MARKS) is not None or len(by) > LONGEST:
+    if not by.strip() or odd_sign(by, refused=REFUSED_IN_NAME) is not None or len(by) > LONGEST:
         reason = f"it has to be a name on one line, of at most {LONGEST} characters, and without quotation marks"
         raise refused("--cast-by", reason, "write it anew")
     try:
@@ -41,14 +36,15 @@ def refused(option: str, reason: str, cure: str) -> Fault:
     return Fault(option, reason, cure, Status.BAD_WORDS, "nothing was published")
 
 
-def told(vote: CastingVote, language: Language) -> str:
-    """What is said of a casting vote that decides, in plain text."""
-    if vote.by is None or vote.on is None:
-        return language.say(UNSAID)
-    return language.say(GIVEN, name=vote.by, date=date_in_words(vote.on, language))
-
-
 def told_if_it_decides(publication: Publication, sheet: Sheet) -> str:
-    """The same, or nothing where no casting vote decides."""
-    vote = publication.casting
-    return told(vote, publication.language) if sheet.is_by_casting and vote is not None else ""
+    """What is said of a casting vote that decides, in plain text; nothing where none does."""
+    vote, language = publication.casting, publication.language
+    if vote is None or not sheet.is_by_casting:
+        return ""
+    if vote.by is None or vote.on is None:
+        return language.say("Those who publish this page do not say whose casting vote it was, or when it was given.")
+    return language.say(
+        'The secretary says that the casting vote was that of "{name}", given on {date}. No count can show this.',
+        name=vote.by,
+        date=date_in_words(vote.on, language),
+    )

@@ -47,7 +47,7 @@ def main(program_folder: pathlib.Path, words: Sequence[str] | None = None) -> in
     arguments = arguments_of(Arguments, parser().parse_args(words))
     console.prepare()
     try:
-        counted = publish(arguments, program_folder)
+        counted = publish_files(arguments, program_folder)
     except Fault as fault:
         return console.failed(PROGRAM, fault.words, fault.status)
     except OSError as error:
@@ -60,10 +60,10 @@ def main(program_folder: pathlib.Path, words: Sequence[str] | None = None) -> in
     return counted.status
 
 
-def publish(arguments: Arguments, program_folder: pathlib.Path | None) -> Counted:
+def publish_files(arguments: Arguments, program_folder: pathlib.Path | None) -> Counted:
     target_folder = pathlib.Path(arguments.target)
     result_folder.demand_free(target_folder, can_replace=False)
-    publication = two_files.publication_of(
+    publication = two_files.publication_of_files(
         arguments.poll,
         arguments.ballots,
         language_of(arguments.language),

@@ -30,16 +30,16 @@ class Counted:
     version: str
 
 
-def sheet_of(debvote: Debvote, publication: Publication) -> Answer:
+def count_files(debvote: Debvote, publication: Publication) -> Answer:
     """The sheet of the files in the folder of debvote."""
-    return answer_of(debvote, "count", *words_of(publication), also=(Status.TIE, Status.CASTING_OUTSIDE))
+    return answer_of(debvote, "count", *desks_and_casting(publication), also=(Status.TIE, Status.CASTING_OUTSIDE))
 
 
 def ask_the_rest(debvote: Debvote, publication: Publication, answer: Answer, sheet: Sheet) -> Counted:
     """All else, once the sheet lies in the folder. In a secret vote the ballots that stand are all that is published."""
     standing = answer_of(debvote, "standing").text if publication.secret is None else publication.ballots.decode()
     refused = findings_in(answer_of(debvote, "explain", also=(Status.DOUBT,)).text).refused if sheet.refused else []
-    graph = answer_of(debvote, "picture", *words_of(publication), also=(Status.TIE,)).text
+    graph = answer_of(debvote, "picture", *desks_and_casting(publication), also=(Status.TIE,)).text
     verified = answer_of(debvote, "verify", "--sheet", SHEET, "--desks", str(publication.desks), also=(Status.DOUBT,))
     if verified.status == Status.DOUBT:
         said = verified.text.strip().replace("\n", ", ")
@@ -56,7 +56,7 @@ def ask_the_rest(debvote: Debvote, publication: Publication, answer: Answer, she
     )
 
 
-def words_of(publication: Publication) -> list[str]:
+def desks_and_casting(publication: Publication) -> list[str]:
     return ["--desks", str(publication.desks), *publication.casting_words]
 
 

@@ -15,25 +15,26 @@ from debvote_tools.sheet import Pair, Sheet
 # where another name is shown
 PLAIN_NAME = marked("plain name, on the result sheet: {name}")
 
-# how an option ended, as its row of the table is marked; one that has lost has no mark
+# by the word of `how_ended`, or where the casting vote decided: how an option ended, and the default option, which is never dropped
+DROPPED = marked("{option} was dropped"), ""
+VERDICTS = {
+    "quorum": DROPPED,
+    "majority": DROPPED,
+    "won": (marked("{option} has won"), marked("{option} is the default option, and has won.")),
+    "left": (marked("{option} is left in the tie"), marked("{option} is the default option, and is left in the tie.")),
+    "lost": (marked("{option} has lost"), marked("{option} is the default option, and has lost.")),
+    "lost by casting": (
+        marked("{option} has lost by the casting vote"),
+        marked("{option} is the default option, and has lost by the casting vote."),
+    ),
+}
+
+# how the row of an option is marked in the table; one that has lost has no mark
 MARKS = {
     "won": marked("won"),
     "left": marked("tied"),
     "quorum": marked("dropped: quorum"),
     "majority": marked("dropped: majority"),
-}
-
-# how it ended for an option, and for the default option, which is never dropped
-DROPPED = marked("{option} was dropped")
-LOST = marked("{option} has lost")
-LEFT = marked("{option} is left in the tie")
-WON = marked("{option} has won")
-LOST_BY_CASTING = marked("{option} has lost by the casting vote")
-DEFAULT = {
-    LOST: marked("{option} is the default option, and has lost."),
-    LEFT: marked("{option} is the default option, and is left in the tie."),
-    WON: marked("{option} is the default option, and has won."),
-    LOST_BY_CASTING: marked("{option} is the default option, and has lost by the casting vote."),
 }
 
 
@@ -63,10 +64,10 @@ class Options:
     @functools.cached_property
     def marks(self) -> dict[int, tuple[str, Markup]]:
         """How each ended that is marked, as a word of a style, and as it is said."""
-        ended = {option: how_ended(self.sheet, option) for option in self.sheet.names}
+        ended = ((option, how_ended(self.sheet, option)) for option in self.sheet.names)
         return {
             option: ("dropped" if option in self.sheet.dropped else word, self.speaker.say(MARKS[word]))
-            for option, word in ended.items()
+            for option, word in ended
             if word in MARKS
         }
 
@@ -84,12 +85,16 @@ class Options:
         return self.speaker.joined(say("{option} over {other}", option=self.said[a], other=self.said[b]) for a, b in pairs)
 
     # ------------------------------------------------------------ how it ended
+    def verdicts(self, option: int) -> tuple[str, str]:
+        """How it ended for an option, and if it is the default option."""
+        word = how_ended(self.sheet, option)
+        return VERDICTS["lost by casting" if word == "lost" and option in self.sheet.final_set() else word]
+
     def verdict(self, option: int) -> Markup:
-        return self.speaker.say(verdict_of(self.sheet, option), option=self.said[option])
+        return self.speaker.say(self.verdicts(option)[0], option=self.said[option])
 
     def verdict_of_default(self) -> Markup:
-        default = self.sheet.default
-        return self.speaker.say(DEFAULT[verdict_of(self.sheet, default)], option=self.said[default])
+        return self.speaker.say(self.verdicts(self.sheet.default)[1], option=self.said[self.sheet.default])
 
     def against_default(self, option: int) -> Pair:
         """How many prefer an option to the default option, and how many the reverse."""
@@ -109,14 +114,3 @@ class Options:
 
     def wanted(self, number: int) -> Markup:
         return self.speaker.say_number("{number} is needed", "{number} are needed", number)
-
-
-def verdict_of(sheet: Sheet, option: int) -> str:
-    if option in sheet.dropped:
-        return DROPPED
-    if option not in sheet.final_set():
-        return LOST
-    winner = sheet.winner()
-    if winner is None:
-        return LEFT
-    return WON if winner.option == option else LOST_BY_CASTING

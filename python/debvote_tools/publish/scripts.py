@@ -27,12 +27,12 @@ FIND = {
     "counts": marked("This ballot counts for {name}:"),
     "type_name": marked("Type your name."),
 }
-TYPE_CODE = marked("A code has 32 digits, 0 to 9 and a to f. Type yours as it is on your slip.")
+CODE_DIGITS = marked("A code has 32 digits, 0 to 9 and a to f. Type yours as it is on your slip.")
 FIND_BY_CODE = {
     "no_elector": marked("No elector has this code. Type it as it is on your slip."),
     "no_ballot": marked("The code is on the roll, and no ballot counts under it."),
     "type_name": marked("Type your code as it is on your slip."),
-    "type_code": TYPE_CODE,
+    "type_code": CODE_DIGITS,
 }
 FIND_IN_OPEN = {
     "no_elector": marked("No elector has the name {name}. Type it as it is on the roll."),
@@ -42,7 +42,7 @@ FIND_IN_SECRET = {
     "no_elector": marked("No elector of this vote has the alias {alias}. Type name and code as they are on your slip."),
     "no_ballot": marked("Your alias is {alias}. It is on the roll, and no ballot counts under it."),
     "type_name": marked("Type your name as it is on your slip."),
-    "type_code": TYPE_CODE,
+    "type_code": CODE_DIGITS,
     "no_alias": marked("This browser makes no alias on a page that did not come by https. Use one of the commands below."),
 }
 

@@ -20,7 +20,7 @@ BALLOT = re.compile(rb"(?m)^[a-z0-9.-]{1,32} (?:-|\d\d?)(?:,(?:-|\d\d?))*\s*$")
 KEY = re.compile(rb"(?m)^\s*(?:%s)\s*=" % b"|".join(key.encode() for key in REQUIRED))
 
 
-def publication_of(
+def publication_of_files(
     poll_path: str, ballots_path: str, language: Language, *, casting: str | None, desks: int, program_folder: pathlib.Path | None
 ) -> Publication:
     """What is published of two files."""

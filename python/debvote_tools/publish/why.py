@@ -19,7 +19,7 @@ def reasons(options: Options, option: int) -> str:
     sheet, final = options.sheet, options.sheet.final_set()
     if option in sheet.dropped:
         return quorum_words(options, option) if sheet.dropped[option] == "quorum" else majority_words(options, option)
-    why_left = in_the_last_set if len(final) > 1 else alone
+    why_left = in_the_last_set if len(final) > 1 else left_alone
     found = why_left(options, option) if option in final else out_of_the_set(options, option)
     return options.speaker.in_a_row([*admitted(options, option), *found])
 
@@ -60,7 +60,7 @@ def majority_words(options: Options, option: int) -> str:
 
 
 # ---------------------------------------------------------------- the set
-def alone(options: Options, option: int) -> list[str]:
+def left_alone(options: Options, option: int) -> list[str]:
     """Why an option is left alone."""
     sheet, speaker = options.sheet, options.speaker
     others = [other for other in sheet.names if other != option and other not in sheet.dropped]
