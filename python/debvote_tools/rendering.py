@@ -128,6 +128,8 @@ def templates_of(package: str, language: Language, *, is_page: bool) -> jinja2.E
         trim_blocks=True,
         lstrip_blocks=True,
         keep_trailing_newline=True,
+        # a run compiles each template, and this would take longer than it saves
+        optimized=False,
     )
     environment.filters |= PAGE_FILTERS if is_page else LETTER_FILTERS
     environment.filters |= {"given": speaker.given, "strong": speaker.strong}

@@ -458,6 +458,8 @@ class OfOpenVotes(OfElections):
         self.say("publish", "--casting", "Groesse", *cast, "--force", "--because", "She had meant this", "--language", "en")
         earlier = ["An earlier result of this vote was published with another casting vote, for 72 Euro."]
         self.expect("another casting vote", self.doubts(), earlier)
+        letter = (self.folder / "result" / "letter.txt").read_text()
+        self.expect("the letter says whom it chose", "Winner: Option 2: Größe by casting vote" in letter, True)
         files = self.files()
         self.say("publish")
         self.expect("and again", self.files() == files, True)
@@ -527,6 +529,9 @@ class OfOpenVotes(OfElections):
             self.expect(text, text in shown, True)
         self.expect("real names", [hostile in name.text() for name in page.all("li") if name.text().startswith("ada </p>")], [True])
         refused = [line.text() for line in self.sections()["Refused-lines"].all("li")]
+        about = [" ".join(text.text().split()) for text in self.sections()["Options"].all("div", "given")]
+        whose = f"About Option 1: {hostile} 1, in the words of those who publish this page. The program has not checked them:"
+        self.expect("the text about an option", [text.startswith(whose) and text.endswith(f"text {hostile}") for text in about], [True])
         self.expect("a refused line", [hostile[:50] in line for line in refused][:1], [True])
 
     def test_count(self):
