@@ -3,6 +3,7 @@
 import datetime
 
 from debvote_tools.faults import Fault, Status
+from debvote_tools.language import Language
 from debvote_tools.publish.inputs import CastingVote, Publication
 from debvote_tools.sheet import Sheet
 from debvote_tools.terminal_text import odd_sign
@@ -36,11 +37,8 @@ def refused(option: str, reason: str, cure: str) -> Fault:
     return Fault(option, reason, cure, Status.BAD_WORDS, "nothing was published")
 
 
-def told_if_it_decides(publication: Publication, sheet: Sheet) -> str:
-    """What is said of a casting vote that decides, in plain text; nothing where none does."""
-    vote, language = publication.casting, publication.language
-    if vote is None or not sheet.is_by_casting:
-        return ""
+def told(vote: CastingVote, language: Language) -> str:
+    """What is said of a casting vote that decides, in plain text."""
     if vote.by is None or vote.on is None:
         return language.say("Those who publish this page do not say whose casting vote it was, or when it was given.")
     return language.say(
@@ -48,3 +46,9 @@ def told_if_it_decides(publication: Publication, sheet: Sheet) -> str:
         name=vote.by,
         date=date_in_words(vote.on, language),
     )
+
+
+def told_if_it_decides(publication: Publication, sheet: Sheet) -> str:
+    """The same, or nothing where no casting vote decides."""
+    vote = publication.casting
+    return told(vote, publication.language) if sheet.is_by_casting and vote is not None else ""
