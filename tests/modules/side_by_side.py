@@ -4,6 +4,7 @@ A test is counted by its name: one that was loaded and did not pass, and was not
 of the process that ran it. What tests print is told, and of those that failed why.
 """
 
+import argparse
 import collections
 import io
 import json
@@ -15,7 +16,7 @@ import sys
 import tempfile
 import time
 import unittest
-from collections.abc import Iterator
+from collections.abc import Callable, Iterator, Sequence
 from dataclasses import dataclass, field
 
 # a class that has not ended after so many seconds hangs; on a quiet machine the longest takes half a minute
@@ -168,3 +169,19 @@ def run_modules(modules: list[str], at_once: int | None = None) -> int:
         print(f"skipped: {name}: {why}")
     print(f"{passed} passed, {len(lost)} failed")
     return 1 if lost or not (passed or skipped) else 0
+
+
+def run_folder(folder: pathlib.Path, about: str, demand: Callable[[], None], longest: Sequence[str] = ()) -> int:
+    """Runs the tests of a folder, or those of the modules that the command line names, and returns the exit status.
+
+    `demand` stops if the built program is not there. The modules that take longest begin first: else one of them runs alone at the end.
+    """
+    found = sorted(file.stem.removesuffix("_tests") for file in folder.glob("*_tests.py"))
+    parser = argparse.ArgumentParser(description=about, formatter_class=argparse.RawDescriptionHelpFormatter)
+    parser.add_argument("modules", metavar="MODULE", nargs="*", help=f"all if none is named: {', '.join(found)}")
+    named = parser.parse_args().modules
+    if unknown := [name for name in named if name not in found]:
+        parser.error(f"there is no module {', '.join(unknown)}; there are {', '.join(found)}")
+    demand()
+    names = named or [*longest, *(name for name in found if name not in longest)]
+    return run_modules([f"{name}_tests" for name in names])
