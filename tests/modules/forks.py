@@ -1,8 +1,8 @@
 """Runs of the programs in Python without a start: a child of the test has read their modules already, and calls `main`.
 
-Python takes longer to start, and to read the modules of debvote-election, than most runs take for their work. `run` takes words and
-settings as subprocess.run does. A plain run of a launcher is a fork; any other run is started: one with flags, with something done
-before it, of another program. DEBVOTE_FORKS=0 has every run started.
+Python takes longer to start, and to read the modules of debvote-election, than most runs take for their work. `run` takes arguments and
+settings as subprocess.run does. A plain run of a launcher is a fork; any other run is started: with flags, with something done before
+it, or of another program. With DEBVOTE_FORKS=0 every run is started.
 """
 
 import importlib
@@ -33,12 +33,12 @@ SETTINGS = {"capture_output", "cwd", "env", "input", "stdin", "text", "timeout"}
 
 
 def run(words: Sequence[object], **how: object) -> subprocess.CompletedProcess:
-    """What subprocess.run returns of these words and settings."""
+    """What subprocess.run returns for these arguments and settings."""
     if not is_plain(words, how):
         return subprocess.run(words, **how)
     module = importlib.import_module(LAUNCHERS[str(words[1])])
     if str(words[1]).endswith("-election"):
-        # the modules of a command are read once, and not in each child
+        # reads the modules of a command once, and not in each child
         module.parser([str(word) for word in words[2:]])
     with tempfile.TemporaryFile() as given, tempfile.TemporaryFile() as output, tempfile.TemporaryFile() as faults:
         text = how.get("input")
