@@ -5,9 +5,12 @@ settings as subprocess.run does. A plain run of a launcher is a fork; any other 
 it, or of another program. With DEBVOTE_FORKS=0 every run is started.
 """
 
+import contextlib
 import importlib
+import itertools
 import os
 import pathlib
+import pkgutil
 import select
 import signal
 import subprocess
@@ -20,7 +23,11 @@ ROOT = pathlib.Path(__file__).resolve().parent.parent.parent
 CLOCK = str(ROOT / "tests" / "clock")
 sys.path[:0] = [str(ROOT / "python"), CLOCK]
 
+import debvote_tools  # noqa: E402
+import jinja2  # noqa: E402
 from clock import set_clock  # noqa: E402
+from debvote_tools.language import LANGUAGES, language_of  # noqa: E402
+from debvote_tools.rendering import templates_of  # noqa: E402
 
 # the modules that the launchers call
 LAUNCHERS = {
@@ -50,6 +57,21 @@ def run(words: Sequence[object], **how: object) -> subprocess.CompletedProcess:
         status = awaited(child, how.get("timeout"), words)
         texts = [read(file, is_text=bool(how.get("text"))) for file in (output, faults)]
     return subprocess.CompletedProcess(words, status, *texts)
+
+
+def read_ahead() -> None:
+    """Reads all modules, and all templates in each language, which takes longer than most commands take otherwise. Whoever is forked later
+    has them.
+    """
+    for found in pkgutil.walk_packages(debvote_tools.__path__, f"{debvote_tools.__name__}."):
+        importlib.import_module(found.name)
+    packages = {file.parent.parent for file in (ROOT / "python" / "debvote_tools").glob("*/templates/*")}
+    for package, code, is_page in itertools.product(packages, LANGUAGES, (True, False)):
+        templates = templates_of(f"debvote_tools.{package.name}", language_of(code), is_page=is_page)
+        for name in templates.list_templates():
+            # one that letters and pages do not share
+            with contextlib.suppress(jinja2.TemplateError):
+                templates.get_template(name)
 
 
 def is_plain(words: Sequence[object], how: Mapping[str, object]) -> bool:

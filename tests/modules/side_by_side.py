@@ -19,6 +19,8 @@ import unittest
 from collections.abc import Callable, Iterator, Sequence
 from dataclasses import dataclass, field
 
+import forks
+
 # a class that has not ended after this many seconds hangs; on a quiet machine the longest takes half a minute
 LIMIT = 3_600
 
@@ -183,5 +185,7 @@ def run_folder(folder: pathlib.Path, about: str, demand: Callable[[], None], lon
     if unknown := [name for name in named if name not in found]:
         parser.error(f"there is no module {', '.join(unknown)}; there are {', '.join(found)}")
     demand()
+    demand_utf_8()
+    forks.read_ahead()
     names = named or [*longest, *(name for name in found if name not in longest)]
     return run_modules([f"{name}_tests" for name in names])
