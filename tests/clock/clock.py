@@ -1,10 +1,10 @@
-"""Another time than that of the computer, for the programs that tests run."""
+"""A clock that tests set, for the programs that they run."""
 
 import datetime
 
 
 def set_clock(time: str) -> None:
-    """From now on it is this time, which has its offset; it goes on as the clock of the computer does."""
+    """Sets the clock to this time, which has its offset; from then on it runs like that of the computer."""
     shift = datetime.datetime.fromisoformat(time) - datetime.datetime.now(datetime.UTC)
 
     class Clock(datetime.datetime):

@@ -1,4 +1,4 @@
-"""With this folder in PYTHONPATH a program finds the time that is in the file that DEBVOTE_CLOCK names."""
+"""With this folder in PYTHONPATH a program uses the time in the file that DEBVOTE_CLOCK names."""
 
 import os
 

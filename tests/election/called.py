@@ -1,4 +1,4 @@
-"""What the tests of `add`, `desk`, `undo`, `strike` and `show` ask of the book of a called election."""
+"""What the tests of `add`, `desk`, `undo`, `strike` and `show` read from the book of a called election."""
 
 import os
 from typing import Any
@@ -14,11 +14,11 @@ RANKS, OTHER_RANKS = "1,2,4,3", "2,1,4,3"
 
 
 class CalledTest(support.ElectionTest):
-    """A test with an election that is called."""
+    """A test with a called election."""
 
     def setUp(self) -> None:
         super().setUp()
-        # programs at a terminal and acts of the test itself note them where the other runs do
+        # programs at a terminal and acts of the test itself write their notes where the other runs do
         before = os.environ.get("XDG_STATE_HOME", "")
         self.addCleanup(os.environ.__setitem__, "XDG_STATE_HOME", before)
         os.environ["XDG_STATE_HOME"] = str(self.state)
@@ -66,12 +66,12 @@ class CalledTest(support.ElectionTest):
         return [(name, data) for _, name, data in queries.sources(self.book)]
 
     def told(self, *words: object, **how: Any) -> str:
-        """What a command tells that ends well."""
+        """The output of a command that has to succeed."""
         ended = self.election(*words, **how)
         self.assertEqual((ended.status, ended.faults), (0, ""), ended)
         return ended.output
 
     def assert_stops(self, ended: support.Ended, before: int, status: int, *parts: str) -> None:
-        """One fault with these parts, and no act was done."""
+        """There is one fault, with these parts, and no act."""
         self.assert_fault(ended, status, *parts)
         self.assertEqual(self.last_act(), before)

@@ -136,6 +136,14 @@ class Reopen(CloseTest):
         self.done("reopen", "--because", "x")
         self.assert_fault(self.election("reopen", "--because", "x"), 9, "not closed")
 
+    def test_a_result_before_the_last_close_is_not_the_result(self) -> None:
+        self.done("publish", "--force", "--because", "one ballot counts")
+        self.assertEqual(self.numbers()["stage"], "published")
+        self.done("reopen", "--because", "x")
+        self.assertEqual(self.numbers()["stage"], "called")
+        self.done("close")
+        self.assertEqual(self.numbers()["stage"], "closed")
+
 
 class Told(CloseTest):
     def test_status(self) -> None:

@@ -13,12 +13,12 @@ HAS_GPG = shutil.which("gpg") is not None and shutil.which("gpgv") is not None
 MISSING = "gpg and gpgv are not installed"
 
 # keys are older than all elections of the tests; the expired one has expired by the clock of any computer
-# the clock of gpg stands still at a time with this mark
+# at a time with this mark the clock of gpg stops
 BORN, EXPIRY = "20240101T000000!", "2024-06-01"
 
 
 class Keys:
-    """A folder of keys, one a person: their fingerprints by the names."""
+    """A folder with a key for each person: their fingerprints by name."""
 
     def __init__(self) -> None:
         self.home = pathlib.Path(tempfile.mkdtemp(prefix="pgp-"))
@@ -32,7 +32,7 @@ class Keys:
         self.gpg("--faked-system-time", "20240102T000000!", "--quick-add-key", self.fingerprints["ada"], "ed25519", "sign", "never")
 
     def end(self) -> None:
-        """Ends the agent of this folder, and takes the folder away."""
+        """Ends the agent of this folder, and removes the folder."""
         subprocess.run(["gpgconf", "--homedir", self.home, "--kill", "all"], capture_output=True)
         shutil.rmtree(self.home, ignore_errors=True)
 
@@ -53,7 +53,7 @@ class Keys:
         return self.gpg(*(["--armor"] if armor else []), "--export", *(self.fingerprints[name] for name in names))
 
     def revoked(self, name: str) -> bytes:
-        """The key of a person as it is when it was revoked."""
+        """The revoked key of a person."""
         said = (self.home / "openpgp-revocs.d" / f"{self.fingerprints[name]}.rev").read_text().replace(":-----BEGIN", "-----BEGIN")
         other = pathlib.Path(tempfile.mkdtemp(prefix="pgp-"))
         try:
@@ -68,7 +68,7 @@ class Keys:
             shutil.rmtree(other, ignore_errors=True)
 
     def signature(self, name: str, data: bytes, time: str, *words: str) -> bytes:
-        """A signature apart from what it signs, in armor."""
+        """A detached signature, in armor."""
         who = ("--faked-system-time", f"{time}!", "--local-user", self.fingerprints[name])
         return self.gpg(*who, "--armor", *words, "--detach-sign", given=data)
 
@@ -78,7 +78,7 @@ class Keys:
         return self.gpg(*who, *words, "--clearsign", given=text.encode()).decode()
 
     def mime(self, name: str, part: bytes, time: str, *words: str) -> tuple[str, bytes]:
-        """The kind and the body of a letter of which this part is signed as PGP/MIME."""
+        """The kind and the body of a letter in which this part is signed as PGP/MIME."""
         return mime_of(part, self.signature(name, part.replace(b"\n", b"\r\n"), time, *words))
 
 

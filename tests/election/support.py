@@ -20,10 +20,10 @@ PROGRAM = pathlib.Path(os.environ.get("DEBVOTE", ROOT / "crates" / "debvote" / "
 ELECTION = ROOT / "bin" / "debvote-election"
 PUBLISH = ROOT / "bin" / "debvote-publish"
 
-# a run that has not ended by then hangs: far more than any takes beside other work
+# a run that has not ended after this time hangs: far more than any takes on a busy machine
 SECONDS = 600
 
-# what a run says where Graphviz is not installed
+# the output of a run if Graphviz is not installed
 HAS_PICTURES = shutil.which("dot") is not None
 NO_PICTURE = "Note: no picture: Graphviz (its program dot) is not installed\n"
 
@@ -38,7 +38,7 @@ NAMES = ["ada", "ben", "cleo", "dan", "eve", "fay", "gus", "hal", "ida"]
 
 
 def members_of(names: Sequence[str]) -> str:
-    """A list of members in which each has the address of their name."""
+    """A list of members; each has an address made of their name."""
     return "who,mail\n" + "".join(f"{name.title()},{name}@club.example\n" for name in names)
 
 
@@ -52,7 +52,7 @@ class Ended:
 
 
 def demand_program() -> None:
-    """Ends the tests where there is no program to be asked."""
+    """Ends the tests if there is no program."""
     if not PROGRAM.exists():
         sys.exit(f"{PROGRAM} is not there: make build proves and builds it")
 
@@ -68,12 +68,12 @@ def clock_of(file: pathlib.Path) -> dict[str, str]:
     return {"PYTHONPATH": str(ROOT / "tests" / "clock"), "DEBVOTE_CLOCK": str(file)}
 
 
-# elections as they begin, by what they begin with: each is made once a process
+# new elections, by what they begin with: each is made once in a process
 TEMPLATES: dict[object, pathlib.Path] = {}
 
 
 def note_book(folder: pathlib.Path, state: pathlib.Path) -> None:
-    """This machine knows the book of a copied election."""
+    """Makes this machine know the book of a copied election."""
     book = open_book(folder / "election.db")
     last = book.last_act()
     before = os.environ.get("XDG_STATE_HOME")
@@ -88,11 +88,11 @@ def note_book(folder: pathlib.Path, state: pathlib.Path) -> None:
 
 
 class ElectionTest(unittest.TestCase):
-    """A test with a folder of its own, in which an election is called, with the poll above and no ballots."""
+    """A test with its own folder, in which an election is called, with the poll above and no ballots."""
 
     poll = POLL
     names = NAMES
-    # the words of `new` and of the call; without the latter the election is not called
+    # the arguments of `new` and of the call; without the latter the election is not called
     new_words: Sequence[str] = ()
     call_words: Sequence[str] | None = ("--to", "vote@club.example")
     maxDiff = None
@@ -116,7 +116,7 @@ class ElectionTest(unittest.TestCase):
         note_book(self.folder, self.state)
 
     def made(self) -> pathlib.Path:
-        """An election as it begins, which the tests of this process copy."""
+        """A new election, which the tests of this process copy."""
         place = pathlib.Path(tempfile.mkdtemp(prefix="debvote-template-"))
         self.done("new", *self.new_words, str(place / "election"), cwd=place)
         (place / "election" / "poll.toml").write_text(self.poll)
@@ -135,9 +135,9 @@ class ElectionTest(unittest.TestCase):
         return ended
 
     def run_program(self, *words: object, given: bytes | str | None = None, **how: object) -> Ended:
-        """Runs a program with these words in the folder of the election, with these bytes as its standard input.
+        """Runs a program with these arguments in the folder of the election, with these bytes as its standard input.
 
-        What it says where no picture can be drawn on this machine is left out.
+        Its output about a picture that can't be drawn on this machine is left out.
         """
         data = given.encode() if isinstance(given, str) else given
         where = {"stdin": subprocess.DEVNULL} if data is None else {"input": data}
@@ -149,7 +149,7 @@ class ElectionTest(unittest.TestCase):
         return Ended(ended.stdout.decode("utf-8", "replace"), faults, ended.returncode)
 
     def set_clock(self, time: str) -> None:
-        """From now on the programs that are run find this time, which has its offset."""
+        """From now on the programs find this time, which has its offset."""
         file = self.scratch / "clock"
         file.write_text(time)
         self.clock = clock_of(file)
@@ -159,7 +159,7 @@ class ElectionTest(unittest.TestCase):
         return self.run_program(sys.executable, ELECTION, *words, **how)
 
     def without_rights(self, *words: object, **how: object) -> Ended:
-        """Runs debvote-election as a user to whom a mode is no advice: root becomes nobody."""
+        """Runs debvote-election as a user whom a mode stops: root becomes nobody."""
         nobody = ["setpriv", "--reuid=65534", "--regid=65534", "--clear-groups"] if os.geteuid() == 0 else []
         if nobody and shutil.which("setpriv") is None:
             self.skipTest("setpriv is not installed, and root may read and write everywhere")
@@ -190,7 +190,7 @@ class ElectionTest(unittest.TestCase):
         return (self.folder / name).read_bytes()
 
     def contents(self) -> dict[str, bytes]:
-        """All files of the folder, by their names: to see that a refused run has changed nothing."""
+        """All files of the folder, by name: to see that a refused run has changed nothing."""
         files = (file for file in self.folder.rglob("*") if file.is_file())
         return {str(file.relative_to(self.folder)): file.read_bytes() for file in files}
 

@@ -1,4 +1,4 @@
-"""A program at a terminal of its own, whose keys a test types."""
+"""A program at its own terminal, where a test types."""
 
 import contextlib
 import os
@@ -12,7 +12,7 @@ import support
 
 
 class Terminal:
-    """debvote-election at a terminal of its own, whose keys a test types; without words it is a desk."""
+    """debvote-election at its own terminal, where a test types; without arguments it is a desk."""
 
     def __init__(self, test: support.ElectionTest, *words: str) -> None:
         self.test, self.text = test, ""
@@ -21,7 +21,7 @@ class Terminal:
             os.chdir(test.folder)
             program = [sys.executable, str(support.ELECTION), *(words or ("desk",))]
             os.execve(sys.executable, program, support.environment() | test.clock | {"XDG_STATE_HOME": str(test.state)})
-        # a test that fails leaves no program at work
+        # a test that fails leaves no program running
         test.addCleanup(self.kill)
 
     def kill(self) -> None:
@@ -32,7 +32,7 @@ class Terminal:
                 os.waitpid(self.process, 0)
 
     def until(self, words: str) -> str:
-        """What the terminal shows up to these words, from where the last call ended."""
+        """The text of the terminal up to these words, from the end of the last call."""
         end = time.monotonic() + support.SECONDS
         while words not in self.text:
             ready, _, _ = select.select([self.keys], [], [], max(0, end - time.monotonic()))
@@ -48,7 +48,7 @@ class Terminal:
         os.write(self.keys, keys.encode())
 
     def end(self) -> tuple[str, int]:
-        """What is still shown, and the exit status."""
+        """The rest of the text, and the exit status."""
         while True:
             try:
                 data = os.read(self.keys, 65_536)

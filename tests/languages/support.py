@@ -1,4 +1,4 @@
-"""What the tests of languages share: elections that are held in a language, and a language in which each word of ours is marked."""
+"""What the tests of languages share: elections in a language, and a language in which each of our words is marked."""
 
 import email.utils
 import os
@@ -17,7 +17,7 @@ ROOT = pathlib.Path(__file__).resolve().parents[2]
 PROGRAM = pathlib.Path(os.environ.get("DEBVOTE", ROOT / "crates" / "debvote" / "out" / "debvote"))
 LANGUAGES = ("de", "es", "fr")
 
-# a run that has not ended by then hangs: far more than any takes beside other work
+# a run that has not ended after this time hangs: far more than any takes on a busy machine
 SECONDS = 600
 
 # four options, one with a long name, and twelve electors
@@ -45,25 +45,25 @@ LETTERS = {"e09": "e09 1,2,3,4", "e10": "I vote for the lake", "e11": "e10 1,2,3
 AT, TO = "https://example.org/", "vote@example.org"
 FIRST_END, END, REASON = "2031-12-01 18:00", "2031-12-03 18:00:30", "Nobody has answered"
 
-# each word of ours stands between these characters in the language of `marked_tree`
+# each of our words is between these characters in the language of `marked_tree`
 BEGIN, END_MARK = "\u27e6", "\u27e7"
 MARKED = re.compile(f"{BEGIN}[^{BEGIN}{END_MARK}]*{END_MARK}")
 
 
 def demand_program() -> None:
-    """Ends the tests where there is no program to be asked."""
+    """Ends the tests if there is no program."""
     if not PROGRAM.exists():
         sys.exit(f"{PROGRAM} is not there: make build proves and builds it")
 
 
 def marked(text: str) -> str:
-    """A sentence in which all is marked but its places and its tags."""
+    """A sentence with everything marked except its places and its tags."""
     parts = re.split(r"(\{\w+\}|<[^>]*>)", text)
     return "".join(part if place % 2 or not part else f"{BEGIN}{part}{END_MARK}" for place, part in enumerate(parts))
 
 
 def marked_tree(folder: pathlib.Path) -> pathlib.Path:
-    """A copy of the programs in which German is a language whose words are all marked. Returns its folder."""
+    """A copy of the programs in which German is a language with all words marked. Returns its folder."""
     for name in ("bin", "python"):
         shutil.copytree(ROOT / name, folder / name, ignore=shutil.ignore_patterns("__pycache__", "*.mo"))
     for name in ("tests/reference.py", "docs/READING-A-SHEET.md"):
@@ -74,13 +74,13 @@ def marked_tree(folder: pathlib.Path) -> pathlib.Path:
     entries = [sentences.as_po(texts, tuple(map(marked, texts))) for texts in sentences.in_code()]
     file.write_text("\n".join([f"{head}\n", *entries]), encoding="utf-8")
     with file.open("rb") as text, file.with_suffix(".mo").open("wb") as made:
-        # as the package has it: it is read sooner
+        # as in the package, where it is faster to read
         mofile.write_mo(made, pofile.read_po(text))
     return folder
 
 
 class LanguageTest(unittest.TestCase):
-    """A test with a folder of its own."""
+    """A test with its own folder."""
 
     maxDiff = None
     # where the programs are
@@ -91,7 +91,7 @@ class LanguageTest(unittest.TestCase):
         self.addCleanup(shutil.rmtree, self.scratch, ignore_errors=True)
 
     def run_program(self, program: str, *words: object, given: str = "", status: int = 0) -> str:
-        """What a program says, which has to end with this status."""
+        """The output of a program, which has to end with this status."""
         path = os.pathsep.join([str(PROGRAM.parent), os.environ["PATH"]])
         state = str(self.scratch / "state")
         ended = forks.run(
@@ -110,7 +110,7 @@ class LanguageTest(unittest.TestCase):
         return self.run_program("debvote-election", "--folder", folder, *words, given=given, status=status)
 
     def begun(self, folder: str, language: str, *, poll: str = POLL, codes: tuple[str, ...] | None = None) -> pathlib.Path:
-        """An election in a language, with its roll; with the words of `codes` it is secret."""
+        """An election in a language, with its roll; with arguments for `codes` it is secret."""
         self.run_program("debvote-election", "new", "--language", language, folder)
         place = self.scratch / folder
         (place / "poll.toml").write_text(poll if codes is None else f"secret = true\n{poll}")
@@ -122,14 +122,14 @@ class LanguageTest(unittest.TestCase):
         return place
 
     def called(self, folder: str, language: str, *, codes: tuple[str, ...] | None = None) -> pathlib.Path:
-        """An election in a language that is called, with all that a call may have."""
+        """A called election in a language, with all that a call may have."""
         place = self.begun(folder, language, codes=codes)
         names = ("--names",) if codes is None else ()
         self.election(folder, "call", "--until", FIRST_END, "--zone", "Europe/Berlin", "--to", TO, "--at", AT, "--form", *names)
         return place
 
     def held(self, folder: str, language: str, *, is_secret: bool = False) -> pathlib.Path:
-        """An election in a language, from its beginning to its publication, in which all was done that pages and letters tell."""
+        """An election in a language, from its beginning to its publication, with everything that pages and letters can say."""
         place = self.called(folder, language, codes=() if is_secret else None)
         self.election(folder, "letters", "call")
         self.election(folder, "call", "--until", END, "--zone", "Europe/Berlin")

@@ -1,6 +1,6 @@
-"""A page in chromium, at which a test sits as a reader does: real keys, real touches, a window of a given size.
+"""A page in chromium that a test uses as a reader does: real keys, real touches, a window of a given size.
 
-Chromium is spoken to by its own protocol, through a pipe. What it needs is Python alone.
+It speaks chromium's own protocol through a pipe, and needs only Python.
 """
 
 import itertools
@@ -15,7 +15,7 @@ from typing import Any
 BROWSER = shutil.which("chromium") or shutil.which("chromium-browser")
 FLAGS = ["--headless", "--no-sandbox", "--disable-gpu", "--hide-scrollbars", "--no-first-run", "--remote-debugging-pipe"]
 
-# the shell gives chromium the two ends at which it looks, 3 and 4
+# the shell gives chromium the two ends that it uses, 3 and 4
 START = 'read=$1 write=$2; shift 2; exec "$@" 3<&"$read" 4>&"$write"'
 
 # the number of a key, and the text that it types
@@ -60,7 +60,7 @@ class Window:
         return self
 
     def __exit__(self, *_: object) -> None:
-        os.close(self.to_browser)  # it ends where nobody speaks to it
+        os.close(self.to_browser)  # it ends if nobody speaks to it
         self.process.wait(60)
         self.answers.close()
         shutil.rmtree(self.room, ignore_errors=True)
@@ -95,14 +95,14 @@ class Window:
         self.tell("Emulation.setEmulatedMedia", media="print", features=self.scheme)
 
     def ask(self, script: str) -> Any:
-        """What a script comes to in the page."""
+        """The value of a script in the page."""
         found = self.tell("Runtime.evaluate", expression=script, awaitPromise=True, returnByValue=True)
         if "exceptionDetails" in found:
             raise RuntimeError(f"{script}: {found['exceptionDetails']}")
         return found["result"].get("value")
 
     def until(self, script: str) -> None:
-        """Waits until a script comes to true."""
+        """Waits until a script returns true."""
         steps = f"new Promise((done) => {{ const look = () => ({script}) ? done(true) : setTimeout(look, 10); look(); }})"
         self.ask(steps)
 
@@ -133,6 +133,6 @@ class Window:
         self.tell("Input.dispatchTouchEvent", type="touchEnd", touchPoints=[])
 
     def choose(self, script: str, files: list[pathlib.Path]) -> None:
-        """Lays files into a field, as the window in which they are chosen does."""
+        """Puts files into a field, as the window for choosing them does."""
         node = self.tell("Runtime.evaluate", expression=script)["result"]["objectId"]
         self.tell("DOM.setFileInputFiles", files=[str(file) for file in files], objectId=node)

@@ -1,4 +1,4 @@
-"""Tables of cases: a file of TOML, in which each table is a case, so that cases of one subject stand side by side.
+"""Tables of cases: a file of TOML for each subject, in which each table is a case.
 
     command = "explain"     what each case runs
     poll = "title = .."     the poll of each case that has none of its own
@@ -14,9 +14,8 @@
     stderr = ".."
     status = 9
 
-What `about` says is the first line of the poll file too, after `# `. Without `args` the command is run on the files poll.toml and ballots,
-or on poll.toml alone if a case has no ballots. A file that is missing is not there; a text that is missing is empty, and a missing
-status is 0.
+`about` is also the first line of the poll file, after `# `. Without `args` the command runs on the files poll.toml and ballots, or only
+on poll.toml if a case has no ballots. A missing file is not there, a missing text is empty, and a missing status is 0.
 """
 
 import pathlib
@@ -28,7 +27,7 @@ POLL, BALLOTS, SHEET = "poll.toml", "ballots", "sheet"
 
 @dataclass
 class Row:
-    """A case of a table: its files, and what the program is to answer."""
+    """A case of a table: its files, and the expected answer of the program."""
 
     command: str
     about: str | None
@@ -42,7 +41,7 @@ class Row:
     stdin: str = ""
 
     def words(self) -> list[str]:
-        """The words of the command line."""
+        """The arguments of the command line."""
         if self.args is not None:
             return self.args
         return [self.command, "--poll", POLL, *([] if self.ballots is None else ["--ballots", BALLOTS])]
@@ -62,7 +61,7 @@ def read_table(file: pathlib.Path) -> dict[str, Row]:
 
 
 def written(text: str) -> str:
-    """A text as TOML has it: on lines of its own, and as it is, where no sign in it has to be spelled."""
+    """A text as TOML writes it: on its own lines, and as it is, if no character has to be escaped."""
     start = "\n" if "\n" in text else ""
     if start and "'''" not in text and not text.endswith("'") and all(sign.isprintable() or sign == "\n" for sign in text):
         return f"'''{start}{text}'''"
@@ -71,7 +70,7 @@ def written(text: str) -> str:
 
 
 def spelled(sign: str) -> str:
-    """A sign within quotes."""
+    """A character within quotes."""
     known = {"\\": "\\\\", '"': '\\"', "\r": "\\r", "\t": "\\t", "\n": "\n"}
     if sign in known:
         return known[sign]
@@ -79,7 +78,7 @@ def spelled(sign: str) -> str:
 
 
 def rewrite(file: pathlib.Path, name: str, stdout: str, stderr: str, status: int) -> None:
-    """Writes a table anew, in which one case wants another answer; the comments at its top stay."""
+    """Rewrites a table in which one case expects another answer; the comments at its top stay."""
     rows = read_table(file)
     rows[name].stdout, rows[name].stderr, rows[name].status = stdout, stderr, status
     lines = file.read_text().splitlines(keepends=True)

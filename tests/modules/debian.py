@@ -1,4 +1,4 @@
-"""What the programs and their tests need of Debian: it is installed where nothing stands against it, or one line says what to type."""
+"""The packages of Debian that the programs and their tests need: it installs them if it can, or else says what to type."""
 
 import importlib.util
 import os
@@ -18,7 +18,7 @@ def missing() -> list[str]:
 
 
 def demand() -> None:
-    """Installs what is missing; whoever may not do that is told what to type, before anything is built."""
+    """Installs what is missing, before anything is built; if it may not, it says what to type."""
     packages = missing()
     if not packages:
         return

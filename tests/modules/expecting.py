@@ -1,4 +1,4 @@
-"""A test that asks for many facts, each with a name: it goes on behind one that does not hold, and tells all of these."""
+"""A test of many facts, each with a name: it goes on after one that fails, and prints all that failed."""
 
 import unittest
 
@@ -7,6 +7,6 @@ class Expecting(unittest.TestCase):
     maxDiff = 2_000
 
     def expect(self, name: str, found: object, wanted: object) -> None:
-        """This fact has to be as it is wanted."""
+        """This fact has to be as expected."""
         with self.subTest(name):
             self.assertEqual(found, wanted)

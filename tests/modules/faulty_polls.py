@@ -1,8 +1,8 @@
 """Poll files with a fault, each with the poll that was meant, for tests/followed-cures.
 
-They were written before the hints on them were, from what goes wrong with files: mail breaks lines, word processors and phones put in
-other characters, two people edit one file, and people write other formats than TOML. `stays` says that nobody can know what was meant:
-such a file comes to its end where nothing more is advised.
+They were written before the hints, from what goes wrong with files: mail breaks lines, word processors and phones put in other
+characters, two people edit one file, and people write other formats than TOML. `stays` says that nobody can know what was meant: for
+such a file the advice has to end.
 """
 
 import collections.abc
@@ -157,7 +157,7 @@ def quorums() -> Files:
 
 
 def keys_in_two_places() -> Files:
-    """A key that stands in two tables, or is misspelt twice, or stands twice."""
+    """A key that is in two tables, or misspelt twice, or there twice."""
     family = "a key in two places"
     old = 'roll = ["zoe"]\n'
     yield swapped(family, (ROLL, f"[old]\n{old}[new]\n{ROLL}"), stays=True)
@@ -267,7 +267,7 @@ def other_characters() -> Files:
 
 
 def values_without_form() -> Files:
-    """Values that TOML does not know, and signs that are missing."""
+    """Values that TOML does not know, and missing characters."""
     family = "values of no form"
     yield swapped(family, ('"None"', "None"), stays=True)
     yield swapped(family, ('"A poll"', "A poll"), stays=True)

@@ -1,13 +1,16 @@
 """Runs of the programs in Python without a start: a child of the test has read their modules already, and calls `main`.
 
-Python takes longer to start, and to read the modules of debvote-election, than most runs take for their work. `run` takes words and
-settings as subprocess.run does. A plain run of a launcher is a fork; any other run is started: one with flags, with something done
-before it, of another program. DEBVOTE_FORKS=0 has every run started.
+Python takes longer to start, and to read the modules of debvote-election, than most runs take for their work. `run` takes arguments and
+settings as subprocess.run does. A plain run of a launcher is a fork; any other run is started: with flags, with something done before
+it, or of another program. With DEBVOTE_FORKS=0 every run is started.
 """
 
+import contextlib
 import importlib
+import itertools
 import os
 import pathlib
+import pkgutil
 import select
 import signal
 import subprocess
@@ -20,7 +23,11 @@ ROOT = pathlib.Path(__file__).resolve().parent.parent.parent
 CLOCK = str(ROOT / "tests" / "clock")
 sys.path[:0] = [str(ROOT / "python"), CLOCK]
 
+import debvote_tools  # noqa: E402
+import jinja2  # noqa: E402
 from clock import set_clock  # noqa: E402
+from debvote_tools.language import LANGUAGES, language_of  # noqa: E402
+from debvote_tools.rendering import templates_of  # noqa: E402
 
 # the modules that the launchers call
 LAUNCHERS = {
@@ -33,12 +40,12 @@ SETTINGS = {"capture_output", "cwd", "env", "input", "stdin", "text", "timeout"}
 
 
 def run(words: Sequence[object], **how: object) -> subprocess.CompletedProcess:
-    """What subprocess.run returns of these words and settings."""
+    """What subprocess.run returns for these arguments and settings."""
     if not is_plain(words, how):
         return subprocess.run(words, **how)
     module = importlib.import_module(LAUNCHERS[str(words[1])])
     if str(words[1]).endswith("-election"):
-        # the modules of a command are read once, and not in each child
+        # reads the modules of a command once, and not in each child
         module.parser([str(word) for word in words[2:]])
     with tempfile.TemporaryFile() as given, tempfile.TemporaryFile() as output, tempfile.TemporaryFile() as faults:
         text = how.get("input")
@@ -50,6 +57,21 @@ def run(words: Sequence[object], **how: object) -> subprocess.CompletedProcess:
         status = awaited(child, how.get("timeout"), words)
         texts = [read(file, is_text=bool(how.get("text"))) for file in (output, faults)]
     return subprocess.CompletedProcess(words, status, *texts)
+
+
+def read_ahead() -> None:
+    """Reads all modules, and all templates in each language, which takes longer than most commands take otherwise. Whoever is forked later
+    has them.
+    """
+    for found in pkgutil.walk_packages(debvote_tools.__path__, f"{debvote_tools.__name__}."):
+        importlib.import_module(found.name)
+    packages = {file.parent.parent for file in (ROOT / "python" / "debvote_tools").glob("*/templates/*")}
+    for package, code, is_page in itertools.product(packages, LANGUAGES, (True, False)):
+        templates = templates_of(f"debvote_tools.{package.name}", language_of(code), is_page=is_page)
+        for name in templates.list_templates():
+            # one that letters and pages do not share
+            with contextlib.suppress(jinja2.TemplateError):
+                templates.get_template(name)
 
 
 def is_plain(words: Sequence[object], how: Mapping[str, object]) -> bool:

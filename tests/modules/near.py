@@ -1,7 +1,7 @@
 #!/usr/bin/python3
-"""Names that are not there: which there are that are near, or how to list them.
+"""Names that do not exist: which names are near, or how to list them.
 
-    tests/modules/near.py crate NAME    ends with 0 where crates.txt has the crate, else says what is near, and ends with 1
+    tests/modules/near.py crate NAME    ends with 0 if crates.txt has the crate, else says which are near, and ends with 1
 """
 
 import difflib
@@ -19,7 +19,7 @@ def crates() -> list[str]:
 
 
 def words_of_missing(kind: str, name: str, names: Iterable[str], listed_by: str) -> str:
-    """What is said of a name that is not there: names that are near, or have it as a part, or else how to list all."""
+    """What to say about a name that does not exist: names that are near or contain it, or else how to list all."""
     names = list(names)
     near = [known for known in names if name and name in known][:5] or difflib.get_close_matches(name, names, n=5, cutoff=0.45)
     said = f"there is no {kind} {name}" if name else f"say which {kind}"

@@ -1,6 +1,6 @@
-"""Parts of the tests: each is a program whose last line is 'N passed, M failed'. They run side by side, and their sum is told.
+"""Parts of the tests: each is a program whose last line is 'N passed, M failed'. They run side by side, and their sum is printed.
 
-A line of a part that begins with 'skipped: ' says what it has left out, and why: 'skipped: TEST: WHY', or 'skipped: WHY'.
+A line of a part that begins with 'skipped: ' says what it left out, and why: 'skipped: TEST: WHY', or 'skipped: WHY'.
 """
 
 import collections
@@ -20,7 +20,7 @@ COUNT_OF_TRY = re.compile(r"test result: \w+\. (\d+) passed; (\d+) failed;.*")
 
 
 def environment_of_try() -> dict[str, str]:
-    """The environment in which tests run `rt try`, which then gives no hint on names, and takes half of the processor."""
+    """The environment in which tests run `rt try`: without hints on names, and with half of the processor."""
     return {**os.environ, "PATH": os.pathsep.join([str(ROOT / "tests" / "modules" / "without-hint"), os.environ["PATH"]])}
 
 
@@ -39,16 +39,16 @@ class Count:
         return "\n".join([*self.left_out(), f"{self.passed} passed, {self.failed} failed"])
 
     def left_out(self) -> list[str]:
-        """How many tests were skipped, and why, in a line; no line where none was."""
+        """A line that says how many tests were skipped, and why; no line if none was."""
         reasons = [f"{why} ({number})" for why, number in collections.Counter(self.skipped).most_common()]
         return [f"{len(self.skipped)} skipped: {', '.join(reasons)}"] if reasons else []
 
 
 class Part:
-    """A part that runs: what it says goes to a file of its own, and so does how many seconds it took.
+    """A part that runs: its output goes to its own file, and so do its seconds.
 
-    Python waits for its own child, whose number the system gives to no other one before. A shell that is asked for the status of
-    a child by its number, long after that has ended, may be told of another one.
+    Python waits for its own child, so the system gives its number to no other process before. A shell that asks for the status
+    of a child by its number, long after the child has ended, may get that of another.
     """
 
     def __init__(
@@ -63,15 +63,15 @@ class Part:
             self.process = subprocess.Popen([ROOT / "tests" / "times", self.seconds, *words], cwd=cwd, **output)
 
     def text(self) -> str:
-        """What it said."""
+        """Its output."""
         return self.told.read_text(encoding="utf-8", errors="replace")
 
     def skipped(self) -> list[str]:
-        """What it has left out, and why."""
+        """What it left out, and why."""
         return [found[1] for line in self.text().splitlines() if (found := SKIPPED.fullmatch(line))]
 
     def count(self) -> Count:
-        """What it counted, once it has ended. One that ended without a count of its failures has failed too."""
+        """Its counts, once it has ended. If it ended without a count of its failures, that is a failure too."""
         status = self.process.wait()
         found = [self.counted.fullmatch(line) for line in self.text().splitlines()]
         counts = [Count(int(line[1]), int(line[2])) for line in found if line]
@@ -79,7 +79,7 @@ class Part:
 
 
 def with_status(counts: list[Count], status: int) -> Count:
-    """The sum of some counts, and one failure more where the exit status tells of one that none of them has."""
+    """The sum of some counts, with one more failure if the exit status shows one that none of them has."""
     failed = sum(count.failed for count in counts)
     return Count(sum(count.passed for count in counts), failed or int(status != 0 or not counts))
 
@@ -91,7 +91,7 @@ def reason(skipped: str) -> str:
 
 
 def tell(parts: Iterable[Part]) -> Count:
-    """Waits for the parts, tells what each said, how long it took and what was skipped, and returns their sum."""
+    """Waits for the parts, prints the output of each, its time and what was skipped, and returns their sum."""
     parts = list(parts)
     counts = []
     for part in parts:

@@ -1,4 +1,4 @@
-"""The sentences of debvote_tools that electors read, as they stand in its code, and its translations, as they stand in `locale`."""
+"""The sentences of debvote_tools that electors read, from its code, and their translations, from `locale`."""
 
 import ast
 import dataclasses
@@ -11,7 +11,7 @@ ROOT = pathlib.Path(__file__).resolve().parents[2]
 PACKAGE = ROOT / "python" / "debvote_tools"
 LOCALE = PACKAGE / "locale"
 
-# what is given a sentence, and which of its words it is; two have a form for one thing and another for several
+# the functions that take a sentence, and which argument it is; two have a singular and a plural
 WITH_ONE = {"say": 0, "marked": 0, "sentence": 0, "form": 0, "between": 0, "part": 1}
 WITH_TWO = {"say_number": 0, "numbered": 0}
 
@@ -27,7 +27,7 @@ class Entry:
 
 
 def in_code() -> dict[tuple[str, ...], str]:
-    """The sentences of the code and of the templates, each with the first place where it stands."""
+    """The sentences of the code and of the templates, each with the first place where it occurs."""
     found: dict[tuple[str, ...], str] = {}
     templates = jinja2.Environment(extensions=["jinja2.ext.i18n"])
     for file in sorted(PACKAGE.rglob("templates/*")):
@@ -35,7 +35,7 @@ def in_code() -> dict[tuple[str, ...], str]:
         for line, name, words in said:
             texts = words if isinstance(words, tuple) else (words,)
             texts = texts[:2] if name in WITH_TWO else texts[:1]
-            # what a macro is given is said there, and stands where it is called
+            # a macro says its argument, which is where the macro is called
             if None not in texts:
                 found.setdefault(texts, f"{file.relative_to(PACKAGE)}:{line}")
     for file in sorted(PACKAGE.rglob("*.py")):
@@ -47,7 +47,7 @@ def in_code() -> dict[tuple[str, ...], str]:
 
 
 def texts_of(call: ast.Call) -> list[tuple[str, ...]]:
-    """The sentences that stand in a call."""
+    """The sentences in a call."""
     name = call.func.attr if isinstance(call.func, ast.Attribute) else call.func.id if isinstance(call.func, ast.Name) else ""
     if name in WITH_TWO:
         one, many = (literals(word) for word in call.args[WITH_TWO[name] :][:2])
@@ -58,7 +58,7 @@ def texts_of(call: ast.Call) -> list[tuple[str, ...]]:
 
 
 def literals(node: ast.expr) -> list[str]:
-    """The texts that a word may be, as far as they stand there."""
+    """The texts that an argument may be, as far as the call shows them."""
     if isinstance(node, ast.Constant) and isinstance(node.value, str):
         return [node.value]
     return [*literals(node.body), *literals(node.orelse)] if isinstance(node, ast.IfExp) else []
@@ -88,14 +88,14 @@ def places_in(text: str) -> set[str]:
 
 
 def as_po(texts: tuple[str, ...], forms: tuple[str, ...]) -> str:
-    """An entry as it stands in a `.po` file."""
+    """An entry as a `.po` file has it."""
     keywords = ["msgid"] if len(texts) == 1 else ["msgid", "msgid_plural"]
     names = ["msgstr"] if len(texts) == 1 else [f"msgstr[{number}]" for number in range(len(forms))]
     return "".join(f"{keyword} {quoted(text)}\n" for keyword, text in zip([*keywords, *names], [*texts, *forms], strict=True))
 
 
 def quoted(text: str) -> str:
-    """A text of a `.po` file, on lines of its own where it is long."""
+    """A text of a `.po` file, on its own lines if it is long."""
     escaped = text.replace("\\", "\\\\").replace('"', '\\"').replace("\n", "\\n")
     if len(escaped) <= 110:
         return f'"{escaped}"'

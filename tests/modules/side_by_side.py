@@ -1,9 +1,10 @@
-"""Runs tests of unittest side by side: each class of them in a process of its own, as many at once as there are processors.
+"""Runs tests of unittest side by side: each class in its own process, as many at once as there are processors.
 
-A test is counted by its name: one that was loaded and did not pass, and was not skipped with a reason, has failed, whatever became
-of the process that ran it. What tests print is told, and of those that failed why.
+A test is counted by its name: if it was loaded and did not pass, and was not skipped with a reason, it has failed, whatever became of
+its process. What the tests print is printed, and why tests failed.
 """
 
+import argparse
 import collections
 import io
 import json
@@ -15,18 +16,20 @@ import sys
 import tempfile
 import time
 import unittest
-from collections.abc import Iterator
+from collections.abc import Callable, Iterator, Sequence
 from dataclasses import dataclass, field
 
-# a class that has not ended after so many seconds hangs; on a quiet machine the longest takes half a minute
+import forks
+
+# a class that has not ended after this many seconds hangs; on a quiet machine the longest takes half a minute
 LIMIT = 3_600
 
-# so many classes are told with their seconds, those that took most
+# how many classes are printed with their seconds, those that took most
 MOST = 5
 
 
 class Tally(unittest.TextTestResult):
-    """What became of each test, by its name, and how many facts with names of their own the tests asked for."""
+    """The result of each test, by its name, and how many named facts the tests asked for."""
 
     def __init__(self, *words: object, **how: object) -> None:
         super().__init__(*words, **how)
@@ -44,17 +47,17 @@ class Tally(unittest.TextTestResult):
 
 @dataclass
 class Told:
-    """What the tests of a class came to: the names that passed, the reasons of those that were skipped, and what was printed."""
+    """The results of the tests of a class: the names that passed, the reasons of those that were skipped, and the output."""
 
     passed: list[str] = field(default_factory=list)
     skipped: dict[str, str] = field(default_factory=dict)
     printed: str = ""
     facts: int = 0
-    seconds: float = 0  # of processor, with those of the programs that it started
+    seconds: float = 0  # seconds of processor, with those of the programs that it started
 
 
 class Running:
-    """The tests of a class, in a process of their own, which leaves what it found in a file."""
+    """The tests of a class, in their own process, which leaves what it found in a file."""
 
     def __init__(self, name: str, tests: list[unittest.TestCase], file: pathlib.Path) -> None:
         self.name, self.tests, self.file = name, tests, file
@@ -77,7 +80,7 @@ class Running:
 
 
 def run_here(tests: list[unittest.TestCase], file: pathlib.Path) -> None:
-    """Runs tests in this process; what they print goes to a file, and what they came to goes to another, at the end."""
+    """Runs tests in this process; their output goes to a file, and at the end their results to another."""
     sys.stdout.flush()
     sys.stderr.flush()
     printed = os.open(file.with_suffix(".printed"), os.O_WRONLY | os.O_CREAT | os.O_APPEND, 0o600)
@@ -96,7 +99,7 @@ def run_here(tests: list[unittest.TestCase], file: pathlib.Path) -> None:
 
 
 def skipped_in(found: unittest.TestResult) -> dict[str, str]:
-    """The reason of each test that was skipped; a part of a test that is skipped stands for it."""
+    """The reason of each test that was skipped; if a part of a test was skipped, the test was."""
     return {getattr(test, "test_case", test).id(): why for test, why in found.skipped}
 
 
@@ -119,7 +122,7 @@ def classes_of(modules: list[str]) -> dict[str, list[unittest.TestCase]]:
 
 
 def run_all(classes: dict[str, list[unittest.TestCase]], at_once: int, room: pathlib.Path) -> Iterator[tuple[Running, Told]]:
-    """Runs the classes, so many at once, and gives each back when it has ended."""
+    """Runs the classes, this many at once, and yields each when it has ended."""
     waiting = list(classes.items())
     running: list[Running] = []
     while waiting or running:
@@ -136,14 +139,14 @@ def run_all(classes: dict[str, list[unittest.TestCase]], at_once: int, room: pat
 
 
 def demand_utf_8() -> None:
-    """Begins anew where Python would read texts as the place of the machine has them: pages, letters and tables are in UTF-8."""
+    """Starts again if Python would read texts in the encoding of the machine's locale: pages, letters and tables are in UTF-8."""
     if not sys.flags.utf8_mode:
         sys.stdout.flush()
         os.execv(sys.executable, [sys.executable, "-X", "utf8", *sys.orig_argv[1:]])
 
 
 def run_modules(modules: list[str], at_once: int | None = None) -> int:
-    """Runs the tests of these modules, tells what they came to, and returns the exit status."""
+    """Runs the tests of these modules, prints the results, and returns the exit status."""
     demand_utf_8()
     classes = classes_of(modules)
     passed, facts, lost, skipped = 0, 0, [], {}
@@ -168,3 +171,21 @@ def run_modules(modules: list[str], at_once: int | None = None) -> int:
         print(f"skipped: {name}: {why}")
     print(f"{passed} passed, {len(lost)} failed")
     return 1 if lost or not (passed or skipped) else 0
+
+
+def run_folder(folder: pathlib.Path, about: str, demand: Callable[[], None], longest: Sequence[str] = ()) -> int:
+    """Runs the tests of a folder, or those of the modules that the command line names, and returns the exit status.
+
+    `demand` stops if the built program is not there. The modules that take longest begin first: else one of them runs alone at the end.
+    """
+    found = sorted(file.stem.removesuffix("_tests") for file in folder.glob("*_tests.py"))
+    parser = argparse.ArgumentParser(description=about, formatter_class=argparse.RawDescriptionHelpFormatter)
+    parser.add_argument("modules", metavar="MODULE", nargs="*", help=f"all if none is named: {', '.join(found)}")
+    named = parser.parse_args().modules
+    if unknown := [name for name in named if name not in found]:
+        parser.error(f"there is no module {', '.join(unknown)}; there are {', '.join(found)}")
+    demand()
+    demand_utf_8()
+    forks.read_ahead()
+    names = named or [*longest, *(name for name in found if name not in longest)]
+    return run_modules([f"{name}_tests" for name in names])

@@ -53,9 +53,14 @@ PLACE_OF_BARS = """[...page.querySelectorAll(".bars svg")].map(svg => {
 }).join(" ")"""
 
 
+# a heading within a summary is newer than tidy
+SUMMARY = re.compile(r"<summary>(<h2 [^>]*>.*?</h2>)</summary>")
+
+
 def try_tidy(expect, folders):
     for folder in folders:
-        found = support.run(["tidy", "-q", "-e", folder / "index.html"])
+        page = SUMMARY.sub(r"\1", (folder / "index.html").read_text(encoding="utf-8"))
+        found = support.run(["tidy", "-q", "-e"], input=page)
         expect(f"{folder.name}: tidy", found[1:], ("", 0))
 
 

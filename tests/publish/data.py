@@ -1,11 +1,11 @@
-"""Meets what debvote-publish makes with tests/reference.py on random polls: the data, the sentences of Why, the refused lines.
+"""Compares what debvote-publish makes with tests/reference.py on random polls: the data, the sentences of Why, the refused lines.
 
-`result.json` and `votes.csv` are made a second time from the count of the reference, and each part of the page is met with it
-(page.py). Each sentence is taken apart, and each of its clauses has to hold by the votes and the rounds of the reference; what a
-sentence must say is looked for. The refused lines have to be those of `tests/reference_checks.py`. In each fifth folder
-`recount.py` must print the sheet.
+`result.json` and `votes.csv` are made a second time from the count of the reference, and each part of the page is compared with it
+(page.py). Each sentence is taken apart: each of its clauses has to hold by the votes and the rounds of the reference, and it has to
+say all that it must. The refused lines have to be those of `tests/reference_checks.py`. In each fifth folder `recount.py` must print
+the sheet.
 
-DEBVOTE_PUBLISHED_POLLS says how many random polls are published; 200 if it is not given.
+DEBVOTE_PUBLISHED_POLLS is the number of random polls to publish, by default 200.
 """
 
 import collections
@@ -34,10 +34,10 @@ import support
 
 PROGRAM, PUBLISH, SECONDS = support.PROGRAM, support.PUBLISH, support.SECONDS
 
-# so many random polls that are in order are published; from ENOUGH on all kinds of clauses have to be met
+# how many random polls without a fault are published; from ENOUGH on all kinds of clauses have to occur
 POLLS, ENOUGH = int(os.environ.get("DEBVOTE_PUBLISHED_POLLS", "200")), 200
 
-# the kinds of clauses, each of which has to be met
+# the kinds of clauses, each of which has to occur
 KINDS = {
     "reached the quorum", "missed the quorum", "has its majority", "has a majority of a ratio", "missed its majority",
     "needs nothing", "loses directly", "loses by a chain", "loses, its own defeat removed", "defeats few", "defeats each of a few",
@@ -58,7 +58,7 @@ def random_polls():
 
 @dataclasses.dataclass
 class Count:
-    """What the reference counts of a poll and its ballots."""
+    """The count of a poll and its ballots by the reference."""
 
     poll: reference.Poll
     lines: list
@@ -181,7 +181,7 @@ VERDICTS = {
 
 
 def try_sentences(page, count, shown):
-    """Takes each sentence of Why apart, in which options have the names that people read. Returns the kinds of clauses that were met."""
+    """Takes each sentence of Why apart, in which options have the names that people read. Returns the kinds of clauses found."""
     part = page.partition('<h2 id="Why">')[2].partition("</section>")[0]
     entries = re.findall(r"<li>(.*)</li>", part)
     met = collections.Counter()
@@ -239,7 +239,7 @@ def demand_whole(kinds, option, count):
 
 
 def kind_of(clause, option, count):
-    """The kind of a clause, which has to hold of an option."""
+    """The kind of a clause, which has to hold for an option."""
     for pattern, check in CLAUSES:
         found = re.fullmatch(pattern, clause)
         if found:
@@ -292,7 +292,7 @@ def pairs_in(text):
 
 
 def loses(found, option, count):
-    """The chain leads by defeats that are not removed yet to an option of the set in which this one is not any more."""
+    """The chain leads, by defeats that are not removed yet, to an option of the set that this one has left."""
     number = max((place for place, (final, _) in enumerate(count.rounds, start=1) if option in final), default=0)
     gone = {pair for _, removed in count.rounds[:number] for pair in removed}
     loser, chain = option, pairs_in(found[0])
@@ -411,7 +411,7 @@ def try_refused(page, count):
         first, last, text, cause = which.groups()
         for number in range(int(first), int(last or first) + 1):
             demand(text == line_shown(count.lines[number - 1]), f"the text of line {number}: {text}")
-        # a remark on the line is open
+        # a remark about the line is open
         found += [reference_checks.promised(count.poll, f"ballots:{number}: {cause}") for number in range(int(first), int(last or first) + 1)]
     wanted = list(reference_checks.refusals(count.poll, count.lines, count.replies))
     demand(found == wanted, f"refused lines {found[:3]} in place of {wanted[:3]}")
@@ -434,7 +434,7 @@ def names_of(seed, count):
 
 
 def with_names(poll, count, names):
-    """The poll with these names: its keys stand above all that it has."""
+    """The poll with these names, whose keys come first."""
     if not names:
         return poll
     shown = [names.get(number, name) for number, name in count.poll.names.items()]
@@ -445,7 +445,7 @@ def with_names(poll, count, names):
 
 
 def meet(seed):
-    """Publishes the poll of a seed. Returns the kinds of clauses, or none where the poll is refused, and what is wrong."""
+    """Publishes the poll of a seed. Returns the kinds of clauses, or none if the poll is refused, and what is wrong."""
     election = random_polls().election_of(seed)
     try:
         names = reference.poll_in(election.poll).names.values()
@@ -467,7 +467,7 @@ def try_folder(room, seed, election, count, casting):
     words = ["--poll", "poll.toml", "--ballots", "ballots", *([] if casting is None else [f"--casting={casting}"])]
     folders = [room / "one", *([room / "two"] if seed % 10 == 0 else [])]
     for folder in folders:
-        # no Graphviz: pictures are tried elsewhere
+        # no Graphviz: pictures are tested elsewhere
         how = {"cwd": room, "env": {**os.environ, "PATH": str(PROGRAM.parent)}, "capture_output": True, "timeout": SECONDS}
         ended = forks.run([sys.executable, PUBLISH, *words, folder.name], **how)
         if casting is not None and count.casting not in count.final:
@@ -501,7 +501,7 @@ def is_toml_1_0(file):
 
 
 def try_made(folder, count, names):
-    """Meets data, names, refused lines and sentences of a folder. Returns the kinds of clauses that were met."""
+    """Compares data, names, refused lines and sentences of a folder. Returns the kinds of clauses found."""
     data, table, page = ((folder / name).read_text() for name in ("result.json", "votes.csv", "index.html"))
     version = subprocess.run([PROGRAM, "--version"], capture_output=True, text=True).stdout.strip()
     document = document_of(count, version, names)
@@ -517,7 +517,7 @@ def try_made(folder, count, names):
 
 
 def try_published(expect, name, folder, casting):
-    """Meets a folder that is there. Returns the kinds of clauses that were met."""
+    """Compares an existing folder. Returns the kinds of clauses found."""
     poll_bytes = (folder / "poll.toml").read_bytes()
     count = count_of(poll_bytes, (folder / "ballots.txt").read_bytes(), casting)
     poll = tomllib.loads(poll_bytes.decode())
@@ -532,7 +532,7 @@ def try_published(expect, name, folder, casting):
 
 
 def try_random_polls(expect, met):
-    """Meets so many random polls that are in order, on all processors. Other polls have met these kinds of clauses."""
+    """Compares this many random polls without a fault, on all processors. Other polls have had these kinds of clauses."""
     wrong, passed, seed = [], 0, 1
     with concurrent.futures.ProcessPoolExecutor() as pool:
         while passed < POLLS:

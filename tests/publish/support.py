@@ -18,15 +18,15 @@ CASES = ROOT / "tests" / "cases"
 EXAMPLES = ROOT / "examples"
 PATH = os.pathsep.join([str(PROGRAM.parent), os.environ["PATH"]])
 
-# what a run says where Graphviz is not installed, and so of this machine
+# the output of a run if Graphviz is not installed, which is about this machine
 HAS_PICTURES = shutil.which("dot") is not None
 NO_PICTURE = "Note: no picture: Graphviz (its program dot) is not installed\n"
 
-# a run that has not ended by then hangs: far more than any takes beside other work
+# a run that has not ended after this time hangs: far more than any takes on a busy machine
 SECONDS = 600
 
-# what the page of the largest election comes to at most, in bytes; 1.3 million of them are its poll and its ballots, which it
-# carries to have them counted again
+# the greatest size of the page of the largest election, in bytes; 1.3 million of them are its poll and its ballots, which it
+# carries so that they can be counted again
 LARGEST_PAGE = 7_000_000
 
 # a poll with three options and four electors, and three ballots for it
@@ -44,26 +44,26 @@ FILES = ["--poll", "poll.toml", "--ballots", "ballots"]
 
 
 def demand_program():
-    """Ends the tests where there is no program to be asked."""
+    """Ends the tests if there is no program."""
     if not PROGRAM.exists():
         sys.exit(f"{PROGRAM} is not there: make build proves and builds it")
 
 
 def run(words, path=PATH, **how):
-    """What a run says, and its status."""
+    """The output of a run, and its status."""
     given = {"capture_output": True, "text": True, "timeout": SECONDS, "env": {**os.environ, "PATH": path}}
     ended = forks.run(list(map(str, words)), **given, **how)
     return ended.stdout, ended.stderr, ended.returncode
 
 
 def publish(room, *words, **how):
-    """What debvote-publish says in a folder, but for a picture that can't be drawn on this machine, and its status."""
+    """The output of debvote-publish in a folder, without that about a picture that can't be drawn here, and its status."""
     output, faults, status = run([sys.executable, PUBLISH, *words], cwd=room, **how)
     return output, faults if HAS_PICTURES else faults.replace(NO_PICTURE, ""), status
 
 
 def publish_files(poll, ballots, folder, *more, **how):
-    """What debvote-publish says of these files, and its status."""
+    """The output of debvote-publish for these files, and its status."""
     return run([sys.executable, PUBLISH, "--poll", poll, "--ballots", ballots, *more, folder], **how)
 
 
@@ -84,13 +84,13 @@ def plain_room(folder, poll=PLAIN_POLL, ballots=PLAIN_BALLOTS):
 
 
 def side_by_side(function, items):
-    """What a function that runs programs returns for each of some items, as many at once as there are processors."""
+    """What a function that runs programs returns for each item, as many at once as there are processors."""
     with concurrent.futures.ThreadPoolExecutor(len(os.sched_getaffinity(0))) as pool:
         return list(pool.map(function, items))
 
 
 class PublishTest(expecting.Expecting):
-    """Tests with a folder for them all, in which each makes those of its own names."""
+    """Tests with one folder for all, in which each makes its own folders."""
 
     @classmethod
     def setUpClass(cls):

@@ -1,4 +1,4 @@
-"""The tables of cases: what is written is read again, sign by sign, and a case that is not answered as it wants fails."""
+"""The tables of cases: what is written is read again, character by character, and a case with another answer fails."""
 
 import os
 import pathlib
@@ -17,7 +17,7 @@ TEXTS = ["", "a", "a\n", "\na\n\n", "a\r\n", "\ta", "'''", "a'", 'a"\n"""\n', "\
 
 POLL = 'title = "T"\noptions = ["A"]\nratios = [1]\ndefault = "N"\nquorum = 0\nroll = ["ada"]\n'
 
-# in place of debvote: it answers with what the files have, and with its words
+# instead of debvote: it answers with the contents of the files, and with its arguments
 STAND_IN = """#!/bin/sh
 cat poll.toml ballots 2>/dev/null
 echo "$@" >&2
@@ -69,7 +69,7 @@ class TablesTest(unittest.TestCase):
         self.assertTrue((cases / "explain.toml").read_text().startswith('# Some.\n\ncommand = "explain"\npoll = '))
 
     def run_cases(self, *words: str) -> list[str]:
-        """What tests/cases/run prints of the cases of the room."""
+        """What tests/cases/run prints about the cases in the folder."""
         command = [sys.executable, self.room / "tests" / "cases" / "run", "--program", self.room / "debvote", *words]
         where = {**os.environ, "PYTHONDONTWRITEBYTECODE": "1"}
         return subprocess.run(command, capture_output=True, text=True, env=where).stdout.splitlines()
