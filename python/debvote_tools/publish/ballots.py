@@ -2,7 +2,7 @@
 
 import dataclasses
 import functools
-from collections.abc import Callable, Mapping
+from collections.abc import Mapping
 
 from markupsafe import Markup
 
@@ -28,14 +28,14 @@ NOTHING = marked("nothing is preferred")
 
 @dataclasses.dataclass(frozen=True)
 class Ballots:
-    """The ballots that count in words, by their ranks, and whether these words have the names of the options."""
+    """Elector, ranks and words of each ballot that counts, and whether these words have the names of the options."""
 
-    in_words: Callable[[str], Markup]
+    said: list[tuple[str, str, Markup]]
     have_names: bool
 
 
 def ballots_of(options: Options, standing: Mapping[str, str]) -> Ballots:
-    """What says the ballots in words, from the first preference on. Many ballots are alike."""
+    """The ballots that count, each in words from the first preference on. Many are alike."""
     language, joined = options.speaker.language, options.speaker.language.joined
     have_names = len(standing) * sum(map(len, options.named.values())) <= NAMES_LIMIT
     shown = ["", *(str(named) if have_names else str(option) for option, named in options.named.items())]
@@ -54,7 +54,7 @@ def ballots_of(options: Options, standing: Mapping[str, str]) -> Ballots:
             said = not_ranked(ranked=said, unranked=joined(shown[option] for option in found.unranked))
         return Markup(said)
 
-    return Ballots(in_words, have_names)
+    return Ballots([(elector, ranks, in_words(ranks)) for elector, ranks in standing.items()], have_names)
 
 
 def script_words(language: Language) -> dict[str, str]:
