@@ -78,7 +78,7 @@ def try_honest_words(expect, scratch):
     expect("honest words: the status", publish(room, *FILES, "result")[2], 0)
     page = (room / "result" / "index.html").read_text()
     sections = pages.sections_of(page)
-    said = "This is the count of the files in this folder. Whether they are what the electors sent, no count shows: "
+    said = "This is the count of the files in this folder. No count shows whether they are what the electors sent; see "
     expect("honest words: below the result", said in sections["Result"].text(), True)
     unseen = sections["What-nobody-can-see-from-here"]
     # a line feed is a space to a reader
@@ -89,7 +89,7 @@ def try_honest_words(expect, scratch):
         ("An elector who is not a person, or a person with two names. ", "with your list of members"),
         ("The hand that typed: ", "Keep a copy of what you send, and compare your ballot here with it"),
         ("The clock: ", "Keep what shows when you sent your ballot"),
-        ("Another page for another reader: ", "with the letter of the result"),
+        ("Different pages for different readers: ", "with the letter of the result"),
     ]:
         expect(f"nobody can see: {start}", [check in row for row in rows if row.startswith(start)], [True])
     expect("nobody can see: how many", len(rows), 6)
@@ -112,7 +112,7 @@ def try_honest_words(expect, scratch):
     for said in ["Ask your secretary where to get it", "It is better taken from elsewhere", "/usr/share/doc/debvote/reference.py"]:
         expect(f"how to verify: {said}", said in text, True)
     again = next(section for section in pages.tree_of(page).all("section") if "Count again here" in section.text())
-    for said in ["Your browser can count the ballots anew", "a second opinion from the same web site", "Nothing is sent."]:
+    for said in ["Your browser can count the ballots again", "a second opinion from the same web site", "Nothing is sent."]:
         expect(f"count again here: {said}", said in again.text(), True)
     expect("count again here: it promises no proof", re.search("(?i)prove|verified|certain", again.text()), None)
     whole = pages.tree_of(page).text()
