@@ -126,6 +126,8 @@ def try_refused_texts(expect, scratch):
     plain_room(room)
     long = "x" * 180 + ">" + "y" * 200
     lines = ["ada;1,2,3", "<b>ada</b> 1,2,3", "", "ben 1.,2,3", "zoe 1,2,3", "zoe 1,2,3", long, "ada 1,2", "caf\u00e9\u202e 1,2,3", "cleo 1,\t2,3"]
+    # a ballot between two lines that are alike
+    lines += ["cleo 1,2,3", "cleo 1,\t2,3"]
     (room / "ballots").write_text((room / "ballots").read_text() + "".join(f"{line}\n" for line in lines))
     expect("refused texts: the status", publish(room, *FILES, "result")[2], 0)
     page = (room / "result" / "index.html").read_text()
@@ -138,7 +140,7 @@ def try_refused_texts(expect, scratch):
     (told,) = re.findall(r"The texts from line (\d+) on are too many for this page: see ballots.txt.", part.text())
     last = [entry.text() for entry in part.all("li")][-1]
     cause = 'bad shape: column 33: "z"'
-    expect("many refused texts: the last ones", last, f"lines {told} to 8013: {cause}")
+    expect("many refused texts: the last ones", last, f"lines {told} to 8015: {cause}")
     expect("many refused texts: so many are shown", (int(told) > 5_000, len(page) < support.LARGEST_PAGE), (True, True))
 
 
@@ -155,6 +157,7 @@ REFUSED_TEXTS = [
     "is that of the last one missing, the default option N? ask the elector",
     "line 12: café\\u202E 1,2,3: bad shape: column 4: letter e with acute (U+00E9); a voter's name has a to z, 0 to 9, . and -",
     "line 13: cleo 1,\\u00092,3: bad shape: column 8: tab; between the ranks stand commas alone",
+    "line 15: cleo 1,\\u00092,3: bad shape: column 8: tab; between the ranks stand commas alone",
 ]
 
 

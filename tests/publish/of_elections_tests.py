@@ -197,6 +197,7 @@ class OfOpenVotes(OfElections):
         self.whole()
         shutil.rmtree(self.folder / "result")
         said = self.say("publish", "elsewhere")
+        self.expect("no late lines", files["late.txt"], b"")
         self.expect("a new folder", "Made the folder elsewhere, as it was published before; " in said, True)
         self.expect("the same bytes", (self.files("elsewhere") == files, (self.folder / "result").exists()), (True, False))
         self.expect("still no act", len(self.acts()), acts)
