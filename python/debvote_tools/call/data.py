@@ -85,9 +85,7 @@ class CallData:
 
     @property
     def explanations(self) -> list[tuple[int, list[str]]]:
-        """The texts of the options, in paragraphs, each with the number of its option. They are not the program's words."""
-        texts = enumerate(self.poll.explanations, start=1)
-        return [(number, re.split(r"\n(?:[ \t]*\n)+", text.strip("\n"))) for number, text in texts if text.strip()]
+        return explanations_of(self.poll)
 
     @property
     def example(self) -> str:
@@ -96,6 +94,16 @@ class CallData:
     @property
     def example_in_words(self) -> str:
         return ranks_in_words(self.example, self.option_names, self.language)
+
+
+def explanations_of(poll: SealedPoll) -> list[tuple[int, list[str]]]:
+    """The texts of the options, in paragraphs, each with the number of its option. They are not the program's words."""
+    return [(number, paragraphs_of(text)) for number, text in enumerate(poll.explanations, start=1) if text.strip()]
+
+
+def paragraphs_of(text: str) -> list[str]:
+    """The paragraphs of a text; an empty line ends each."""
+    return [lines for lines in re.split(r"\n(?:[ \t]*\n)+", text.strip("\n")) if lines.strip()]
 
 
 def example_ranks(count: int) -> str:

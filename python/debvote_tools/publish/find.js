@@ -48,7 +48,6 @@
     return typed === "" ? [] : [...new Set(all)];
   }
 
-
   async function aliasOf(name, code) {
     const bytes = new TextEncoder();
     const how = { name: "HMAC", hash: "SHA-256" };

@@ -4,6 +4,7 @@ import shlex
 from collections.abc import Mapping
 
 from debvote_tools import pages
+from debvote_tools.call.data import explanations_of, paragraphs_of
 from debvote_tools.debvote import standing_in
 from debvote_tools.language import ENGLISH, Language
 from debvote_tools.publish import done, names, scripts
@@ -17,7 +18,6 @@ from debvote_tools.publish.options import Options
 from debvote_tools.publish.picture import ShownPicture, shown_picture
 from debvote_tools.publish.recounting import PACKAGE
 from debvote_tools.publish.refused import late_lines, refused_lines
-from debvote_tools.publish.texts import paragraphs_of
 from debvote_tools.publish.why import MOST, entry, reasons
 from debvote_tools.rendering import InHtml, render_page
 from debvote_tools.secret.aliases import sealed_checksum
@@ -61,7 +61,7 @@ def page_of(publication: Publication, counted: Counted, doubts: list[Doubt], che
         marks={option: marks_of(options, option) for option in sheet.ratios},
         whole_width=whole_width(sheet),
         why=[entry(options, option) for option in sheet.names],
-        explanations=[paragraphs_of(text) for text in poll.explanations],
+        explanations=explanations_of(poll),
         picture=picture,
         ballots=ballots_of(options, standing),
         standing=standing,

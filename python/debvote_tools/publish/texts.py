@@ -11,10 +11,10 @@ LIMIT = 65_536
 LONGEST_REASON = 2_000
 
 
-def text_in(file: str, what: str) -> str:
-    """The text of a file; `what` is the name of the option that was given it."""
-    data = read_whole(file, LIMIT, f"give a file that you may read with --{what}")
-    return plain_text(data, file, f"write it, or leave --{what} out")
+def text_in(file: str) -> str:
+    """The text of the file that --about was given."""
+    data = read_whole(file, LIMIT, "give a file that you may read with --about")
+    return plain_text(data, file, "write it, or leave --about out")
 
 
 def reason_in(text: str) -> str:
@@ -31,8 +31,3 @@ def reason_in(text: str) -> str:
 
 def bad_reason(reason: str, cure: str) -> Fault:
     return Fault("--because", reason, cure, Status.BAD_WORDS, None)
-
-
-def paragraphs_of(text: str) -> list[str]:
-    """The paragraphs of a text; an empty line ends each."""
-    return [lines.strip("\n") for lines in text.split("\n\n") if lines.strip()]

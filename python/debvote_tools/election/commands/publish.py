@@ -108,7 +108,7 @@ def words_of(arguments: Arguments) -> Words:
         casting=arguments.casting,
         cast_by=vote.by if vote else None,
         cast_on=vote.on.isoformat() if vote and vote.on else None,
-        about=None if arguments.about is None else text_in(arguments.about, "about"),
+        about=None if arguments.about is None else text_in(arguments.about),
         is_forced=arguments.force,
         because=reason_in(arguments.because) if arguments.force and arguments.because is not None else None,
         language=arguments.language,
