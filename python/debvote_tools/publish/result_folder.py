@@ -12,7 +12,7 @@ from debvote_tools.debvote import Debvote
 from debvote_tools.faults import Fault, Status
 from debvote_tools.files import sha256_of, sync_folder, temporary_folder, write_public
 from debvote_tools.publish import names, recounting
-from debvote_tools.publish.counting import Counted, ask_the_rest, demand_all_count, demand_left, demand_same_votes, count_files
+from debvote_tools.publish.counting import Counted, ask_the_rest, count_files, demand_all_count, demand_left, demand_same_votes
 from debvote_tools.publish.doubts import Doubt, doubts_about, stop
 from debvote_tools.publish.inputs import Publication
 from debvote_tools.publish.page import page_of
