@@ -137,12 +137,17 @@ class Reopen(CloseTest):
         self.assert_fault(self.election("reopen", "--because", "x"), 9, "not closed")
 
     def test_a_result_before_the_last_close_is_not_the_result(self) -> None:
-        self.done("publish", "--force", "--because", "one ballot counts")
+        self.done("publish")
         self.assertEqual(self.numbers()["stage"], "published")
         self.done("reopen", "--because", "x")
         self.assertEqual(self.numbers()["stage"], "called")
         self.done("close")
         self.assertEqual(self.numbers()["stage"], "closed")
+
+    def test_status_says_whether_it_is_open(self) -> None:
+        self.assertRegex(self.done("status").output, r"\nClosed: at [^\n]* UTC\nQuorum")
+        self.done("reopen", "--because", "x")
+        self.assertRegex(self.done("status").output, r"\nClosed: not yet\nReopened: at [^\n]* UTC\nQuorum")
 
 
 class Told(CloseTest):
