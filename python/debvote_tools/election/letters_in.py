@@ -7,6 +7,7 @@
 
 import contextlib
 import dataclasses
+import datetime
 import pathlib
 from collections.abc import Collection, Iterator, Mapping, Sequence
 
@@ -36,8 +37,9 @@ class LetterNow:
 
     number: int
     judged: JudgedLetter
-    # whether it arrived before the end and before the close, as far as that is known, whatever it waits for
-    came_in_time: bool
+    # whether it arrived before the call, or after the end or the first close, whatever it waits for
+    is_before_call: bool
+    is_late: bool
     # the lines, from 1, with what looks like a code or an alias, in a secret vote with names on the roll
     code_lines: tuple[int, ...] = ()
 
@@ -131,16 +133,17 @@ def judged(
         LetterNow(
             numbers.get(one.letter.key, 0),
             one,
-            came_in_time(one.letter, circumstances),
+            *is_early_or_late(one.letter.arrived, circumstances),
             code_lines(one.letter) if no_codes_expected else (),
         )
         for one in judge_all([*found, *looked_at], circumstances, vote)
     ]
 
 
-def came_in_time(letter: ParsedLetter, circumstances: Circumstances) -> bool:
+def is_early_or_late(arrived: datetime.datetime | None, circumstances: Circumstances) -> tuple[bool, bool]:
+    """Whether a time is before the call, or after the end or the first close; neither if it is not known."""
     ends = filter(None, (circumstances.end, circumstances.first_close))
-    return letter.arrived is None or all(letter.arrived <= end for end in ends)
+    return (False, False) if arrived is None else (arrived <= circumstances.called, any(arrived > end for end in ends))
 
 
 def code_lines(letter: ParsedLetter) -> tuple[int, ...]:

@@ -32,6 +32,7 @@ def what_came(election: Election, history: History, *, is_over: bool) -> WhatCam
     found = letters_in.judged(election, history, kept)
     electors = queries.electors(book)
     by_name, by_address = {elector.name: elector for elector in electors}, by_address_of(electors)
+    by_number = {elector.number: elector for elector in electors}
     lines = LinesNow(vote_of(election, history), history, envelopes, is_over=is_over)
     came: dict[int, list[Came]] = {elector.number: [] for elector in electors}
     senders = {letter.number: by_address.get(letter.judged.letter.sender) for letter in found}
@@ -42,7 +43,10 @@ def what_came(election: Election, history: History, *, is_over: bool) -> WhatCam
     entered_of = {(envelope.letter, envelope.elector) for envelope in envelopes}
     kept_at = {letter.number: history.acts[letter.act - 1].time for letter in kept}
     for letter in found:
-        for elector in (by_name[name] for name in letter.judged.electors if name in by_name):
+        # whoever sent it gets to know, too, if its ballot is in another's name
+        sender = by_number.get(senders[letter.number] or 0)
+        concerned = [by_name.get(name) for name in letter.judged.electors] + [sender]
+        for elector in dict.fromkeys(filter(None, concerned)):
             if (letter.number, elector.number) not in entered_of:
                 came[elector.number] += came_of_letter(letter, elector, kept_at[letter.number])
     ordered = {number: sorted(items, key=lambda one: one.time) for number, items in came.items()}

@@ -80,7 +80,7 @@ class Circumstances:
     now: datetime.datetime
     # the Message-IDs of the letters that were written to each elector
     our_letters: Mapping[str, Collection[str]]
-    # the ballots of each elector that are in and not struck
+    # the lines with each elector's name that are in and not struck
     ballots: Mapping[str, Sequence[Ballot]]
     # the fingerprint of each elector's key; None where letters need no signature
     keys: Mapping[str, str] | None
@@ -131,10 +131,17 @@ def judge_all(letters: Sequence[ParsedLetter], circumstances: Circumstances, rea
         readings_of(letter, circumstances.roll, circumstances.elector_of(letter), circumstances.language) for letter in letters
     ]
     asked = dict.fromkeys(line.encode() for readings in found for line in readings.asked())
+    asked |= dict.fromkeys(ballot.line.encode() for ballots in circumstances.ballots.values() for ballot in ballots)
     answers = reader.answers(list(asked)) if asked else {}
     cases = [Case(letter, readings.answered(answers), circumstances) for letter, readings in zip(letters, found)]
     ordered = sorted(cases, key=lambda case: (case.time is None, case.time or circumstances.now))
-    return Judge(circumstances, ordered).judged()
+    # a line with an elector's name that debvote refuses is no ballot of theirs
+    box = Box()
+    for elector, ballots in circumstances.ballots.items():
+        for ballot in ballots:
+            if answers[ballot.line.encode()] is None:
+                box.add(elector, ballot)
+    return Judge(circumstances, ordered, box).judged()
 
 
 class Case:
@@ -291,12 +298,9 @@ RULES: tuple[Rule, ...] = (
 class Box:
     """The ballots that are in, by their electors and times."""
 
-    def __init__(self, ballots: Mapping[str, Sequence[Ballot]]) -> None:
+    def __init__(self) -> None:
         self.times: dict[str, list[datetime.datetime]] = collections.defaultdict(list)
         self.lines: dict[tuple[str, datetime.datetime], set[str]] = collections.defaultdict(set)
-        for elector, own in ballots.items():
-            for ballot in own:
-                self.add(elector, ballot)
 
     def add(self, elector: str, ballot: Ballot) -> None:
         bisect.insort(self.times[elector], ballot.time)
@@ -339,9 +343,8 @@ class Copies:
 class Judge:
     """Judges letters in the order of their times, and adds the ballots that go in to those that are in."""
 
-    def __init__(self, circumstances: Circumstances, cases: Sequence[Case]) -> None:
-        self.circumstances, self.cases = circumstances, cases
-        self.box = Box(circumstances.ballots)
+    def __init__(self, circumstances: Circumstances, cases: Sequence[Case], box: Box) -> None:
+        self.circumstances, self.cases, self.box = circumstances, cases, box
         self.copies: dict[str, Copies] = collections.defaultdict(Copies)
         # the ballots that may go in, by elector and time
         self.at_once: dict[tuple[str, datetime.datetime], set[str]] = collections.defaultdict(set)

@@ -62,6 +62,8 @@ PACKED = ("multipart/encrypted", "application/pgp-encrypted", "application/pkcs7
 ENCODED_WORD = re.compile(r"=\?[^?\s]*\?[^?\s]*\?[^?\s]*\?=")
 MESSAGE_ID = re.compile(r"<[!-;=?-~]{1,250}>")
 MARK = re.compile(r"\[([0-9a-f]{16})\]", re.IGNORECASE)
+# so a server says that it does not know its zone; a comment may follow
+UNKNOWN_ZONE = re.compile(r"-0000(?:\s*\(.*\))?$")
 
 # by these a program says that it answers by itself
 AUTOMATIC_FIELDS = ("x-autoreply", "x-autorespond", "x-autoresponder")
@@ -259,7 +261,7 @@ def arrival_of(received: Sequence[str]) -> datetime.datetime | None:
         if arrived.year == datetime.MAXYEAR:
             return None
         # a time needs a zone
-        if any(map(email.utils.parsedate, others)) or (arrived.tzinfo is None and not time.endswith("-0000")):
+        if any(map(email.utils.parsedate, others)) or (arrived.tzinfo is None and not UNKNOWN_ZONE.search(time)):
             return None
         return arrived.replace(tzinfo=arrived.tzinfo or datetime.UTC).astimezone(datetime.UTC).replace(microsecond=0)
     except Exception:
@@ -310,8 +312,11 @@ def read_body(data: bytes) -> Body:
     if LONE_RETURN.search(data):
         trouble = trouble or Reason.LINE_END(character="U+000D")
     first, others = (texts[0], texts[1:]) if texts else (Text(), [])
-    other_lines = [line for line in first.unseen if may_be_ballot(line)]
-    other_lines += [line for text in others for line in (*text.lines, *text.joined, *text.unseen) if may_be_ballot(line)]
+    lines = [line for text in others for line in (*text.lines, *text.joined, *text.unseen)]
+    # around the parts no program shows a text, but a letter may be there that a mailbox did not part
+    around = "\n".join(text for part in message.walk() for text in (part.preamble, part.epilogue) if text)
+    lines += decoded_bytes(around.encode("ascii", "surrogateescape"), "utf-8").splitlines()
+    other_lines = [line for line in (*first.unseen, *lines) if may_be_ballot(line)]
     count = len(other_lines) + sum(map(may_be_ballot, first.lines))
     if count > MAX_LINES:
         trouble = Reason.TOO_LONG(length=count, what="lines with numbers", limit=MAX_LINES)
@@ -372,6 +377,10 @@ def demand_plain_description(part: email.message.Message) -> None:
     is_read = part.get_content_maintype() in ("text", "multipart")
     if kind and not (parameters_in(kind) is not None if is_read else ANY_KIND.fullmatch(kind)):
         raise Unread(Reason.AMBIGUOUS(field="content-type"))
+    # Python takes angle brackets off a boundary, and other programs don't
+    boundary = part.get_boundary()
+    if is_read and boundary is not None and (not boundary or boundary != parameter(part, "boundary").rstrip()):
+        raise Unread(Reason.AMBIGUOUS(field="content-type"))
 
 
 def parameters_in(kind: str) -> dict[str, str] | None:
@@ -387,6 +396,10 @@ def parameter(part: email.message.Message, name: str) -> str:
     return (parameters_in(" ".join(fields(part, "content-type"))) or {}).get(name, "")
 
 
+def coding_of(part: email.message.Message) -> str:
+    return " ".join(fields(part, "content-transfer-encoding")).strip().lower()
+
+
 def trouble_of(message: email.message.Message, leaves: Sequence[Leaf]) -> Because | None:
     """Why a letter with these parts of text can't be read with certainty; None if it can. Their texts were decoded before, so that each
     part has its defects.
@@ -398,22 +411,27 @@ def trouble_of(message: email.message.Message, leaves: Sequence[Leaf]) -> Becaus
     if defects:
         return Reason.DEFECT(defect=defects[0])
     kind = leaves[0].part.get_content_type() if leaves and leaves[0].is_own else ""
-    if kind == "text/plain" or (kind == "text/html" and len(leaves) == 1):
-        return trouble_of_text(leaves[0].part)
-    return Reason.NO_PLAIN_TEXT()
+    if kind != "text/plain" and (kind != "text/html" or len(leaves) > 1):
+        return Reason.NO_PLAIN_TEXT()
+    return trouble_of_text(leaves[0].part) or next(filter(None, (trouble_of_coding(leaf.part) for leaf in leaves)), None)
+
+
+def trouble_of_coding(part: email.message.Message) -> Because | None:
+    """What leaves a doubt about which characters a text has: its coding, or its character set."""
+    coding, charset = coding_of(part), parameter(part, "charset")
+    if coding not in CODINGS or (coding == "quoted-printable" and ODD_BREAK.search(str(part.get_payload()))):
+        return Reason.AMBIGUOUS(field="content-transfer-encoding")
+    return Reason.CHARSET(charset=charset) if charset and not CHARSETS.fullmatch(charset) else None
 
 
 def trouble_of_text(part: email.message.Message) -> Because | None:
-    """What leaves a doubt about a text: its coding, its character set, or its line ends."""
-    coding = " ".join(fields(part, "content-transfer-encoding")).strip().lower()
+    """What leaves a doubt about the text of a letter: beside those its bytes, or its line ends."""
+    if (trouble := trouble_of_coding(part)) is not None:
+        return trouble
     charset = parameter(part, "charset") or "us-ascii"
-    if coding not in CODINGS or (coding == "quoted-printable" and ODD_BREAK.search(str(part.get_payload()))):
-        return Reason.AMBIGUOUS(field="content-transfer-encoding")
     try:
-        text = payload_of(part).decode(charset) if CHARSETS.fullmatch(charset) else None
+        text = payload_of(part).decode(charset)
     except (UnicodeDecodeError, LookupError):
-        text = None
-    if text is None:
         return Reason.CHARSET(charset=charset)
     odd = ODD_END.search(text) if part.get_content_type() == "text/plain" else None
     return None if odd is None else Reason.LINE_END(character=f"U+{ord(odd[0]):04X}")
@@ -421,7 +439,9 @@ def trouble_of_text(part: email.message.Message) -> Because | None:
 
 # ---------------------------------------------------------------- texts
 def payload_of(part: email.message.Message) -> bytes:
-    """The bytes of a text, decoded as its part says."""
+    """The bytes of a text, decoded as its part says. Python decodes none whose coding is on a line of its own, or before a blank."""
+    if coding := coding_of(part):
+        part.replace_header("content-transfer-encoding", coding)
     payload = part.get_payload(decode=True)
     data = payload if isinstance(payload, bytes) else b""
     if len(data) > MAX_TEXT:

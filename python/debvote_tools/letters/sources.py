@@ -33,6 +33,7 @@ MAX_MISSING = 2
 
 END_OF_HEAD = re.compile(rb"\r?\n\r?\n")
 CONTENT_LENGTH = re.compile(rb"(?im)^content-length[ \t]*:\s*(\d{1,15})")
+CONTENT_TYPE = re.compile(rb"(?im)^content-type[ \t]*:(?:[^\n]|\n(?=[ \t]))*")
 # with all that Python takes for a blank; one in quotation marks may have blanks in it
 BOUNDARY = re.compile(rb"""(?i)\bboundary\*?\d*\*?[\s\x1c-\x1f]*=[\s\x1c-\x1f]*(?:"([^"\n]*)"|"?([^"\s;]*))""")
 MAX_BOUNDARIES = 5
@@ -46,6 +47,7 @@ class NotRead(enum.Enum):
     """Why a file or a letter is passed over, and what to do about it."""
 
     FOLDER = ("it is a folder within the folder", "add it by its own name, if it has letters")
+    MAILBOX = ("it is a mailbox of several letters within the folder", "add it by its own name")
     HIDDEN = ("it is a hidden file, whose name begins with a full stop", "give it another name, if it is a letter")
     TOO_LONG = ("it has more than 10 MiB", "ask for the ballot again, alone and without attachments")
     OUTLOOK_LETTER = (
@@ -143,7 +145,7 @@ def letters_of_folder(folder: pathlib.Path) -> Source:
 
 
 def letter_of_file(file: pathlib.Path) -> Source:
-    """The letter of a file of a folder, which is never parted."""
+    """The letter of a file of a folder, which is never parted: it is named if it is a mailbox of several letters."""
     name = str(file)
     if file.is_dir():
         return Source([], [PassedOver(name, NotRead.FOLDER)])
@@ -151,7 +153,11 @@ def letter_of_file(file: pathlib.Path) -> Source:
         return Source([], [PassedOver(name, NotRead.HIDDEN)])
     if not file.is_file():
         return Source([], [PassedOver(name, NotRead.NO_LETTER)])
-    return of_one(name, file.read_bytes())
+    data = file.read_bytes()
+    bare = without_start(data)
+    if is_mailbox(bare) and len(from_lines(bare)) > 1:
+        return Source([], [PassedOver(name, NotRead.MAILBOX)])
+    return of_one(name, data)
 
 
 def of_one(name: str, data: bytes) -> Source:
@@ -203,7 +209,8 @@ def letters_of_mailbox(name: str, data: bytes) -> Source:
         head = b"" if end_of_head is None else data[start : end_of_head.end()]
         reaches = [start + len(head) + int(length) for length in CONTENT_LENGTH.findall(head)]
         reach = max(reach, *(one for one in reaches if one <= len(data) + MAX_MISSING), 0)
-        boundaries = [quoted.rstrip() or bare for quoted, bare in BOUNDARY.findall(head)[:MAX_BOUNDARIES]]
+        found_boundaries = BOUNDARY.findall(b"\n".join(CONTENT_TYPE.findall(head)))[:MAX_BOUNDARIES]
+        boundaries = [quoted.rstrip() or bare for quoted, bare in found_boundaries]
         is_open = any(data.find(b"\n--" + boundary + b"--", start, end) < 0 for boundary in boundaries)
     return found
 

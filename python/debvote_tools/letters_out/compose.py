@@ -49,6 +49,10 @@ SUBJECTS = {
 }
 
 
+# in place of that of the call
+EXTENSION = marked("Vote ends later: {title}")
+
+
 class Became(enum.Enum):
     """What became of something that came, with the sentence that says it."""
 
@@ -93,9 +97,10 @@ class Composer:
     call: CallData
     is_over: bool
 
-    def subject(self, kind: Kind) -> str:
+    def subject(self, kind: Kind, *, is_extension: bool = False) -> str:
         """The subject of a kind of letters. It ends with the mark of the poll."""
-        return f"{self.call.language.say(SUBJECTS[kind], title=one_line(self.call.poll.name))} {self.call.mark}"
+        said = EXTENSION if is_extension else SUBJECTS[kind]
+        return f"{self.call.language.say(said, title=one_line(self.call.poll.name))} {self.call.mark}"
 
     def reminder(self, elector: Elector, came: Sequence[Came]) -> str:
         """A letter to an elector without a ballot. If a letter of theirs waits, it says so, and reminds of nothing."""
@@ -103,7 +108,7 @@ class Composer:
         return self.text(Kind.REMINDERS, elector, came=came, is_reminding=is_reminding)
 
     def receipt(self, elector: Elector, came: Sequence[Came]) -> str:
-        """What became of all that came of an elector. It begins with the right line if what came last was refused or waits."""
+        """What became of all that came of an elector. It has the right line if what came last was refused or waits."""
         last = next((one.became for one in reversed(came) if one.became in (Became.COUNTS, *REFUSING)), None)
         is_refusing = not self.is_over and last in REFUSING
         return self.text(Kind.RECEIPTS, elector, came=came, is_refusing=is_refusing)
@@ -122,9 +127,7 @@ class Composer:
         language, zone = self.call.language, self.call.until.tzinfo if self.call.until else datetime.UTC
         said = [language.say(came.became.value, time=time_in_words(came.time.astimezone(zone), language))]
         if came.because is not None:
-            # the HTML of a letter repeats its text
-            firsts = {one.ballot: one for one in reversed(came.near)}
-            near = (fault for one in reversed(firsts.values()) for fault in faults_of_near(one, name, language))
+            near = (fault for one in came.near for fault in faults_of_near(one, name, language))
             said += [language.say(for_elector(came.because)), *dict.fromkeys(near)]
         elif came.became is Became.REFUSED:
             said.append(fault_of_line(came.answer, language))

@@ -1,5 +1,6 @@
 """`held`: the letters that wait until the secretary has looked at them."""
 
+import collections
 import dataclasses
 from collections.abc import Iterator, Sequence
 
@@ -19,6 +20,7 @@ from debvote_tools.faults import Fault, Status
 from debvote_tools.letters.judge import Outcome
 from debvote_tools.letters.readings import BallotLine
 from debvote_tools.lines import name_in
+from debvote_tools.terminal_text import shown_text
 
 HELP = "List the letters that wait; show one, enter its ballot, or set letters aside"
 
@@ -148,15 +150,17 @@ def enter(election: Election, arguments: Arguments, number: int, lines: str) -> 
 
 def chosen_ballots(letter: LetterNow, lines: str) -> list[BallotLine]:
     judged = letter.judged
-    by_line = {line.number: line for line in (*judged.offered, *judged.ballots)}
+    by_number = {str(line.number): line for line in (*judged.offered, *judged.ballots)}
     numbers = [text.strip() for text in lines.split(",")]
-    found = [by_line.get(int(text)) if text.isdecimal() else None for text in numbers]
-    if not all(found):
-        wrong = next(text for text, line in zip(numbers, found) if line is None)
-        can = ", ".join(map(str, sorted(by_line)))
+    if wrong := [number for number in numbers if number not in by_number]:
+        can = ", ".join(sorted(by_number, key=int))
         cure = f"these lines are: {can}" if can else "if you know which ballot is meant, type it at a desk"
-        raise Fault("--enter", f"line {wrong} of letter {letter.number} is no ballot of this poll", cure)
-    return [line for line in found if line is not None]
+        raise Fault("--enter", f"line {shown_text(wrong[0])} of letter {letter.number} is no ballot of this poll", cure)
+    found = [by_number[number] for number in numbers]
+    twice, count = collections.Counter(line.elector for line in found).most_common(1)[0]
+    if count > 1:
+        raise Fault("--enter", f"{count} of these lines are of {twice}", "name the one that counts")
+    return found
 
 
 def demand_waits(letter: LetterNow, *, has_force: bool) -> None:
@@ -167,3 +171,6 @@ def demand_waits(letter: LetterNow, *, has_force: bool) -> None:
     if judged.has_voted_since and not has_force:
         cure = "if this one has to count all the same, repeat it with --force"
         raise Fault(f"letter {letter.number}", "its elector has voted since", cure)
+    if judged.outcome is Outcome.COPY:
+        cure = "if its ballot has to be entered once more, have it wait with --wait first"
+        raise Fault(f"letter {letter.number}", "it is a copy of another letter", cure)
