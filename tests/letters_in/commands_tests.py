@@ -209,8 +209,7 @@ class Held(LettersTest):
         listed = self.done("held").output
         self.assertIn(f"\n  line 2: cleo {RANKS}\n  line 3: eve {OTHER}\n", listed)
         self.assertEqual((listed.count(f": cleo {RANKS}"), listed.count("`dan 1,2`")), (1, 1), listed)
-        # each line can be entered all the same
-        self.done("held", "3", "--enter", "5")
+        self.done("held", "3", "--enter", "2,3", "--force")
 
     def test_set_aside_and_again(self) -> None:
         self.assertIn("No letter waits.", self.done("held", "1", "2", "--set-aside").output)

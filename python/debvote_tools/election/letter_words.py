@@ -8,7 +8,6 @@ from debvote_tools.election.entering import Entered
 from debvote_tools.election.letters_in import LetterNow
 from debvote_tools.election.reporting import act_time, count_of
 from debvote_tools.letters.judge import JudgedLetter, Outcome
-from debvote_tools.letters.readings import first_of_each
 from debvote_tools.letters.reasons import for_secretary
 from debvote_tools.letters.sources import PassedOver
 from debvote_tools.terminal_text import shown_line, shown_text
@@ -66,7 +65,7 @@ def code_words(letter: LetterNow) -> Iterator[str]:
 
 def near_words(judged: JudgedLetter) -> Iterator[str]:
     """The lines of a letter that are a ballot, or near to one."""
-    for line in first_of_each((*judged.ballots, *judged.offered)):
+    for line in (*judged.ballots, *judged.offered):
         yield f"line {line.number}: {line.ballot}"
     for near in judged.near:
         within = ", within other words" if near.is_within else ""

@@ -73,7 +73,7 @@ DAEMON = re.compile(r"(?:mailer-daemon|postmaster)@", re.IGNORECASE)
 @dataclasses.dataclass(frozen=True)
 class Text:
     """The text of a letter: its lines as they stand and, if the letter says that they flow, joined, each with the index of its first line.
-    Of HTML the first `plain_lines` have plain marks alone, `first_other` is the first other mark, and nobody sees the lines `unseen`.
+    Of HTML the first `plain_lines` have plain marks alone, `first_other` is the first other mark, and `pieces` are what may be lines, too.
     """
 
     lines: tuple[str, ...] = ()
@@ -82,13 +82,13 @@ class Text:
     is_html: bool = False
     plain_lines: int = 0
     first_other: str = ""
-    unseen: tuple[str, ...] = ()
+    pieces: tuple[str, ...] = ()
 
 
 @dataclasses.dataclass(frozen=True)
 class Body:
-    """What a letter says below its head: its text, the lines of all other parts that may read as a ballot, and why it can't be read with
-    certainty; its text is then what can be shown.
+    """What a letter says below its head: its text, the other lines of all its parts that may read as a ballot, and why it can't be read
+    with certainty; its text is then what can be shown.
     """
 
     text: Text = Text()
@@ -311,12 +311,13 @@ def read_body(data: bytes) -> Body:
         return Body(trouble=Reason.DEFECT(defect=type(error).__name__))
     if LONE_RETURN.search(data):
         trouble = trouble or Reason.LINE_END(character="U+000D")
-    first, others = (texts[0], texts[1:]) if texts else (Text(), [])
-    lines = [line for text in others for line in (*text.lines, *text.joined, *text.unseen)]
+    first = texts[0] if texts else Text()
+    lines = [line for text in texts[1:] for line in (*text.lines, *text.joined, *text.pieces)]
     # around the parts no program shows a text, but a letter may be there that a mailbox did not part
     around = "\n".join(text for part in message.walk() for text in (part.preamble, part.epilogue) if text)
     lines += decoded_bytes(around.encode("ascii", "surrogateescape"), "utf-8").splitlines()
-    other_lines = [line for line in (*first.unseen, *lines) if may_be_ballot(line)]
+    own, others = ({" ".join(line.split()): None for line in some} for some in (first.lines, (*first.pieces, *lines)))
+    other_lines = [line for line in others if line not in own and may_be_ballot(line)]
     count = len(other_lines) + sum(map(may_be_ballot, first.lines))
     if count > MAX_LINES:
         trouble = Reason.TOO_LONG(length=count, what="lines with numbers", limit=MAX_LINES)
@@ -455,12 +456,12 @@ def text_of(part: email.message.Message) -> Text:
     kind = part.get_content_type()
     found = read_html("" if kind == "text/plain" else text)
     if kind == "text/html":
-        return Text(found.lines, (), (), True, found.plain_lines, found.first_other, found.unseen)
+        return Text(found.lines, (), (), True, found.plain_lines, found.first_other, found.pieces)
     lines = ODD_END.sub("\n", text.replace("\r\n", "\n")).split("\n")
     while lines and not lines[-1]:
         lines.pop()
     # some other kinds are HTML, too
-    return dataclasses.replace(plain_text(part, lines), unseen=found.lines + found.unseen)
+    return dataclasses.replace(plain_text(part, lines), pieces=found.lines + found.pieces)
 
 
 def plain_text(part: email.message.Message, lines: Sequence[str]) -> Text:

@@ -3,8 +3,8 @@
 import dataclasses
 import re
 import unicodedata
-from collections.abc import Iterable, Iterator, Mapping, Sequence
-from typing import Protocol, TypeVar
+from collections.abc import Iterator, Mapping, Sequence
+from typing import Protocol
 
 from debvote_tools.letters.greeting import above_end, is_quoted
 from debvote_tools.letters.parse import ParsedLetter, may_be_ballot
@@ -68,9 +68,6 @@ class Near:
     answer: str | None = None
 
 
-Line = TypeVar("Line", BallotLine, Near)
-
-
 @dataclasses.dataclass(frozen=True)
 class Readings:
     """What the lines of a letter read as.
@@ -112,7 +109,7 @@ class Readings:
         for line in self.lines():
             if not valid(line) and all(one.ballot != line.ballot for one in near):
                 near.append(Near(line.number, line.ballot, False, answers[line.ballot.encode()]))
-        near = first_of_each(sorted(near, key=lambda near: near.number))[:MAX_NEAR]
+        near = sorted(near, key=lambda near: near.number)[:MAX_NEAR]
         return Readings(views, tuple(filter(valid, self.others)), tuple(filter(valid, self.offered)), tuple(near), self.crowd)
 
 
@@ -197,14 +194,6 @@ def repaired(line: str) -> str:
     data = line.encode("utf-8", "replace")
     data = data if len(data) <= LONGEST else " ".join(line.split()).encode("utf-8", "replace")
     return changed(data).decode("utf-8", "replace").replace("\n", " ")
-
-
-def first_of_each(lines: Iterable[Line]) -> list[Line]:
-    """Of lines with the same ballot the first: the HTML of a letter repeats its text."""
-    found: dict[str, Line] = {}
-    for line in lines:
-        found.setdefault(line.ballot, line)
-    return list(found.values())
 
 
 def first_ballot(lines: Sequence[str], view: Sequence[BallotLine | None]) -> int | None:
