@@ -87,68 +87,36 @@ class Circumstances:
     # what acts decided, by the keys of the letters
     decisions: Mapping[str, Decision]
 
+    @property
+    def passed_over(self) -> tuple[str, ...]:
+        """The lines that may be anywhere in a letter: where letters have to be signed, the mark of the poll."""
+        return () if self.keys is None else (f"[{self.mark}]",)
+
     @functools.cached_property
     def electors_by_address(self) -> dict[str, list[str]]:
         """The electors who have an address, by its form without case."""
         found: dict[str, list[str]] = collections.defaultdict(list)
         for elector, addresses in self.addresses.items():
-            for key in dict.fromkeys(map(address_key, addresses)):
+            for key in dict.fromkeys(filter(None, map(address_key, addresses))):
                 found[key].append(elector)
         return dict(found)
 
     def elector_of(self, letter: ParsedLetter) -> Elector | None:
         """The one elector whose address the sender of a letter has."""
-        electors = self.electors_by_address.get(letter.sender, []) if letter.sender else []
+        electors = self.electors_by_address.get(letter.sender, [])
         return Elector(electors[0], self.real_names.get(electors[0], "")) if len(electors) == 1 else None
 
 
-@dataclasses.dataclass(frozen=True)
 class JudgedLetter:
-    """What becomes of a letter, and why."""
+    """A letter, and what becomes of it. The `reason` says why it waits or was set aside."""
 
-    letter: ParsedLetter
-    outcome: Outcome
-    # why it waits or was set aside
-    reason: Because | None
-    # the time of its ballot: that of the signature where letters have to be signed, else that of the arrival
-    time: datetime.datetime | None
-    # the lines that read as ballots; the first is the one that goes in. Each may be entered by its number, as may those that are offered
-    ballots: tuple[BallotLine, ...]
-    # ranks without a name, with that of the elector who seems to have sent them
-    offered: tuple[BallotLine, ...]
-    near: tuple[Near, ...]
-    # whose it is: the electors on its ballots, or near to one; else the one who has the sender's address
-    electors: tuple[str, ...]
-    # the other electors who have the sender's address
-    shared_with: tuple[str, ...]
-    other_words: str
-    has_voted_since: bool
-
-
-def judge_all(letters: Sequence[ParsedLetter], circumstances: Circumstances, reader: LineReader) -> list[JudgedLetter]:
-    """Judges letters in the order of their times; those without a time come last, in their order."""
-    found = [
-        readings_of(letter, circumstances.roll, circumstances.elector_of(letter), circumstances.language) for letter in letters
-    ]
-    asked = dict.fromkeys(line.encode() for readings in found for line in readings.asked())
-    asked |= dict.fromkeys(ballot.line.encode() for ballots in circumstances.ballots.values() for ballot in ballots)
-    answers = reader.answers(list(asked)) if asked else {}
-    cases = [Case(letter, readings.answered(answers), circumstances) for letter, readings in zip(letters, found)]
-    ordered = sorted(cases, key=lambda case: (case.time is None, case.time or circumstances.now))
-    # a line with an elector's name that debvote refuses is no ballot of theirs
-    box = Box()
-    for elector, ballots in circumstances.ballots.items():
-        for ballot in ballots:
-            if answers[ballot.line.encode()] is None:
-                box.add(elector, ballot)
-    return Judge(circumstances, ordered, box).judged()
-
-
-class Case:
-    """A letter while it is judged, with what its lines read as."""
+    outcome = Outcome.WAITS
+    reason: Because | None = None
+    has_voted_since = False
 
     def __init__(self, letter: ParsedLetter, readings: Readings, circumstances: Circumstances) -> None:
-        self.letter, self.readings = letter, readings
+        self.letter, self.readings, self.circumstances = letter, readings, circumstances
+        # the time of its ballot: that of the signature where letters have to be signed, else that of the arrival
         self.time = letter.signature.time if circumstances.keys is not None and letter.signature is not None else letter.arrived
         self.decision = circumstances.decisions.get(letter.key)
         text = letter.body.text
@@ -157,25 +125,55 @@ class Case:
         self.ballot = None if self.index is None else readings.views[0][self.index]
         # without `why_not_latest`, by which a letter depends on others
         self.why_by_itself = next(filter(None, (rule(self, circumstances) for rule in RULES)), None)
-        self.outcome: Outcome | None = None
-        self.reason: Because | None = None
 
     @property
     def elector(self) -> str:
         """The elector on its ballot."""
         return "" if self.ballot is None else self.ballot.elector
 
-    def ballot_lines(self) -> list[BallotLine]:
-        """The lines that read as ballots, the one that may go in first; a line that reads as one by itself and joined is one."""
-        lines = [*([] if self.ballot is None else [self.ballot]), *self.readings.lines()]
-        return list(dict.fromkeys(lines))
+    @functools.cached_property
+    def ballots(self) -> tuple[BallotLine, ...]:
+        """The lines that read as ballots, the one that may go in first; a line that reads as one by itself and joined is one. Each may be
+        entered by its number, as may those that are offered.
+        """
+        return tuple(dict.fromkeys((*filter(None, [self.ballot]), *self.readings.lines())))
+
+    @property
+    def offered(self) -> tuple[BallotLine, ...]:
+        """Ranks without a name, with that of the elector who seems to have sent them."""
+        return self.readings.offered
+
+    @property
+    def near(self) -> tuple[Near, ...]:
+        return () if self.ballots else self.readings.near
+
+    @functools.cached_property
+    def electors(self) -> tuple[str, ...]:
+        """Whose it is: the electors on its ballots, or near to one; else the one who has the sender's address."""
+        named = [line.elector for line in (*self.ballots, *self.offered)]
+        named += [name for near in self.readings.near if (name := near.ballot.partition(" ")[0]) in self.circumstances.roll]
+        sender = self.circumstances.elector_of(self.letter)
+        return tuple(dict.fromkeys(named)) or (() if sender is None else (sender.name,))
+
+    @property
+    def shared_with(self) -> tuple[str, ...]:
+        """The other electors who have the sender's address."""
+        sharing = self.circumstances.electors_by_address.get(self.letter.sender, [])
+        return tuple(name for name in sharing if name not in self.electors)
+
+    @property
+    def other_words(self) -> str:
+        """The beginning of the sender's own words beside their ballots."""
+        lines, view = self.letter.body.text.lines, self.readings.views[0]
+        own = (index for paragraph in paragraphs_of(lines, self.circumstances.passed_over) for index in paragraph)
+        return shown_text(" ".join(lines[index] for index in own if view[index] is None and not is_quoted(lines[index])))
 
 
-Rule = Callable[[Case, Circumstances], Because | None]
+Rule = Callable[[JudgedLetter, Circumstances], Because | None]
 
 
 # ---------------------------------------------------------------- the rules
-def can_be_read(case: Case, circumstances: Circumstances) -> Because | None:
+def can_be_read(case: JudgedLetter, circumstances: Circumstances) -> Because | None:
     letter, text = case.letter, case.letter.body.text
     if letter.is_parted_off:
         return Reason.PARTED_OFF()
@@ -189,7 +187,7 @@ def can_be_read(case: Case, circumstances: Circumstances) -> Because | None:
     return Reason.HTML(element=text.first_other) if is_odd else None
 
 
-def arrived_in_time(case: Case, circumstances: Circumstances) -> Because | None:
+def arrived_in_time(case: JudgedLetter, circumstances: Circumstances) -> Because | None:
     arrived, end, close = case.letter.arrived, circumstances.end, circumstances.first_close
     if arrived is None:
         return Reason.NO_ARRIVAL()
@@ -202,7 +200,7 @@ def arrived_in_time(case: Case, circumstances: Circumstances) -> Because | None:
     return Reason.IN_THE_FUTURE(arrived=arrived) if arrived > circumstances.now + AHEAD else None
 
 
-def is_sent_by_its_elector(case: Case, circumstances: Circumstances) -> Because | None:
+def is_sent_by_its_elector(case: JudgedLetter, circumstances: Circumstances) -> Because | None:
     sender, listed = case.letter.sender, circumstances.addresses.get(case.elector, ())
     if not sender:
         return Reason.NO_SENDER(sender=case.letter.shown_sender)
@@ -213,7 +211,7 @@ def is_sent_by_its_elector(case: Case, circumstances: Circumstances) -> Because 
     return Reason.OTHER_SENDER(sender=sender, listed=" and ".join(listed), elector=case.elector)
 
 
-def is_signed_by_its_elector(case: Case, circumstances: Circumstances) -> Because | None:
+def is_signed_by_its_elector(case: JudgedLetter, circumstances: Circumstances) -> Because | None:
     """Where letters have to be signed. It comes before the rules about the text: what is read as the text is what was signed."""
     letter, signature = case.letter, case.letter.signature
     if circumstances.keys is None or case.ballot is None:
@@ -233,22 +231,22 @@ def is_signed_by_its_elector(case: Case, circumstances: Circumstances) -> Becaus
     return None if has_mark else Reason.NO_MARK(mark=circumstances.mark)
 
 
-def has_one_ballot(case: Case, circumstances: Circumstances) -> Because | None:
+def has_one_ballot(case: JudgedLetter, circumstances: Circumstances) -> Because | None:
     """No other line reads as a ballot that differs. It comes before the rule about the greeting, whose reason would say less."""
-    lines = case.ballot_lines()
+    lines = case.ballots
     if len({line.ballot for line in lines}) <= 1:
         return None
     electors = sorted({line.elector for line in lines})
     return Reason.SEVERAL_ELECTORS(electors=", ".join(electors)) if len(electors) > 1 else Reason.TWO_BALLOTS()
 
 
-def ballot_is_first(case: Case, circumstances: Circumstances) -> Because | None:
+def ballot_is_first(case: JudgedLetter, circumstances: Circumstances) -> Because | None:
     """Of the lines as they stand, and joined if the letter says that they flow."""
     text = case.letter.body.text
     if case.ballot is None or case.index is None:
         if case.joined_index is not None:
             return Reason.JOINED()
-        elsewhere = case.ballot_lines()
+        elsewhere = case.ballots
         if elsewhere:
             return Reason.ELSEWHERE(number=elsewhere[0].number)
         return Reason.NO_NAME() if case.readings.offered else Reason.NO_BALLOT()
@@ -261,21 +259,15 @@ def ballot_is_first(case: Case, circumstances: Circumstances) -> Because | None:
     return placed(case, circumstances, text.joined, case.joined_index)
 
 
-def placed(case: Case, circumstances: Circumstances, lines: Sequence[str], index: int) -> Because | None:
+def placed(case: JudgedLetter, circumstances: Circumstances, lines: Sequence[str], index: int) -> Because | None:
     """Why the ballot is not the first of these lines."""
     answered = case.letter.in_reply_to
     is_answer = bool(answered) and answered in circumstances.our_letters.get(case.elector, ())
-    return why_not_first(
-        lines, index, is_answer=is_answer, is_html=case.letter.body.text.is_html, passed_over=passed_over_in(circumstances)
-    )
+    is_html, passed_over = case.letter.body.text.is_html, circumstances.passed_over
+    return why_not_first(lines, index, is_answer=is_answer, is_html=is_html, passed_over=passed_over)
 
 
-def passed_over_in(circumstances: Circumstances) -> tuple[str, ...]:
-    """The lines that may be anywhere: where letters have to be signed, the mark of the poll."""
-    return () if circumstances.keys is None else (f"[{circumstances.mark}]",)
-
-
-def is_of_this_vote(case: Case, circumstances: Circumstances) -> Because | None:
+def is_of_this_vote(case: JudgedLetter, circumstances: Circumstances) -> Because | None:
     """Where letters have to be signed, the marks in what is signed count, too."""
     signed = () if circumstances.keys is None else case.letter.shown_lines
     marks = [*case.letter.marks, *(mark for line in signed for mark in marks_of(line))]
@@ -327,15 +319,15 @@ class Copies:
     """
 
     is_hidden: bool = False
-    first: Case | None = None
-    waiting: dict[tuple[Because | None, Body], Case] = dataclasses.field(default_factory=dict)
+    first: JudgedLetter | None = None
+    waiting: dict[tuple[Because | None, Body], JudgedLetter] = dataclasses.field(default_factory=dict)
 
-    def note(self, case: Case) -> None:
+    def note(self, case: JudgedLetter) -> None:
         arrived, before = case.letter.arrived, None if self.first is None else self.first.letter.arrived
         if before is None or (arrived is not None and arrived < before):
             self.first = case
 
-    def hide(self, case: Case) -> None:
+    def hide(self, case: JudgedLetter) -> None:
         self.is_hidden = True
         self.note(case)
 
@@ -343,8 +335,8 @@ class Copies:
 class Judge:
     """Judges letters in the order of their times, and adds the ballots that go in to those that are in."""
 
-    def __init__(self, circumstances: Circumstances, cases: Sequence[Case], box: Box) -> None:
-        self.circumstances, self.cases, self.box = circumstances, cases, box
+    def __init__(self, cases: Sequence[JudgedLetter], box: Box) -> None:
+        self.cases, self.box = cases, box
         self.copies: dict[str, Copies] = collections.defaultdict(Copies)
         # the ballots that may go in, by elector and time
         self.at_once: dict[tuple[str, datetime.datetime], set[str]] = collections.defaultdict(set)
@@ -352,7 +344,7 @@ class Judge:
             if case.decision is not None:
                 self.note_decided(case, case.decision)
         # of copies the first
-        firsts: dict[str, Case] = {}
+        firsts: dict[str, JudgedLetter] = {}
         for case in cases:
             if case.decision is None and case.why_by_itself is None and not self.copies[case.letter.identity].is_hidden:
                 firsts.setdefault(case.letter.identity, case)
@@ -360,7 +352,7 @@ class Judge:
             assert case.ballot is not None and case.time is not None
             self.at_once[case.elector, case.time].add(case.ballot.ballot)
 
-    def note_decided(self, case: Case, decision: Decision) -> None:
+    def note_decided(self, case: JudgedLetter, decision: Decision) -> None:
         """Copies of a letter are passed over if it went in or may have gone in. One that waits by a rule hides no other, whatever an act
         decided of it.
         """
@@ -377,9 +369,10 @@ class Judge:
             copies = self.copies[case.letter.identity]
             if case.outcome is Outcome.WAITS and case.decision is None and copies.is_hidden:
                 case.outcome, case.reason = self.as_copy(case, copies.first)
-        return [self.judged_letter(case) for case in self.cases]
+            case.has_voted_since = any(self.box.has_later(elector, case.time) for elector in case.electors)
+        return list(self.cases)
 
-    def outcome_of(self, case: Case) -> tuple[Outcome, Because | None]:
+    def outcome_of(self, case: JudgedLetter) -> tuple[Outcome, Because | None]:
         """What becomes of a letter, after those before it."""
         copies = self.copies[case.letter.identity]
         if copies.is_hidden or (case.why_by_itself is None and copies.first is not None):
@@ -396,16 +389,16 @@ class Judge:
         copies.waiting[why, case.letter.body] = case
         return Outcome.WAITS, why
 
-    def as_copy(self, case: Case, first: Case | None) -> tuple[Outcome, Because | None]:
+    def as_copy(self, case: JudgedLetter, first: JudgedLetter | None) -> tuple[Outcome, Because | None]:
         """A copy of a letter that arrived before it is passed over, unless another ballot of its elector came between."""
         arrived, before = case.letter.arrived, None if first is None else first.letter.arrived
         if first is not None and first.time is not None and before is not None and arrived is not None and arrived > before:
-            for line in (*case.ballot_lines(), *case.readings.offered):
+            for line in (*case.ballots, *case.readings.offered):
                 if self.box.has_between(line.elector, first.time, arrived):
                     return Outcome.WAITS, Reason.CAME_BEFORE(elector=line.elector)
         return Outcome.COPY, None
 
-    def why_not_latest(self, case: Case) -> Because | None:
+    def why_not_latest(self, case: JudgedLetter) -> Because | None:
         """Its time is later than that of every ballot of its elector; at the same time it is the same ballot."""
         assert case.ballot is not None and case.time is not None
         elector, time, last = case.elector, case.time, self.box.last(case.elector)
@@ -414,31 +407,21 @@ class Judge:
         same_time = self.box.lines[elector, time] | self.at_once[elector, time]
         return Reason.SAME_TIME(elector=elector, time=time) if same_time - {case.ballot.ballot} else None
 
-    # ---------------------------------------------------------------- what is shown of it
-    def judged_letter(self, case: Case) -> JudgedLetter:
-        assert case.outcome is not None
-        letter, sender = case.letter, self.circumstances.elector_of(case.letter)
-        ballots = case.ballot_lines()
-        named = [line.elector for line in (*ballots, *case.readings.offered)]
-        named += [name for near in case.readings.near if (name := near.ballot.partition(" ")[0]) in self.circumstances.roll]
-        electors = list(dict.fromkeys(named)) or ([] if sender is None else [sender.name])
-        sharing = self.circumstances.electors_by_address.get(letter.sender, []) if letter.sender else []
-        return JudgedLetter(
-            letter=letter,
-            outcome=case.outcome,
-            reason=case.reason,
-            time=case.time,
-            ballots=tuple(ballots),
-            offered=case.readings.offered,
-            near=() if ballots else case.readings.near,
-            electors=tuple(electors),
-            shared_with=tuple(name for name in sharing if name not in electors),
-            other_words=self.other_words_of(case),
-            has_voted_since=any(self.box.has_later(elector, case.time) for elector in electors),
-        )
 
-    def other_words_of(self, case: Case) -> str:
-        """The beginning of the sender's own words beside their ballots."""
-        lines, view = case.letter.body.text.lines, case.readings.views[0]
-        own = [index for paragraph in paragraphs_of(lines, passed_over_in(self.circumstances)) for index in paragraph]
-        return shown_text(" ".join(lines[index] for index in own if view[index] is None and not is_quoted(lines[index])))
+def judge_all(letters: Sequence[ParsedLetter], circumstances: Circumstances, reader: LineReader) -> list[JudgedLetter]:
+    """Judges letters in the order of their times; those without a time come last, in their order."""
+    found = [
+        readings_of(letter, circumstances.roll, circumstances.elector_of(letter), circumstances.language) for letter in letters
+    ]
+    asked = dict.fromkeys(line.encode() for readings in found for line in readings.asked())
+    asked |= dict.fromkeys(ballot.line.encode() for ballots in circumstances.ballots.values() for ballot in ballots)
+    answers = reader.answers(list(asked)) if asked else {}
+    cases = [JudgedLetter(letter, readings.answered(answers), circumstances) for letter, readings in zip(letters, found)]
+    ordered = sorted(cases, key=lambda case: (case.time is None, case.time or circumstances.now))
+    # a line with an elector's name that debvote refuses is no ballot of theirs
+    box = Box()
+    for elector, ballots in circumstances.ballots.items():
+        for ballot in ballots:
+            if answers[ballot.line.encode()] is None:
+                box.add(elector, ballot)
+    return Judge(ordered, box).judged()

@@ -73,7 +73,7 @@ DAEMON = re.compile(r"(?:mailer-daemon|postmaster)@", re.IGNORECASE)
 @dataclasses.dataclass(frozen=True)
 class Text:
     """The text of a letter: its lines as they stand and, if the letter says that they flow, joined, each with the index of its first line.
-    Of HTML the first `plain_lines` have plain marks alone, `first_other` is the first other mark, and `pieces` are what may be lines, too.
+    Of HTML the first `plain_lines` have plain marks alone, and `first_other` is the first other mark.
     """
 
     lines: tuple[str, ...] = ()
@@ -82,7 +82,6 @@ class Text:
     is_html: bool = False
     plain_lines: int = 0
     first_other: str = ""
-    pieces: tuple[str, ...] = ()
 
 
 @dataclasses.dataclass(frozen=True)
@@ -199,11 +198,8 @@ def decoded(value: str) -> str:
         parts = email.header.decode_header(value)
     except Exception:
         parts = [(value, None)]
-    return " ".join("".join(decoded_word(word, charset) for word, charset in parts).split())
-
-
-def decoded_word(word: str | bytes, charset: str | None) -> str:
-    return word if isinstance(word, str) else decoded_bytes(word, charset or "latin-1")
+    words = (word if isinstance(word, str) else decoded_bytes(word, charset or "latin-1") for word, charset in parts)
+    return " ".join("".join(words).split())
 
 
 def decoded_bytes(data: bytes, charset: str) -> str:
@@ -298,11 +294,11 @@ def read_body(data: bytes) -> Body:
     try:
         demand_readable(data)
         message = email.message_from_bytes(data)
-        leaves = [leaf for leaf in leaves_of(message) if leaf.part.get_content_maintype() == "text"]
-        length = sum(len(str(leaf.part.get_payload())) for leaf in leaves)
+        leaves = [(part, is_own) for part, is_own in leaves_of(message) if part.get_content_maintype() == "text"]
+        length = sum(len(str(part.get_payload())) for part, _ in leaves)
         if length > MAX_TEXTS:
             raise Unread(Reason.TOO_LONG(length=length, what="bytes in all its texts", limit=MAX_TEXTS))
-        texts = [text_of(leaf.part) for leaf in leaves]
+        texts = [text_of(part) for part, _ in leaves]
         trouble = trouble_of(message, leaves)
     except Unread as error:
         return Body(trouble=error.because)
@@ -311,12 +307,13 @@ def read_body(data: bytes) -> Body:
         return Body(trouble=Reason.DEFECT(defect=type(error).__name__))
     if LONE_RETURN.search(data):
         trouble = trouble or Reason.LINE_END(character="U+000D")
-    first = texts[0] if texts else Text()
-    lines = [line for text in texts[1:] for line in (*text.lines, *text.joined, *text.pieces)]
+    first = texts[0][0] if texts else Text()
+    lines = [line for text, _ in texts[1:] for line in (*text.lines, *text.joined)]
+    lines += [line for _, pieces in texts for line in pieces]
     # around the parts no program shows a text, but a letter may be there that a mailbox did not part
     around = "\n".join(text for part in message.walk() for text in (part.preamble, part.epilogue) if text)
     lines += decoded_bytes(around.encode("ascii", "surrogateescape"), "utf-8").splitlines()
-    own, others = ({" ".join(line.split()): None for line in some} for some in (first.lines, (*first.pieces, *lines)))
+    own, others = ({" ".join(line.split()): None for line in some} for some in (first.lines, lines))
     other_lines = [line for line in others if line not in own and may_be_ballot(line)]
     count = len(other_lines) + sum(map(may_be_ballot, first.lines))
     if count > MAX_LINES:
@@ -347,16 +344,10 @@ def demand_readable(data: bytes) -> None:
         raise Unread(Reason.TOO_MANY_PARTS())
 
 
-@dataclasses.dataclass(frozen=True, eq=False)
-class Leaf:
-    """A part without parts, and whether it may be the text of the letter: only such parts are around it as mail programs put there."""
-
-    part: email.message.Message
-    is_own: bool
-
-
-def leaves_of(part: email.message.Message, *, is_own: bool = True) -> Iterator[Leaf]:
-    """The parts of a letter without parts, in their order."""
+def leaves_of(part: email.message.Message, *, is_own: bool = True) -> Iterator[tuple[email.message.Message, bool]]:
+    """The parts of a letter without parts, in their order, and whether each may be the text of the letter: only such parts are around it as
+    mail programs put there.
+    """
     demand_plain_description(part)
     is_own = is_own and part.get_content_disposition() in (None, "inline") and part.get_filename() is None
     payload = part.get_payload()
@@ -366,7 +357,7 @@ def leaves_of(part: email.message.Message, *, is_own: bool = True) -> Iterator[L
     elif part.get_content_maintype() == "multipart":
         raise Unread(Reason.DEFECT(defect="NoBoundaryInMultipartDefect"))
     else:
-        yield Leaf(part, is_own)
+        yield part, is_own
 
 
 def demand_plain_description(part: email.message.Message) -> None:
@@ -401,7 +392,7 @@ def coding_of(part: email.message.Message) -> str:
     return " ".join(fields(part, "content-transfer-encoding")).strip().lower()
 
 
-def trouble_of(message: email.message.Message, leaves: Sequence[Leaf]) -> Because | None:
+def trouble_of(message: email.message.Message, leaves: Sequence[tuple[email.message.Message, bool]]) -> Because | None:
     """Why a letter with these parts of text can't be read with certainty; None if it can. Their texts were decoded before, so that each
     part has its defects.
     """
@@ -411,10 +402,11 @@ def trouble_of(message: email.message.Message, leaves: Sequence[Leaf]) -> Becaus
     defects = [type(defect).__name__ for part in parts for defect in part.defects]
     if defects:
         return Reason.DEFECT(defect=defects[0])
-    kind = leaves[0].part.get_content_type() if leaves and leaves[0].is_own else ""
+    first, is_own = leaves[0] if leaves else (message, False)
+    kind = first.get_content_type() if is_own else ""
     if kind != "text/plain" and (kind != "text/html" or len(leaves) > 1):
         return Reason.NO_PLAIN_TEXT()
-    return trouble_of_text(leaves[0].part) or next(filter(None, (trouble_of_coding(leaf.part) for leaf in leaves)), None)
+    return trouble_of_text(first) or next(filter(None, (trouble_of_coding(part) for part, _ in leaves)), None)
 
 
 def trouble_of_coding(part: email.message.Message) -> Because | None:
@@ -450,18 +442,18 @@ def payload_of(part: email.message.Message) -> bytes:
     return data
 
 
-def text_of(part: email.message.Message) -> Text:
-    """The lines of a part, as far as they can be read."""
+def text_of(part: email.message.Message) -> tuple[Text, tuple[str, ...]]:
+    """The lines of a part, as far as they can be read, and what else of it may be lines."""
     text = decoded_bytes(payload_of(part), str(part.get_content_charset() or "utf-8")).removeprefix("\ufeff")
     kind = part.get_content_type()
     found = read_html("" if kind == "text/plain" else text)
     if kind == "text/html":
-        return Text(found.lines, (), (), True, found.plain_lines, found.first_other, found.pieces)
+        return Text(found.lines, (), (), True, found.plain_lines, found.first_other), found.pieces
     lines = ODD_END.sub("\n", text.replace("\r\n", "\n")).split("\n")
     while lines and not lines[-1]:
         lines.pop()
     # some other kinds are HTML, too
-    return dataclasses.replace(plain_text(part, lines), pieces=found.lines + found.pieces)
+    return plain_text(part, lines), found.lines + found.pieces
 
 
 def plain_text(part: email.message.Message, lines: Sequence[str]) -> Text:
