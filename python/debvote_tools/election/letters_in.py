@@ -7,7 +7,6 @@
 
 import contextlib
 import dataclasses
-import datetime
 import pathlib
 from collections.abc import Collection, Iterator, Mapping, Sequence
 
@@ -29,24 +28,6 @@ from debvote_tools.letters.parse import ParsedLetter, as_json, from_json, parse
 from debvote_tools.letters.signatures import find_gpgv, verified
 from debvote_tools.letters.sources import PassedOver, RawLetter, letters_of_file, letters_of_folder
 from debvote_tools.secret.codes import CODE_WITHIN, looks_like_code
-
-
-@dataclasses.dataclass(frozen=True)
-class LetterNow:
-    """A letter that the book has, and what becomes of it now. One that is only looked at has the number 0."""
-
-    number: int
-    judged: JudgedLetter
-    # whether it arrived before the call, or after the end or the first close, whatever it waits for
-    is_before_call: bool
-    is_late: bool
-    # the lines, from 1, with what looks like a code or an alias, in a secret vote with names on the roll
-    code_lines: tuple[int, ...] = ()
-
-    @property
-    def waits(self) -> bool:
-        """Whether it waits for the secretary: to be agreed to, or to be looked at."""
-        return self.judged.outcome in (Outcome.GOES_IN, Outcome.WAITS)
 
 
 # ---------------------------------------------------------------- what came
@@ -109,7 +90,7 @@ def keep(book: Book, raws: Sequence[RawLetter], found: Sequence[ParsedLetter]) -
 
 
 # ---------------------------------------------------------------- how they are judged
-def waiting_now(election: Election, history: History) -> list[LetterNow]:
+def waiting_now(election: Election, history: History) -> list[JudgedLetter]:
     """The letters that wait for the secretary."""
     kept = letters.letters(election.book)
     # where letters have to be signed, what was signed says which are copies, which the book may not have known when they came
@@ -120,7 +101,7 @@ def waiting_now(election: Election, history: History) -> list[LetterNow]:
 
 def judged(
     election: Election, history: History, kept: Sequence[KeptLetter], looked_at: Sequence[ParsedLetter] = ()
-) -> list[LetterNow]:
+) -> list[JudgedLetter]:
     """Letters that came, as they are judged now, in the order of their times; and others that are only looked at."""
     found = kept_letters(election, kept)
     numbers = {letter.key: kept_letter.number for letter, kept_letter in zip(found, kept)}
@@ -129,21 +110,12 @@ def judged(
     vote = vote_of(election, history)
     circumstances = circumstances_of(election, history, list(zip(found, kept)))
     no_codes_expected = election.sealed().counted.secret and not vote.has_codes
-    return [
-        LetterNow(
-            numbers.get(one.letter.key, 0),
-            one,
-            *is_early_or_late(one.letter.arrived, circumstances),
-            code_lines(one.letter) if no_codes_expected else (),
-        )
-        for one in judge_all([*found, *looked_at], circumstances, vote)
-    ]
-
-
-def is_early_or_late(arrived: datetime.datetime | None, circumstances: Circumstances) -> tuple[bool, bool]:
-    """Whether a time is before the call, or after the end or the first close; neither if it is not known."""
-    ends = filter(None, (circumstances.end, circumstances.first_close))
-    return (False, False) if arrived is None else (arrived <= circumstances.called, any(arrived > end for end in ends))
+    letters_now = judge_all([*found, *looked_at], circumstances, vote)
+    for letter in letters_now:
+        letter.number = numbers.get(letter.parsed.key, 0)
+        if no_codes_expected:
+            letter.code_lines = code_lines(letter.parsed)
+    return letters_now
 
 
 def code_lines(letter: ParsedLetter) -> tuple[int, ...]:
@@ -211,21 +183,21 @@ class LettersPlan:
     decided_at: int = dataclasses.field(compare=False)
     is_late: bool
     going_in: tuple[tuple[int, str], ...]
-    letters: tuple[LetterNow, ...] = dataclasses.field(compare=False)
+    letters: tuple[JudgedLetter, ...] = dataclasses.field(compare=False)
 
 
 def plan_of(election: Election, looked_at: Sequence[ParsedLetter] = ()) -> LettersPlan:
     """What goes in now."""
     history = election.history()
     found = judged(election, history, letters.letters(election.book), looked_at)
-    going_in = [letter for letter in found if letter.judged.outcome is Outcome.GOES_IN]
-    pairs = tuple((letter.number, letter.judged.ballots[0].ballot) for letter in going_in)
+    going_in = [letter for letter in found if letter.outcome is Outcome.GOES_IN]
+    pairs = tuple((letter.number, letter.ballots[0].ballot) for letter in going_in)
     return LettersPlan(history.last.number, history.is_closed, pairs, tuple(found))
 
 
 def enter(election: Election, vote: Vote, plan: LettersPlan) -> contextlib.AbstractContextManager[Entered]:
     """The act: the ballots go in."""
-    by_number = {letter.number: letter.judged for letter in plan.letters}
+    by_number = {letter.number: letter for letter in plan.letters}
     kept = {letter.number: letter for letter in letters.letters(election.book)}
 
     def envelopes(act: Act) -> Iterator[NewEnvelope]:
@@ -244,7 +216,7 @@ def new_envelope(kept: KeptLetter, ballot: str, judged_letter: JudgedLetter) -> 
 
 def is_late(history: History, letter: JudgedLetter) -> bool:
     """Whether what is entered of a letter now is late: the vote is closed, or was reopened for what had arrived before the first close."""
-    arrived = letter.letter.arrived
+    arrived = letter.parsed.arrived
     if history.is_reopened and (arrived is None or arrived > history.closes[0].time):
         return True
     return history.is_closed

@@ -113,9 +113,13 @@ class JudgedLetter:
     outcome = Outcome.WAITS
     reason: Because | None = None
     has_voted_since = False
+    # its number in the book; one that is only looked at has 0
+    number = 0
+    # the lines, from 1, with what looks like a code or an alias, in a secret vote with names on the roll
+    code_lines: tuple[int, ...] = ()
 
     def __init__(self, letter: ParsedLetter, readings: Readings, circumstances: Circumstances) -> None:
-        self.letter, self.readings, self.circumstances = letter, readings, circumstances
+        self.parsed, self.readings, self.circumstances = letter, readings, circumstances
         # the time of its ballot: that of the signature where letters have to be signed, else that of the arrival
         self.time = letter.signature.time if circumstances.keys is not None and letter.signature is not None else letter.arrived
         self.decision = circumstances.decisions.get(letter.key)
@@ -125,6 +129,22 @@ class JudgedLetter:
         self.ballot = None if self.index is None else readings.views[0][self.index]
         # without `why_not_latest`, by which a letter depends on others
         self.why_by_itself = next(filter(None, (rule(self, circumstances) for rule in RULES)), None)
+
+    @property
+    def waits(self) -> bool:
+        """Whether it waits for the secretary: to be agreed to, or to be looked at."""
+        return self.outcome in (Outcome.GOES_IN, Outcome.WAITS)
+
+    @property
+    def arrived_before_call(self) -> bool:
+        """Whether it arrived before the call, whatever it waits for."""
+        return self.parsed.arrived is not None and self.parsed.arrived <= self.circumstances.called
+
+    @property
+    def arrived_late(self) -> bool:
+        """Whether it arrived after the end or the first close, whatever it waits for."""
+        ends = filter(None, (self.circumstances.end, self.circumstances.first_close))
+        return any(self.parsed.arrived is not None and self.parsed.arrived > end for end in ends)
 
     @property
     def elector(self) -> str:
@@ -152,19 +172,19 @@ class JudgedLetter:
         """Whose it is: the electors on its ballots, or near to one; else the one who has the sender's address."""
         named = [line.elector for line in (*self.ballots, *self.offered)]
         named += [name for near in self.readings.near if (name := near.ballot.partition(" ")[0]) in self.circumstances.roll]
-        sender = self.circumstances.elector_of(self.letter)
+        sender = self.circumstances.elector_of(self.parsed)
         return tuple(dict.fromkeys(named)) or (() if sender is None else (sender.name,))
 
     @property
     def shared_with(self) -> tuple[str, ...]:
         """The other electors who have the sender's address."""
-        sharing = self.circumstances.electors_by_address.get(self.letter.sender, [])
+        sharing = self.circumstances.electors_by_address.get(self.parsed.sender, [])
         return tuple(name for name in sharing if name not in self.electors)
 
     @property
     def other_words(self) -> str:
         """The beginning of the sender's own words beside their ballots."""
-        lines, view = self.letter.body.text.lines, self.readings.views[0]
+        lines, view = self.parsed.body.text.lines, self.readings.views[0]
         own = (index for paragraph in paragraphs_of(lines, self.circumstances.passed_over) for index in paragraph)
         return shown_text(" ".join(lines[index] for index in own if view[index] is None and not is_quoted(lines[index])))
 
@@ -174,7 +194,7 @@ Rule = Callable[[JudgedLetter, Circumstances], Because | None]
 
 # ---------------------------------------------------------------- the rules
 def can_be_read(case: JudgedLetter, circumstances: Circumstances) -> Because | None:
-    letter, text = case.letter, case.letter.body.text
+    letter, text = case.parsed, case.parsed.body.text
     if letter.is_parted_off:
         return Reason.PARTED_OFF()
     if letter.is_automatic:
@@ -188,7 +208,7 @@ def can_be_read(case: JudgedLetter, circumstances: Circumstances) -> Because | N
 
 
 def arrived_in_time(case: JudgedLetter, circumstances: Circumstances) -> Because | None:
-    arrived, end, close = case.letter.arrived, circumstances.end, circumstances.first_close
+    arrived, end, close = case.parsed.arrived, circumstances.end, circumstances.first_close
     if arrived is None:
         return Reason.NO_ARRIVAL()
     if arrived <= circumstances.called:
@@ -201,9 +221,9 @@ def arrived_in_time(case: JudgedLetter, circumstances: Circumstances) -> Because
 
 
 def is_sent_by_its_elector(case: JudgedLetter, circumstances: Circumstances) -> Because | None:
-    sender, listed = case.letter.sender, circumstances.addresses.get(case.elector, ())
+    sender, listed = case.parsed.sender, circumstances.addresses.get(case.elector, ())
     if not sender:
-        return Reason.NO_SENDER(sender=case.letter.shown_sender)
+        return Reason.NO_SENDER(sender=case.parsed.shown_sender)
     if case.ballot is None or sender in map(address_key, listed):
         return None
     if not listed:
@@ -213,7 +233,7 @@ def is_sent_by_its_elector(case: JudgedLetter, circumstances: Circumstances) -> 
 
 def is_signed_by_its_elector(case: JudgedLetter, circumstances: Circumstances) -> Because | None:
     """Where letters have to be signed. It comes before the rules about the text: what is read as the text is what was signed."""
-    letter, signature = case.letter, case.letter.signature
+    letter, signature = case.parsed, case.parsed.signature
     if circumstances.keys is None or case.ballot is None:
         return None
     if signature is None:
@@ -242,7 +262,7 @@ def has_one_ballot(case: JudgedLetter, circumstances: Circumstances) -> Because 
 
 def ballot_is_first(case: JudgedLetter, circumstances: Circumstances) -> Because | None:
     """Of the lines as they stand, and joined if the letter says that they flow."""
-    text = case.letter.body.text
+    text = case.parsed.body.text
     if case.ballot is None or case.index is None:
         if case.joined_index is not None:
             return Reason.JOINED()
@@ -261,16 +281,16 @@ def ballot_is_first(case: JudgedLetter, circumstances: Circumstances) -> Because
 
 def placed(case: JudgedLetter, circumstances: Circumstances, lines: Sequence[str], index: int) -> Because | None:
     """Why the ballot is not the first of these lines."""
-    answered = case.letter.in_reply_to
+    answered = case.parsed.in_reply_to
     is_answer = bool(answered) and answered in circumstances.our_letters.get(case.elector, ())
-    is_html, passed_over = case.letter.body.text.is_html, circumstances.passed_over
+    is_html, passed_over = case.parsed.body.text.is_html, circumstances.passed_over
     return why_not_first(lines, index, is_answer=is_answer, is_html=is_html, passed_over=passed_over)
 
 
 def is_of_this_vote(case: JudgedLetter, circumstances: Circumstances) -> Because | None:
     """Where letters have to be signed, the marks in what is signed count, too."""
-    signed = () if circumstances.keys is None else case.letter.shown_lines
-    marks = [*case.letter.marks, *(mark for line in signed for mark in marks_of(line))]
+    signed = () if circumstances.keys is None else case.parsed.shown_lines
+    marks = [*case.parsed.marks, *(mark for line in signed for mark in marks_of(line))]
     other = next((mark for mark in marks if mark != circumstances.mark), None)
     return None if other is None else Reason.OTHER_MARK(mark=other)
 
@@ -323,7 +343,7 @@ class Copies:
     waiting: dict[tuple[Because | None, Body], JudgedLetter] = dataclasses.field(default_factory=dict)
 
     def note(self, case: JudgedLetter) -> None:
-        arrived, before = case.letter.arrived, None if self.first is None else self.first.letter.arrived
+        arrived, before = case.parsed.arrived, None if self.first is None else self.first.parsed.arrived
         if before is None or (arrived is not None and arrived < before):
             self.first = case
 
@@ -346,8 +366,8 @@ class Judge:
         # of copies the first
         firsts: dict[str, JudgedLetter] = {}
         for case in cases:
-            if case.decision is None and case.why_by_itself is None and not self.copies[case.letter.identity].is_hidden:
-                firsts.setdefault(case.letter.identity, case)
+            if case.decision is None and case.why_by_itself is None and not self.copies[case.parsed.identity].is_hidden:
+                firsts.setdefault(case.parsed.identity, case)
         for case in firsts.values():
             assert case.ballot is not None and case.time is not None
             self.at_once[case.elector, case.time].add(case.ballot.ballot)
@@ -356,17 +376,17 @@ class Judge:
         """Copies of a letter are passed over if it went in or may have gone in. One that waits by a rule hides no other, whatever an act
         decided of it.
         """
-        copies = self.copies[case.letter.identity]
+        copies = self.copies[case.parsed.identity]
         if decision in (Decision.ENTERED, Decision.TAKEN_BACK, Decision.STRUCK) or case.why_by_itself is None:
             copies.hide(case)
-        copies.waiting.setdefault((case.why_by_itself, case.letter.body), case)
+        copies.waiting.setdefault((case.why_by_itself, case.parsed.body), case)
 
     def judged(self) -> list[JudgedLetter]:
         for case in self.cases:
             case.outcome, case.reason = DECIDED[case.decision] if case.decision is not None else self.outcome_of(case)
         # one that waits is a copy, too, of one that came later and goes in
         for case in self.cases:
-            copies = self.copies[case.letter.identity]
+            copies = self.copies[case.parsed.identity]
             if case.outcome is Outcome.WAITS and case.decision is None and copies.is_hidden:
                 case.outcome, case.reason = self.as_copy(case, copies.first)
             case.has_voted_since = any(self.box.has_later(elector, case.time) for elector in case.electors)
@@ -374,7 +394,7 @@ class Judge:
 
     def outcome_of(self, case: JudgedLetter) -> tuple[Outcome, Because | None]:
         """What becomes of a letter, after those before it."""
-        copies = self.copies[case.letter.identity]
+        copies = self.copies[case.parsed.identity]
         if copies.is_hidden or (case.why_by_itself is None and copies.first is not None):
             return self.as_copy(case, copies.first)
         why = case.why_by_itself or self.why_not_latest(case)
@@ -384,14 +404,14 @@ class Judge:
             return Outcome.GOES_IN, None
         if case.why_by_itself is None:
             copies.note(case)
-        if (why, case.letter.body) in copies.waiting:
-            return self.as_copy(case, copies.waiting[why, case.letter.body])
-        copies.waiting[why, case.letter.body] = case
+        if (why, case.parsed.body) in copies.waiting:
+            return self.as_copy(case, copies.waiting[why, case.parsed.body])
+        copies.waiting[why, case.parsed.body] = case
         return Outcome.WAITS, why
 
     def as_copy(self, case: JudgedLetter, first: JudgedLetter | None) -> tuple[Outcome, Because | None]:
         """A copy of a letter that arrived before it is passed over, unless another ballot of its elector came between."""
-        arrived, before = case.letter.arrived, None if first is None else first.letter.arrived
+        arrived, before = case.parsed.arrived, None if first is None else first.parsed.arrived
         if first is not None and first.time is not None and before is not None and arrived is not None and arrived > before:
             for line in (*case.ballots, *case.readings.offered):
                 if self.box.has_between(line.elector, first.time, arrived):
