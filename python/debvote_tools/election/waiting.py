@@ -23,6 +23,10 @@ def waiting_letters(election: Election, history: History) -> dict[int, Arrived]:
     from debvote_tools.election.letters_in import waiting_now
 
     return {
-        letter.number: Arrived.BEFORE_THE_CALL if letter.arrived_before_call else Arrived.LATE if letter.arrived_late else Arrived.IN_TIME
+        letter.number: Arrived.BEFORE_THE_CALL
+        if letter.arrived_before_call
+        else Arrived.LATE
+        if letter.arrived_late
+        else Arrived.IN_TIME
         for letter in waiting_now(election, history)
     }

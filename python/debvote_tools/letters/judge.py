@@ -113,8 +113,8 @@ class JudgedLetter:
     outcome = Outcome.WAITS
     reason: Because | None = None
     has_voted_since = False
-    # its number in the book; one that is only looked at has 0
-    number = 0
+    # its number and its source in the book; one that is only looked at has 0
+    number = source = 0
     # the lines, from 1, with what looks like a code or an alias, in a secret vote with names on the roll
     code_lines: tuple[int, ...] = ()
 

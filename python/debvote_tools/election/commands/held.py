@@ -129,14 +129,13 @@ def enter(election: Election, arguments: Arguments, number: int, lines: str) -> 
     [letter] = chosen_letters(all_letters(election), [number])
     ballots = chosen_ballots(letter, lines)
     demand_waits(letter, has_force=arguments.force)
-    [kept] = [kept for kept in letters.letters(book) if kept.number == number]
     # a ballot of the letter that was struck was entered, too
     before = queries.envelopes(book, f"letter = ? AND envelope.{NOT_UNDONE}", number)
     done = {name_in(envelope.line).decode("ascii") for envelope in before} | {line.elector for line in ballots}
     is_done = all(line.elector in done for line in letter.ballots)
 
     def envelopes(act: Act) -> Iterator[NewEnvelope]:
-        yield from (letters_in.new_envelope(kept, line.ballot, letter) for line in ballots)
+        yield from (letters_in.new_envelope(letter, line) for line in ballots)
         if is_done:
             letters.decide(act, number, letters.ENTERED)
 
