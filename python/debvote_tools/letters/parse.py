@@ -56,6 +56,8 @@ CHARSETS = re.compile(r"utf-?8|us-ascii|ascii|iso-?8859-\d{1,2}|(?:windows-|cp)1
 SHOWN_CHARSETS = re.compile(
     r"(?:us-)?ascii|(?:big5|cp|euc|gb|hz|iso|koi|ks|latin|mac|shift|tis|utf|windows)[\w.:-]*", re.IGNORECASE
 )
+# control characters that mail programs show as Windows has them, such as a dash
+AS_WINDOWS = {number: bytes([number]).decode("cp1252", "replace") for number in range(0x80, 0xA0) if number != ord("\x85")}
 CONTAINERS = ("multipart/alternative", "multipart/mixed", "multipart/related", "multipart/signed")
 PACKED = ("multipart/encrypted", "application/pgp-encrypted", "application/pkcs7-mime", "application/x-pkcs7-mime")
 
@@ -205,9 +207,10 @@ def decoded(value: str) -> str:
 def decoded_bytes(data: bytes, charset: str) -> str:
     """A text as its character set has it, or as Latin-1. Halves of characters, which some character sets have, are none."""
     try:
-        return data.decode(charset if SHOWN_CHARSETS.fullmatch(charset) else "latin-1").encode("utf-8", "replace").decode("utf-8")
+        text = data.decode(charset if SHOWN_CHARSETS.fullmatch(charset) else "latin-1").encode("utf-8", "replace").decode("utf-8")
     except (ValueError, LookupError):
-        return data.decode("latin-1")
+        text = data.decode("latin-1")
+    return text if text.isascii() else text.translate(AS_WINDOWS)
 
 
 def plain_id(values: Sequence[str]) -> str:
