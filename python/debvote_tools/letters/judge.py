@@ -131,6 +131,11 @@ class JudgedLetter:
         self.why_by_itself = next(filter(None, (rule(self, circumstances) for rule in RULES)), None)
 
     @property
+    def hides(self) -> bool:
+        """Whether its copies are passed over: it went in, or may go in by itself."""
+        return self.why_by_itself is None or self.decision in (Decision.ENTERED, Decision.TAKEN_BACK, Decision.STRUCK)
+
+    @property
     def waits(self) -> bool:
         """Whether it waits for the secretary: to be agreed to, or to be looked at."""
         return self.outcome in (Outcome.GOES_IN, Outcome.WAITS)
@@ -329,103 +334,72 @@ class Box:
 
     def has_between(self, elector: str, after: datetime.datetime, until: datetime.datetime) -> bool:
         times = self.times[elector]
-        return bisect.bisect_right(times, after) < bisect.bisect_right(times, until)
+        return bisect.bisect_right(times, after) < bisect.bisect_left(times, until)
 
 
-@dataclasses.dataclass
-class Copies:
-    """The letters with one identity that were judged so far: whether one hides the others, and which one arrived first of those that do, or
-    wait for a ballot beside them alone; and the first one that waits for each reason, with this body.
+def set_outcomes(cases: Sequence[JudgedLetter], box: Box) -> None:
+    """Sets what becomes of letters, in the order of their times. The ballots that go in are added to those that are in."""
+    groups: dict[str, list[JudgedLetter]] = collections.defaultdict(list)
+    for case in cases:
+        groups[case.parsed.identity].append(case)
+        if case.decision is not None:
+            case.outcome, case.reason = DECIDED[case.decision]
+    # of copies that may go in the first, if no act decided of one
+    hidden = {case.parsed.identity for case in cases if case.decision is not None and case.hides}
+    firsts: dict[str, JudgedLetter] = {}
+    for case in cases:
+        if case.why_by_itself is None and case.parsed.identity not in hidden:
+            firsts.setdefault(case.parsed.identity, case)
+    at_once: dict[tuple[str, datetime.datetime | None], set[str]] = collections.defaultdict(set)
+    for case in firsts.values():
+        at_once[case.elector, case.time] |= {line.ballot for line in case.ballots}
+    for case in firsts.values():
+        case.reason = why_not_latest(case, box, at_once[case.elector, case.time])
+        if case.reason is None and case.time is not None:
+            case.outcome = Outcome.GOES_IN
+            box.add(case.elector, Ballot(case.time, case.ballots[0].ballot))
+    for identity, group in groups.items():
+        set_copies(group, firsts.get(identity), box)
+
+
+def why_not_latest(case: JudgedLetter, box: Box, at_once: set[str]) -> Because | None:
+    """Its time is later than that of every ballot of its elector; at the same time it is the same ballot."""
+    assert case.time is not None
+    elector, time, last = case.elector, case.time, box.last(case.elector)
+    if last is not None and last > time:
+        return Reason.LATER_BALLOT(elector=elector, time=last)
+    same_time = box.lines[elector, time] | at_once
+    return Reason.SAME_TIME(elector=elector, time=time) if same_time - {case.ballots[0].ballot} else None
+
+
+def set_copies(group: Sequence[JudgedLetter], may_go_in: JudgedLetter | None, box: Box) -> None:
+    """Sets what becomes of the other letters with one identity. They are copies of one that went in or may have gone in; one that waits
+    hides no other, but of those that wait for one reason, with one body, the first is told.
     """
+    hiding = [case for case in group if case.hides]
+    is_hidden = any(case.decision is not None or case.outcome is Outcome.GOES_IN for case in hiding)
+    waiting: dict[tuple[Because | None, Body], JudgedLetter] = {}
+    for case in sorted(group, key=lambda case: case.decision is None):
+        before = waiting.setdefault((case.why_by_itself, case.parsed.body), case)
+        if case.decision is not None or case is may_go_in:
+            continue
+        if is_hidden or case.why_by_itself is None:
+            set_copy(case, min(hiding, key=lambda case: (case.parsed.arrived is None, case.parsed.arrived)), box)
+        elif before is not case:
+            set_copy(case, before, box)
+        else:
+            case.reason = case.why_by_itself
 
-    is_hidden: bool = False
-    first: JudgedLetter | None = None
-    waiting: dict[tuple[Because | None, Body], JudgedLetter] = dataclasses.field(default_factory=dict)
 
-    def note(self, case: JudgedLetter) -> None:
-        arrived, before = case.parsed.arrived, None if self.first is None else self.first.parsed.arrived
-        if before is None or (arrived is not None and arrived < before):
-            self.first = case
-
-    def hide(self, case: JudgedLetter) -> None:
-        self.is_hidden = True
-        self.note(case)
-
-
-class Judge:
-    """Judges letters in the order of their times, and adds the ballots that go in to those that are in."""
-
-    def __init__(self, cases: Sequence[JudgedLetter], box: Box) -> None:
-        self.cases, self.box = cases, box
-        self.copies: dict[str, Copies] = collections.defaultdict(Copies)
-        # the ballots that may go in, by elector and time
-        self.at_once: dict[tuple[str, datetime.datetime], set[str]] = collections.defaultdict(set)
-        for case in cases:
-            if case.decision is not None:
-                self.note_decided(case, case.decision)
-        # of copies the first
-        firsts: dict[str, JudgedLetter] = {}
-        for case in cases:
-            if case.decision is None and case.why_by_itself is None and not self.copies[case.parsed.identity].is_hidden:
-                firsts.setdefault(case.parsed.identity, case)
-        for case in firsts.values():
-            assert case.ballot is not None and case.time is not None
-            self.at_once[case.elector, case.time].add(case.ballot.ballot)
-
-    def note_decided(self, case: JudgedLetter, decision: Decision) -> None:
-        """Copies of a letter are passed over if it went in or may have gone in. One that waits by a rule hides no other, whatever an act
-        decided of it.
-        """
-        copies = self.copies[case.parsed.identity]
-        if decision in (Decision.ENTERED, Decision.TAKEN_BACK, Decision.STRUCK) or case.why_by_itself is None:
-            copies.hide(case)
-        copies.waiting.setdefault((case.why_by_itself, case.parsed.body), case)
-
-    def judged(self) -> list[JudgedLetter]:
-        for case in self.cases:
-            case.outcome, case.reason = DECIDED[case.decision] if case.decision is not None else self.outcome_of(case)
-        # one that waits is a copy, too, of one that came later and goes in
-        for case in self.cases:
-            copies = self.copies[case.parsed.identity]
-            if case.outcome is Outcome.WAITS and case.decision is None and copies.is_hidden:
-                case.outcome, case.reason = self.as_copy(case, copies.first)
-            case.has_voted_since = any(self.box.has_later(elector, case.time) for elector in case.electors)
-        return list(self.cases)
-
-    def outcome_of(self, case: JudgedLetter) -> tuple[Outcome, Because | None]:
-        """What becomes of a letter, after those before it."""
-        copies = self.copies[case.parsed.identity]
-        if copies.is_hidden or (case.why_by_itself is None and copies.first is not None):
-            return self.as_copy(case, copies.first)
-        why = case.why_by_itself or self.why_not_latest(case)
-        if why is None and case.ballot is not None and case.time is not None:
-            self.box.add(case.elector, Ballot(case.time, case.ballot.ballot))
-            copies.hide(case)
-            return Outcome.GOES_IN, None
-        if case.why_by_itself is None:
-            copies.note(case)
-        if (why, case.parsed.body) in copies.waiting:
-            return self.as_copy(case, copies.waiting[why, case.parsed.body])
-        copies.waiting[why, case.parsed.body] = case
-        return Outcome.WAITS, why
-
-    def as_copy(self, case: JudgedLetter, first: JudgedLetter | None) -> tuple[Outcome, Because | None]:
-        """A copy of a letter that arrived before it is passed over, unless another ballot of its elector came between."""
-        arrived, before = case.parsed.arrived, None if first is None else first.parsed.arrived
-        if first is not None and first.time is not None and before is not None and arrived is not None and arrived > before:
-            for line in (*case.ballots, *case.readings.offered):
-                if self.box.has_between(line.elector, first.time, arrived):
-                    return Outcome.WAITS, Reason.CAME_BEFORE(elector=line.elector)
-        return Outcome.COPY, None
-
-    def why_not_latest(self, case: JudgedLetter) -> Because | None:
-        """Its time is later than that of every ballot of its elector; at the same time it is the same ballot."""
-        assert case.ballot is not None and case.time is not None
-        elector, time, last = case.elector, case.time, self.box.last(case.elector)
-        if last is not None and last > time:
-            return Reason.LATER_BALLOT(elector=elector, time=last)
-        same_time = self.box.lines[elector, time] | self.at_once[elector, time]
-        return Reason.SAME_TIME(elector=elector, time=time) if same_time - {case.ballot.ballot} else None
+def set_copy(case: JudgedLetter, first: JudgedLetter, box: Box) -> None:
+    """A copy of a letter that arrived before it is passed over, unless another ballot of its elector came between."""
+    arrived, before = case.parsed.arrived, first.parsed.arrived
+    case.outcome, case.reason = Outcome.COPY, None
+    if first.time is not None and before is not None and arrived is not None and arrived > before:
+        for line in (*case.ballots, *case.offered):
+            if box.has_between(line.elector, first.time, arrived):
+                case.outcome, case.reason = Outcome.WAITS, Reason.CAME_BEFORE(elector=line.elector)
+                return
 
 
 def judge_all(letters: Sequence[ParsedLetter], circumstances: Circumstances, reader: LineReader) -> list[JudgedLetter]:
@@ -444,4 +418,7 @@ def judge_all(letters: Sequence[ParsedLetter], circumstances: Circumstances, rea
         for ballot in ballots:
             if answers[ballot.line.encode()] is None:
                 box.add(elector, ballot)
-    return Judge(ordered, box).judged()
+    set_outcomes(ordered, box)
+    for case in ordered:
+        case.has_voted_since = any(box.has_later(elector, case.time) for elector in case.electors)
+    return ordered
