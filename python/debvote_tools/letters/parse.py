@@ -43,6 +43,8 @@ LINE_END, PART_LINE = re.compile(rb"\r\n?|\n"), re.compile(rb"[\r\n]--")
 ODD_BREAK = re.compile(r"(?m)=[ \t]+\r?$")
 # what ends a line in some programs, beside LF and CR LF
 ODD_END = re.compile("[\r\v\f\x1c-\x1f\x85\u2028\u2029](?!(?<=\r)\n)")
+# a field goes on in a line of blanks, which ends the head in some programs
+BLANK_LINE = re.compile(r"\n[ \t]*\r?(?:\n|\Z)")
 
 # the description of a part, each field once; of the parameters of a kind only a name may be coded or in pieces. No text matches in two
 # ways, or the time to find that it does not match at all would double with each parameter
@@ -364,10 +366,12 @@ def leaves_of(part: email.message.Message, *, is_own: bool = True) -> Iterator[t
 
 
 def demand_plain_description(part: email.message.Message) -> None:
-    """Stops where two programs may read a part in two ways: its description is there twice, or has an odd form."""
-    for name in ONCE:
-        if len(fields(part, name)) > 1:
-            raise Unread(Reason.AMBIGUOUS(field=name))
+    """Stops where two programs may read a part in two ways: a field goes on in a line of blanks, which may end the head, its description
+    is there twice, or it has an odd form.
+    """
+    for name, value in part.raw_items():
+        if BLANK_LINE.search(str(value)) or (name.lower() in ONCE and len(fields(part, name.lower())) > 1):
+            raise Unread(Reason.AMBIGUOUS(field=name.lower()))
     kind = " ".join(fields(part, "content-type"))
     is_read = part.get_content_maintype() in ("text", "multipart")
     if kind and not (parameters_in(kind) is not None if is_read else ANY_KIND.fullmatch(kind)):
