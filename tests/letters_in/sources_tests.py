@@ -50,6 +50,15 @@ class Files(unittest.TestCase):
         box = mailbox(ADA, coded).removeprefix(LINE)
         self.assertEqual(outcome_of(letters_of_file("box", box)), ["waits: parted off"])
 
+    def test_lines_without_a_date_hide_no_letter(self) -> None:
+        """The letter above waits, and says to look at the file: what is below its parts nobody would see."""
+        coded = letter("ben", "YmVuIDEsMiw0LDMK\n", head="Content-Transfer-Encoding: base64\n")
+        parts = letter("ada", f"--b\n\nada {RANKS}\n--b--\n", kind="multipart/mixed; boundary=b")
+        for line in (b"From ben\n", b"From - Mo Nov 23 10:00:00 2026\n", b"from ben\n", b">From - Mon Nov 23 10:00:00 2026\n"):
+            for above in (ADA, parts):
+                self.assertEqual(outcome_of(letters_of_file("box", LINE + above + b"\n" + line + coded)), ["waits: parted off"], line)
+                self.assertEqual(outcome_of(letters_of_file("one", above + b"\n" + line + coded)), ["waits: parted off"], line)
+
     def test_a_boundary_with_a_blank(self) -> None:
         """Lotus Notes writes such."""
         notes = "=_alternative 004A8E32C1256F5A_="

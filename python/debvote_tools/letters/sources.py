@@ -28,6 +28,9 @@ FROM_LINE = re.compile(rb"(?m)^From [^\r\n]{1,990}\r?$")
 DAYS = (b"Mon", b"Tue", b"Wed", b"Thu", b"Fri", b"Sat", b"Sun")
 TIME = re.compile(rb"\d\d?:\d\d(?::\d\d)?")
 
+# another letter within a letter, which a line without a date parts, or one that was changed
+INNER = re.compile(rb"(?im)^>?From [^\r\n]*\r?\n(?:received|return-path|delivered-to|from|date|message-id|mime-version)[ \t]*:")
+
 # in bytes; of the empty line that ends a file so much may be missing
 MAX_MISSING = 2
 
@@ -73,7 +76,7 @@ class NotRead(enum.Enum):
 
 @dataclasses.dataclass(frozen=True)
 class RawLetter:
-    """A letter as it came. One that was parted off may be text of the letter above it in the mailbox, so it waits."""
+    """A letter as it came. One that was parted off may be text of the letter above it in the mailbox, or have others in it, so it waits."""
 
     where: str
     data: bytes
@@ -168,7 +171,7 @@ def of_one(name: str, data: bytes) -> Source:
     bare = without_start(data)
     from_line = FROM_LINE.match(bare)
     letter = bare if from_line is None else bare[from_line.end() :].lstrip(b"\r\n")
-    return Source([RawLetter(name, letter, is_parted_off=bool(from_lines(letter)))], [])
+    return Source([RawLetter(name, letter, is_parted_off=bool(from_lines(letter)) or has_others(letter))], [])
 
 
 # ---------------------------------------------------------------- an mbox
@@ -184,13 +187,19 @@ def has_date(from_line: bytes) -> bool:
     return any(TIME.fullmatch(word) for word in words[day:])
 
 
+def has_others(letter: bytes) -> bool:
+    """Whether other letters may be in a letter."""
+    end = END_OF_HEAD.search(letter, 0, MAX_HEAD)
+    return end is not None and INNER.search(letter, end.end()) is not None
+
+
 def from_lines(data: bytes) -> list[re.Match[bytes]]:
     """The lines between letters."""
     return [line for line in FROM_LINE.finditer(data) if has_date(line[0])]
 
 
 def letters_of_mailbox(name: str, data: bytes) -> Source:
-    """The letters of an mbox. One is parted off if it may be text of the letter above it: its line `From ` has no empty line before
+    """The letters of an mbox. One is parted off if it has others, or may be text of the letter above it: its line `From ` has no empty line before
     it, is within the Content-Length of a letter above, or comes before the parts of that letter end. A length that goes beyond the end
     of the file is not that of a letter in it.
     """
@@ -204,7 +213,8 @@ def letters_of_mailbox(name: str, data: bytes) -> Source:
         if end - start > MAX_LETTER:
             found.passed_over.append(PassedOver(where, NotRead.TOO_LONG))
         else:
-            found.letters.append(RawLetter(where, without_separator(data[start:end]), is_parted_off))
+            letter = without_separator(data[start:end])
+            found.letters.append(RawLetter(where, letter, is_parted_off or has_others(letter)))
         end_of_head = END_OF_HEAD.search(data, start, min(end, start + MAX_HEAD))
         head = b"" if end_of_head is None else data[start : end_of_head.end()]
         reaches = [start + len(head) + int(length) for length in CONTENT_LENGTH.findall(head)]
