@@ -6,7 +6,6 @@ letter. Here one expression parts the marks, and reads each character once.
 """
 
 import collections
-import dataclasses
 import html
 import re
 import unicodedata
@@ -55,21 +54,9 @@ BLOCKS = frozenset(
 ODD_CHARACTERS = re.compile("[\v\x1c-\x1f\x85\u2028\u2029]")
 
 
-@dataclasses.dataclass(frozen=True)
-class HtmlText:
-    """The lines of a text in HTML, those of `blockquote` with > before them; how many of the first ones have plain marks alone, and what
-    the first other mark is. The `pieces` are what a style may make lines of their own, or nobody sees: the lines between two marks.
-    """
-
-    lines: tuple[str, ...]
-    plain_lines: int
-    first_other: str
-    pieces: tuple[str, ...]
-
-
-def read_html(text: str) -> HtmlText:
+def read_html(text: str) -> "HtmlText":
     """Reads a text in HTML."""
-    reader = Reader()
+    reader = HtmlText()
     # browsers leave zero characters out
     text = text.replace("\0", "")
     for token in TOKEN.finditer(text):
@@ -84,16 +71,22 @@ def read_html(text: str) -> HtmlText:
         else:
             reader.begin(token["tag"].lower(), token["given"])
     reader.end_line()
-    plain_lines = reader.lines_before_other if reader.first_other else len(reader.lines)
-    return HtmlText(tuple(reader.lines), 0 if STYLING.search(text) else plain_lines, reader.first_other, tuple(reader.pieces))
+    if not reader.first_other:
+        reader.plain_lines = len(reader.lines)
+    if STYLING.search(text):
+        reader.plain_lines = 0
+    return reader
 
 
-class Reader:
-    """Collects the lines."""
+class HtmlText:
+    """The lines of a text in HTML, those of `blockquote` with > before them; how many of the first ones have plain marks alone, and what
+    the first other mark is. The `pieces` are what a style may make lines of their own, or nobody sees: the lines between two marks.
+    """
 
     def __init__(self) -> None:
         self.lines: list[str] = []
         self.pieces: list[str] = []
+        self.first_other, self.plain_lines = "", 0
         # the text of the line that is not ended yet
         self.parts: list[str] = []
         # the blocks that are open, and how many of each
@@ -101,12 +94,11 @@ class Reader:
         self.open_count: collections.Counter[str] = collections.Counter()
         # the element whose text nobody sees, while it is open
         self.holder = ""
-        self.first_other, self.lines_before_other = "", 0
 
     def found_other(self, name: str) -> None:
         """A mark comes that is not plain."""
         if not self.first_other:
-            self.first_other, self.lines_before_other = name, len(self.lines)
+            self.first_other, self.plain_lines = name, len(self.lines)
 
     def begin(self, tag: str, given: str) -> None:
         """An element begins."""

@@ -449,13 +449,13 @@ def payload_of(part: email.message.Message) -> bytes:
     return data
 
 
-def text_of(part: email.message.Message) -> tuple[Text, tuple[str, ...]]:
+def text_of(part: email.message.Message) -> tuple[Text, list[str]]:
     """The lines of a part, as far as they can be read, and what else of it may be lines."""
     text = decoded_bytes(payload_of(part), str(part.get_content_charset() or "utf-8")).removeprefix("\ufeff")
     kind = part.get_content_type()
     found = read_html("" if kind == "text/plain" else text)
     if kind == "text/html":
-        return Text(found.lines, (), (), True, found.plain_lines, found.first_other), found.pieces
+        return Text(tuple(found.lines), (), (), True, found.plain_lines, found.first_other), found.pieces
     lines = ODD_END.sub("\n", text.replace("\r\n", "\n")).split("\n")
     while lines and not lines[-1]:
         lines.pop()

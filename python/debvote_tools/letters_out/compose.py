@@ -10,7 +10,7 @@ import enum
 import functools
 import re
 import unicodedata
-from collections.abc import Sequence
+from collections.abc import Iterator, Sequence
 
 from debvote_tools.book.queries import Elector
 from debvote_tools.book.sent import About
@@ -166,34 +166,31 @@ def fault_of_line(answer: str, language: Language) -> str:
     )
 
 
-def faults_of_near(near: Near, name: str, language: Language) -> list[str]:
+def faults_of_near(near: Near, name: str, language: Language) -> Iterator[str]:
     """What is wrong with a line that is near to a ballot, without the line: it may be another's ballot, or have a code."""
     say, line, answer = language.say, near.number, near.answer or ""
     count, column = RANK_COUNT.match(answer), COLUMN.match(answer)
-    said = []
     if near.is_within:
-        said.append(say("Line {line} of its text has a ballot within other words; it has to be there alone.", line=line))
+        yield say("Line {line} of its text has a ballot within other words; it has to be there alone.", line=line)
     if count is not None:
-        several = language.say_number(
+        yield language.say_number(
             "Line {line} of its text has {number} rank, and the vote has {options} options.",
             "Line {line} of its text has {number} ranks, and the vote has {options} options.",
             int(count["ranks"]),
             line=line,
             options=count["options"],
         )
-        said.append(several)
     elif answer.startswith("bad not on roll: "):
-        said.append(say("The name in line {line} of its text is not on the roll; yours is {name}.", line=line, name=name))
-    elif not said and near.answer is None:
-        said.append(say("Line {line} of its text is a ballot.", line=line))
-    elif not said and column is None:
-        said.append(say("Line {line} of its text is not written as a ballot is.", line=line))
-    elif not said and column is not None:
-        said.append(
-            say(
-                "Line {line} of its text is not written as a ballot is, from its character {column} on.",
-                line=line,
-                column=column["column"],
-            )
+        yield say("The name in line {line} of its text is not on the roll; yours is {name}.", line=line, name=name)
+    elif near.is_within:
+        return
+    elif near.answer is None:
+        yield say("Line {line} of its text is a ballot.", line=line)
+    elif column is None:
+        yield say("Line {line} of its text is not written as a ballot is.", line=line)
+    else:
+        yield say(
+            "Line {line} of its text is not written as a ballot is, from its character {column} on.",
+            line=line,
+            column=column["column"],
         )
-    return said
