@@ -172,6 +172,18 @@ class Paper(OutTest):
         self.assertEqual([state for _, state in self.rows("call")], ["written"] * 3)
 
 
+class Names(OutTest):
+    names = ["ada-2", "ada"]
+
+    def test_no_letter_takes_the_place_of_another(self) -> None:
+        """Two letters to ada, at her old address and her new one, beside one to ada-2."""
+        self.write("members.csv", support.members_of(self.names).replace(",ada@club", ",ada@new"))
+        self.done("roll", "--yes")
+        self.add_lines(f"ada {RANKS}", f"ada-2 {RANKS}")
+        wanted = ["ada-2@club.example", "ada@club.example", "ada@new.example"]
+        self.assertEqual(sorted(message["To"] for message in self.written("receipts").values()), wanted)
+
+
 class Receipts(OutTest):
     def test_each_has_its_own_reply(self) -> None:
         """A line that counts, one that is replaced, one that is refused, one that is struck, one that is taken back, and a late one."""
