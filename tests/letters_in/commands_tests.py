@@ -115,6 +115,10 @@ class Adding(LettersTest):
         self.done("desk", given=f"ada {OTHER}\n")
         self.assertIn("a later ballot of ada is in already", self.add(letter("ada", f"ada {RANKS}")).output)
 
+    def test_a_line_that_was_refused_is_no_later_ballot(self) -> None:
+        self.done("desk", given="ada 1,2\n")
+        self.assertIn("1 ballot of letters went in", self.add(letter("ada", f"ada {RANKS}")).output)
+
     def test_a_late_ballot_is_a_later_ballot(self) -> None:
         """After `reopen` a letter that had arrived in time waits if its elector has a ballot that came after the close: a person decides."""
         self.done("close")
@@ -180,11 +184,32 @@ class Held(LettersTest):
         self.assertIn(f"   5  ada {RANKS}\n", self.done("held", "1").output)
         for number in ("3", "\u00b2", "x", "-1", ""):
             self.assert_fault(self.election("held", "1", f"--enter={number}"), 9, f"line {number} of letter 1 is no ballot", "5")
+        for numbers in ("5,", "5" * 5_000):
+            self.assert_fault(self.election("held", "1", f"--enter={numbers}"), 9, "of letter 1 is no ballot", "5")
         self.assertIn(f"1 counted  ada: {LAKE}", self.done("held", "1", "--enter", "5").output)
         self.assertEqual(self.exported()[0], f"ada {RANKS}\n")
         self.assertEqual(self.numbers()["waiting"], 1)
         self.assert_fault(self.election("held", "1", "--enter", "5"), 9, "it was entered")
         self.assert_fault(self.election("held", "1", "--set-aside"), 9, "was entered")
+
+    def test_a_line_is_entered_once(self) -> None:
+        for lines in ("5,5", "5, 5"):
+            self.assert_fault(self.election("held", "1", "--enter", lines), 9, "2 of these lines are of ada")
+        self.done("held", "1", "--enter", "5")
+        self.add("X-Status: R\n" + letter("ada", f"Dear Anna,\n\nI thought about it for 3 days:\n\nada {RANKS}\n"))
+        self.assert_fault(self.election("held", "3", "--enter", "5"), 9, "letter 3: it is a copy of another letter", "--wait")
+        self.assertEqual(self.exported()[0], f"ada {RANKS}\n")
+
+    def test_html_that_repeats_the_text_is_listed_once(self) -> None:
+        head = "Content-Type: multipart/alternative; boundary=b"
+        for name, text in (("cleo", f"3 of us\ncleo {RANKS}\neve {OTHER}"), ("dan", "dan 1,2")):
+            marked = text.replace("\n", "<br>")
+            parts = f"{head}\n\n--b\n\n{text}\n--b\nContent-Type: text/html\n\n{marked}\n--b--"
+            self.add(letter(name, parts).replace("\n\n", "\n", 1))
+        listed = self.done("held").output
+        self.assertIn(f"\n  line 2: cleo {RANKS}\n  line 3: eve {OTHER}\n", listed)
+        self.assertEqual((listed.count(f": cleo {RANKS}"), listed.count("`dan 1,2`")), (1, 1), listed)
+        self.done("held", "3", "--enter", "2,3", "--force")
 
     def test_set_aside_and_again(self) -> None:
         self.assertIn("No letter waits.", self.done("held", "1", "2", "--set-aside").output)
@@ -204,6 +229,11 @@ class Held(LettersTest):
         self.done("close", "--force", "--because", "neither is a ballot")
         self.done("held", "1", "--enter", "5")
         self.assertEqual(self.exported(), ("", f"ada {RANKS}\n"))
+
+    def test_one_that_arrived_before_the_call_does_not_stop_a_close(self) -> None:
+        self.done("held", 1, 2, "--set-aside")
+        self.add(letter("ada", f"ada {RANKS}", "Mon, 9 Nov 2026 10:00:00 +0000", number=2))
+        self.assertIn("1 letter that arrived before the call did not go in.", self.done("close").output)
 
     def test_wrong_words(self) -> None:
         for words in (("--set-aside",), ("1", "2", "--enter", "5"), ("1", "--enter", "5", "--wait"), ("9",)):

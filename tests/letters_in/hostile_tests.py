@@ -62,7 +62,7 @@ class Bombs(unittest.TestCase):
             "lines that are near to ballots": letter("ada", "\n".join(f"I vote ada 1,{number % 90},3 or not" for number in range(4_900))),
             "a line of names": letter("ada", "ada " * 60_000 + "1,2"),
             "80,000 lines that may be ballots": letter("ada", "a 1\n" * 80_000),
-            "80,000 lines of another part": letter("ada", f"--b\n\n{BALLOT}\n--b\n\n" + "a 1\n" * 60_000 + "--b--\n", kind=MIXED),
+            "60,000 lines of another part": letter("ada", f"--b\n\n{BALLOT}\n--b\n\n" + "".join(f"{number}\n" for number in range(60_000)) + "--b--\n", kind=MIXED),
             "lines of ranks": letter("ada", ("1," * 240 + "\n") * 500),
         }  # fmt: skip
         for what, data in bombs.items():

@@ -26,7 +26,7 @@ def entered(*letters: JudgedLetter) -> dict[str, object]:
     for one in going:
         assert one.time is not None
         ballots.setdefault(one.electors[0], []).append(Ballot(one.time, one.ballots[0].ballot))
-    return {"ballots": ballots, "decisions": {one.letter.digest: Decision.ENTERED for one in going}}
+    return {"ballots": ballots, "decisions": {one.parsed.digest: Decision.ENTERED for one in going}}
 
 
 class Order(unittest.TestCase):
@@ -38,7 +38,7 @@ class Order(unittest.TestCase):
 
     def test_without_a_time_they_come_last(self) -> None:
         found = judged(letter("ada", BALLOT, time=None), letter("ben", f"ben {RANKS}", time=None), first(number=2))
-        self.assertEqual([one.letter.where for one in found], ["letter 3", "letter 1", "letter 2"])
+        self.assertEqual([one.parsed.where for one in found], ["letter 3", "letter 1", "letter 2"])
 
     def test_two_of_one_second_that_differ_both_wait(self) -> None:
         others = [letter("ben", f"ben {RANKS}", time=hour(10)), letter("ada", BALLOT, number=3, time=hour(9))]
@@ -60,7 +60,7 @@ class Order(unittest.TestCase):
 
     def test_an_older_letter_that_comes_after_a_newer_one(self) -> None:
         newer = judged(letter("ada", OTHER, number=2, time=hour(12)))
-        self.assertEqual(outcomes(newer[0].letter, first(), **entered(*newer)), ["waits: later ballot", "entered"])
+        self.assertEqual(outcomes(newer[0].parsed, first(), **entered(*newer)), ["waits: later ballot", "entered"])
 
 
 class Copies(unittest.TestCase):
@@ -76,7 +76,7 @@ class Copies(unittest.TestCase):
         again = [b"X-Mozilla-Status: 0001\n" + data for data in letters]
         new = letter("cleo", f"cleo {RANKS}", time=hour(13))
         self.assertEqual(
-            sorted(outcomes(*(one.letter for one in found), *again, new, **entered(*found))),
+            sorted(outcomes(*(one.parsed for one in found), *again, new, **entered(*found))),
             sorted(["entered"] * 3 + ["copy"] * 4 + ["waits: no ballot", f"in: cleo {RANKS}"]),
         )
 
@@ -110,7 +110,7 @@ class Copies(unittest.TestCase):
         self.assertEqual(outcomes(again, other, first()), wanted)
         found = judged(first(), other)
         self.assertEqual(
-            outcomes(*(one.letter for one in found), again, **entered(*found)), ["entered", "entered", "waits: came before"]
+            outcomes(*(one.parsed for one in found), again, **entered(*found)), ["entered", "entered", "waits: came before"]
         )
         self.assertEqual(outcomes(first(), again), [f"in: {BALLOT}", "copy"])
         self.assertEqual(
@@ -131,7 +131,7 @@ class Copies(unittest.TestCase):
         again, new = first(time=hour(12)), letter("ada", OTHER, number=2, time=hour(12))
         self.assertEqual(outcomes(first(), again, new), [f"in: {BALLOT}", "copy", f"in: {OTHER}"])
         found = judged(first())
-        self.assertEqual(outcomes(found[0].letter, again, new, **entered(*found)), ["entered", "copy", f"in: {OTHER}"])
+        self.assertEqual(outcomes(found[0].parsed, again, new, **entered(*found)), ["entered", "copy", f"in: {OTHER}"])
 
     def test_a_later_copy_of_one_that_was_entered_or_set_aside_by_hand(self) -> None:
         """Without a Message-ID an elector's third letter may be the first one once more, and is their last word."""
@@ -172,7 +172,7 @@ class Copies(unittest.TestCase):
         late = first(time=hour(13))
         self.assertEqual(lines_in(late, first(), end=at(12)), [BALLOT])
         found = judged(late, end=at(12))
-        self.assertEqual(outcomes(found[0].letter, first(), end=at(12)), [f"in: {BALLOT}", "copy"])
+        self.assertEqual(outcomes(found[0].parsed, first(), end=at(12)), [f"in: {BALLOT}", "copy"])
 
     def test_copies_that_wait_for_one_reason_are_told_once(self) -> None:
         data = letter("ada", "when?", time=hour(10))

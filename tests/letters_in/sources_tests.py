@@ -50,6 +50,15 @@ class Files(unittest.TestCase):
         box = mailbox(ADA, coded).removeprefix(LINE)
         self.assertEqual(outcome_of(letters_of_file("box", box)), ["waits: parted off"])
 
+    def test_lines_without_a_date_hide_no_letter(self) -> None:
+        """The letter above waits, and says to look at the file: what is below its parts nobody would see."""
+        coded = letter("ben", "YmVuIDEsMiw0LDMK\n", head="Content-Transfer-Encoding: base64\n")
+        parts = letter("ada", f"--b\n\nada {RANKS}\n--b--\n", kind="multipart/mixed; boundary=b")
+        for line in (b"From ben\n", b"From - Mo Nov 23 10:00:00 2026\n", b"from ben\n", b">From - Mon Nov 23 10:00:00 2026\n"):
+            for above in (ADA, parts):
+                self.assertEqual(outcome_of(letters_of_file("box", LINE + above + b"\n" + line + coded)), ["waits: parted off"], line)
+                self.assertEqual(outcome_of(letters_of_file("one", above + b"\n" + line + coded)), ["waits: parted off"], line)
+
     def test_a_boundary_with_a_blank(self) -> None:
         """Lotus Notes writes such."""
         notes = "=_alternative 004A8E32C1256F5A_="
@@ -102,8 +111,13 @@ class Files(unittest.TestCase):
         self.assertEqual([raw.is_parted_off for raw in letters_of_file("box", box).letters], [False, True, True, False])
 
     def test_parts_that_end_part_nothing_off(self) -> None:
-        box = LINE + letter("x", "--b\n\nhi\n--b--\n", kind="multipart/mixed; boundary=b") + b"\n" + LINE + BEN
-        self.assertEqual([raw.is_parted_off for raw in letters_of_file("box", box).letters], [False, False])
+        for above in (
+            letter("x", "--b\n\nhi\n--b--\n", kind="multipart/mixed; boundary=b"),
+            # anybody can write so, and no letter after it would go in
+            letter("x", "hi\n", head="Subject: boundary=b\n"),
+        ):
+            box = LINE + above + b"\n" + LINE + BEN
+            self.assertEqual([raw.is_parted_off for raw in letters_of_file("box", box).letters], [False, False])
 
     def test_a_long_letter_is_named_and_the_others_are_read(self) -> None:
         long = letter("ada", "x" * MAX_LETTER)
@@ -190,15 +204,15 @@ class Folders(unittest.TestCase):
         self.assertEqual(self.found(), (["new/1.host", "cur/2.host:2,S"], wanted))
 
     def test_a_file_of_a_folder_is_never_parted(self) -> None:
-        """Several letters may be in it, so it waits."""
-        self.write("box.eml", mailbox(ADA, BEN))
-        self.write("one.eml", LINE + ADA)
-        found = letters_of_folder(self.folder)
-        self.assertEqual([(raw.is_parted_off, raw.data[:9]) for raw in found.letters], [(True, ADA[:9]), (False, ADA[:9])])
-        self.assertEqual(sorted(outcome_of(found)), [f"in: ada {RANKS}", "waits: parted off"])
+        """Several letters may be in it, so it waits; a mailbox is named, or all but its first letter would be text of that."""
         inner = letter("ada", f"ada {RANKS}\n\n{LINE.decode()}{BEN.decode()}")
-        self.write("box.eml", inner)
-        self.assertEqual(letters_of_folder(self.folder).letters[0].data, inner)
+        self.write("a.eml", inner)
+        self.write("one.eml", LINE + ADA)
+        self.write("box", mailbox(ADA, BEN))
+        found = letters_of_folder(self.folder)
+        self.assertEqual([(raw.is_parted_off, raw.data) for raw in found.letters], [(True, inner), (False, ADA)])
+        self.assertEqual(sorted(outcome_of(found)), [f"in: ada {RANKS}", "waits: parted off"])
+        self.assertEqual(self.found()[1], {"box": NotRead.MAILBOX})
 
     def test_a_folder_without_letters(self) -> None:
         self.assertEqual(self.found(), ([], {}))

@@ -100,6 +100,9 @@ class Texts(unittest.TestCase):
         for code in LANGUAGES:
             for kind in Kind:
                 self.assertTrue(vote(code).subject(kind).endswith(f"Spring [{POLL.mark}]"), (code, kind))
+            extended = vote(code).subject(Kind.CALL, is_extension=True)
+            self.assertTrue(extended.endswith(f"Spring [{POLL.mark}]"), code)
+            self.assertNotEqual(extended, vote(code).subject(Kind.CALL), code)
 
     def test_a_signed_vote_asks_for_a_signature(self) -> None:
         text = " ".join(vote(is_signed=True).reminder(ADA, []).split())

@@ -14,23 +14,25 @@ from out_support import AT, OTHER_RANKS, RANKS, TITLE, OutTest, one_line
 from debvote_tools.lines import changed
 
 LAKE = "At the lake, then In the town hall, then Further discussion, then Sell the house and meet there"
-FORM = f"Dear Ada, The page of the vote, which writes the line of your ballot for you, and on which the result will be: {AT} "
+FORM = f"The page of the vote, which writes the line of your ballot for you, and on which the result will be: {AT} "
+WHEN = f"{TITLE} Until when: Friday, 4 December 2026, 18:00 (UTC)"
 OPTIONS = "Option 1: At the lake Option 2: In the town hall Option 3: Sell the house and meet there Option 4: Further discussion"
 ELSEWHERE = "A letter in your name came from another address, and waits until the secretary has looked at it."
 
 
 class Call(OutTest):
-    def test_it_begins_with_the_form_and_the_own_line(self) -> None:
+    def test_it_begins_with_title_end_form_and_the_own_line(self) -> None:
         found = self.written("call")
         self.assertEqual(sorted(found), support.NAMES)
         for name, message in found.items():
             text = one_line(message)
-            begin = FORM.replace("Ada", name.title())
+            begin = f"Dear {name.title()}, {WHEN} {FORM}"
             self.assertTrue(text.startswith(f"{begin}You vote under this name: {name} Your line, "), text)
+            self.assertLess(message.get_content().index(AT), 300)
             self.assertIn(
                 f"each _: {name} _,_,_,_ There is a rank for each option in the order of their numbers, or a hyphen ", text
             )
-            self.assertIn(f"{OPTIONS} {TITLE} Until when: Friday, 4 December 2026, 18:00 (UTC)", text)
+            self.assertIn(f"{OPTIONS} {WHEN}", text)
             self.assertEqual([other for other in support.NAMES if f"{other} _" in text], [name])
             self.assertIn(self.read("call/call.txt").decode(), message.get_content())
 
@@ -86,14 +88,22 @@ class Call(OutTest):
 
     def test_after_an_extension_those_who_have_the_call_get_its_letter(self) -> None:
         self.written("call")
+        # whose address was wrong has no call yet
+        self.write("members.csv", support.members_of(support.NAMES).replace("ada@club", "ada@new"))
+        self.done("roll", "--yes")
         self.done("call", "--until", "2026-12-06 12:00", "--zone", "UTC")
-        texts = self.texts("call")
+        found = self.written("call")
+        texts = {name: one_line(message) for name, message in found.items()}
+        self.assertRegex(found["ben"]["Subject"], rf"^Vote ends later: {TITLE} \[[0-9a-f]{{16}}\]$")
+        self.assertRegex(found["ada"]["Subject"], rf"^Vote: {TITLE} ")
+        self.assertIn("WHAT IS VOTED ON", texts.pop("ada"))
         for name, text in texts.items():
+            self.assertTrue(text.startswith(f"Dear {name.title()}, {TITLE} Until when: Sunday, 6 December 2026, 12:00 (UTC) {FORM}"))
             self.assertIn("You have more time to vote.", text)
             self.assertIn("Until when: Sunday, 6 December 2026, 12:00 (UTC)", text)
             self.assertIn(f"{name} _,_,_,_", text)
         self.done("call", "--until", "2026-12-08 12:00", "--zone", "UTC")
-        self.assertIn("Until when: Tuesday, 8 December 2026, 12:00 (UTC)", self.texts("call")["ada"])
+        self.assertIn("Until when: Tuesday, 8 December 2026, 12:00 (UTC)", self.texts("call")["ben"])
 
     def test_after_the_end_nobody_is_invited(self) -> None:
         self.set_clock("2026-12-04T18:00:01+00:00")
@@ -117,7 +127,8 @@ class Refused(OutTest):
         self.assert_fault(self.election("letters", "call"), 2, "--from: the call names no address")
         found = self.written("call", "--from", "vote@other.example")
         text = one_line(found["ada"])
-        self.assertTrue(text.startswith("Dear Ada, You vote under this name: ada "), text)
+        begin = f"Dear Ada, {TITLE} You can vote until the time that the secretary announces. You vote under this name: ada "
+        self.assertTrue(text.startswith(begin), text)
         self.assertEqual(found["ada"]["From"], "vote@other.example")
         self.assertIn(
             "A ballot of yours looks like this, with your own ranks: ada _,_,_,_",
@@ -161,6 +172,18 @@ class Paper(OutTest):
         self.assertEqual([state for _, state in self.rows("call")], ["written"] * 3)
 
 
+class Names(OutTest):
+    names = ["ada-2", "ada"]
+
+    def test_no_letter_takes_the_place_of_another(self) -> None:
+        """Two letters to ada, at her old address and her new one, beside one to ada-2."""
+        self.write("members.csv", support.members_of(self.names).replace(",ada@club", ",ada@new"))
+        self.done("roll", "--yes")
+        self.add_lines(f"ada {RANKS}", f"ada-2 {RANKS}")
+        wanted = ["ada-2@club.example", "ada@club.example", "ada@new.example"]
+        self.assertEqual(sorted(message["To"] for message in self.written("receipts").values()), wanted)
+
+
 class Receipts(OutTest):
     def test_each_has_its_own_reply(self) -> None:
         """A line that counts, one that is replaced, one that is refused, one that is struck, one that is taken back, and a late one."""
@@ -184,8 +207,8 @@ class Receipts(OutTest):
         self.assertIn(
             "was entered, and the secretary has taken it back. It does not count unless it is entered again.", texts["eve"]
         )
-        # a receipt that refuses begins with the form and the right line, another has neither
-        self.assertTrue(texts["cleo"].startswith(FORM.replace("Ada", "Cleo") + "You can send a right line now"), texts["cleo"])
+        # a receipt that refuses says why, then where the form is and how a right line looks; another has neither
+        self.assertIn(f"and the vote has 4 options. {FORM}You can send a right line now", texts["cleo"])
         self.assertIn("cleo _,_,_,_", texts["cleo"])
         for name in ("ada", "ben", "dan", "eve"):
             self.assertNotIn("_,_", texts[name])
@@ -226,8 +249,11 @@ class Receipts(OutTest):
             letter("ida", "Undelivered.\n\n  ida _,_,_,_\n", sender="mailer-daemon@x.example"),
         )
         texts = self.texts("receipts")
-        self.assertEqual(sorted(texts), ["ada", "ben", "dan", "eve", "gus", "hal"])
+        self.assertEqual(sorted(texts), ["ada", "ben", "cleo", "dan", "eve", "gus", "hal"])
         self.assertIn(f"(ada {RANKS})", texts["ada"])
+        # who wrote a ballot in another's name is told, too, with nothing of the other
+        self.assertIn("The reason: the list of members has another address for the name on the ballot.", texts["cleo"])
+        self.assertNotRegex(texts["cleo"], rf"dan|{RANKS}")
         waits = "has arrived. No ballot from it is entered yet: the secretary has to look at it first. The reason: "
         self.assertIn(
             f"{waits}no line of it is a ballot of this vote. Line 1 of its text has 2 ranks, and the vote has 4", texts["ben"]
@@ -235,7 +261,7 @@ class Receipts(OutTest):
         self.assertIn(ELSEWHERE, texts["dan"])
         self.assertIn(ELSEWHERE, texts["eve"])
         self.assertNotIn("stranger", texts["eve"] + texts["dan"])
-        self.assertIn(f"{waits}no line of it is a ballot of this vote. If you", texts["gus"])
+        self.assertIn(f"{waits}no line of it is a ballot of this vote. {FORM}You can send", texts["gus"])
         self.assertIn("Line 2 of its text has a ballot within other words; it has to be there alone.", texts["hal"])
         self.assertEqual(self.texts("receipts"), {})
         # one that waited and is entered now
@@ -382,7 +408,7 @@ class Reminders(OutTest):
         self.add_letters(letter("cleo", "I want the lake\n"), letter("dan", f"dan {RANKS}\n", sender="x@x.example"))
         texts = self.texts("reminders")
         self.assertEqual(sorted(texts), [name for name in support.NAMES if name != "ada"])
-        begin = FORM.replace("Ada", "Ben") + f"No ballot of yours that counts has come yet in the vote: {TITLE} "
+        begin = f"Dear Ben, {FORM}No ballot of yours that counts has come yet in the vote: {TITLE} "
         self.assertTrue(texts["ben"].startswith(begin + "Until when: Friday, 4 December 2026, 18:00 (UTC)"), texts["ben"])
         self.assertIn("ben _,_,_,_", texts["ben"])
         # whose letter waits is told so, and not reminded

@@ -11,7 +11,7 @@ import unittest.mock
 
 import support
 import terminal
-from out_support import MailServer, SendTest, one_line, parsed
+from out_support import RANKS, MailServer, SendTest, one_line, parsed
 
 from debvote_tools.book.sent import TAKEN, SentLetter
 from debvote_tools.faults import Fault
@@ -78,6 +78,17 @@ class Sending(SendTest):
         self.done("roll", "--yes")
         self.assertEqual(self.send("call").status, 0)
         self.assertEqual(self.server.addresses()[7:], ["ada@new.example"])
+
+    def test_a_receipt_that_was_refused_goes_to_a_new_address(self) -> None:
+        self.add_lines(f"ada {RANKS}", f"ben {RANKS}")
+        self.server.rcpt_answers = {"ada@club.example": "550 no"}
+        self.assertEqual(self.send("receipts").status, 9)
+        self.assertIn("There is no letter to send", self.send("receipts").output)
+        self.write("members.csv", support.members_of(support.NAMES).replace("ada@club", "ada@new"))
+        self.done("roll", "--yes")
+        self.send("receipts")
+        self.assertEqual(self.server.addresses(), ["ben@club.example", "ada@new.example"])
+        self.assertIn("There is no letter to send", self.send("receipts").output)
 
     def test_after_an_extension_who_has_no_call_gets_it_whole(self) -> None:
         self.server.rcpt_answers = {"ben@club.example": "451 later", "cleo@club.example": "550 no"}

@@ -19,7 +19,7 @@ TO_PRINT = "to-print.html"
 
 def message(due: LettersDue, letter: SentLetter, *, is_draft: bool) -> bytes:
     """The bytes of a letter. An answer with a ballot goes to the address of the call."""
-    subject = due.composer.subject(due.kind)
+    subject = due.composer.subject(due.kind, is_extension=due.is_extension(letter))
     return message_of(
         letter, due.text(letter), sender=due.sender, reply_to=due.composer.call.to, subject=subject, is_draft=is_draft
     )
@@ -34,8 +34,9 @@ def letter_files(due: LettersDue) -> dict[str, bytes]:
         if not letter.address:
             printed.append((one_line(elector.who) or elector.name, due.text(letter)))
         elif not due.is_sending and letter.state != TAKEN:
-            name = f"{elector.name}.eml" if f"{elector.name}.eml" not in files else f"{elector.name}-{len(files)}.eml"
-            files[name] = message(due, letter, is_draft=True)
+            # no name on a roll has the sign _
+            name = f"{elector.name}_{len(files)}" if f"{elector.name}.eml" in files else elector.name
+            files[f"{name}.eml"] = message(due, letter, is_draft=True)
     if printed:
         call, style = due.composer.call, pages.resource(PACKAGE, "letter.css")
         files[TO_PRINT] = render_page(PACKAGE, "print.html", call.language, style=style, title=call.poll.name, letters=printed)

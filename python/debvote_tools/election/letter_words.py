@@ -5,7 +5,6 @@ from collections.abc import Iterator, Sequence
 
 from debvote_tools.election.batch_words import IS_CODE, LineWords
 from debvote_tools.election.entering import Entered
-from debvote_tools.election.letters_in import LetterNow
 from debvote_tools.election.reporting import act_time, count_of
 from debvote_tools.letters.judge import JudgedLetter, Outcome
 from debvote_tools.letters.reasons import for_secretary
@@ -17,26 +16,25 @@ def time_words(time: datetime.datetime | None) -> str:
     return "at a time that is not known" if time is None else act_time(time)
 
 
-def who_and_when(letter: LetterNow) -> str:
+def who_and_when(letter: JudgedLetter) -> str:
     """A letter by its number, its sender, and when it arrived."""
-    judged = letter.judged.letter
-    number = f"letter {letter.number}" if letter.number else shown_text(judged.where)
-    return f"{number}, from {shown_text(judged.shown_sender) or 'nobody'}, {time_words(judged.arrived)}"
+    parsed = letter.parsed
+    number = f"letter {letter.number}" if letter.number else shown_text(parsed.where)
+    return f"{number}, from {shown_text(parsed.shown_sender) or 'nobody'}, {time_words(parsed.arrived)}"
 
 
-def going_in(letter: LetterNow, words: LineWords, *, is_late: bool) -> Iterator[str]:
+def going_in(letter: JudgedLetter, words: LineWords, *, is_late: bool) -> Iterator[str]:
     """A letter whose ballot goes in."""
-    judged = letter.judged
-    ballot = judged.ballots[0]
+    ballot = letter.ballots[0]
     yield f"{who_and_when(letter)}: goes in{', and is late' if is_late else ''}"
-    written = judged.letter.shown_lines[ballot.number - 1]
+    written = letter.parsed.shown_lines[ballot.number - 1]
     if written.strip() != ballot.ballot:
         yield f"  `{shown_line(written.encode())}` is read as `{ballot.ballot}`"
     yield f"  {words.ballot(ballot.ballot)}"
-    if judged.other_words:
-        yield f"  other words: {judged.other_words}"
-    if judged.shared_with:
-        yield f"  the address is that of {', '.join(judged.shared_with)}, too"
+    if letter.other_words:
+        yield f"  other words: {letter.other_words}"
+    if letter.shared_with:
+        yield f"  the address is that of {', '.join(letter.shared_with)}, too"
     yield from code_words(letter)
 
 
@@ -46,28 +44,27 @@ def reply_words(words: LineWords, done: Entered, ballots: Sequence[str]) -> Iter
         yield f"{number} {reply}  {words.ballot(ballot)}"
 
 
-def waiting(letter: LetterNow) -> Iterator[str]:
+def waiting(letter: JudgedLetter) -> Iterator[str]:
     """A letter that waits, and why."""
-    judged = letter.judged
-    reason = "it goes in when you add it again" if judged.reason is None else for_secretary(judged.reason)
-    since = "; has voted since" if judged.has_voted_since else ""
+    reason = "it goes in when you add it again" if letter.reason is None else for_secretary(letter.reason)
+    since = "; has voted since" if letter.has_voted_since else ""
     yield f"{who_and_when(letter)}: {reason}{since}"
-    yield from (f"  {line}" for line in near_words(judged))
-    if judged.other_words:
-        yield f"  other words: {judged.other_words}"
+    yield from (f"  {line}" for line in near_words(letter))
+    if letter.other_words:
+        yield f"  other words: {letter.other_words}"
     yield from code_words(letter)
 
 
-def code_words(letter: LetterNow) -> Iterator[str]:
+def code_words(letter: JudgedLetter) -> Iterator[str]:
     """The lines of a letter that have what looks like a code."""
     yield from (f"  line {number}{IS_CODE}" for number in letter.code_lines)
 
 
-def near_words(judged: JudgedLetter) -> Iterator[str]:
+def near_words(letter: JudgedLetter) -> Iterator[str]:
     """The lines of a letter that are a ballot, or near to one."""
-    for line in (*judged.ballots, *judged.offered):
+    for line in (*letter.ballots, *letter.offered):
         yield f"line {line.number}: {line.ballot}"
-    for near in judged.near:
+    for near in letter.near:
         within = ", within other words" if near.is_within else ""
         yield f"line {near.number}, `{shown_text(near.ballot)}`{within}: {near.answer or 'a ballot, but not alone on its line'}"
 
@@ -78,24 +75,23 @@ def passed_over_words(passed_over: Sequence[PassedOver]) -> Iterator[str]:
         yield f"{shown_text(one.where)}: {one.why.what}, and is passed over; {one.why.cure}"
 
 
-def whole(letter: LetterNow) -> Iterator[str]:
+def whole(letter: JudgedLetter) -> Iterator[str]:
     """A letter line by line, each with the number by which it can be entered."""
-    judged = letter.judged
     yield who_and_when(letter)
-    yield f"  subject: {shown_text(judged.letter.subject)}"
-    for number, line in enumerate(judged.letter.shown_lines, start=1):
+    yield f"  subject: {shown_text(letter.parsed.subject)}"
+    for number, line in enumerate(letter.parsed.shown_lines, start=1):
         yield f"{number:4}  {shown_line(line.encode())}"
-    if judged.outcome is Outcome.ENTERED:
+    if letter.outcome is Outcome.ENTERED:
         yield "It was entered."
-    elif judged.reason is not None:
-        yield f"It {'waits' if letter.waits else 'does not wait'}: {for_secretary(judged.reason)}"
-    yield from near_words(judged)
+    elif letter.reason is not None:
+        yield f"It {'waits' if letter.waits else 'does not wait'}: {for_secretary(letter.reason)}"
+    yield from near_words(letter)
     yield from code_words(letter)
 
 
-def counts(letters: Sequence[LetterNow], entered: int) -> str:
+def counts(letters: Sequence[JudgedLetter], entered: int) -> str:
     """How many letters went in and how many wait."""
-    copies = sum(letter.judged.outcome is Outcome.COPY for letter in letters)
-    waits = sum(letter.judged.outcome is Outcome.WAITS for letter in letters)
+    copies = sum(letter.outcome is Outcome.COPY for letter in letters)
+    waits = sum(letter.outcome is Outcome.WAITS for letter in letters)
     parts = [f"{count_of(entered, 'ballot')} of letters went in", f"{count_of(waits, 'letter waits', 'letters wait')}"]
     return "; ".join([*parts, *([f"{count_of(copies, 'copy', 'copies')} passed over"] if copies else [])]) + "."

@@ -5,7 +5,7 @@ from collections.abc import Callable, Iterable, Mapping, Sequence
 from debvote_tools.book import entered, queries, sent
 from debvote_tools.book.book import DoneAct
 from debvote_tools.book.queries import Elector
-from debvote_tools.book.sent import BEGUN, POSTPONED, TAKEN, WRITTEN, About, SentLetter
+from debvote_tools.book.sent import BEGUN, POSTPONED, REFUSED, TAKEN, WRITTEN, About, SentLetter
 from debvote_tools.call.data import is_mail_address
 from debvote_tools.call.files import call_letter, extension_letter
 from debvote_tools.debvote import casting_words
@@ -47,6 +47,8 @@ class LettersDue:
         is_past = self.history.until is not None and self.time > self.history.until
         self.composer = Composer(current_data(election, self.history), is_over=is_past or bool(self.history.closes))
         self.letters = sent.sent_letters(election.book, kind)
+        # those who have the call, each at an address, where the letter of an extension is due
+        self.had_call: set[tuple[int, str]] = set()
         self.electors = {elector.number: elector for elector in queries.electors(election.book)}
         plans = {
             Kind.CALL: self.call,
@@ -73,17 +75,20 @@ class LettersDue:
     def text(self, letter: SentLetter) -> str:
         return self.text_of(self.elector(letter), letter)
 
+    def is_extension(self, letter: SentLetter) -> bool:
+        """Whether a letter tells no more than that the vote ends later."""
+        return (letter.elector, letter.address) in self.had_call
+
     # ------------------------------------------------------------ each kind
     def call(self) -> Plan:
         """The call to each elector; after an extension that, to those who have the call."""
         self.demand_not_over()
         acts = self.history.since_call("call", "extend")
-        had_call = have([letter for letter in self.letters if acts[0].number <= letter.for_act < acts[-1].number])
+        self.had_call = have([letter for letter in self.letters if acts[0].number <= letter.for_act < acts[-1].number])
         whole, extension = call_letter(self.composer.call), extension_letter(self.composer.call)
 
         def text_of(elector: Elector, letter: SentLetter) -> str:
-            is_extension = elector.number in had_call
-            code, text = ("", extension) if is_extension else (elector.code, whole)
+            code, text = ("", extension) if self.is_extension(letter) else (elector.code, whole)
             return self.composer.text(self.kind, elector, code=code, find_command=BY_PYTHON, letter=text)
 
         return self.to_each(acts[-1].number, text_of)
@@ -113,7 +118,7 @@ class LettersDue:
         """A letter to each elector about all that came since the last one, also to an address that they had before."""
         came = what_came(self.election, self.history, is_over=self.composer.is_over)
         for_act, new = self.history.last.number + 1, []
-        told = {(letter.elector, key) for letter in self.letters for key in letter.about}
+        told = {(letter.elector, key) for letter in self.letters if not self.was_refused_elsewhere(letter) for key in letter.about}
         old = old_addresses(self.election, self.history, self.letters)
         for number, items in came.by_elector.items():
             elector, keys = self.electors[number], [one.key for one in items if (number, one.key) not in told]
@@ -127,6 +132,11 @@ class LettersDue:
         # not to those who are no longer on the list, nor about a letter that is a ballot now, of which a new one tells
         there = [one for one in waiting if one.elector in self.electors and about_now(one.about, came.by_elector[one.elector])]
         return for_act, new, there if self.is_sending else [], text_of
+
+    def was_refused_elsewhere(self, letter: SentLetter) -> bool:
+        """Whether the server refused it for an address that its elector has no longer."""
+        elector = self.electors.get(letter.elector)
+        return letter.state == REFUSED and elector is not None and letter.address not in elector.addresses
 
     def closed(self) -> Plan:
         """The letter of the close to each elector."""
@@ -180,11 +190,13 @@ def address_in(addresses: Sequence[str]) -> str:
     return next(filter(is_mail_address, addresses), "")
 
 
-def have(letters: Sequence[SentLetter]) -> set[int]:
-    """The electors who have one of some letters: a server has taken it, it is on paper, or all for its act were written as files."""
+def have(letters: Sequence[SentLetter]) -> set[tuple[int, str]]:
+    """The electors who have one of some letters, and at which address: a server has taken it, it is on paper, or all for its act were
+    written as files.
+    """
     sent_for = {letter.for_act for letter in letters if letter.state != WRITTEN}
     return {
-        letter.elector
+        (letter.elector, letter.address)
         for letter in letters
         if letter.state == TAKEN or (letter.state == WRITTEN and not (letter.address and letter.for_act in sent_for))
     }

@@ -23,28 +23,14 @@ from debvote_tools.election.history import History
 from debvote_tools.faults import Fault, Status
 from debvote_tools.files import sha256_of
 from debvote_tools.letters.judge import Ballot, Circumstances, Decision, JudgedLetter, Outcome, judge_all
-from debvote_tools.letters.reasons import Reason
 from debvote_tools.letters.parse import ParsedLetter, as_json, from_json, parse
+from debvote_tools.letters.readings import BallotLine
+from debvote_tools.letters.reasons import Reason
 from debvote_tools.letters.signatures import find_gpgv, verified
 from debvote_tools.letters.sources import PassedOver, RawLetter, letters_of_file, letters_of_folder
 from debvote_tools.secret.codes import CODE_WITHIN, looks_like_code
 
-
-@dataclasses.dataclass(frozen=True)
-class LetterNow:
-    """A letter that the book has, and what becomes of it now. One that is only looked at has the number 0."""
-
-    number: int
-    judged: JudgedLetter
-    # whether it arrived before the end and before the close, as far as that is known, whatever it waits for
-    came_in_time: bool
-    # the lines, from 1, with what looks like a code or an alias, in a secret vote with names on the roll
-    code_lines: tuple[int, ...] = ()
-
-    @property
-    def waits(self) -> bool:
-        """Whether it waits for the secretary: to be agreed to, or to be looked at."""
-        return self.judged.outcome in (Outcome.GOES_IN, Outcome.WAITS)
+SLOW = Reason.SLOW_SIGNATURE()
 
 
 # ---------------------------------------------------------------- what came
@@ -107,7 +93,7 @@ def keep(book: Book, raws: Sequence[RawLetter], found: Sequence[ParsedLetter]) -
 
 
 # ---------------------------------------------------------------- how they are judged
-def waiting_now(election: Election, history: History) -> list[LetterNow]:
+def waiting_now(election: Election, history: History) -> list[JudgedLetter]:
     """The letters that wait for the secretary."""
     kept = letters.letters(election.book)
     # where letters have to be signed, what was signed says which are copies, which the book may not have known when they came
@@ -118,29 +104,22 @@ def waiting_now(election: Election, history: History) -> list[LetterNow]:
 
 def judged(
     election: Election, history: History, kept: Sequence[KeptLetter], looked_at: Sequence[ParsedLetter] = ()
-) -> list[LetterNow]:
+) -> list[JudgedLetter]:
     """Letters that came, as they are judged now, in the order of their times; and others that are only looked at."""
     found = kept_letters(election, kept)
-    numbers = {letter.key: kept_letter.number for letter, kept_letter in zip(found, kept)}
+    by_key = {letter.key: kept_letter for letter, kept_letter in zip(found, kept)}
     if not kept and not looked_at:
         return []
     vote = vote_of(election, history)
     circumstances = circumstances_of(election, history, list(zip(found, kept)))
     no_codes_expected = election.sealed().counted.secret and not vote.has_codes
-    return [
-        LetterNow(
-            numbers.get(one.letter.key, 0),
-            one,
-            came_in_time(one.letter, circumstances),
-            code_lines(one.letter) if no_codes_expected else (),
-        )
-        for one in judge_all([*found, *looked_at], circumstances, vote)
-    ]
-
-
-def came_in_time(letter: ParsedLetter, circumstances: Circumstances) -> bool:
-    ends = filter(None, (circumstances.end, circumstances.first_close))
-    return letter.arrived is None or all(letter.arrived <= end for end in ends)
+    letters_now = judge_all([*found, *looked_at], circumstances, vote)
+    for letter in letters_now:
+        if letter.parsed.key in by_key:
+            letter.number, letter.source = by_key[letter.parsed.key].number, by_key[letter.parsed.key].source
+        if no_codes_expected:
+            letter.code_lines = code_lines(letter.parsed)
+    return letters_now
 
 
 def code_lines(letter: ParsedLetter) -> tuple[int, ...]:
@@ -152,24 +131,17 @@ def code_lines(letter: ParsedLetter) -> tuple[int, ...]:
 
 
 def kept_letters(election: Election, kept: Sequence[KeptLetter]) -> list[ParsedLetter]:
-    """What is known of the letters; of those that came before the keyring that holds, or that gpgv was too slow for, their
-    signatures are checked anew."""
+    """What is known of the letters; of those that came before the keyring that holds their signatures are checked anew, and of those for
+    which gpgv was too slow, which their bytes do not decide.
+    """
     found = [from_json(letter.known) for letter in kept]
     sealed = queries.last_act_that_sealed(election.book, KEYRING)
-    old = [index for index, letter in enumerate(kept) if letter.act < sealed or was_slow(found[index])]
-    if old:
-        raws = [
-            RawLetter(found[index].where, letters.source_of(election.book, kept[index].source), found[index].is_parted_off)
-            for index in old
-        ]
-        for index, letter in zip(old, parsed(election, raws)):
-            found[index] = letter
+    old = [index for index, letter in enumerate(kept) if letter.act < sealed or found[index].why_unsigned == SLOW]
+    sources = {index: letters.source_of(election.book, kept[index].source) for index in old}
+    raws = [RawLetter(found[index].where, data, found[index].is_parted_off) for index, data in sources.items()]
+    for index, letter in zip(old, parsed(election, raws) if raws else []):
+        found[index] = letter
     return found
-
-
-def was_slow(letter: ParsedLetter) -> bool:
-    """Whether gpgv did not answer in time, which the bytes of a letter do not decide."""
-    return letter.why_unsigned is not None and letter.why_unsigned.reason is Reason.SLOW_SIGNATURE
 
 
 def circumstances_of(election: Election, history: History, found: Sequence[tuple[ParsedLetter, KeptLetter]]) -> Circumstances:
@@ -208,40 +180,39 @@ class LettersPlan:
     decided_at: int = dataclasses.field(compare=False)
     is_late: bool
     going_in: tuple[tuple[int, str], ...]
-    letters: tuple[LetterNow, ...] = dataclasses.field(compare=False)
+    letters: tuple[JudgedLetter, ...] = dataclasses.field(compare=False)
 
 
 def plan_of(election: Election, looked_at: Sequence[ParsedLetter] = ()) -> LettersPlan:
     """What goes in now."""
     history = election.history()
     found = judged(election, history, letters.letters(election.book), looked_at)
-    going_in = [letter for letter in found if letter.judged.outcome is Outcome.GOES_IN]
-    pairs = tuple((letter.number, letter.judged.ballots[0].ballot) for letter in going_in)
+    going_in = [letter for letter in found if letter.outcome is Outcome.GOES_IN]
+    pairs = tuple((letter.number, letter.ballots[0].ballot) for letter in going_in)
     return LettersPlan(history.last.number, history.is_closed, pairs, tuple(found))
 
 
 def enter(election: Election, vote: Vote, plan: LettersPlan) -> contextlib.AbstractContextManager[Entered]:
     """The act: the ballots go in."""
-    by_number = {letter.number: letter.judged for letter in plan.letters}
-    kept = {letter.number: letter for letter in letters.letters(election.book)}
 
     def envelopes(act: Act) -> Iterator[NewEnvelope]:
-        for number, ballot in plan.going_in:
-            letters.decide(act, number, letters.ENTERED)
-            yield new_envelope(kept[number], ballot, by_number[number])
+        for letter in plan.letters:
+            if letter.outcome is Outcome.GOES_IN:
+                letters.decide(act, letter.number, letters.ENTERED)
+                yield new_envelope(letter, letter.ballots[0])
 
     detail = {"letters": len(plan.going_in), "lines": len(plan.going_in)}
     return entered(election.book, vote, "add", detail, envelopes, decided_at=plan.decided_at, is_late=plan.is_late)
 
 
-def new_envelope(kept: KeptLetter, ballot: str, judged_letter: JudgedLetter) -> NewEnvelope:
+def new_envelope(letter: JudgedLetter, line: BallotLine) -> NewEnvelope:
     """The envelope of a ballot that came in a letter."""
-    return NewEnvelope(ballot.encode(), "", kept.source, kept.number, judged_letter.time)
+    return NewEnvelope(line.ballot.encode(), "", letter.source, letter.number, letter.time)
 
 
 def is_late(history: History, letter: JudgedLetter) -> bool:
     """Whether what is entered of a letter now is late: the vote is closed, or was reopened for what had arrived before the first close."""
-    arrived = letter.letter.arrived
+    arrived = letter.parsed.arrived
     if history.is_reopened and (arrived is None or arrived > history.closes[0].time):
         return True
     return history.is_closed

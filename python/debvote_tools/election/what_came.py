@@ -12,8 +12,7 @@ from debvote_tools.election import letters_in
 from debvote_tools.election.batch import Vote, vote_of
 from debvote_tools.election.election import Election
 from debvote_tools.election.history import History
-from debvote_tools.election.letters_in import LetterNow
-from debvote_tools.letters.judge import Outcome
+from debvote_tools.letters.judge import JudgedLetter, Outcome
 from debvote_tools.letters_out.compose import Became, Came
 
 
@@ -32,9 +31,10 @@ def what_came(election: Election, history: History, *, is_over: bool) -> WhatCam
     found = letters_in.judged(election, history, kept)
     electors = queries.electors(book)
     by_name, by_address = {elector.name: elector for elector in electors}, by_address_of(electors)
+    by_number = {elector.number: elector for elector in electors}
     lines = LinesNow(vote_of(election, history), history, envelopes, is_over=is_over)
     came: dict[int, list[Came]] = {elector.number: [] for elector in electors}
-    senders = {letter.number: by_address.get(letter.judged.letter.sender) for letter in found}
+    senders = {letter.number: by_address.get(letter.parsed.sender) for letter in found}
     for envelope in envelopes:
         number = envelope.elector or senders.get(envelope.letter or 0)
         if number in came:
@@ -42,7 +42,10 @@ def what_came(election: Election, history: History, *, is_over: bool) -> WhatCam
     entered_of = {(envelope.letter, envelope.elector) for envelope in envelopes}
     kept_at = {letter.number: history.acts[letter.act - 1].time for letter in kept}
     for letter in found:
-        for elector in (by_name[name] for name in letter.judged.electors if name in by_name):
+        # whoever sent it gets to know, too, if its ballot is in another's name
+        sender = by_number.get(senders[letter.number] or 0)
+        concerned = [by_name.get(name) for name in letter.electors] + [sender]
+        for elector in dict.fromkeys(filter(None, concerned)):
             if (letter.number, elector.number) not in entered_of:
                 came[elector.number] += came_of_letter(letter, elector, kept_at[letter.number])
     ordered = {number: sorted(items, key=lambda one: one.time) for number, items in came.items()}
@@ -89,20 +92,19 @@ class LinesNow:
         return Became.COUNTS_AT_THE_END if self.is_over else Became.COUNTS
 
 
-def came_of_letter(letter: LetterNow, elector: Elector, kept: datetime.datetime) -> list[Came]:
+def came_of_letter(letter: JudgedLetter, elector: Elector, kept: datetime.datetime) -> list[Came]:
     """What became of a letter of which no line was entered for this elector. A copy is the letter that it copies."""
-    judged = letter.judged
-    if judged.outcome not in (Outcome.WAITS, Outcome.GOES_IN, Outcome.SET_ASIDE):
+    if letter.outcome not in (Outcome.WAITS, Outcome.GOES_IN, Outcome.SET_ASIDE):
         return []
-    is_own = judged.letter.sender in map(address_key, elector.addresses)
+    is_own = letter.parsed.sender in map(address_key, elector.addresses)
     # a program would answer, and be answered; and our own letter, which comes back, has the name of its elector
-    if judged.letter.is_automatic and (is_own or not judged.ballots):
+    if letter.parsed.is_automatic and (is_own or not letter.ballots):
         return []
-    key, time = ("letter", letter.number, False), judged.letter.arrived or kept
-    is_aside = judged.outcome is Outcome.SET_ASIDE
+    key, time = ("letter", letter.number, False), letter.parsed.arrived or kept
+    is_aside = letter.outcome is Outcome.SET_ASIDE
     if not is_own:
         return [Came(key, Became.ELSEWHERE_SET_ASIDE if is_aside else Became.ELSEWHERE, time)]
-    return [Came(key, Became.SET_ASIDE if is_aside else Became.WAITS, time, because=judged.reason, near=judged.near)]
+    return [Came(key, Became.SET_ASIDE if is_aside else Became.WAITS, time, because=letter.reason, near=letter.near)]
 
 
 def waits_of(came: Sequence[Came]) -> list[Came]:

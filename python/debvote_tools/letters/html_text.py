@@ -6,7 +6,6 @@ letter. Here one expression parts the marks, and reads each character once.
 """
 
 import collections
-import dataclasses
 import html
 import re
 import unicodedata
@@ -49,27 +48,15 @@ HOLDING = frozenset(("title", "style", "script"))
 # they begin a line, and after their end a line begins too
 BLOCKS = frozenset(
     "address article aside blockquote center dd div dl dt fieldset figure footer form h1 h2 h3 h4 h5 h6 header li main nav ol p pre "
-    "section table tbody td tfoot th thead tr ul".split()
+    "section table tbody tfoot thead tr ul".split()
 )
 # characters that end a line in some programs
 ODD_CHARACTERS = re.compile("[\v\x1c-\x1f\x85\u2028\u2029]")
 
 
-@dataclasses.dataclass(frozen=True)
-class HtmlText:
-    """The lines of a text in HTML, those of `blockquote` with > before them; how many of the first ones have plain marks alone, and what
-    the first other mark is; and the lines that nobody sees, as of a title.
-    """
-
-    lines: tuple[str, ...]
-    plain_lines: int
-    first_other: str
-    unseen: tuple[str, ...]
-
-
-def read_html(text: str) -> HtmlText:
+def read_html(text: str) -> "HtmlText":
     """Reads a text in HTML."""
-    reader = Reader()
+    reader = HtmlText()
     # browsers leave zero characters out
     text = text.replace("\0", "")
     for token in TOKEN.finditer(text):
@@ -84,16 +71,22 @@ def read_html(text: str) -> HtmlText:
         else:
             reader.begin(token["tag"].lower(), token["given"])
     reader.end_line()
-    plain_lines = reader.lines_before_other if reader.first_other else len(reader.lines)
-    return HtmlText(tuple(reader.lines), 0 if STYLING.search(text) else plain_lines, reader.first_other, tuple(reader.unseen))
+    if not reader.first_other:
+        reader.plain_lines = len(reader.lines)
+    if STYLING.search(text):
+        reader.plain_lines = 0
+    return reader
 
 
-class Reader:
-    """Collects the lines."""
+class HtmlText:
+    """The lines of a text in HTML, those of `blockquote` with > before them; how many of the first ones have plain marks alone, and what
+    the first other mark is. The `pieces` are what a style may make lines of their own, or nobody sees: the lines between two marks.
+    """
 
     def __init__(self) -> None:
         self.lines: list[str] = []
-        self.unseen: list[str] = []
+        self.pieces: list[str] = []
+        self.first_other, self.plain_lines = "", 0
         # the text of the line that is not ended yet
         self.parts: list[str] = []
         # the blocks that are open, and how many of each
@@ -101,12 +94,11 @@ class Reader:
         self.open_count: collections.Counter[str] = collections.Counter()
         # the element whose text nobody sees, while it is open
         self.holder = ""
-        self.first_other, self.lines_before_other = "", 0
 
     def found_other(self, name: str) -> None:
         """A mark comes that is not plain."""
         if not self.first_other:
-            self.first_other, self.lines_before_other = name, len(self.lines)
+            self.first_other, self.plain_lines = name, len(self.lines)
 
     def begin(self, tag: str, given: str) -> None:
         """An element begins."""
@@ -120,6 +112,8 @@ class Reader:
             self.holder = tag
         if tag in ("br", "hr"):
             self.end_line(keeps_empty=tag == "br")
+        elif tag in ("td", "th"):
+            self.parts.append(" ")
         elif tag in BLOCKS:
             self.end_line()
             if self.open[-1:] == ["p"]:
@@ -147,10 +141,10 @@ class Reader:
             self.holder = ""
 
     def read_declaration(self, text: str) -> None:
-        """A comment or a declaration comes. A comment may be shown by some programs, so what it holds counts as a line that nobody sees."""
+        """A comment or a declaration comes. A comment may be shown by some programs."""
         if not DOCTYPE.fullmatch(text) or self.lines or self.parts:
             self.found_other(text)
-        self.unseen += re.split(r"(?:[\n\r<>]|!?--|!)+", html.unescape(text))
+        self.pieces += re.split(r"(?:[\n\r<>]|!?--|!)+", html.unescape(text))
 
     def read_text(self, text: str) -> None:
         """A text comes. A sign < that begins no mark is not plain."""
@@ -158,17 +152,20 @@ class Reader:
         is_turned = not shown.isascii() and any(unicodedata.bidirectional(character) in RIGHT_TO_LEFT for character in shown)
         if text == "<" or ODD_CHARACTERS.search(shown) or is_turned:
             self.found_other(text)
-        if self.holder:
-            self.unseen += shown.splitlines()
-        else:
+        self.pieces += [f"{self.quotation}{line}" for line in shown.splitlines()]
+        if not self.holder:
             self.parts.append(re.sub(r"[ \t\r\n\f]+", " ", shown))
+
+    @property
+    def quotation(self) -> str:
+        return "> " if self.open_count["blockquote"] else ""
 
     def end_line(self, *, keeps_empty: bool = False) -> None:
         """Ends the line. One without text is kept as an empty one where a `br` or a no-break space makes it seen."""
         text = "".join(self.parts)
         self.parts.clear()
         if text.strip(" ") or keeps_empty:
-            self.lines.append(("> " if self.open_count["blockquote"] else "") + text.strip())
+            self.lines.append(self.quotation + text.strip())
 
 
 def has_plain_attributes(tag: str, given: str) -> bool:

@@ -80,68 +80,47 @@ class Circumstances:
     now: datetime.datetime
     # the Message-IDs of the letters that were written to each elector
     our_letters: Mapping[str, Collection[str]]
-    # the ballots of each elector that are in and not struck
+    # the lines with each elector's name that are in and not struck
     ballots: Mapping[str, Sequence[Ballot]]
     # the fingerprint of each elector's key; None where letters need no signature
     keys: Mapping[str, str] | None
     # what acts decided, by the keys of the letters
     decisions: Mapping[str, Decision]
 
+    @property
+    def passed_over(self) -> tuple[str, ...]:
+        """The lines that may be anywhere in a letter: where letters have to be signed, the mark of the poll."""
+        return () if self.keys is None else (f"[{self.mark}]",)
+
     @functools.cached_property
     def electors_by_address(self) -> dict[str, list[str]]:
         """The electors who have an address, by its form without case."""
         found: dict[str, list[str]] = collections.defaultdict(list)
         for elector, addresses in self.addresses.items():
-            for key in dict.fromkeys(map(address_key, addresses)):
+            for key in dict.fromkeys(filter(None, map(address_key, addresses))):
                 found[key].append(elector)
         return dict(found)
 
     def elector_of(self, letter: ParsedLetter) -> Elector | None:
         """The one elector whose address the sender of a letter has."""
-        electors = self.electors_by_address.get(letter.sender, []) if letter.sender else []
+        electors = self.electors_by_address.get(letter.sender, [])
         return Elector(electors[0], self.real_names.get(electors[0], "")) if len(electors) == 1 else None
 
 
-@dataclasses.dataclass(frozen=True)
 class JudgedLetter:
-    """What becomes of a letter, and why."""
+    """A letter, and what becomes of it. The `reason` says why it waits or was set aside."""
 
-    letter: ParsedLetter
-    outcome: Outcome
-    # why it waits or was set aside
-    reason: Because | None
-    # the time of its ballot: that of the signature where letters have to be signed, else that of the arrival
-    time: datetime.datetime | None
-    # the lines that read as ballots; the first is the one that goes in. Each may be entered by its number, as may those that are offered
-    ballots: tuple[BallotLine, ...]
-    # ranks without a name, with that of the elector who seems to have sent them
-    offered: tuple[BallotLine, ...]
-    near: tuple[Near, ...]
-    # whose it is: the electors on its ballots, or near to one; else the one who has the sender's address
-    electors: tuple[str, ...]
-    # the other electors who have the sender's address
-    shared_with: tuple[str, ...]
-    other_words: str
-    has_voted_since: bool
-
-
-def judge_all(letters: Sequence[ParsedLetter], circumstances: Circumstances, reader: LineReader) -> list[JudgedLetter]:
-    """Judges letters in the order of their times; those without a time come last, in their order."""
-    found = [
-        readings_of(letter, circumstances.roll, circumstances.elector_of(letter), circumstances.language) for letter in letters
-    ]
-    asked = dict.fromkeys(line.encode() for readings in found for line in readings.asked())
-    answers = reader.answers(list(asked)) if asked else {}
-    cases = [Case(letter, readings.answered(answers), circumstances) for letter, readings in zip(letters, found)]
-    ordered = sorted(cases, key=lambda case: (case.time is None, case.time or circumstances.now))
-    return Judge(circumstances, ordered).judged()
-
-
-class Case:
-    """A letter while it is judged, with what its lines read as."""
+    outcome = Outcome.WAITS
+    reason: Because | None = None
+    has_voted_since = False
+    # its number and its source in the book; one that is only looked at has 0
+    number = source = 0
+    # the lines, from 1, with what looks like a code or an alias, in a secret vote with names on the roll
+    code_lines: tuple[int, ...] = ()
 
     def __init__(self, letter: ParsedLetter, readings: Readings, circumstances: Circumstances) -> None:
-        self.letter, self.readings = letter, readings
+        self.parsed, self.readings, self.circumstances = letter, readings, circumstances
+        # the time of its ballot: that of the signature where letters have to be signed, else that of the arrival
         self.time = letter.signature.time if circumstances.keys is not None and letter.signature is not None else letter.arrived
         self.decision = circumstances.decisions.get(letter.key)
         text = letter.body.text
@@ -150,26 +129,77 @@ class Case:
         self.ballot = None if self.index is None else readings.views[0][self.index]
         # without `why_not_latest`, by which a letter depends on others
         self.why_by_itself = next(filter(None, (rule(self, circumstances) for rule in RULES)), None)
-        self.outcome: Outcome | None = None
-        self.reason: Because | None = None
+
+    @property
+    def hides(self) -> bool:
+        """Whether its copies are passed over: it went in, or may go in by itself."""
+        return self.why_by_itself is None or self.decision in (Decision.ENTERED, Decision.TAKEN_BACK, Decision.STRUCK)
+
+    @property
+    def waits(self) -> bool:
+        """Whether it waits for the secretary: to be agreed to, or to be looked at."""
+        return self.outcome in (Outcome.GOES_IN, Outcome.WAITS)
+
+    @property
+    def arrived_before_call(self) -> bool:
+        """Whether it arrived before the call, whatever it waits for."""
+        return self.parsed.arrived is not None and self.parsed.arrived <= self.circumstances.called
+
+    @property
+    def arrived_late(self) -> bool:
+        """Whether it arrived after the end or the first close, whatever it waits for."""
+        ends = filter(None, (self.circumstances.end, self.circumstances.first_close))
+        return any(self.parsed.arrived is not None and self.parsed.arrived > end for end in ends)
 
     @property
     def elector(self) -> str:
         """The elector on its ballot."""
         return "" if self.ballot is None else self.ballot.elector
 
-    def ballot_lines(self) -> list[BallotLine]:
-        """The lines that read as ballots, the one that may go in first; a line that reads as one by itself and joined is one."""
-        lines = [*([] if self.ballot is None else [self.ballot]), *self.readings.lines()]
-        return list(dict.fromkeys(lines))
+    @functools.cached_property
+    def ballots(self) -> tuple[BallotLine, ...]:
+        """The lines that read as ballots, the one that may go in first; a line that reads as one by itself and joined is one. Each may be
+        entered by its number, as may those that are offered.
+        """
+        return tuple(dict.fromkeys((*filter(None, [self.ballot]), *self.readings.lines())))
+
+    @property
+    def offered(self) -> tuple[BallotLine, ...]:
+        """Ranks without a name, with that of the elector who seems to have sent them."""
+        return self.readings.offered
+
+    @property
+    def near(self) -> tuple[Near, ...]:
+        return () if self.ballots else self.readings.near
+
+    @functools.cached_property
+    def electors(self) -> tuple[str, ...]:
+        """Whose it is: the electors on its ballots, or near to one; else the one who has the sender's address."""
+        named = [line.elector for line in (*self.ballots, *self.offered)]
+        named += [name for near in self.readings.near if (name := near.ballot.partition(" ")[0]) in self.circumstances.roll]
+        sender = self.circumstances.elector_of(self.parsed)
+        return tuple(dict.fromkeys(named)) or (() if sender is None else (sender.name,))
+
+    @property
+    def shared_with(self) -> tuple[str, ...]:
+        """The other electors who have the sender's address."""
+        sharing = self.circumstances.electors_by_address.get(self.parsed.sender, [])
+        return tuple(name for name in sharing if name not in self.electors)
+
+    @property
+    def other_words(self) -> str:
+        """The beginning of the sender's own words beside their ballots."""
+        lines, view = self.parsed.body.text.lines, self.readings.views[0]
+        own = (index for paragraph in paragraphs_of(lines, self.circumstances.passed_over) for index in paragraph)
+        return shown_text(" ".join(lines[index] for index in own if view[index] is None and not is_quoted(lines[index])))
 
 
-Rule = Callable[[Case, Circumstances], Because | None]
+Rule = Callable[[JudgedLetter, Circumstances], Because | None]
 
 
 # ---------------------------------------------------------------- the rules
-def can_be_read(case: Case, circumstances: Circumstances) -> Because | None:
-    letter, text = case.letter, case.letter.body.text
+def can_be_read(case: JudgedLetter, circumstances: Circumstances) -> Because | None:
+    letter, text = case.parsed, case.parsed.body.text
     if letter.is_parted_off:
         return Reason.PARTED_OFF()
     if letter.is_automatic:
@@ -182,8 +212,8 @@ def can_be_read(case: Case, circumstances: Circumstances) -> Because | None:
     return Reason.HTML(element=text.first_other) if is_odd else None
 
 
-def arrived_in_time(case: Case, circumstances: Circumstances) -> Because | None:
-    arrived, end, close = case.letter.arrived, circumstances.end, circumstances.first_close
+def arrived_in_time(case: JudgedLetter, circumstances: Circumstances) -> Because | None:
+    arrived, end, close = case.parsed.arrived, circumstances.end, circumstances.first_close
     if arrived is None:
         return Reason.NO_ARRIVAL()
     if arrived <= circumstances.called:
@@ -195,10 +225,10 @@ def arrived_in_time(case: Case, circumstances: Circumstances) -> Because | None:
     return Reason.IN_THE_FUTURE(arrived=arrived) if arrived > circumstances.now + AHEAD else None
 
 
-def is_sent_by_its_elector(case: Case, circumstances: Circumstances) -> Because | None:
-    sender, listed = case.letter.sender, circumstances.addresses.get(case.elector, ())
+def is_sent_by_its_elector(case: JudgedLetter, circumstances: Circumstances) -> Because | None:
+    sender, listed = case.parsed.sender, circumstances.addresses.get(case.elector, ())
     if not sender:
-        return Reason.NO_SENDER(sender=case.letter.shown_sender)
+        return Reason.NO_SENDER(sender=case.parsed.shown_sender)
     if case.ballot is None or sender in map(address_key, listed):
         return None
     if not listed:
@@ -206,9 +236,9 @@ def is_sent_by_its_elector(case: Case, circumstances: Circumstances) -> Because 
     return Reason.OTHER_SENDER(sender=sender, listed=" and ".join(listed), elector=case.elector)
 
 
-def is_signed_by_its_elector(case: Case, circumstances: Circumstances) -> Because | None:
+def is_signed_by_its_elector(case: JudgedLetter, circumstances: Circumstances) -> Because | None:
     """Where letters have to be signed. It comes before the rules about the text: what is read as the text is what was signed."""
-    letter, signature = case.letter, case.letter.signature
+    letter, signature = case.parsed, case.parsed.signature
     if circumstances.keys is None or case.ballot is None:
         return None
     if signature is None:
@@ -226,22 +256,22 @@ def is_signed_by_its_elector(case: Case, circumstances: Circumstances) -> Becaus
     return None if has_mark else Reason.NO_MARK(mark=circumstances.mark)
 
 
-def has_one_ballot(case: Case, circumstances: Circumstances) -> Because | None:
+def has_one_ballot(case: JudgedLetter, circumstances: Circumstances) -> Because | None:
     """No other line reads as a ballot that differs. It comes before the rule about the greeting, whose reason would say less."""
-    lines = case.ballot_lines()
+    lines = case.ballots
     if len({line.ballot for line in lines}) <= 1:
         return None
     electors = sorted({line.elector for line in lines})
     return Reason.SEVERAL_ELECTORS(electors=", ".join(electors)) if len(electors) > 1 else Reason.TWO_BALLOTS()
 
 
-def ballot_is_first(case: Case, circumstances: Circumstances) -> Because | None:
+def ballot_is_first(case: JudgedLetter, circumstances: Circumstances) -> Because | None:
     """Of the lines as they stand, and joined if the letter says that they flow."""
-    text = case.letter.body.text
+    text = case.parsed.body.text
     if case.ballot is None or case.index is None:
         if case.joined_index is not None:
             return Reason.JOINED()
-        elsewhere = case.ballot_lines()
+        elsewhere = case.ballots
         if elsewhere:
             return Reason.ELSEWHERE(number=elsewhere[0].number)
         return Reason.NO_NAME() if case.readings.offered else Reason.NO_BALLOT()
@@ -254,24 +284,18 @@ def ballot_is_first(case: Case, circumstances: Circumstances) -> Because | None:
     return placed(case, circumstances, text.joined, case.joined_index)
 
 
-def placed(case: Case, circumstances: Circumstances, lines: Sequence[str], index: int) -> Because | None:
+def placed(case: JudgedLetter, circumstances: Circumstances, lines: Sequence[str], index: int) -> Because | None:
     """Why the ballot is not the first of these lines."""
-    answered = case.letter.in_reply_to
+    answered = case.parsed.in_reply_to
     is_answer = bool(answered) and answered in circumstances.our_letters.get(case.elector, ())
-    return why_not_first(
-        lines, index, is_answer=is_answer, is_html=case.letter.body.text.is_html, passed_over=passed_over_in(circumstances)
-    )
+    is_html, passed_over = case.parsed.body.text.is_html, circumstances.passed_over
+    return why_not_first(lines, index, is_answer=is_answer, is_html=is_html, passed_over=passed_over)
 
 
-def passed_over_in(circumstances: Circumstances) -> tuple[str, ...]:
-    """The lines that may be anywhere: where letters have to be signed, the mark of the poll."""
-    return () if circumstances.keys is None else (f"[{circumstances.mark}]",)
-
-
-def is_of_this_vote(case: Case, circumstances: Circumstances) -> Because | None:
+def is_of_this_vote(case: JudgedLetter, circumstances: Circumstances) -> Because | None:
     """Where letters have to be signed, the marks in what is signed count, too."""
-    signed = () if circumstances.keys is None else case.letter.shown_lines
-    marks = [*case.letter.marks, *(mark for line in signed for mark in marks_of(line))]
+    signed = () if circumstances.keys is None else case.parsed.shown_lines
+    marks = [*case.parsed.marks, *(mark for line in signed for mark in marks_of(line))]
     other = next((mark for mark in marks if mark != circumstances.mark), None)
     return None if other is None else Reason.OTHER_MARK(mark=other)
 
@@ -291,12 +315,9 @@ RULES: tuple[Rule, ...] = (
 class Box:
     """The ballots that are in, by their electors and times."""
 
-    def __init__(self, ballots: Mapping[str, Sequence[Ballot]]) -> None:
+    def __init__(self) -> None:
         self.times: dict[str, list[datetime.datetime]] = collections.defaultdict(list)
         self.lines: dict[tuple[str, datetime.datetime], set[str]] = collections.defaultdict(set)
-        for elector, own in ballots.items():
-            for ballot in own:
-                self.add(elector, ballot)
 
     def add(self, elector: str, ballot: Ballot) -> None:
         bisect.insort(self.times[elector], ballot.time)
@@ -313,129 +334,91 @@ class Box:
 
     def has_between(self, elector: str, after: datetime.datetime, until: datetime.datetime) -> bool:
         times = self.times[elector]
-        return bisect.bisect_right(times, after) < bisect.bisect_right(times, until)
+        return bisect.bisect_right(times, after) < bisect.bisect_left(times, until)
 
 
-@dataclasses.dataclass
-class Copies:
-    """The letters with one identity that were judged so far: whether one hides the others, and which one arrived first of those that do, or
-    wait for a ballot beside them alone; and the first one that waits for each reason, with this body.
+def set_outcomes(cases: Sequence[JudgedLetter], box: Box) -> None:
+    """Sets what becomes of letters, in the order of their times. The ballots that go in are added to those that are in."""
+    groups: dict[str, list[JudgedLetter]] = collections.defaultdict(list)
+    for case in cases:
+        groups[case.parsed.identity].append(case)
+        if case.decision is not None:
+            case.outcome, case.reason = DECIDED[case.decision]
+    # of copies that may go in the first, if no act decided of one
+    hidden = {case.parsed.identity for case in cases if case.decision is not None and case.hides}
+    firsts: dict[str, JudgedLetter] = {}
+    for case in cases:
+        if case.why_by_itself is None and case.parsed.identity not in hidden:
+            firsts.setdefault(case.parsed.identity, case)
+    at_once: dict[tuple[str, datetime.datetime | None], set[str]] = collections.defaultdict(set)
+    for case in firsts.values():
+        at_once[case.elector, case.time] |= {line.ballot for line in case.ballots}
+    for case in firsts.values():
+        case.reason = why_not_latest(case, box, at_once[case.elector, case.time])
+        if case.reason is None and case.time is not None:
+            case.outcome = Outcome.GOES_IN
+            box.add(case.elector, Ballot(case.time, case.ballots[0].ballot))
+    for identity, group in groups.items():
+        set_copies(group, firsts.get(identity), box)
+
+
+def why_not_latest(case: JudgedLetter, box: Box, at_once: set[str]) -> Because | None:
+    """Its time is later than that of every ballot of its elector; at the same time it is the same ballot."""
+    assert case.time is not None
+    elector, time, last = case.elector, case.time, box.last(case.elector)
+    if last is not None and last > time:
+        return Reason.LATER_BALLOT(elector=elector, time=last)
+    same_time = box.lines[elector, time] | at_once
+    return Reason.SAME_TIME(elector=elector, time=time) if same_time - {case.ballots[0].ballot} else None
+
+
+def set_copies(group: Sequence[JudgedLetter], may_go_in: JudgedLetter | None, box: Box) -> None:
+    """Sets what becomes of the other letters with one identity. They are copies of one that went in or may have gone in; one that waits
+    hides no other, but of those that wait for one reason, with one body, the first is told.
     """
+    hiding = [case for case in group if case.hides]
+    is_hidden = any(case.decision is not None or case.outcome is Outcome.GOES_IN for case in hiding)
+    waiting: dict[tuple[Because | None, Body], JudgedLetter] = {}
+    for case in sorted(group, key=lambda case: case.decision is None):
+        before = waiting.setdefault((case.why_by_itself, case.parsed.body), case)
+        if case.decision is not None or case is may_go_in:
+            continue
+        if is_hidden or case.why_by_itself is None:
+            set_copy(case, min(hiding, key=lambda case: (case.parsed.arrived is None, case.parsed.arrived)), box)
+        elif before is not case:
+            set_copy(case, before, box)
+        else:
+            case.reason = case.why_by_itself
 
-    is_hidden: bool = False
-    first: Case | None = None
-    waiting: dict[tuple[Because | None, Body], Case] = dataclasses.field(default_factory=dict)
 
-    def note(self, case: Case) -> None:
-        arrived, before = case.letter.arrived, None if self.first is None else self.first.letter.arrived
-        if before is None or (arrived is not None and arrived < before):
-            self.first = case
-
-    def hide(self, case: Case) -> None:
-        self.is_hidden = True
-        self.note(case)
+def set_copy(case: JudgedLetter, first: JudgedLetter, box: Box) -> None:
+    """A copy of a letter that arrived before it is passed over, unless another ballot of its elector came between."""
+    arrived, before = case.parsed.arrived, first.parsed.arrived
+    case.outcome, case.reason = Outcome.COPY, None
+    if first.time is not None and before is not None and arrived is not None and arrived > before:
+        for line in (*case.ballots, *case.offered):
+            if box.has_between(line.elector, first.time, arrived):
+                case.outcome, case.reason = Outcome.WAITS, Reason.CAME_BEFORE(elector=line.elector)
+                return
 
 
-class Judge:
-    """Judges letters in the order of their times, and adds the ballots that go in to those that are in."""
-
-    def __init__(self, circumstances: Circumstances, cases: Sequence[Case]) -> None:
-        self.circumstances, self.cases = circumstances, cases
-        self.box = Box(circumstances.ballots)
-        self.copies: dict[str, Copies] = collections.defaultdict(Copies)
-        # the ballots that may go in, by elector and time
-        self.at_once: dict[tuple[str, datetime.datetime], set[str]] = collections.defaultdict(set)
-        for case in cases:
-            if case.decision is not None:
-                self.note_decided(case, case.decision)
-        # of copies the first
-        firsts: dict[str, Case] = {}
-        for case in cases:
-            if case.decision is None and case.why_by_itself is None and not self.copies[case.letter.identity].is_hidden:
-                firsts.setdefault(case.letter.identity, case)
-        for case in firsts.values():
-            assert case.ballot is not None and case.time is not None
-            self.at_once[case.elector, case.time].add(case.ballot.ballot)
-
-    def note_decided(self, case: Case, decision: Decision) -> None:
-        """Copies of a letter are passed over if it went in or may have gone in. One that waits by a rule hides no other, whatever an act
-        decided of it.
-        """
-        copies = self.copies[case.letter.identity]
-        if decision in (Decision.ENTERED, Decision.TAKEN_BACK, Decision.STRUCK) or case.why_by_itself is None:
-            copies.hide(case)
-        copies.waiting.setdefault((case.why_by_itself, case.letter.body), case)
-
-    def judged(self) -> list[JudgedLetter]:
-        for case in self.cases:
-            case.outcome, case.reason = DECIDED[case.decision] if case.decision is not None else self.outcome_of(case)
-        # one that waits is a copy, too, of one that came later and goes in
-        for case in self.cases:
-            copies = self.copies[case.letter.identity]
-            if case.outcome is Outcome.WAITS and case.decision is None and copies.is_hidden:
-                case.outcome, case.reason = self.as_copy(case, copies.first)
-        return [self.judged_letter(case) for case in self.cases]
-
-    def outcome_of(self, case: Case) -> tuple[Outcome, Because | None]:
-        """What becomes of a letter, after those before it."""
-        copies = self.copies[case.letter.identity]
-        if copies.is_hidden or (case.why_by_itself is None and copies.first is not None):
-            return self.as_copy(case, copies.first)
-        why = case.why_by_itself or self.why_not_latest(case)
-        if why is None and case.ballot is not None and case.time is not None:
-            self.box.add(case.elector, Ballot(case.time, case.ballot.ballot))
-            copies.hide(case)
-            return Outcome.GOES_IN, None
-        if case.why_by_itself is None:
-            copies.note(case)
-        if (why, case.letter.body) in copies.waiting:
-            return self.as_copy(case, copies.waiting[why, case.letter.body])
-        copies.waiting[why, case.letter.body] = case
-        return Outcome.WAITS, why
-
-    def as_copy(self, case: Case, first: Case | None) -> tuple[Outcome, Because | None]:
-        """A copy of a letter that arrived before it is passed over, unless another ballot of its elector came between."""
-        arrived, before = case.letter.arrived, None if first is None else first.letter.arrived
-        if first is not None and first.time is not None and before is not None and arrived is not None and arrived > before:
-            for line in (*case.ballot_lines(), *case.readings.offered):
-                if self.box.has_between(line.elector, first.time, arrived):
-                    return Outcome.WAITS, Reason.CAME_BEFORE(elector=line.elector)
-        return Outcome.COPY, None
-
-    def why_not_latest(self, case: Case) -> Because | None:
-        """Its time is later than that of every ballot of its elector; at the same time it is the same ballot."""
-        assert case.ballot is not None and case.time is not None
-        elector, time, last = case.elector, case.time, self.box.last(case.elector)
-        if last is not None and last > time:
-            return Reason.LATER_BALLOT(elector=elector, time=last)
-        same_time = self.box.lines[elector, time] | self.at_once[elector, time]
-        return Reason.SAME_TIME(elector=elector, time=time) if same_time - {case.ballot.ballot} else None
-
-    # ---------------------------------------------------------------- what is shown of it
-    def judged_letter(self, case: Case) -> JudgedLetter:
-        assert case.outcome is not None
-        letter, sender = case.letter, self.circumstances.elector_of(case.letter)
-        ballots = case.ballot_lines()
-        named = [line.elector for line in (*ballots, *case.readings.offered)]
-        named += [name for near in case.readings.near if (name := near.ballot.partition(" ")[0]) in self.circumstances.roll]
-        electors = list(dict.fromkeys(named)) or ([] if sender is None else [sender.name])
-        sharing = self.circumstances.electors_by_address.get(letter.sender, []) if letter.sender else []
-        return JudgedLetter(
-            letter=letter,
-            outcome=case.outcome,
-            reason=case.reason,
-            time=case.time,
-            ballots=tuple(ballots),
-            offered=case.readings.offered,
-            near=() if ballots else case.readings.near,
-            electors=tuple(electors),
-            shared_with=tuple(name for name in sharing if name not in electors),
-            other_words=self.other_words_of(case),
-            has_voted_since=any(self.box.has_later(elector, case.time) for elector in electors),
-        )
-
-    def other_words_of(self, case: Case) -> str:
-        """The beginning of the sender's own words beside their ballots."""
-        lines, view = case.letter.body.text.lines, case.readings.views[0]
-        own = [index for paragraph in paragraphs_of(lines, passed_over_in(self.circumstances)) for index in paragraph]
-        return shown_text(" ".join(lines[index] for index in own if view[index] is None and not is_quoted(lines[index])))
+def judge_all(letters: Sequence[ParsedLetter], circumstances: Circumstances, reader: LineReader) -> list[JudgedLetter]:
+    """Judges letters in the order of their times; those without a time come last, in their order."""
+    found = [
+        readings_of(letter, circumstances.roll, circumstances.elector_of(letter), circumstances.language) for letter in letters
+    ]
+    asked = dict.fromkeys(line.encode() for readings in found for line in readings.asked())
+    asked |= dict.fromkeys(ballot.line.encode() for ballots in circumstances.ballots.values() for ballot in ballots)
+    answers = reader.answers(list(asked)) if asked else {}
+    cases = [JudgedLetter(letter, readings.answered(answers), circumstances) for letter, readings in zip(letters, found)]
+    ordered = sorted(cases, key=lambda case: (case.time is None, case.time or circumstances.now))
+    # a line with an elector's name that debvote refuses is no ballot of theirs
+    box = Box()
+    for elector, ballots in circumstances.ballots.items():
+        for ballot in ballots:
+            if answers[ballot.line.encode()] is None:
+                box.add(elector, ballot)
+    set_outcomes(ordered, box)
+    for case in ordered:
+        case.has_voted_since = any(box.has_later(elector, case.time) for elector in case.electors)
+    return ordered

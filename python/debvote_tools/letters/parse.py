@@ -43,6 +43,8 @@ LINE_END, PART_LINE = re.compile(rb"\r\n?|\n"), re.compile(rb"[\r\n]--")
 ODD_BREAK = re.compile(r"(?m)=[ \t]+\r?$")
 # what ends a line in some programs, beside LF and CR LF
 ODD_END = re.compile("[\r\v\f\x1c-\x1f\x85\u2028\u2029](?!(?<=\r)\n)")
+# a field goes on in a line of blanks, which ends the head in some programs
+BLANK_LINE = re.compile(r"\n[ \t]*\r?(?:\n|\Z)")
 
 # the description of a part, each field once; of the parameters of a kind only a name may be coded or in pieces. No text matches in two
 # ways, or the time to find that it does not match at all would double with each parameter
@@ -56,12 +58,16 @@ CHARSETS = re.compile(r"utf-?8|us-ascii|ascii|iso-?8859-\d{1,2}|(?:windows-|cp)1
 SHOWN_CHARSETS = re.compile(
     r"(?:us-)?ascii|(?:big5|cp|euc|gb|hz|iso|koi|ks|latin|mac|shift|tis|utf|windows)[\w.:-]*", re.IGNORECASE
 )
+# control characters that mail programs show as Windows has them, such as a dash
+AS_WINDOWS = {number: bytes([number]).decode("cp1252", "replace") for number in range(0x80, 0xA0) if number != ord("\x85")}
 CONTAINERS = ("multipart/alternative", "multipart/mixed", "multipart/related", "multipart/signed")
 PACKED = ("multipart/encrypted", "application/pgp-encrypted", "application/pkcs7-mime", "application/x-pkcs7-mime")
 
 ENCODED_WORD = re.compile(r"=\?[^?\s]*\?[^?\s]*\?[^?\s]*\?=")
 MESSAGE_ID = re.compile(r"<[!-;=?-~]{1,250}>")
 MARK = re.compile(r"\[([0-9a-f]{16})\]", re.IGNORECASE)
+# so a server says that it does not know its zone; a comment may follow
+UNKNOWN_ZONE = re.compile(r"-0000(?:\s*\(.*\))?$")
 
 # by these a program says that it answers by itself
 AUTOMATIC_FIELDS = ("x-autoreply", "x-autorespond", "x-autoresponder")
@@ -71,7 +77,7 @@ DAEMON = re.compile(r"(?:mailer-daemon|postmaster)@", re.IGNORECASE)
 @dataclasses.dataclass(frozen=True)
 class Text:
     """The text of a letter: its lines as they stand and, if the letter says that they flow, joined, each with the index of its first line.
-    Of HTML the first `plain_lines` have plain marks alone, `first_other` is the first other mark, and nobody sees the lines `unseen`.
+    Of HTML the first `plain_lines` have plain marks alone, and `first_other` is the first other mark.
     """
 
     lines: tuple[str, ...] = ()
@@ -80,13 +86,12 @@ class Text:
     is_html: bool = False
     plain_lines: int = 0
     first_other: str = ""
-    unseen: tuple[str, ...] = ()
 
 
 @dataclasses.dataclass(frozen=True)
 class Body:
-    """What a letter says below its head: its text, the lines of all other parts that may read as a ballot, and why it can't be read with
-    certainty; its text is then what can be shown.
+    """What a letter says below its head: its text, the other lines of all its parts that may read as a ballot, and why it can't be read
+    with certainty; its text is then what can be shown.
     """
 
     text: Text = Text()
@@ -197,19 +202,17 @@ def decoded(value: str) -> str:
         parts = email.header.decode_header(value)
     except Exception:
         parts = [(value, None)]
-    return " ".join("".join(decoded_word(word, charset) for word, charset in parts).split())
-
-
-def decoded_word(word: str | bytes, charset: str | None) -> str:
-    return word if isinstance(word, str) else decoded_bytes(word, charset or "latin-1")
+    words = (word if isinstance(word, str) else decoded_bytes(word, charset or "latin-1") for word, charset in parts)
+    return " ".join("".join(words).split())
 
 
 def decoded_bytes(data: bytes, charset: str) -> str:
     """A text as its character set has it, or as Latin-1. Halves of characters, which some character sets have, are none."""
     try:
-        return data.decode(charset if SHOWN_CHARSETS.fullmatch(charset) else "latin-1").encode("utf-8", "replace").decode("utf-8")
+        text = data.decode(charset if SHOWN_CHARSETS.fullmatch(charset) else "latin-1").encode("utf-8", "replace").decode("utf-8")
     except (ValueError, LookupError):
-        return data.decode("latin-1")
+        text = data.decode("latin-1")
+    return text if text.isascii() else text.translate(AS_WINDOWS)
 
 
 def plain_id(values: Sequence[str]) -> str:
@@ -259,7 +262,7 @@ def arrival_of(received: Sequence[str]) -> datetime.datetime | None:
         if arrived.year == datetime.MAXYEAR:
             return None
         # a time needs a zone
-        if any(map(email.utils.parsedate, others)) or (arrived.tzinfo is None and not time.endswith("-0000")):
+        if any(map(email.utils.parsedate, others)) or (arrived.tzinfo is None and not UNKNOWN_ZONE.search(time)):
             return None
         return arrived.replace(tzinfo=arrived.tzinfo or datetime.UTC).astimezone(datetime.UTC).replace(microsecond=0)
     except Exception:
@@ -296,11 +299,11 @@ def read_body(data: bytes) -> Body:
     try:
         demand_readable(data)
         message = email.message_from_bytes(data)
-        leaves = [leaf for leaf in leaves_of(message) if leaf.part.get_content_maintype() == "text"]
-        length = sum(len(str(leaf.part.get_payload())) for leaf in leaves)
+        leaves = [(part, is_own) for part, is_own in leaves_of(message) if part.get_content_maintype() == "text"]
+        length = sum(len(str(part.get_payload())) for part, _ in leaves)
         if length > MAX_TEXTS:
             raise Unread(Reason.TOO_LONG(length=length, what="bytes in all its texts", limit=MAX_TEXTS))
-        texts = [text_of(leaf.part) for leaf in leaves]
+        texts = [text_of(part) for part, _ in leaves]
         trouble = trouble_of(message, leaves)
     except Unread as error:
         return Body(trouble=error.because)
@@ -309,9 +312,14 @@ def read_body(data: bytes) -> Body:
         return Body(trouble=Reason.DEFECT(defect=type(error).__name__))
     if LONE_RETURN.search(data):
         trouble = trouble or Reason.LINE_END(character="U+000D")
-    first, others = (texts[0], texts[1:]) if texts else (Text(), [])
-    other_lines = [line for line in first.unseen if may_be_ballot(line)]
-    other_lines += [line for text in others for line in (*text.lines, *text.joined, *text.unseen) if may_be_ballot(line)]
+    first = texts[0][0] if texts else Text()
+    lines = [line for text, _ in texts[1:] for line in (*text.lines, *text.joined)]
+    lines += [line for _, pieces in texts for line in pieces]
+    # around the parts no program shows a text, but a letter may be there that a mailbox did not part
+    around = "\n".join(text for part in message.walk() for text in (part.preamble, part.epilogue) if text)
+    lines += decoded_bytes(around.encode("ascii", "surrogateescape"), "utf-8").splitlines()
+    own, others = ({" ".join(line.split()): None for line in some} for some in (first.lines, lines))
+    other_lines = [line for line in others if line not in own and may_be_ballot(line)]
     count = len(other_lines) + sum(map(may_be_ballot, first.lines))
     if count > MAX_LINES:
         trouble = Reason.TOO_LONG(length=count, what="lines with numbers", limit=MAX_LINES)
@@ -341,16 +349,10 @@ def demand_readable(data: bytes) -> None:
         raise Unread(Reason.TOO_MANY_PARTS())
 
 
-@dataclasses.dataclass(frozen=True, eq=False)
-class Leaf:
-    """A part without parts, and whether it may be the text of the letter: only such parts are around it as mail programs put there."""
-
-    part: email.message.Message
-    is_own: bool
-
-
-def leaves_of(part: email.message.Message, *, is_own: bool = True) -> Iterator[Leaf]:
-    """The parts of a letter without parts, in their order."""
+def leaves_of(part: email.message.Message, *, is_own: bool = True) -> Iterator[tuple[email.message.Message, bool]]:
+    """The parts of a letter without parts, in their order, and whether each may be the text of the letter: only such parts are around it as
+    mail programs put there.
+    """
     demand_plain_description(part)
     is_own = is_own and part.get_content_disposition() in (None, "inline") and part.get_filename() is None
     payload = part.get_payload()
@@ -360,17 +362,23 @@ def leaves_of(part: email.message.Message, *, is_own: bool = True) -> Iterator[L
     elif part.get_content_maintype() == "multipart":
         raise Unread(Reason.DEFECT(defect="NoBoundaryInMultipartDefect"))
     else:
-        yield Leaf(part, is_own)
+        yield part, is_own
 
 
 def demand_plain_description(part: email.message.Message) -> None:
-    """Stops where two programs may read a part in two ways: its description is there twice, or has an odd form."""
-    for name in ONCE:
-        if len(fields(part, name)) > 1:
-            raise Unread(Reason.AMBIGUOUS(field=name))
+    """Stops where two programs may read a part in two ways: a field goes on in a line of blanks, which may end the head, its description
+    is there twice, or it has an odd form.
+    """
+    for name, value in part.raw_items():
+        if BLANK_LINE.search(str(value)) or (name.lower() in ONCE and len(fields(part, name.lower())) > 1):
+            raise Unread(Reason.AMBIGUOUS(field=name.lower()))
     kind = " ".join(fields(part, "content-type"))
     is_read = part.get_content_maintype() in ("text", "multipart")
     if kind and not (parameters_in(kind) is not None if is_read else ANY_KIND.fullmatch(kind)):
+        raise Unread(Reason.AMBIGUOUS(field="content-type"))
+    # Python takes angle brackets off a boundary, and other programs don't
+    boundary = part.get_boundary()
+    if is_read and boundary is not None and (not boundary or boundary != parameter(part, "boundary").rstrip()):
         raise Unread(Reason.AMBIGUOUS(field="content-type"))
 
 
@@ -387,7 +395,11 @@ def parameter(part: email.message.Message, name: str) -> str:
     return (parameters_in(" ".join(fields(part, "content-type"))) or {}).get(name, "")
 
 
-def trouble_of(message: email.message.Message, leaves: Sequence[Leaf]) -> Because | None:
+def coding_of(part: email.message.Message) -> str:
+    return " ".join(fields(part, "content-transfer-encoding")).strip().lower()
+
+
+def trouble_of(message: email.message.Message, leaves: Sequence[tuple[email.message.Message, bool]]) -> Because | None:
     """Why a letter with these parts of text can't be read with certainty; None if it can. Their texts were decoded before, so that each
     part has its defects.
     """
@@ -397,23 +409,29 @@ def trouble_of(message: email.message.Message, leaves: Sequence[Leaf]) -> Becaus
     defects = [type(defect).__name__ for part in parts for defect in part.defects]
     if defects:
         return Reason.DEFECT(defect=defects[0])
-    kind = leaves[0].part.get_content_type() if leaves and leaves[0].is_own else ""
-    if kind == "text/plain" or (kind == "text/html" and len(leaves) == 1):
-        return trouble_of_text(leaves[0].part)
-    return Reason.NO_PLAIN_TEXT()
+    first, is_own = leaves[0] if leaves else (message, False)
+    kind = first.get_content_type() if is_own else ""
+    if kind != "text/plain" and (kind != "text/html" or len(leaves) > 1):
+        return Reason.NO_PLAIN_TEXT()
+    return trouble_of_text(first) or next(filter(None, (trouble_of_coding(part) for part, _ in leaves)), None)
+
+
+def trouble_of_coding(part: email.message.Message) -> Because | None:
+    """What leaves a doubt about which characters a text has: its coding, or its character set."""
+    coding, charset = coding_of(part), parameter(part, "charset")
+    if coding not in CODINGS or (coding == "quoted-printable" and ODD_BREAK.search(str(part.get_payload()))):
+        return Reason.AMBIGUOUS(field="content-transfer-encoding")
+    return Reason.CHARSET(charset=charset) if charset and not CHARSETS.fullmatch(charset) else None
 
 
 def trouble_of_text(part: email.message.Message) -> Because | None:
-    """What leaves a doubt about a text: its coding, its character set, or its line ends."""
-    coding = " ".join(fields(part, "content-transfer-encoding")).strip().lower()
+    """What leaves a doubt about the text of a letter: beside those its bytes, or its line ends."""
+    if (trouble := trouble_of_coding(part)) is not None:
+        return trouble
     charset = parameter(part, "charset") or "us-ascii"
-    if coding not in CODINGS or (coding == "quoted-printable" and ODD_BREAK.search(str(part.get_payload()))):
-        return Reason.AMBIGUOUS(field="content-transfer-encoding")
     try:
-        text = payload_of(part).decode(charset) if CHARSETS.fullmatch(charset) else None
+        text = payload_of(part).decode(charset)
     except (UnicodeDecodeError, LookupError):
-        text = None
-    if text is None:
         return Reason.CHARSET(charset=charset)
     odd = ODD_END.search(text) if part.get_content_type() == "text/plain" else None
     return None if odd is None else Reason.LINE_END(character=f"U+{ord(odd[0]):04X}")
@@ -421,7 +439,9 @@ def trouble_of_text(part: email.message.Message) -> Because | None:
 
 # ---------------------------------------------------------------- texts
 def payload_of(part: email.message.Message) -> bytes:
-    """The bytes of a text, decoded as its part says."""
+    """The bytes of a text, decoded as its part says. Python decodes none whose coding is on a line of its own, or before a blank."""
+    if coding := coding_of(part):
+        part.replace_header("content-transfer-encoding", coding)
     payload = part.get_payload(decode=True)
     data = payload if isinstance(payload, bytes) else b""
     if len(data) > MAX_TEXT:
@@ -429,18 +449,18 @@ def payload_of(part: email.message.Message) -> bytes:
     return data
 
 
-def text_of(part: email.message.Message) -> Text:
-    """The lines of a part, as far as they can be read."""
+def text_of(part: email.message.Message) -> tuple[Text, list[str]]:
+    """The lines of a part, as far as they can be read, and what else of it may be lines."""
     text = decoded_bytes(payload_of(part), str(part.get_content_charset() or "utf-8")).removeprefix("\ufeff")
     kind = part.get_content_type()
     found = read_html("" if kind == "text/plain" else text)
     if kind == "text/html":
-        return Text(found.lines, (), (), True, found.plain_lines, found.first_other, found.unseen)
+        return Text(tuple(found.lines), (), (), True, found.plain_lines, found.first_other), found.pieces
     lines = ODD_END.sub("\n", text.replace("\r\n", "\n")).split("\n")
     while lines and not lines[-1]:
         lines.pop()
     # some other kinds are HTML, too
-    return dataclasses.replace(plain_text(part, lines), unseen=found.lines + found.unseen)
+    return plain_text(part, lines), found.lines + found.pieces
 
 
 def plain_text(part: email.message.Message, lines: Sequence[str]) -> Text:

@@ -7,8 +7,8 @@ from collections.abc import Iterator, Mapping, Sequence
 from typing import Protocol
 
 from debvote_tools.letters.greeting import above_end, is_quoted
-from debvote_tools.letters.parse import MAX_LINE, ParsedLetter, may_be_ballot
-from debvote_tools.lines import DASHES, changed
+from debvote_tools.letters.parse import ParsedLetter, may_be_ballot
+from debvote_tools.lines import DASHES, LONGEST, changed
 from debvote_tools.plain_names import without_accents
 
 # the grammar of a ballot line, and ranks alone
@@ -109,10 +109,8 @@ class Readings:
         for line in self.lines():
             if not valid(line) and all(one.ballot != line.ballot for one in near):
                 near.append(Near(line.number, line.ballot, False, answers[line.ballot.encode()]))
-        near.sort(key=lambda near: near.number)
-        return Readings(
-            views, tuple(filter(valid, self.others)), tuple(filter(valid, self.offered)), tuple(near[:MAX_NEAR]), self.crowd
-        )
+        near = sorted(near, key=lambda near: near.number)[:MAX_NEAR]
+        return Readings(views, tuple(filter(valid, self.others)), tuple(filter(valid, self.offered)), tuple(near), self.crowd)
 
 
 def readings_of(letter: ParsedLetter, roll: frozenset[str], elector: Elector | None, language: str) -> Readings:
@@ -192,9 +190,10 @@ def folded(name: str, language: str) -> str:
 
 
 def repaired(line: str) -> str:
-    """A line after the changes that are allowed. Of a long one the blanks are taken together first."""
-    line = line if len(line) <= MAX_LINE else " ".join(line.split())
-    return changed(line.encode("utf-8", "replace")).decode("utf-8", "replace").replace("\n", " ")
+    """A line after the changes that are allowed. Of one that is too long for them the blanks are taken together first."""
+    data = line.encode("utf-8", "replace")
+    data = data if len(data) <= LONGEST else " ".join(line.split()).encode("utf-8", "replace")
+    return changed(data).decode("utf-8", "replace").replace("\n", " ")
 
 
 def first_ballot(lines: Sequence[str], view: Sequence[BallotLine | None]) -> int | None:

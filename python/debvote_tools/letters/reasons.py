@@ -31,7 +31,7 @@ class Reason(enum.Enum):
     SET_ASIDE = "it was set aside"
     STRUCK = "its ballot was struck"
     # it can't be read with certainty
-    PARTED_OFF = "it may be text of the letter above it in the mailbox, and no letter of its own"
+    PARTED_OFF = "it may be text of the letter above it in the mailbox, or have other letters in it: look at the file"
     TOO_LONG = "it has {length} {what}, and {limit} are the most"
     TOO_MANY_PARTS = "it has too many parts or lines, or parts too deep within each other"
     AMBIGUOUS = "it describes a part in a way that programs read differently: {field}"

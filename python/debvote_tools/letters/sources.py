@@ -28,11 +28,15 @@ FROM_LINE = re.compile(rb"(?m)^From [^\r\n]{1,990}\r?$")
 DAYS = (b"Mon", b"Tue", b"Wed", b"Thu", b"Fri", b"Sat", b"Sun")
 TIME = re.compile(rb"\d\d?:\d\d(?::\d\d)?")
 
+# another letter within a letter, which a line without a date parts, or one that was changed
+INNER = re.compile(rb"(?im)^>?From [^\r\n]*\r?\n(?:received|return-path|delivered-to|from|date|message-id|mime-version)[ \t]*:")
+
 # in bytes; of the empty line that ends a file so much may be missing
 MAX_MISSING = 2
 
 END_OF_HEAD = re.compile(rb"\r?\n\r?\n")
 CONTENT_LENGTH = re.compile(rb"(?im)^content-length[ \t]*:\s*(\d{1,15})")
+CONTENT_TYPE = re.compile(rb"(?im)^content-type[ \t]*:(?:[^\n]|\n(?=[ \t]))*")
 # with all that Python takes for a blank; one in quotation marks may have blanks in it
 BOUNDARY = re.compile(rb"""(?i)\bboundary\*?\d*\*?[\s\x1c-\x1f]*=[\s\x1c-\x1f]*(?:"([^"\n]*)"|"?([^"\s;]*))""")
 MAX_BOUNDARIES = 5
@@ -46,6 +50,7 @@ class NotRead(enum.Enum):
     """Why a file or a letter is passed over, and what to do about it."""
 
     FOLDER = ("it is a folder within the folder", "add it by its own name, if it has letters")
+    MAILBOX = ("it is a mailbox of several letters within the folder", "add it by its own name")
     HIDDEN = ("it is a hidden file, whose name begins with a full stop", "give it another name, if it is a letter")
     TOO_LONG = ("it has more than 10 MiB", "ask for the ballot again, alone and without attachments")
     OUTLOOK_LETTER = (
@@ -71,7 +76,7 @@ class NotRead(enum.Enum):
 
 @dataclasses.dataclass(frozen=True)
 class RawLetter:
-    """A letter as it came. One that was parted off may be text of the letter above it in the mailbox, so it waits."""
+    """A letter as it came. One that was parted off may be text of the letter above it in the mailbox, or have others in it, so it waits."""
 
     where: str
     data: bytes
@@ -143,7 +148,7 @@ def letters_of_folder(folder: pathlib.Path) -> Source:
 
 
 def letter_of_file(file: pathlib.Path) -> Source:
-    """The letter of a file of a folder, which is never parted."""
+    """The letter of a file of a folder, which is never parted: it is named if it is a mailbox of several letters."""
     name = str(file)
     if file.is_dir():
         return Source([], [PassedOver(name, NotRead.FOLDER)])
@@ -151,7 +156,11 @@ def letter_of_file(file: pathlib.Path) -> Source:
         return Source([], [PassedOver(name, NotRead.HIDDEN)])
     if not file.is_file():
         return Source([], [PassedOver(name, NotRead.NO_LETTER)])
-    return of_one(name, file.read_bytes())
+    data = file.read_bytes()
+    bare = without_start(data)
+    if is_mailbox(bare) and len(from_lines(bare)) > 1:
+        return Source([], [PassedOver(name, NotRead.MAILBOX)])
+    return of_one(name, data)
 
 
 def of_one(name: str, data: bytes) -> Source:
@@ -162,7 +171,7 @@ def of_one(name: str, data: bytes) -> Source:
     bare = without_start(data)
     from_line = FROM_LINE.match(bare)
     letter = bare if from_line is None else bare[from_line.end() :].lstrip(b"\r\n")
-    return Source([RawLetter(name, letter, is_parted_off=bool(from_lines(letter)))], [])
+    return Source([RawLetter(name, letter, is_parted_off=bool(from_lines(letter)) or has_others(letter))], [])
 
 
 # ---------------------------------------------------------------- an mbox
@@ -178,13 +187,19 @@ def has_date(from_line: bytes) -> bool:
     return any(TIME.fullmatch(word) for word in words[day:])
 
 
+def has_others(letter: bytes) -> bool:
+    """Whether other letters may be in a letter."""
+    end = END_OF_HEAD.search(letter, 0, MAX_HEAD)
+    return end is not None and INNER.search(letter, end.end()) is not None
+
+
 def from_lines(data: bytes) -> list[re.Match[bytes]]:
     """The lines between letters."""
     return [line for line in FROM_LINE.finditer(data) if has_date(line[0])]
 
 
 def letters_of_mailbox(name: str, data: bytes) -> Source:
-    """The letters of an mbox. One is parted off if it may be text of the letter above it: its line `From ` has no empty line before
+    """The letters of an mbox. One is parted off if it has others, or may be text of the letter above it: its line `From ` has no empty line before
     it, is within the Content-Length of a letter above, or comes before the parts of that letter end. A length that goes beyond the end
     of the file is not that of a letter in it.
     """
@@ -198,12 +213,14 @@ def letters_of_mailbox(name: str, data: bytes) -> Source:
         if end - start > MAX_LETTER:
             found.passed_over.append(PassedOver(where, NotRead.TOO_LONG))
         else:
-            found.letters.append(RawLetter(where, without_separator(data[start:end]), is_parted_off))
+            letter = without_separator(data[start:end])
+            found.letters.append(RawLetter(where, letter, is_parted_off or has_others(letter)))
         end_of_head = END_OF_HEAD.search(data, start, min(end, start + MAX_HEAD))
         head = b"" if end_of_head is None else data[start : end_of_head.end()]
         reaches = [start + len(head) + int(length) for length in CONTENT_LENGTH.findall(head)]
         reach = max(reach, *(one for one in reaches if one <= len(data) + MAX_MISSING), 0)
-        boundaries = [quoted.rstrip() or bare for quoted, bare in BOUNDARY.findall(head)[:MAX_BOUNDARIES]]
+        found_boundaries = BOUNDARY.findall(b"\n".join(CONTENT_TYPE.findall(head)))[:MAX_BOUNDARIES]
+        boundaries = [quoted.rstrip() or bare for quoted, bare in found_boundaries]
         is_open = any(data.find(b"\n--" + boundary + b"--", start, end) < 0 for boundary in boundaries)
     return found
 

@@ -10,7 +10,7 @@ import enum
 import functools
 import re
 import unicodedata
-from collections.abc import Sequence
+from collections.abc import Iterator, Sequence
 
 from debvote_tools.book.queries import Elector
 from debvote_tools.book.sent import About
@@ -47,6 +47,10 @@ SUBJECTS = {
     Kind.CLOSED: marked("Vote closed: {title}"),
     Kind.RESULT: marked("Result: {title}"),
 }
+
+
+# in place of that of the call
+EXTENSION = marked("Vote ends later: {title}")
 
 
 class Became(enum.Enum):
@@ -93,9 +97,10 @@ class Composer:
     call: CallData
     is_over: bool
 
-    def subject(self, kind: Kind) -> str:
+    def subject(self, kind: Kind, *, is_extension: bool = False) -> str:
         """The subject of a kind of letters. It ends with the mark of the poll."""
-        return f"{self.call.language.say(SUBJECTS[kind], title=one_line(self.call.poll.name))} {self.call.mark}"
+        said = EXTENSION if is_extension else SUBJECTS[kind]
+        return f"{self.call.language.say(said, title=one_line(self.call.poll.name))} {self.call.mark}"
 
     def reminder(self, elector: Elector, came: Sequence[Came]) -> str:
         """A letter to an elector without a ballot. If a letter of theirs waits, it says so, and reminds of nothing."""
@@ -103,7 +108,7 @@ class Composer:
         return self.text(Kind.REMINDERS, elector, came=came, is_reminding=is_reminding)
 
     def receipt(self, elector: Elector, came: Sequence[Came]) -> str:
-        """What became of all that came of an elector. It begins with the right line if what came last was refused or waits."""
+        """What became of all that came of an elector. It has the right line if what came last was refused or waits."""
         last = next((one.became for one in reversed(came) if one.became in (Became.COUNTS, *REFUSING)), None)
         is_refusing = not self.is_over and last in REFUSING
         return self.text(Kind.RECEIPTS, elector, came=came, is_refusing=is_refusing)
@@ -122,9 +127,7 @@ class Composer:
         language, zone = self.call.language, self.call.until.tzinfo if self.call.until else datetime.UTC
         said = [language.say(came.became.value, time=time_in_words(came.time.astimezone(zone), language))]
         if came.because is not None:
-            # the HTML of a letter repeats its text
-            firsts = {one.ballot: one for one in reversed(came.near)}
-            near = (fault for one in reversed(firsts.values()) for fault in faults_of_near(one, name, language))
+            near = (fault for one in came.near for fault in faults_of_near(one, name, language))
             said += [language.say(for_elector(came.because)), *dict.fromkeys(near)]
         elif came.became is Became.REFUSED:
             said.append(fault_of_line(came.answer, language))
@@ -163,34 +166,31 @@ def fault_of_line(answer: str, language: Language) -> str:
     )
 
 
-def faults_of_near(near: Near, name: str, language: Language) -> list[str]:
+def faults_of_near(near: Near, name: str, language: Language) -> Iterator[str]:
     """What is wrong with a line that is near to a ballot, without the line: it may be another's ballot, or have a code."""
     say, line, answer = language.say, near.number, near.answer or ""
     count, column = RANK_COUNT.match(answer), COLUMN.match(answer)
-    said = []
     if near.is_within:
-        said.append(say("Line {line} of its text has a ballot within other words; it has to be there alone.", line=line))
+        yield say("Line {line} of its text has a ballot within other words; it has to be there alone.", line=line)
     if count is not None:
-        several = language.say_number(
+        yield language.say_number(
             "Line {line} of its text has {number} rank, and the vote has {options} options.",
             "Line {line} of its text has {number} ranks, and the vote has {options} options.",
             int(count["ranks"]),
             line=line,
             options=count["options"],
         )
-        said.append(several)
     elif answer.startswith("bad not on roll: "):
-        said.append(say("The name in line {line} of its text is not on the roll; yours is {name}.", line=line, name=name))
-    elif not said and near.answer is None:
-        said.append(say("Line {line} of its text is a ballot.", line=line))
-    elif not said and column is None:
-        said.append(say("Line {line} of its text is not written as a ballot is.", line=line))
-    elif not said and column is not None:
-        said.append(
-            say(
-                "Line {line} of its text is not written as a ballot is, from its character {column} on.",
-                line=line,
-                column=column["column"],
-            )
+        yield say("The name in line {line} of its text is not on the roll; yours is {name}.", line=line, name=name)
+    elif near.is_within:
+        return
+    elif near.answer is None:
+        yield say("Line {line} of its text is a ballot.", line=line)
+    elif column is None:
+        yield say("Line {line} of its text is not written as a ballot is.", line=line)
+    else:
+        yield say(
+            "Line {line} of its text is not written as a ballot is, from its character {column} on.",
+            line=line,
+            column=column["column"],
         )
-    return said

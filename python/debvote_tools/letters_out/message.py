@@ -45,9 +45,9 @@ def message_of(letter: SentLetter, text: str, *, sender: str, reply_to: str | No
     return "".join(f"{name}: {value}\n" for name, value in fields).encode("ascii") + b"\n" + body
 
 
-@functools.lru_cache(maxsize=1)
+@functools.lru_cache
 def subject_field(subject: str) -> str:
-    """A subject as a head has it. All letters of a run have the same."""
+    """A subject as a head has it. Most letters of a run have the same."""
     charset = "us-ascii" if subject.isascii() else "utf-8"
     return email.header.Header(one_line(subject), charset, header_name="Subject").encode(splitchars=" ")
 

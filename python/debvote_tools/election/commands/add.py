@@ -96,7 +96,7 @@ def look_at_letters(election: Election, vote: Vote, raws: Sequence[RawLetter], p
     tell(*letter_words.passed_over_words(passed_over))
     tell_plan(vote, plan)
     keys = {letter.key for letter in found}
-    new = [letter for letter in plan.letters if letter.judged.letter.key in keys]
+    new = [letter for letter in plan.letters if letter.parsed.key in keys]
     would = letter_words.counts(plan.letters, len(plan.going_in)).replace("went in", "would go in")
     tell(f"{count_of(len(new), 'new letter')}: {would}", "Nothing was changed.")
 
@@ -129,7 +129,7 @@ def add_letters(
             break
     undo = f"{election.command('undo')} takes back what was entered last"
     waiting = f"{election.command('held')}, which lists the letters that wait"
-    is_waiting = any(letter.judged.outcome is Outcome.WAITS for letter in plan.letters)
+    is_waiting = any(letter.outcome is Outcome.WAITS for letter in plan.letters)
     tell(f"Next: {waiting if is_waiting else election.command('status')}; {undo}")
 
 
@@ -146,7 +146,7 @@ def tell_plan(vote: Vote, plan: LettersPlan) -> None:
     """What goes in, and what waits."""
     words = LineWords(vote)
     for letter in plan.letters:
-        if letter.judged.outcome is Outcome.GOES_IN:
+        if letter.outcome is Outcome.GOES_IN:
             tell(*letter_words.going_in(letter, words, is_late=plan.is_late))
-        elif letter.judged.outcome is Outcome.WAITS:
+        elif letter.outcome is Outcome.WAITS:
             tell(*letter_words.waiting(letter))

@@ -1,5 +1,6 @@
 """`close`: the end of the vote. The time, the number of lines and the checksum of the ballots are fixed."""
 
+import collections
 import dataclasses
 
 from debvote_tools import times
@@ -13,7 +14,7 @@ from debvote_tools.election.history import History
 from debvote_tools.election.made_files import OWN, write_made
 from debvote_tools.election.publication import ballots_in_secret
 from debvote_tools.election.reporting import act_time, count_of
-from debvote_tools.election.waiting import waiting_letters
+from debvote_tools.election.waiting import Arrived, waiting_letters
 from debvote_tools.faults import Fault, Status, stop_at
 from debvote_tools.files import sha256_of
 from debvote_tools.secret.aliases import seal_line, sealed_checksum
@@ -45,7 +46,8 @@ def close(election: Election, sealed: Sealed, arguments: Arguments) -> None:
     acting.demand_whole(book)
     history, now = election.history(), times.now()
     letters = waiting_letters(election, history)
-    in_time = [number for number, came_in_time in letters.items() if came_in_time]
+    in_time = [number for number, arrived in letters.items() if arrived is Arrived.IN_TIME]
+    counts = collections.Counter(letters.values())
     is_early = history.until is not None and now < history.until
     because = (arguments.because or "").strip()
     faults = []
@@ -54,8 +56,9 @@ def close(election: Election, sealed: Sealed, arguments: Arguments) -> None:
     if in_time and not (arguments.force and because):
         faults.append(letters_wait(election, in_time))
     stop_at(faults)
-    waiting = {"waiting": len(in_time), "after_end": len(letters) - len(in_time)} | ({"because": because} if in_time else {})
-    with book.act("close", fixed(election, sealed) | waiting | {"early": is_early}, seen=history.last.number):
+    waiting = {"waiting": len(in_time), "after_end": counts[Arrived.LATE], "before_call": counts[Arrived.BEFORE_THE_CALL]}
+    why = {"because": because} if in_time else {}
+    with book.act("close", fixed(election, sealed) | waiting | why | {"early": is_early}, seen=history.last.number):
         pass
 
 
@@ -96,6 +99,8 @@ def report(election: Election, act: DoneAct, *, is_new: bool, has_made_letter: b
         tell(f"Closed: {lines} came in time. What is entered from now on is late, and does not count.")
         if detail["waiting"]:
             tell(f"{count_of(detail['waiting'], 'letter')} that arrived in time did not go in; the page of the result tells it.")
+        if detail["before_call"]:
+            tell(f"{count_of(detail['before_call'], 'letter')} that arrived before the call did not go in.")
     else:
         tell(f"The vote was closed at {act_time(act.time)}, with {lines} in time. Nothing was changed.")
     if has_made_letter:

@@ -1,5 +1,6 @@
 """`held`: the letters that wait until the secretary has looked at them."""
 
+import collections
 import dataclasses
 from collections.abc import Iterator, Sequence
 
@@ -14,11 +15,11 @@ from debvote_tools.election.batch import vote_of
 from debvote_tools.election.batch_words import LineWords
 from debvote_tools.election.election import Election
 from debvote_tools.election.entering import entered
-from debvote_tools.election.letters_in import LetterNow
 from debvote_tools.faults import Fault, Status
-from debvote_tools.letters.judge import Outcome
+from debvote_tools.letters.judge import JudgedLetter, Outcome
 from debvote_tools.letters.readings import BallotLine
 from debvote_tools.lines import name_in
+from debvote_tools.terminal_text import shown_text
 
 HELP = "List the letters that wait; show one, enter its ballot, or set letters aside"
 
@@ -57,12 +58,12 @@ def demand_words(arguments: Arguments) -> None:
         raise Fault("held", "no letter is named", "name its number", Status.BAD_WORDS)
 
 
-def all_letters(election: Election) -> list[LetterNow]:
+def all_letters(election: Election) -> list[JudgedLetter]:
     """All letters that came, as they are judged now."""
     return letters_in.judged(election, election.history(), letters.letters(election.book))
 
 
-def chosen_letters(found: Sequence[LetterNow], numbers: Sequence[int]) -> list[LetterNow]:
+def chosen_letters(found: Sequence[JudgedLetter], numbers: Sequence[int]) -> list[JudgedLetter]:
     by_number = {letter.number: letter for letter in found}
     unknown = [str(number) for number in numbers if number not in by_number]
     if unknown:
@@ -77,13 +78,13 @@ def list_waiting(election: Election) -> None:
     for letter in found:
         if letter.waits:
             tell(*letter_words.waiting(letter))
-    aside = [str(letter.number) for letter in found if letter.judged.outcome is Outcome.SET_ASIDE]
+    aside = [str(letter.number) for letter in found if letter.outcome is Outcome.SET_ASIDE]
     if aside:
         tell(f"Set aside: {', '.join(aside)}")
     tell_waiting(election, found)
 
 
-def tell_waiting(election: Election, found: Sequence[LetterNow]) -> None:
+def tell_waiting(election: Election, found: Sequence[JudgedLetter]) -> None:
     """Says how many letters wait, and what can be done."""
     waiting = [letter for letter in found if letter.waits]
     if not waiting:
@@ -110,7 +111,7 @@ def decide(election: Election, arguments: Arguments) -> None:
     book = acting.book_for_act(election, arguments)
     decided_at = book.last_number()
     for letter in chosen_letters(all_letters(election), arguments.numbers):
-        if letter.judged.outcome is Outcome.ENTERED:
+        if letter.outcome is Outcome.ENTERED:
             cure = "strike takes an envelope out, undo the last act"
             raise Fault(f"letter {letter.number}", "its ballot was entered", cure)
     state = letters.SET_ASIDE if arguments.set_aside else letters.PUT_BACK
@@ -128,42 +129,44 @@ def enter(election: Election, arguments: Arguments, number: int, lines: str) -> 
     [letter] = chosen_letters(all_letters(election), [number])
     ballots = chosen_ballots(letter, lines)
     demand_waits(letter, has_force=arguments.force)
-    [kept] = [kept for kept in letters.letters(book) if kept.number == number]
     # a ballot of the letter that was struck was entered, too
     before = queries.envelopes(book, f"letter = ? AND envelope.{NOT_UNDONE}", number)
     done = {name_in(envelope.line).decode("ascii") for envelope in before} | {line.elector for line in ballots}
-    is_done = all(line.elector in done for line in letter.judged.ballots)
+    is_done = all(line.elector in done for line in letter.ballots)
 
     def envelopes(act: Act) -> Iterator[NewEnvelope]:
-        yield from (letters_in.new_envelope(kept, line.ballot, letter.judged) for line in ballots)
+        yield from (letters_in.new_envelope(letter, line) for line in ballots)
         if is_done:
             letters.decide(act, number, letters.ENTERED)
 
     detail = {"letter": number, "lines": [line.number for line in ballots]}
-    is_late = letters_in.is_late(history, letter.judged)
+    is_late = letters_in.is_late(history, letter)
     with entered(book, vote, "enter", detail, envelopes, decided_at=history.last.number, is_late=is_late) as now:
         tell(*letter_words.reply_words(LineWords(vote), now, [line.ballot for line in ballots]))
     tell_waiting(election, all_letters(election))
 
 
-def chosen_ballots(letter: LetterNow, lines: str) -> list[BallotLine]:
-    judged = letter.judged
-    by_line = {line.number: line for line in (*judged.offered, *judged.ballots)}
+def chosen_ballots(letter: JudgedLetter, lines: str) -> list[BallotLine]:
+    by_number = {str(line.number): line for line in (*letter.offered, *letter.ballots)}
     numbers = [text.strip() for text in lines.split(",")]
-    found = [by_line.get(int(text)) if text.isdecimal() else None for text in numbers]
-    if not all(found):
-        wrong = next(text for text, line in zip(numbers, found) if line is None)
-        can = ", ".join(map(str, sorted(by_line)))
+    if wrong := [number for number in numbers if number not in by_number]:
+        can = ", ".join(sorted(by_number, key=int))
         cure = f"these lines are: {can}" if can else "if you know which ballot is meant, type it at a desk"
-        raise Fault("--enter", f"line {wrong} of letter {letter.number} is no ballot of this poll", cure)
-    return [line for line in found if line is not None]
+        raise Fault("--enter", f"line {shown_text(wrong[0])} of letter {letter.number} is no ballot of this poll", cure)
+    found = [by_number[number] for number in numbers]
+    twice, count = collections.Counter(line.elector for line in found).most_common(1)[0]
+    if count > 1:
+        raise Fault("--enter", f"{count} of these lines are of {twice}", "name the one that counts")
+    return found
 
 
-def demand_waits(letter: LetterNow, *, has_force: bool) -> None:
+def demand_waits(letter: JudgedLetter, *, has_force: bool) -> None:
     """Stops at a letter that does not wait, and if its elector has voted since."""
-    judged = letter.judged
-    if judged.outcome is Outcome.ENTERED:
+    if letter.outcome is Outcome.ENTERED:
         raise Fault(f"letter {letter.number}", "it was entered", "nothing is to be done")
-    if judged.has_voted_since and not has_force:
+    if letter.has_voted_since and not has_force:
         cure = "if this one has to count all the same, repeat it with --force"
         raise Fault(f"letter {letter.number}", "its elector has voted since", cure)
+    if letter.outcome is Outcome.COPY:
+        cure = "if its ballot has to be entered once more, have it wait with --wait first"
+        raise Fault(f"letter {letter.number}", "it is a copy of another letter", cure)

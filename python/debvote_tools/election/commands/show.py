@@ -12,9 +12,9 @@ from debvote_tools.election.batch import BatchLine, Vote, vote_of
 from debvote_tools.election.batch_words import LineWords
 from debvote_tools.election.election import Election
 from debvote_tools.election.history import History
-from debvote_tools.election.letters_in import LetterNow
 from debvote_tools.election.reporting import act_time
 from debvote_tools.faults import Fault, Status
+from debvote_tools.letters.judge import JudgedLetter
 from debvote_tools.letters.reasons import for_secretary
 from debvote_tools.lines import Line
 from debvote_tools.terminal_text import shown_text
@@ -35,7 +35,7 @@ def run(election: Election, arguments: Arguments) -> int:
     tell_elector(elector, vote)
     tell_ballots(election, vote, history, elector)
     for letter in letters_in.judged(election, history, letters.letters(election.book)):
-        if elector.name in letter.judged.electors:
+        if elector.name in letter.electors:
             tell(*(f"  {line}" for line in letter_lines(letter)))
     for sent in sent_to(election.book, elector.number):
         where = f"to {sent.address}" if sent.address else "to be printed"
@@ -87,10 +87,10 @@ def ballot_words(words: LineWords, history: History, envelope: Envelope, line: B
     return f"  envelope {envelope.number}, {act_time(envelope.time)}: {said}{marked}"
 
 
-def letter_lines(letter: LetterNow) -> list[str]:
+def letter_lines(letter: JudgedLetter) -> list[str]:
     """A letter, and what became of it."""
     if letter.waits:
         return list(letter_words.waiting(letter))
-    reason = letter.judged.reason
-    why = letter.judged.outcome.value if reason is None else for_secretary(reason)
+    reason = letter.reason
+    why = letter.outcome.value if reason is None else for_secretary(reason)
     return [f"{letter_words.who_and_when(letter)}: {why}"]
