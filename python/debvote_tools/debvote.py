@@ -9,7 +9,6 @@ import subprocess
 
 from debvote_tools.faults import Fault, Status, other_format
 from debvote_tools.files import BALLOTS_LIMIT, LINES_LIMIT, OWN_FILES, POLL_LIMIT, in_memory
-from debvote_tools.sheet import Sheet, sheet_in
 
 
 @dataclasses.dataclass(frozen=True)
@@ -91,17 +90,13 @@ class Debvote:
         """The reply of the box to each line, that to line i at index i - 1."""
         return replies_in(self.answer("steps", poll_bytes, ballots_bytes).text)
 
-    def findings(self, poll_bytes: bytes, ballots_bytes: bytes) -> "Findings":
+    def findings(self, poll_bytes: bytes, ballots_bytes: bytes) -> Findings:
         """What `explain` says of a poll in order and these ballots."""
         return findings_in(self.answer("explain", poll_bytes, ballots_bytes).text)
 
     def standing(self, poll_bytes: bytes, ballots_bytes: bytes) -> dict[str, str]:
         """The ranks of the ballot that stands, by the name of its elector, in the order of the roll."""
         return standing_in(self.answer("standing", poll_bytes, ballots_bytes).text)
-
-    def sheet(self, poll_bytes: bytes, ballots_bytes: bytes = b"") -> Sheet:
-        """The result sheet without a casting vote."""
-        return sheet_in(self.answer("count", poll_bytes, ballots_bytes).text)
 
     def version(self) -> str:
         """The line of `--version`, as `debvote 1.1.0`."""

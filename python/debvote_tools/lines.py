@@ -26,6 +26,9 @@ PLAIN = re.compile(rb"[a-z0-9.-]+ (?:-|[1-9][0-9]?)(?:,(?:-|[1-9][0-9]?))*")
 # what can be a name on a roll, at the start of a line
 NAME = re.compile(rb"[a-z0-9.-]+")
 
+# the code or the alias of a secret vote, within other text
+CODE_WITHIN = re.compile(rb"(?<![0-9a-f])[0-9a-f]{32}(?![0-9a-f])")
+
 NO_BREAK = "\u00a0\u202f"
 DASHES = "\u2010\u2011\u2012\u2013\u2014\u2212"
 # pairs of quotation marks: the one before a line, and the one after it

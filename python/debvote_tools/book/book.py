@@ -15,10 +15,11 @@ import pathlib
 import sqlite3
 import urllib.parse
 from collections.abc import Iterable, Iterator, Sequence
-from typing import Any
+from typing import Any, Final
 
 from debvote_tools import times
 from debvote_tools.book import chain
+from debvote_tools.book.acts import ActName, Detail
 from debvote_tools.book.machine_note import MachineNote, Note
 from debvote_tools.faults import Fault, Status
 from debvote_tools.files import uninterrupted
@@ -26,7 +27,7 @@ from debvote_tools.files import uninterrupted
 NAME = "election.db"
 
 # the act that takes another book than that of the note
-MOVED = "moved"
+MOVED: Final = "moved"
 
 # "dbvt": what tells a book from other databases of SQLite, and the version of its schema
 APPLICATION_ID, VERSION = 0x64627674, 2
@@ -37,7 +38,7 @@ PATIENCE = 120
 SETTINGS = ("foreign_keys = ON", "recursive_triggers = ON", "journal_mode = DELETE", "synchronous = EXTRA", "trusted_schema = OFF")
 
 # how many rows one statement adds: one for each row takes twice the time
-ROWS_AT_ONCE = 20
+ROWS_AT_ONCE = 100
 
 # the byte of the file that SQLite locks for an act
 RESERVED_BYTE = 0x40000001
@@ -55,20 +56,25 @@ class DoneAct:
 
     number: int
     time: datetime.datetime
-    name: str
-    detail: dict[str, Any]
+    name: ActName
+    detail_as_json: str
     digest: str
+
+    @functools.cached_property
+    def detail(self) -> Detail:
+        found: Detail = json.loads(self.detail_as_json)
+        return found
 
 
 @dataclasses.dataclass
-class Act:
+class NewAct:
     """An act while it is written. Its rows are in the book when it is committed, all or none."""
 
     connection: sqlite3.Connection
     number: int
     time: datetime.datetime
-    name: str
-    detail: dict[str, Any]
+    name: ActName
+    detail: Detail
 
     def insert_all(self, table: str, columns: Sequence[str], rows: Iterable[Sequence[object]], **same: object) -> None:
         """Adds many rows of this act, each with its own values in these columns, and all with the same in others."""
@@ -99,6 +105,7 @@ class Book:
 
     def __init__(self, path: pathlib.Path, connection: sqlite3.Connection, *, is_read_only: bool = False) -> None:
         self.path, self.connection, self.is_read_only = path, connection, is_read_only
+        self.read_acts: list[DoneAct] = []
 
     # ------------------------------------------------------------ reading
     def rows(self, words: str, *values: object) -> list[Any]:
@@ -106,23 +113,20 @@ class Book:
         with told_as_faults(self.path):
             return self.connection.execute(words, values).fetchall()
 
-    def acts(self) -> list[DoneAct]:
-        """All acts, in their order."""
-        return [done(row) for row in self.rows("SELECT act, time, name, detail, digest FROM act ORDER BY act")]
-
-    def first_act(self) -> DoneAct:
-        """The act `new`."""
-        [row] = self.rows("SELECT act, time, name, detail, digest FROM act WHERE act = 1")
-        return done(row)
+    def acts(self) -> Sequence[DoneAct]:
+        """All acts, in their order. An act never changes, so only those are read that came since they were asked for last."""
+        words = "SELECT act, time, name, detail, digest FROM act WHERE act > ? ORDER BY act"
+        for number, time, name, detail, digest in self.rows(words, self.read_acts[-1].number if self.read_acts else 0):
+            self.read_acts.append(DoneAct(number, from_text(time), name, detail, digest))
+        return tuple(self.read_acts)
 
     def last_act(self) -> DoneAct:
         """The last act. There always is one: that of `new`."""
-        [row] = self.rows("SELECT act, time, name, detail, digest FROM act ORDER BY act DESC LIMIT 1")
-        return done(row)
+        return self.acts()[-1]
 
     def last_number(self) -> int:
         """The number of the last act."""
-        return int(self.rows("SELECT max(act) FROM act")[0][0])
+        return self.last_act().number
 
     def size(self) -> int:
         """How many bytes its file has."""
@@ -131,7 +135,7 @@ class Book:
 
     def digest_at(self, act: int) -> str | None:
         """The digest of an act; None if the book has no such act."""
-        return next((str(digest) for digest, in self.rows("SELECT digest FROM act WHERE act = ?", act)), None)
+        return next((done.digest for done in self.acts() if done.number == act), None)
 
     def broken_act(self) -> int | None:
         """The first act that is not as its digest says; None if the chain of digests is whole."""
@@ -151,7 +155,7 @@ class Book:
 
     # ------------------------------------------------------------ acts
     @contextlib.contextmanager
-    def act(self, name: str, detail: dict[str, Any] | None = None, *, seen: int | None = None) -> Iterator[Act]:
+    def act(self, name: ActName, detail: Detail | None = None, *, seen: int | None = None) -> Iterator[NewAct]:
         """One act: what is inserted within is committed at its end, and an exception leaves the book as it was.
 
         `seen` is the last act when this one was decided; if others came since, `Overtaken` is raised. Nobody is asked and no program runs
@@ -167,7 +171,7 @@ class Book:
                     raise Overtaken
                 if name != MOVED:
                     self.demand_noted(note)
-                act = Act(self.connection, before.number + 1, times.now(), name, detail or {})
+                act = NewAct(self.connection, before.number + 1, times.now(), name, detail or {})
                 yield act
                 with uninterrupted():
                     digest = self.finish(act, before)
@@ -179,7 +183,7 @@ class Book:
         with contextlib.suppress(Fault, OSError):
             note.write(Note(act.number, digest), is_moved=name == MOVED)
 
-    def finish(self, act: Act, before: DoneAct | None) -> str:
+    def finish(self, act: NewAct, before: DoneAct | None) -> str:
         """Adds the row of the act, with its digest, and commits."""
         detail = json.dumps(act.detail, ensure_ascii=False)
         row = (act.number, as_text(act.time), act.name, detail, os.urandom(16))
@@ -213,7 +217,7 @@ class Book:
             return "this computer has never seen this election in this folder"
         digest = self.digest_at(noted.act)
         if digest is None:
-            return f"it ends with act {self.last_number()}, and this computer saw act {noted.act} already: it is an older copy"
+            return f"it ends with act {self.last_act().number}, and this computer saw act {noted.act} already: it is an older copy"
         if digest != noted.digest:
             return (
                 f"its act {noted.act} is not the one that this computer saw: somebody went on from a copy, or wrote the book anew"
@@ -238,8 +242,8 @@ class Book:
         if why is None:
             raise Fault("--moved", "this is the book that this computer knows", "leave it out", Status.BAD_WORDS)
         there = {"act": last.number, "digest": last.digest}
-        detail = {"why": why, "noted": dataclasses.asdict(noted) if noted else None, "there": there, "because": because}
-        with self.act(MOVED, detail):
+        noted_detail = dataclasses.asdict(noted) if noted else None
+        with self.act(MOVED, {"why": why, "noted": noted_detail, "there": there, "because": because}):
             pass
 
     # ------------------------------------------------------------ the file
@@ -298,7 +302,7 @@ def is_locked_for_others(path: pathlib.Path) -> bool:
 
 
 # ---------------------------------------------------------------- making and opening
-def create(path: pathlib.Path, detail: dict[str, Any], final_path: pathlib.Path) -> None:
+def create(path: pathlib.Path, detail: Detail, final_path: pathlib.Path) -> None:
     """Makes a new book with the act `new`. The folder is moved afterwards: `final_path` is where the book will lie."""
     os.close(os.open(path, os.O_RDWR | os.O_CREAT | os.O_EXCL, 0o600))
     connection = connected(path, "rw")
@@ -313,7 +317,7 @@ def create(path: pathlib.Path, detail: dict[str, Any], final_path: pathlib.Path)
             for verb in ("UPDATE", "DELETE"):
                 connection.execute(REFUSE.format(table=table, verb=verb))
         book = Book(path, connection)
-        digest = book.finish(Act(connection, 1, times.now(), "new", detail), None)
+        digest = book.finish(NewAct(connection, 1, times.now(), "new", detail), None)
         book.demand_locks()
     # before the folder is moved: a kill between both leaves a note of nothing
     MachineNote(final_path, digest).write(Note(1, digest))
@@ -409,11 +413,6 @@ def last_digest_of(file: pathlib.Path) -> tuple[int | None, str | None]:
 
 
 # ---------------------------------------------------------------- values
-def done(row: tuple[Any, ...]) -> DoneAct:
-    number, time, name, detail, digest = row
-    return DoneAct(number, from_text(time), name, json.loads(detail), digest)
-
-
 def as_text(time: datetime.datetime) -> str:
     """A time as the book has it."""
     return time.astimezone(datetime.UTC).strftime("%Y-%m-%dT%H:%M:%SZ")

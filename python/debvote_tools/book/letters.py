@@ -1,11 +1,15 @@
 """What is asked of the book about letters: what came, what acts decided of it, and what was written to electors."""
 
 import dataclasses
+from typing import Final
 
 from debvote_tools.book import queries
-from debvote_tools.book.book import Act, Book
+from debvote_tools.book.book import Book, NewAct
 
-WAITS, ENTERED, SET_ASIDE, PUT_BACK, TAKEN_BACK, STRUCK = "waits", "entered", "set aside", "put back", "taken back", "struck"
+WAITS, ENTERED, TAKEN_BACK, STRUCK = "waits", "entered", "taken back", "struck"
+# acts have these names, too
+SET_ASIDE: Final = "set aside"
+PUT_BACK: Final = "put back"
 
 
 @dataclasses.dataclass(frozen=True)
@@ -55,12 +59,12 @@ def undecided(kept: list[KeptLetter]) -> list[KeptLetter]:
     return [letter for letter in kept if letter.identity in identities]
 
 
-def keep_letter(act: Act, where: str, data: bytes, identity: str, known: str) -> int:
+def keep_letter(act: NewAct, where: str, data: bytes, identity: str, known: str) -> int:
     """Keeps a letter, byte for byte, and returns its number."""
     return act.insert("letter", source=queries.keep(act, where, data), identity=identity, known=known)
 
 
-def decide(act: Act, letter: int, state: str) -> None:
+def decide(act: NewAct, letter: int, state: str) -> None:
     """Notes what an act decided of a letter."""
     act.insert("letter_state", letter=letter, state=state)
 

@@ -7,7 +7,7 @@ import json
 from collections.abc import Collection, Iterable
 from typing import NamedTuple
 
-from debvote_tools.book.book import Act, Book, as_text, from_text
+from debvote_tools.book.book import Book, NewAct, as_text, from_text
 from debvote_tools.lines import ballot_file
 
 
@@ -51,12 +51,12 @@ def electors(book: Book) -> list[Elector]:
     return [elector for elector in all_electors(book) if elector.position is not None]
 
 
-def new_elector(act: Act, name: str) -> Elector:
+def new_elector(act: NewAct, name: str) -> Elector:
     """An elector whom the book did not know, not yet on the list."""
     return Elector(act.insert("elector", name=name), name, None, "", ())
 
 
-def put_elector(act: Act, elector: Elector) -> None:
+def put_elector(act: NewAct, elector: Elector) -> None:
     """Notes what an elector is now."""
     values = dataclasses.asdict(elector) | {"elector": elector.number, "mail": json.dumps(elector.addresses, ensure_ascii=False)}
     for name in ("number", "name", "addresses"):
@@ -144,7 +144,7 @@ def has_come(book: Book, since: int) -> bool:
     return bool(book.rows(words, since, since)[0][0])
 
 
-def strike(act: Act, numbers: Iterable[int]) -> None:
+def strike(act: NewAct, numbers: Iterable[int]) -> None:
     """Strikes envelopes."""
     act.insert_all("struck", ["envelope"], ((number,) for number in numbers))
 
@@ -159,7 +159,7 @@ class NewEnvelope(NamedTuple):
     time: datetime.datetime | None = None
 
 
-def enter(act: Act, new: Iterable[NewEnvelope], electors: Iterable[int | None], *, is_late: bool) -> None:
+def enter(act: NewAct, new: Iterable[NewEnvelope], electors: Iterable[int | None], *, is_late: bool) -> None:
     """Enters lines, each with the elector with whose name it begins."""
     for (source, letter, time), group in itertools.groupby(zip(electors, new), key=shared):
         rows = ((elector, envelope.line, envelope.place) for elector, envelope in group)
@@ -185,7 +185,7 @@ def elector_numbers(book: Book, names: Collection[str]) -> dict[str, int]:
 
 
 # ---------------------------------------------------------------- sources
-def keep(act: Act, name: str, data: bytes) -> int:
+def keep(act: NewAct, name: str, data: bytes) -> int:
     """Keeps what came, byte for byte."""
     return act.insert("source", name=name, data=data)
 

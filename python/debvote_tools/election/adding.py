@@ -11,16 +11,16 @@ import dataclasses
 import gc
 import re
 from collections.abc import Iterator, Sequence
-from typing import Any
 
 from debvote_tools.arguments import flag, option, positional
 from debvote_tools.book import queries
-from debvote_tools.book.book import Act, Book, Overtaken
+from debvote_tools.book.acts import Detail
+from debvote_tools.book.book import Book, NewAct, Overtaken
 from debvote_tools.book.queries import NewEnvelope
 from debvote_tools.console import tell
 from debvote_tools.election import acting, in_time
-from debvote_tools.election.batch import BatchLine, Vote
-from debvote_tools.election.batch_words import LineWords, summary
+from debvote_tools.election.vote import JudgedLine, Vote
+from debvote_tools.election.line_words import LineWords, summary
 from debvote_tools.election.came import NOTHING_ADDED, CameFile
 from debvote_tools.election.came_before import NewAndRepeated, sorted_out
 from debvote_tools.election.csv_ballots import Columns, lines_of_table
@@ -72,7 +72,7 @@ class FileLines:
     """A file and its lines, in the order in which they are entered."""
 
     came: CameFile
-    lines: tuple[BatchLine, ...]
+    lines: tuple[JudgedLine, ...]
     empty: tuple[Line, ...]
 
 
@@ -88,11 +88,11 @@ class Plan:
     files: tuple[tuple[FileLines, NewAndRepeated], ...]
 
     @property
-    def new_lines(self) -> list[BatchLine]:
+    def new_lines(self) -> list[JudgedLine]:
         """The lines of all files that go in."""
         return [line for _, found in self.files for line in found.new]
 
-    def envelopes(self, act: Act) -> Iterator[NewEnvelope]:
+    def envelopes(self, act: NewAct) -> Iterator[NewEnvelope]:
         """What goes in, while the act is written: each file is kept whole before its lines."""
         for file, found in self.files:
             source = queries.keep(act, file.came.kept_name, file.came.data)
@@ -165,19 +165,19 @@ def orders_missing(plan: Plan) -> Iterator[Fault]:
             yield doubt(file.came.name, words, "say how its rows are sorted: --oldest-first or --newest-first")
 
 
-def pairs_that_differ(file: FileLines) -> Iterator[tuple[BatchLine, BatchLine]]:
+def pairs_that_differ(file: FileLines) -> Iterator[tuple[JudgedLine, JudgedLine]]:
     """Two ballots of one elector that differ, one above the other."""
-    above: dict[str, list[BatchLine]] = collections.defaultdict(list)
+    above: dict[str, list[JudgedLine]] = collections.defaultdict(list)
     for line in file.lines:
         if line.is_ballot:
             yield from ((other, line) for other in above[line.voter] if other.ranks != line.ranks)
             above[line.voter].append(line)
 
 
-def new_one_above(file: FileLines, found: NewAndRepeated) -> tuple[BatchLine, BatchLine] | None:
+def new_one_above(file: FileLines, found: NewAndRepeated) -> tuple[JudgedLine, JudgedLine] | None:
     """A new ballot and one below it that came before, of one elector, which differ. By this order the new one is older, and would count."""
     new = {line.line.place for line in found.new} if found.repeated else set()
-    above: dict[str, BatchLine] = {}
+    above: dict[str, JudgedLine] = {}
     for line in file.lines if new else ():
         if line.is_ballot and line.line.place in new:
             above[line.voter] = line
@@ -186,7 +186,7 @@ def new_one_above(file: FileLines, found: NewAndRepeated) -> tuple[BatchLine, Ba
     return None
 
 
-def place_in(line: BatchLine) -> str:
+def place_in(line: JudgedLine) -> str:
     """Where a line is in its file, as `line 3` or `row 3`."""
     place = line.line.place.lstrip(": ")
     return f"line {place}" if place.isdigit() else place
@@ -213,7 +213,7 @@ def doubts(vote: Vote, plan: Plan, arguments: Arguments) -> Iterator[Fault]:
 
 
 # ---------------------------------------------------------------- a file that has other lines than ballots
-def has_few_ballots(lines: Sequence[BatchLine]) -> bool:
+def has_few_ballots(lines: Sequence[JudgedLine]) -> bool:
     """Whether fewer than half of several lines are ballots. One line alone is looked at by whoever adds it."""
     return len(lines) > 1 and sum(line.is_ballot for line in lines) * 2 < len(lines)
 
@@ -246,7 +246,7 @@ def few_ballots(file: FileLines, arguments: Arguments) -> Fault:
     return doubt(file.came.name, words, f"{cure_of(file, refused[0], arguments)}, or {FORCE}")
 
 
-def cure_of(file: FileLines, refused: BatchLine, arguments: Arguments) -> str:
+def cure_of(file: FileLines, refused: JudgedLine, arguments: Arguments) -> str:
     """What to do, by what the file looks like."""
     if arguments.csv:
         return "look whether --name and --ranks name the right columns, the ranks in the order of the options"
@@ -265,7 +265,7 @@ def looks_like_members(data: bytes) -> bool:
     return MEMBERS_HEADS <= {cell.strip(' \t\r"').casefold() for cell in re.split("[,;\t]", head)}
 
 
-def looks_like_table(lines: Sequence[BatchLine]) -> bool:
+def looks_like_table(lines: Sequence[JudgedLine]) -> bool:
     """Whether all lines have as many delimiters, and most have no shape of a ballot."""
     if sum(line.finding is not None and line.finding.word == "bad shape" for line in lines) * 2 <= len(lines):
         return False
@@ -303,9 +303,9 @@ def add(election: Election, book: Book, vote: Vote, files: Sequence[FileLines], 
             return plan
 
 
-def detail_of(plan: Plan, arguments: Arguments, came_before_close: bool | None) -> dict[str, Any]:
+def detail_of(plan: Plan, arguments: Arguments, came_before_close: bool | None) -> Detail:
     """What the log keeps of it."""
-    detail: dict[str, Any] = {
+    detail: Detail = {
         "files": [file.came.kept_name for file, _ in plan.files],
         "lines": len(plan.new_lines),
         "passed_over": sum(len(found.repeated) for _, found in plan.files),
@@ -315,7 +315,7 @@ def detail_of(plan: Plan, arguments: Arguments, came_before_close: bool | None) 
     if came_before_close is not None:
         detail["came_before_close"] = came_before_close
     if plan.is_signed:
-        detail |= {"unsigned": True, "because": acting.demand_reason(arguments.because, "--force")}
+        detail.update({"unsigned": True, "because": acting.demand_reason(arguments.because, "--force")})
     return detail
 
 
@@ -369,7 +369,7 @@ def repeated_words(file: FileLines, found: NewAndRepeated) -> Iterator[str]:
         yield f"  and {len(changed) - MAX_REPEATED} more that --again enters again"
 
 
-def duplicate_words(file: FileLines, lines: Sequence[BatchLine]) -> Iterator[str]:
+def duplicate_words(file: FileLines, lines: Sequence[JudgedLine]) -> Iterator[str]:
     """The electors of whom a file has several new ballots, in words."""
     by_voter: dict[str, list[str]] = {}
     for line in lines:

@@ -63,7 +63,7 @@ class Election:
 
     @functools.cached_property
     def language(self) -> Language:
-        return language_of(str(self.book.first_act().detail["language"]))
+        return language_of(self.book.acts()[0].detail["language"])
 
     def history(self) -> History:
         """The acts as they are now."""

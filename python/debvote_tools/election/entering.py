@@ -7,14 +7,14 @@ act came between, it raises `Overtaken`, unless what was decided is the same. Af
 import contextlib
 import dataclasses
 from collections.abc import Callable, Collection, Iterable, Iterator, Sequence
-from typing import Any
 
-from debvote_tools.book import entered as book_lines
+from debvote_tools.book import lines_by_act
 from debvote_tools.book import queries
-from debvote_tools.book.book import Act, Book, Overtaken
+from debvote_tools.book.acts import ActName, Detail
+from debvote_tools.book.book import Book, NewAct, Overtaken
 from debvote_tools.book.queries import NewEnvelope
 from debvote_tools.console import OutputFailed
-from debvote_tools.election.batch import Vote
+from debvote_tools.election.vote import Vote
 from debvote_tools.election.reporting import count_of
 from debvote_tools.faults import Fault, Status
 from debvote_tools.files import BALLOTS_LIMIT, LINES_LIMIT, uninterrupted
@@ -42,7 +42,7 @@ class Entered:
         """The reply to each line, by all lines as the act left them: those of its electors, on whom alone it depends."""
         if self.is_late:
             return [LATE] * len(self.numbers)
-        before = book_lines.lines_after(self.book, self.act - 1, self.electors)
+        before = lines_by_act.lines_after(self.book, self.act - 1, self.electors)
         try:
             replies = self.vote.replies([*before, *zip(self.numbers, self.lines)])
         except Fault as fault:
@@ -54,9 +54,9 @@ class Entered:
 def entered(
     book: Book,
     vote: Vote,
-    name: str,
-    detail: dict[str, Any],
-    envelopes: Callable[[Act], Iterable[NewEnvelope]],
+    name: ActName,
+    detail: Detail,
+    envelopes: Callable[[NewAct], Iterable[NewEnvelope]],
     *,
     decided_at: int,
     is_late: bool,
@@ -101,7 +101,7 @@ def demand_room(book: Book, new: Sequence[NewEnvelope]) -> None:
     # the file of the book is longer than all lines in it, so they are counted only if there may be too many
     if queries.last_envelope(book) + len(new) <= LINES_LIMIT and book.size() + added <= BALLOTS_LIMIT:
         return
-    line_count, size = book_lines.size_in_time(book)
+    line_count, size = lines_by_act.size_in_time(book)
     if line_count + len(new) > LINES_LIMIT or size + added > BALLOTS_LIMIT:
         words = f"with it there would be {count_of(line_count + len(new), 'line')} and {size + added} bytes of ballots"
         cure = f"debvote takes {LINES_LIMIT} lines and {BALLOTS_LIMIT} bytes at most: add less of it"

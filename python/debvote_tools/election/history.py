@@ -32,6 +32,10 @@ class History:
         call = self.call
         return [] if call is None else [act for act in self.named(*names) if act.number >= call.number]
 
+    def act(self, number: int) -> DoneAct:
+        """The act of a number."""
+        return self.acts[number - 1]
+
     @property
     def last(self) -> DoneAct:
         return self.acts[-1]
@@ -45,10 +49,8 @@ class History:
 
     def announced(self, key: str) -> Any:
         """What the call, or a later act that adds to it, says last of something, as `address`; None if it does not say it."""
-        said = (
-            act.detail[key] for act in reversed(self.since_call("call", "extend", "announce")) if act.detail.get(key) is not None
-        )
-        return next(said, None)
+        said = (act.detail.get(key) for act in reversed(self.since_call("call", "extend", "announce")))
+        return next((value for value in said if value is not None), None)
 
     @property
     def has_codes_on_roll(self) -> bool:

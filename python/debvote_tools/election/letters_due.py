@@ -2,7 +2,7 @@
 
 from collections.abc import Callable, Iterable, Mapping, Sequence
 
-from debvote_tools.book import entered, queries, sent
+from debvote_tools.book import lines_by_act, queries, sent
 from debvote_tools.book.book import DoneAct
 from debvote_tools.book.queries import Elector
 from debvote_tools.book.sent import BEGUN, POSTPONED, TAKEN, WRITTEN, About, SentLetter
@@ -212,12 +212,12 @@ def about_now(about: Sequence[About], came: Sequence[Came]) -> list[Came]:
 def result_of(election: Election, history: History, act: DoneAct) -> tuple[dict[str, object], Mapping[str, str]]:
     """What the letters of a publication say, and the ballots that stood then."""
     language, sealed, words = election.language, election.sealed(), Words(**act.detail["words"])
-    poll, ballots = sealed.counted.as_bytes(), queries.ballots_of(entered.lines_after(election.book, act.number))
+    poll, ballots = sealed.counted.as_bytes(), queries.ballots_of(lines_by_act.lines_after(election.book, act.number))
     sheet = sheet_in(election.debvote.answer("count", poll, ballots, *casting_words(words.casting)).text)
     chronicle = chronicle_of(election.book, History(history.acts[: act.number]), is_secret=sealed.is_aliased)
     publication = Publication(sealed.public, b"", language=language, casting=words.vote, chronicle=chronicle)
     doubts = [Doubt.from_data(doubt) for doubt in act.detail["doubts"]]
-    values = {
+    values: dict[str, object] = {
         "ended": outcome_in_words(publication, sheet),
         "casting": told_if_it_decides(publication, sheet),
         "checksums": act.detail["checksums"],

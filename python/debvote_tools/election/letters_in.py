@@ -12,10 +12,11 @@ from collections.abc import Collection, Iterator, Mapping, Sequence
 
 from debvote_tools import times
 from debvote_tools.book import letters, queries
-from debvote_tools.book.book import Act, Book
+from debvote_tools.book.acts import Detail
+from debvote_tools.book.book import Book, NewAct
 from debvote_tools.book.letters import KeptLetter
 from debvote_tools.book.queries import NewEnvelope
-from debvote_tools.election.batch import Vote, vote_of
+from debvote_tools.election.vote import Vote, vote_of
 from debvote_tools.election.came import NOTHING_ADDED, CameFile, safe
 from debvote_tools.election.election import KEYRING, Election
 from debvote_tools.election.entering import Entered, entered
@@ -27,7 +28,8 @@ from debvote_tools.letters.reasons import Reason
 from debvote_tools.letters.parse import ParsedLetter, as_json, from_json, parse
 from debvote_tools.letters.signatures import find_gpgv, verified
 from debvote_tools.letters.sources import PassedOver, RawLetter, letters_of_file, letters_of_folder
-from debvote_tools.secret.codes import CODE_WITHIN, looks_like_code
+from debvote_tools.lines import CODE_WITHIN
+from debvote_tools.secret.codes import looks_like_code
 
 
 @dataclasses.dataclass(frozen=True)
@@ -225,12 +227,12 @@ def enter(election: Election, vote: Vote, plan: LettersPlan) -> contextlib.Abstr
     by_number = {letter.number: letter.judged for letter in plan.letters}
     kept = {letter.number: letter for letter in letters.letters(election.book)}
 
-    def envelopes(act: Act) -> Iterator[NewEnvelope]:
+    def envelopes(act: NewAct) -> Iterator[NewEnvelope]:
         for number, ballot in plan.going_in:
             letters.decide(act, number, letters.ENTERED)
             yield new_envelope(kept[number], ballot, by_number[number])
 
-    detail = {"letters": len(plan.going_in), "lines": len(plan.going_in)}
+    detail: Detail = {"letters": len(plan.going_in), "lines": len(plan.going_in)}
     return entered(election.book, vote, "add", detail, envelopes, decided_at=plan.decided_at, is_late=plan.is_late)
 
 

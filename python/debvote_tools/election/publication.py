@@ -3,10 +3,11 @@
 import dataclasses
 import datetime
 from collections.abc import Iterable, Mapping
-from typing import Any
+from typing import Final
 
 from debvote_tools.ballots import in_normal_form
-from debvote_tools.book import entered, letters, queries
+from debvote_tools.book import letters, lines_by_act, queries
+from debvote_tools.book.acts import Detail
 from debvote_tools.book.book import Book, DoneAct, as_text, from_text
 from debvote_tools.book.queries import Elector
 from debvote_tools.debvote import casting_words
@@ -24,7 +25,7 @@ from debvote_tools.publish.names import BALLOTS
 from debvote_tools.sealed_poll import SealedPoll
 from debvote_tools.secret.aliases import aliased_ballots, sealed_checksum
 
-ACT = "publish"
+ACT: Final = "publish"
 
 
 @dataclasses.dataclass(frozen=True)
@@ -114,13 +115,13 @@ def shown_by_comparison(
     earlier = history.named(ACT)
     if not earlier or earlier[-1].detail["checksums"][BALLOTS] == sha256_of(ballots):
         return []
-    lines = entered.lines_after(election.book, earlier[-1].number)
+    lines = lines_by_act.lines_after(election.book, earlier[-1].number)
     before = election.debvote.standing(sealed.counted.as_bytes(), queries.ballots_of(lines))
     then, now = ({name: in_normal_form(ranks) for name, ranks in votes.items()} for votes in (before, standing))
     return [name for name in sealed.counted.roll if then.get(name) != now.get(name)]
 
 
-def detail_of(words: Words, checksums: Mapping[str, str], doubts: list[Doubt], *, decides: bool) -> dict[str, Any]:
+def detail_of(words: Words, checksums: Mapping[str, str], doubts: list[Doubt], *, decides: bool) -> Detail:
     """The detail of the act. `decides` says whether the casting vote does."""
     return {
         "words": dataclasses.asdict(words),

@@ -9,7 +9,7 @@ from debvote_tools.addresses import address_key
 from debvote_tools.book import letters, queries
 from debvote_tools.book.queries import Elector, Envelope
 from debvote_tools.election import letters_in
-from debvote_tools.election.batch import Vote, vote_of
+from debvote_tools.election.vote import Vote, vote_of
 from debvote_tools.election.election import Election
 from debvote_tools.election.history import History
 from debvote_tools.election.letters_in import LetterNow
@@ -40,7 +40,7 @@ def what_came(election: Election, history: History, *, is_over: bool) -> WhatCam
         if number in came:
             came[number].append(lines.came_of(envelope))
     entered_of = {(envelope.letter, envelope.elector) for envelope in envelopes}
-    kept_at = {letter.number: history.acts[letter.act - 1].time for letter in kept}
+    kept_at = {letter.number: history.act(letter.act).time for letter in kept}
     for letter in found:
         for elector in (by_name[name] for name in letter.judged.electors if name in by_name):
             if (letter.number, elector.number) not in entered_of:
@@ -79,7 +79,7 @@ class LinesNow:
 
     def became(self, envelope: Envelope) -> Became:
         if envelope.struck is not None:
-            return Became.TAKEN_BACK if self.history.acts[envelope.struck - 1].name == "undo" else Became.STRUCK
+            return Became.TAKEN_BACK if self.history.act(envelope.struck).name == "undo" else Became.STRUCK
         if envelope.is_late:
             return Became.LATE
         if self.answers[envelope.line] is not None:

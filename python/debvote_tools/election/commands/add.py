@@ -9,8 +9,8 @@ from debvote_tools.book.book import Overtaken
 from debvote_tools.console import is_terminal, is_yes, tell
 from debvote_tools.election import acting, adding, came, letter_words, letters_in
 from debvote_tools.election.adding import Arguments
-from debvote_tools.election.batch import Vote, vote_of
-from debvote_tools.election.batch_words import LineWords
+from debvote_tools.election.vote import Vote, vote_of
+from debvote_tools.election.line_words import LineWords
 from debvote_tools.election.came import HYPHEN, NOTHING_ADDED, CameFile
 from debvote_tools.election.csv_ballots import Columns, columns_of
 from debvote_tools.election.election import Election

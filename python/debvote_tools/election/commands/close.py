@@ -5,6 +5,7 @@ import dataclasses
 from debvote_tools import times
 from debvote_tools.arguments import flag
 from debvote_tools.book import queries
+from debvote_tools.book.acts import Detail
 from debvote_tools.book.book import DoneAct
 from debvote_tools.console import tell
 from debvote_tools.election import acting, closing_letter
@@ -54,12 +55,16 @@ def close(election: Election, sealed: Sealed, arguments: Arguments) -> None:
     if in_time and not (arguments.force and because):
         faults.append(letters_wait(election, in_time))
     stop_at(faults)
-    waiting = {"waiting": len(in_time), "after_end": len(letters) - len(in_time)} | ({"because": because} if in_time else {})
-    with book.act("close", fixed(election, sealed) | waiting | {"early": is_early}, seen=history.last.number):
+    detail = fixed(election, sealed)
+    detail.update({"waiting": len(in_time), "after_end": len(letters) - len(in_time)})
+    if in_time:
+        detail["because"] = because
+    detail["early"] = is_early
+    with book.act("close", detail, seen=history.last.number):
         pass
 
 
-def fixed(election: Election, sealed: Sealed) -> dict[str, object]:
+def fixed(election: Election, sealed: Sealed) -> Detail:
     """What the close fixes: the number of lines, and the checksum of the ballots; in a secret vote of a random line and those that
     are published."""
     lines = queries.lines_in_time(election.book)

@@ -4,6 +4,7 @@ import dataclasses
 
 from debvote_tools.arguments import flag
 from debvote_tools.book import queries
+from debvote_tools.book.acts import Detail
 from debvote_tools.console import tell
 from debvote_tools.election import acting
 from debvote_tools.election.commands.check import what_next
@@ -63,7 +64,7 @@ def make_codes(election: Election, arguments: Arguments) -> tuple[SealedPoll, in
         raise Fault("--on-roll", "electors have codes beside their names already", "begin anew in another folder")
     if not without:
         return poll, 0
-    detail = {"codes": len(without), "on_roll": True} if arguments.on_roll else {"codes": len(without)}
+    detail: Detail = {"codes": len(without), "on_roll": True} if arguments.on_roll else {"codes": len(without)}
     with book.act("codes", detail, seen=history.last.number) as act:
         if arguments.on_roll:
             for elector in electors:

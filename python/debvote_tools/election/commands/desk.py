@@ -6,14 +6,15 @@ import os
 import sys
 from collections.abc import Iterator
 
-from debvote_tools.book import entered as book_lines
+from debvote_tools.book import lines_by_act
 from debvote_tools.book import queries
-from debvote_tools.book.book import Act, Book, Overtaken
+from debvote_tools.book.acts import Detail
+from debvote_tools.book.book import Book, NewAct, Overtaken
 from debvote_tools.book.queries import NewEnvelope
 from debvote_tools.console import is_yes, tell, typed
 from debvote_tools.election import acting, in_time
-from debvote_tools.election.batch import BatchLine, Vote, vote_of
-from debvote_tools.election.batch_words import LineWords, change_words, summary, would_words
+from debvote_tools.election.vote import JudgedLine, Vote, vote_of
+from debvote_tools.election.line_words import LineWords, change_words, summary, would_words
 from debvote_tools.election.election import KEYRING, Election
 from debvote_tools.election.entering import electors_of, entered, is_too_long, long_words
 from debvote_tools.election.history import History
@@ -84,16 +85,16 @@ class Desk:
         self.next_line += len(lines)
         return lines
 
-    def cast(self, lines: list[BatchLine], shown: Shown, elector: int | None = None) -> None:
+    def cast(self, lines: list[JudgedLine], shown: Shown, elector: int | None = None) -> None:
         """The act, and the replies to it. If it is not as it was shown, this raises `Overtaken`."""
 
         def is_same() -> bool:
             return self.now(elector) == shown
 
-        def envelopes(_: Act) -> Iterator[NewEnvelope]:
+        def envelopes(_: NewAct) -> Iterator[NewEnvelope]:
             yield from (NewEnvelope(line.as_entered, line.line.place) for line in lines)
 
-        detail: dict[str, object] = {"lines": len(lines)}
+        detail: Detail = {"lines": len(lines)}
         if shown.openness.is_reopened:
             detail["came_before_close"] = self.came_before_close
         with entered(
@@ -236,7 +237,7 @@ def completed(vote: Vote, line: Line) -> Line:
     return Line(line.source, line.place, full, full, full)
 
 
-def show(desk: Desk, line: BatchLine, shown: Shown, elector: int | None) -> str:
+def show(desk: Desk, line: JudgedLine, shown: Shown, elector: int | None) -> str:
     """Shows what a ballot would be, in words, or why debvote would refuse it. Returns the question whether to cast it."""
     tell(*change_words(line))
     if not line.is_ballot:
@@ -246,7 +247,7 @@ def show(desk: Desk, line: BatchLine, shown: Shown, elector: int | None) -> str:
     if shown.openness.is_late(desk.came_before_close):
         tell("It is late, and will count for nothing.")
     elif elector is not None:
-        earlier = desk.vote.standing(book_lines.lines_of_electors(desk.book, {elector})).get(line.voter)
+        earlier = desk.vote.standing(lines_by_act.lines_of_electors(desk.book, {elector})).get(line.voter)
         if earlier is not None:
             tell(f"{line.voter} has a ballot: {desk.words.ranks(earlier)}. It will be replaced.")
     return "Cast it?"

@@ -8,8 +8,8 @@ from debvote_tools.book.queries import Elector, Envelope
 from debvote_tools.book.sent import sent_to
 from debvote_tools.console import tell
 from debvote_tools.election import acting, letter_words, letters_in
-from debvote_tools.election.batch import BatchLine, Vote, vote_of
-from debvote_tools.election.batch_words import LineWords
+from debvote_tools.election.vote import JudgedLine, Vote, vote_of
+from debvote_tools.election.line_words import LineWords
 from debvote_tools.election.election import Election
 from debvote_tools.election.history import History
 from debvote_tools.election.letters_in import LetterNow
@@ -75,12 +75,12 @@ def tell_ballots(election: Election, vote: Vote, history: History, elector: Elec
     tell(f"The ballot that stands: {'none' if ranks is None else words.ranks(ranks)}")
 
 
-def ballot_words(words: LineWords, history: History, envelope: Envelope, line: BatchLine) -> str:
+def ballot_words(words: LineWords, history: History, envelope: Envelope, line: JudgedLine) -> str:
     """A ballot that came: its envelope, its time, what it says, and whether it counts."""
     said = words.ranks(line.ranks) if line.is_ballot else words.of(line)
     marks = ["late"] if envelope.is_late else []
     if envelope.struck is not None:
-        act = history.acts[envelope.struck - 1]
+        act = history.act(envelope.struck)
         because = f": {shown_text(str(act.detail['because']))}" if act.detail.get("because") else ""
         marks.append(f"struck by {act.name} at {act_time(act.time)}{because}")
     marked = f" ({'; '.join(marks)})" if marks else ""

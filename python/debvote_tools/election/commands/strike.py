@@ -5,13 +5,13 @@ import dataclasses
 import re
 
 from debvote_tools.arguments import positional
-from debvote_tools.book import entered, letters, queries
+from debvote_tools.book import letters, lines_by_act, queries
 from debvote_tools.book.book import Book, Overtaken
 from debvote_tools.book.queries import Envelope
 from debvote_tools.console import tell
 from debvote_tools.election import acting
-from debvote_tools.election.batch import vote_of
-from debvote_tools.election.batch_words import LineWords
+from debvote_tools.election.vote import vote_of
+from debvote_tools.election.line_words import LineWords
 from debvote_tools.election.commands.undo import demand_open
 from debvote_tools.election.election import Election
 from debvote_tools.election.history import History
@@ -41,7 +41,7 @@ def run(election: Election, arguments: Arguments) -> int:
     tell(f"Struck envelope {envelope.number}{late}: `{without_code(envelope.line, has_codes=vote.has_codes)}`, because: {because}")
     if envelope.elector is not None:
         elector = name_in(envelope.line).decode("ascii")
-        ranks = vote.standing(entered.lines_after(book, act, {envelope.elector})).get(elector)
+        ranks = vote.standing(lines_by_act.lines_after(book, act, {envelope.elector})).get(elector)
         whose = "that code" if vote.has_codes else elector
         tell(f"What stands now of {whose}: {'no ballot' if ranks is None else LineWords(vote).ranks(ranks)}")
     tell("A strike cannot be undone: if it was a mistake, enter the line again.", f"Next: {election.command('status')}")

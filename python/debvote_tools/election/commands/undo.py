@@ -3,14 +3,14 @@
 import dataclasses
 
 from debvote_tools.arguments import flag
-from debvote_tools.book import entered, letters, queries
+from debvote_tools.book import letters, lines_by_act, queries
 from debvote_tools.book.sent import sent_letters
 from debvote_tools.book.book import Book, DoneAct, Overtaken
 from debvote_tools.book.queries import Envelope
 from debvote_tools.console import is_terminal, is_yes, tell
 from debvote_tools.election import acting
-from debvote_tools.election.batch import Vote, vote_of
-from debvote_tools.election.batch_words import LineWords, standing_words
+from debvote_tools.election.vote import Vote, vote_of
+from debvote_tools.election.line_words import LineWords, standing_words
 from debvote_tools.election.election import Election
 from debvote_tools.election.entering import envelope_words
 from debvote_tools.election.history import History
@@ -90,19 +90,19 @@ def what_is_taken_back(election: Election, book: Book, vote: Vote) -> TakenBack:
     with book.snapshot():
         history = History(book.acts())
         demand_open(election, history)
-        number = entered.last_entering_act(book)
+        number = lines_by_act.last_entering_act(book)
         if number is None:
             words = "nothing was entered that could be taken back"
             raise Fault("undo", words, f"see {election.command('status')}")
         envelopes = tuple(queries.envelopes(book, f"envelope.act = ? AND {queries.NOT_STRUCK}", number))
         electors = {envelope.elector for envelope in envelopes if envelope.elector is not None}
-        lines = entered.lines_of_electors(book, electors)
+        lines = lines_by_act.lines_of_electors(book, electors)
     gone = {envelope.number for envelope in envelopes}
     before, after = vote.standing(lines), vote.standing([line for line in lines if line[0] not in gone])
     told = {("envelope", number, False) for number in gone}
     receipts = [letter.elector for letter in sent_letters(book, Kind.RECEIPTS) if told & set(letter.about)]
     names = [elector.name for elector in queries.electors(book) if elector.number in receipts]
-    return TakenBack(history.last.number, history.acts[number - 1], envelopes, before, after, tuple(names))
+    return TakenBack(history.last.number, history.act(number), envelopes, before, after, tuple(names))
 
 
 def demand_open(election: Election, history: History) -> None:

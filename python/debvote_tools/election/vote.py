@@ -18,7 +18,7 @@ from debvote_tools.lines import Line, ballot_file
 OFFER = re.compile(r"; did you mean (.+)\?\Z")
 
 
-class BatchLine(NamedTuple):
+class JudgedLine(NamedTuple):
     """A line that came, how it is entered, and what debvote says of it, whenever it comes."""
 
     line: Line
@@ -69,7 +69,7 @@ class Vote:
         return f"{'CODE' if self.has_codes else self.roll[0]} {','.join(str(rank + 1) for rank in range(len(self.option_names)))}"
 
     # ------------------------------------------------------------ lines that came
-    def read(self, lines: Sequence[Line]) -> list[BatchLine]:
+    def read(self, lines: Sequence[Line]) -> list[JudgedLine]:
         """What debvote says of lines, none of them empty. It is started twice at most.
 
         The lines are the only input, so what is said of one depends on no other. If the changed line is refused, the line goes in as it
@@ -79,10 +79,10 @@ class Vote:
         indices = [index for index in of_repaired if lines[index].unframed != lines[index].repaired]
         of_unframed = self.findings([lines[index].unframed for index in indices])
         of_entered = of_repaired | {indices[at]: finding for at, finding in of_unframed.items()}
-        read = [BatchLine(line, line.repaired) for line in lines]
+        read = [JudgedLine(line, line.repaired) for line in lines]
         for index, finding in of_repaired.items():
             line, entered = lines[index], of_entered.get(index)
-            read[index] = BatchLine(line, line.unframed, entered, finding, self.other_names(entered))
+            read[index] = JudgedLine(line, line.unframed, entered, finding, self.other_names(entered))
         return read
 
     def answers(self, lines: Sequence[bytes]) -> dict[bytes, str | None]:
