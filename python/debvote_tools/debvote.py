@@ -1,18 +1,17 @@
 """The program debvote: where it is, and what it writes."""
 
-import dataclasses
 import os
 import pathlib
 import re
 import shutil
 import subprocess
+from typing import NamedTuple
 
 from debvote_tools.faults import Fault, Status, other_format
 from debvote_tools.files import BALLOTS_LIMIT, LINES_LIMIT, OWN_FILES, POLL_LIMIT, in_memory
 
 
-@dataclasses.dataclass(frozen=True)
-class Answer:
+class Answer(NamedTuple):
     """What a run of debvote wrote on standard output and on standard error, and its exit status."""
 
     text: str
@@ -20,8 +19,7 @@ class Answer:
     status: int
 
 
-@dataclasses.dataclass(frozen=True)
-class Finding:
+class Finding(NamedTuple):
     """What `explain` says of a line: the number of its envelope, the word of `steps`, and the hint."""
 
     envelope: int
@@ -29,8 +27,7 @@ class Finding:
     hint: str
 
 
-@dataclasses.dataclass(frozen=True)
-class Totals:
+class Totals(NamedTuple):
     """The last line of `explain`. Late lines are among the refused ones."""
 
     lines: int
@@ -41,8 +38,7 @@ class Totals:
     electors: int
 
 
-@dataclasses.dataclass(frozen=True)
-class Findings:
+class Findings(NamedTuple):
     """What `explain` says of a poll in order and its ballots."""
 
     refused: list[Finding]

@@ -21,7 +21,7 @@ BLANKS = b" \t"
 LONGEST = 1_000
 
 # a line in which there is nothing to repair
-PLAIN = re.compile(rb"[a-z0-9.-]+ (?:-|[1-9][0-9]?)(?:,(?:-|[1-9][0-9]?))*")
+PLAIN = re.compile(rb"[a-z0-9.-]+ [0-9,-]+")
 
 # what can be a name on a roll, at the start of a line
 NAME = re.compile(rb"[a-z0-9.-]+")
@@ -107,7 +107,7 @@ def lines_in(data: bytes, name: str, first: int = 1) -> list[Line]:
         came = line.removesuffix(b"\n")
         unframed = came.removesuffix(b"\r")
         unframed = unframed.removeprefix(MARK) if number == 1 else unframed
-        lines.append(Line(name, f":{number}", came, unframed, unframed if PLAIN.fullmatch(unframed) else changed(unframed)))
+        lines.append(Line(name, f":{number}", came, unframed, changed(unframed)))
     return lines
 
 

@@ -1,11 +1,11 @@
 """Plain names, by which debvote counts: made from names in any language. And which names people can't tell apart."""
 
 import collections
-import dataclasses
 import itertools
 import re
 import unicodedata
 from collections.abc import Collection, Mapping, Sequence
+from typing import NamedTuple
 
 from debvote_tools.terminal_text import LINE_ENDS, number_of, odd_sign, shown_text
 
@@ -133,8 +133,7 @@ def is_elector_name(name: str) -> bool:
 
 
 # ---------------------------------------------------------------- names that people read
-@dataclasses.dataclass(frozen=True)
-class BadName:
+class BadName(NamedTuple):
     """Why a name is refused as people would read it. Options are numbered from 1; the title is 0."""
 
     number: int

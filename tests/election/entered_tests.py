@@ -40,7 +40,8 @@ class Asked(CalledTest):
     def after(self, act: int, *names: str, book: Book) -> list[int]:
         """The numbers of the lines as an act left them."""
         electors = {self.elector(name) for name in names} if names else None
-        return [number for number, _ in lines_by_act.lines_after(book, self.first_act + act, electors)]
+        numbers = {envelope.line: envelope.number for envelope in queries.envelopes(book)}
+        return [numbers[line] for line in lines_by_act.lines_after(book, self.first_act + act, electors)]
 
     def test_the_lines_as_each_act_left_them(self) -> None:
         book = self.book
@@ -53,7 +54,8 @@ class Asked(CalledTest):
         self.assertEqual(self.after(2, "ada", "cleo", book=book), [1, 3, 5])
         self.assertEqual(self.after(4, "ben", book=book), [2])
         lines = lines_by_act.lines_of_electors(book, {self.elector("ada")})
-        self.assertEqual(lines, [(1, f"ada {RANKS}".encode())])
+        self.assertEqual(lines, [f"ada {RANKS}".encode()])
+        self.assertEqual(lines_by_act.lines_of_electors(book, {self.elector("ada")}, without=self.first_act), [])
         # of very many electors all lines are read
         self.assertEqual(len(lines_by_act.lines_after(book, book.last_number(), range(1000, 2000))), 3)
 

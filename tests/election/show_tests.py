@@ -60,6 +60,6 @@ class Show(CalledTest):
     def test_several_have_this_real_name(self) -> None:
         with self.book.act("addresses") as act:
             for elector in queries.electors(self.book)[:2]:
-                queries.put_elector(act, queries.Elector(elector.number, elector.name, elector.position, "Kim Kim", ()))
+                queries.put_electors(act, [queries.Elector(elector.number, elector.name, elector.position, "Kim Kim", ())])
         self.assert_fault(self.election("show", "kim kim"), 9, "several electors have the real name kim kim; name one of ada, ben")
         self.assertEqual(self.shown()[0], "ada: Kim Kim")

@@ -38,7 +38,7 @@ PATIENCE = 120
 SETTINGS = ("foreign_keys = ON", "recursive_triggers = ON", "journal_mode = DELETE", "synchronous = EXTRA", "trusted_schema = OFF")
 
 # how many rows one statement adds: one for each row takes twice the time
-ROWS_AT_ONCE = 100
+ROWS_AT_ONCE = 400
 
 # the byte of the file that SQLite locks for an act
 RESERVED_BYTE = 0x40000001
@@ -242,7 +242,7 @@ class Book:
         if why is None:
             raise Fault("--moved", "this is the book that this computer knows", "leave it out", Status.BAD_WORDS)
         there = {"act": last.number, "digest": last.digest}
-        noted_detail = dataclasses.asdict(noted) if noted else None
+        noted_detail = noted._asdict() if noted else None
         with self.act(MOVED, {"why": why, "noted": noted_detail, "there": there, "because": because}):
             pass
 

@@ -1,7 +1,6 @@
 """What is asked of the book about letters: what came, what acts decided of it, and what was written to electors."""
 
-import dataclasses
-from typing import Final
+from typing import Final, NamedTuple
 
 from debvote_tools.book import queries
 from debvote_tools.book.book import Book, NewAct
@@ -12,8 +11,7 @@ SET_ASIDE: Final = "set aside"
 PUT_BACK: Final = "put back"
 
 
-@dataclasses.dataclass(frozen=True)
-class KeptLetter:
+class KeptLetter(NamedTuple):
     """A letter that came. Its number is its own, which it keeps; `state` is what the last act decided."""
 
     number: int

@@ -1,6 +1,5 @@
 """What is asked of the book, by subject."""
 
-import dataclasses
 import datetime
 import itertools
 import json
@@ -8,7 +7,6 @@ from collections.abc import Collection, Iterable
 from typing import NamedTuple
 
 from debvote_tools.book.book import Book, NewAct, as_text, from_text
-from debvote_tools.lines import ballot_file
 
 
 # more names than a query takes are looked for among all
@@ -16,8 +14,7 @@ MOST_NAMES = 200
 
 
 # ---------------------------------------------------------------- electors
-@dataclasses.dataclass(frozen=True)
-class Elector:
+class Elector(NamedTuple):
     """An elector as the book has them now. `position` is the place in the list of members; None if they are no longer on it."""
 
     number: int
@@ -51,17 +48,23 @@ def electors(book: Book) -> list[Elector]:
     return [elector for elector in all_electors(book) if elector.position is not None]
 
 
+def public_names(electors: Iterable[Elector]) -> dict[str, str]:
+    """What the public of a secret vote sees in place of each name: the alias; a code of the roll is a name that it sees."""
+    return {elector.name: elector.alias or elector.name for elector in electors}
+
+
 def new_elector(act: NewAct, name: str) -> Elector:
     """An elector whom the book did not know, not yet on the list."""
     return Elector(act.insert("elector", name=name), name, None, "", ())
 
 
-def put_elector(act: NewAct, elector: Elector) -> None:
-    """Notes what an elector is now."""
-    values = dataclasses.asdict(elector) | {"elector": elector.number, "mail": json.dumps(elector.addresses, ensure_ascii=False)}
-    for name in ("number", "name", "addresses"):
-        del values[name]
-    act.insert("elector_state", **values)
+def put_electors(act: NewAct, electors: Iterable[Elector]) -> None:
+    """Notes what electors are now."""
+    rows = (
+        (one.number, one.position, one.who, json.dumps(one.addresses, ensure_ascii=False), one.key, one.code, one.alias)
+        for one in electors
+    )
+    act.insert_all("elector_state", ["elector", "position", "who", "mail", "key", "code", "alias"], rows)
 
 
 # ---------------------------------------------------------------- what is sealed
@@ -83,8 +86,7 @@ def last_act_that_sealed(book: Book, name: str) -> int:
 
 
 # ---------------------------------------------------------------- envelopes
-@dataclasses.dataclass(frozen=True)
-class Envelope:
+class Envelope(NamedTuple):
     """A line that was entered, in its envelope. The number is the envelope's, which it keeps."""
 
     number: int
@@ -118,23 +120,23 @@ def envelopes(book: Book, condition: str = "1", *values: object) -> list[Envelop
     ]
 
 
-def lines(book: Book, condition: str, *values: object) -> list[tuple[int, bytes]]:
-    """Number and line of each envelope that meets a condition, in their order."""
-    return book.rows(f"SELECT envelope, line FROM {ENVELOPES} WHERE {condition} ORDER BY envelope", *values)
+def lines(book: Book, condition: str, *values: object) -> list[bytes]:
+    """The line of each envelope that meets a condition, in their order."""
+    return [line for line, in book.rows(f"SELECT line FROM {ENVELOPES} WHERE {condition} ORDER BY envelope", *values)]
 
 
-def lines_in_time(book: Book) -> list[tuple[int, bytes]]:
-    """Number and line of each envelope that came in time and is not struck: the ballots that are counted, in their order."""
+def lines_in_time(book: Book) -> list[bytes]:
+    """The line of each envelope that came in time and is not struck: the ballots that are counted, in their order."""
     return lines(book, IN_TIME)
 
 
-def ballots_of(lines: Iterable[tuple[int, bytes]]) -> bytes:
-    """The ballot file of numbered lines."""
-    return ballot_file(line for _, line in lines)
+def numbers_in_time(book: Book) -> list[int]:
+    """The numbers of these envelopes."""
+    return [number for number, in book.rows(f"SELECT envelope FROM {ENVELOPES} WHERE {IN_TIME} ORDER BY envelope")]
 
 
-def late_lines(book: Book) -> list[tuple[int, bytes]]:
-    """Number and line of each envelope that was entered while the vote was closed, and is not struck."""
+def late_lines(book: Book) -> list[bytes]:
+    """The line of each envelope that was entered while the vote was closed, and is not struck."""
     return lines(book, LATE)
 
 

@@ -11,6 +11,7 @@ import dataclasses
 import gc
 import re
 from collections.abc import Iterator, Sequence
+from typing import NamedTuple
 
 from debvote_tools.arguments import flag, option, positional
 from debvote_tools.book import queries
@@ -67,8 +68,7 @@ class Arguments(in_time.Arguments):
     force: bool = flag("Add them although few lines are ballots, one is very long, or an older ballot would replace a later one")
 
 
-@dataclasses.dataclass(frozen=True)
-class FileLines:
+class FileLines(NamedTuple):
     """A file and its lines, in the order in which they are entered."""
 
     came: CameFile
@@ -223,7 +223,7 @@ def with_few_ballots(files: Sequence[FileLines]) -> list[FileLines]:
     few = [file for file in files if has_few_ballots(file.lines)]
     all_lines = tuple(line for file in files for line in file.lines)
     if not few and len(files) > 1 and has_few_ballots(all_lines):
-        return [dataclasses.replace(files[0], lines=all_lines)]
+        return [files[0]._replace(lines=all_lines)]
     return few
 
 
@@ -329,8 +329,7 @@ def look(election: Election, vote: Vote, files: Sequence[FileLines], arguments: 
     numbers = range(first, first + len(plan.new_lines))
     replies = [LATE] * len(numbers)
     if numbers and not plan.openness.is_late(arguments.came_before_close != "no"):
-        all_replies = vote.replies([*lines, *zip(numbers, (line.as_entered for line in plan.new_lines))])
-        replies = [all_replies[number] for number in numbers]
+        replies = vote.replies(lines, [line.as_entered for line in plan.new_lines])
     if plan.openness.is_reopened and arguments.came_before_close is None:
         tell("Note: add will ask whether they came before the close; here they are taken to.")
     tell(*report(election, vote, plan, numbers, replies, is_entered=False))

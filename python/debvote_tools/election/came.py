@@ -1,12 +1,12 @@
 """What came for an election, as `add` reads it: files of lines, tables, and standard input."""
 
 import codecs
-import dataclasses
 import os
 import pathlib
 import re
 import sys
 from collections.abc import Mapping, Sequence
+from typing import NamedTuple
 
 from debvote_tools.console import tell
 from debvote_tools.election.election import Election
@@ -32,8 +32,7 @@ CURES = {
 POLL_KEY = re.compile(rb"(?m)^[ \t]*\"?(%b)\"?[ \t]*=" % "|".join(REQUIRED).encode())
 
 
-@dataclasses.dataclass(frozen=True)
-class CameFile:
+class CameFile(NamedTuple):
     """A file as it came: its name as the user gave it, and its bytes."""
 
     name: str

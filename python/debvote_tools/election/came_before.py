@@ -4,8 +4,8 @@ A line is known as it is entered. The k-th of equal lines in a file came before 
 back: counted, refused, struck or late. So a form that is exported again with more rows adds the new ones.
 """
 
-import dataclasses
 from collections.abc import Iterable, Sequence
+from typing import NamedTuple
 
 from debvote_tools.book import lines_by_act
 from debvote_tools.book.book import Book
@@ -13,16 +13,14 @@ from debvote_tools.book.lines_by_act import EnvelopeOfFile
 from debvote_tools.election.vote import JudgedLine
 
 
-@dataclasses.dataclass(frozen=True)
-class Repeated:
+class Repeated(NamedTuple):
     """A line that came before. `change` says what has happened since, if it no longer counts: then `--again` takes it."""
 
     line: JudgedLine
     change: str | None
 
 
-@dataclasses.dataclass(frozen=True)
-class NewAndRepeated:
+class NewAndRepeated(NamedTuple):
     """The lines of a file: those that go in, and those that came before, in the order in which they stand."""
 
     new: tuple[JudgedLine, ...]

@@ -2,10 +2,10 @@
 
 import codecs
 import csv
-import dataclasses
 import io
 import re
 from collections.abc import Collection
+from typing import NamedTuple
 
 from debvote_tools.file_kinds import kind_of
 from debvote_tools.terminal_text import shown_text
@@ -33,8 +33,7 @@ class BadTable(Exception):
         return f"{file}" if self.line is None else f"{file}:{self.line}"
 
 
-@dataclasses.dataclass(frozen=True)
-class Row:
+class Row(NamedTuple):
     """A row with the line of the file where it begins, both counted from 1."""
 
     number: int
@@ -54,8 +53,7 @@ class Row:
         return [cell.strip() for cell in self.cells[width:] if cell.strip()]
 
 
-@dataclasses.dataclass(frozen=True)
-class Table:
+class Table(NamedTuple):
     """The rows below the head line, blank ones too, and the heads in a form to be compared."""
 
     head: Row

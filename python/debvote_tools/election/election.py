@@ -1,10 +1,10 @@
 """An election in its folder: the book, and debvote."""
 
-import dataclasses
 import functools
 import os
 import pathlib
 import shlex
+from typing import NamedTuple
 
 from debvote_tools.book import queries
 from debvote_tools.book.book import NAME, Book, open_book
@@ -25,8 +25,7 @@ POLL, POLL_WITH_NAMES, KEYRING = "poll", "poll with names", "keyring"
 OF_VERSION_1 = ("journal", "ballots", "received")
 
 
-@dataclasses.dataclass(frozen=True)
-class Sealed:
+class Sealed(NamedTuple):
     """The poll as it was called: what everybody sees, and what ballots are counted by. They differ if the public sees aliases."""
 
     public: SealedPoll

@@ -5,8 +5,8 @@ act came between, it raises `Overtaken`, unless what was decided is the same. Af
 """
 
 import contextlib
-import dataclasses
 from collections.abc import Callable, Collection, Iterable, Iterator, Sequence
+from typing import NamedTuple
 
 from debvote_tools.book import lines_by_act
 from debvote_tools.book import queries
@@ -26,8 +26,7 @@ LATE = "late"
 LONGEST_LINE = 500
 
 
-@dataclasses.dataclass(frozen=True)
-class Entered:
+class Entered(NamedTuple):
     """What an act entered."""
 
     book: Book
@@ -44,10 +43,9 @@ class Entered:
             return [LATE] * len(self.numbers)
         before = lines_by_act.lines_after(self.book, self.act - 1, self.electors)
         try:
-            replies = self.vote.replies([*before, *zip(self.numbers, self.lines)])
+            return self.vote.replies(before, self.lines)
         except Fault as fault:
             raise fault.with_done(f"all the same the lines were entered ({envelope_words(self.numbers)})") from None
-        return [replies[number] for number in self.numbers]
 
 
 @contextlib.contextmanager
@@ -90,9 +88,9 @@ def entered(
 
 def electors_of(book: Book, vote: Vote, lines: Sequence[bytes]) -> list[int | None]:
     """The elector of the roll with whose name each line begins."""
-    names = [name_in(line).decode("ascii") for line in lines]
-    numbers = queries.elector_numbers(book, vote.names_on_roll.intersection(names))
-    return [numbers.get(name) for name in names]
+    names = list(map(name_in, lines))
+    numbers = queries.elector_numbers(book, vote.names_on_roll & {name.decode("ascii") for name in set(names)})
+    return list(map({name.encode(): number for name, number in numbers.items()}.get, names))
 
 
 def demand_room(book: Book, new: Sequence[NewEnvelope]) -> None:

@@ -2,6 +2,7 @@
 
 import dataclasses
 import datetime
+from typing import NamedTuple
 
 from debvote_tools import times
 from debvote_tools.arguments import option
@@ -24,8 +25,7 @@ class Arguments(acting.Arguments):
     )
 
 
-@dataclasses.dataclass(frozen=True)
-class Openness:
+class Openness(NamedTuple):
     """Whether the vote is open."""
 
     # the number of the act that called the vote

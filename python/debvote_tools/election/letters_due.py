@@ -18,6 +18,7 @@ from debvote_tools.election.what_came import waits_of, what_came
 from debvote_tools.faults import Fault, Status
 from debvote_tools.letters_out.compose import Came, Composer, Kind
 from debvote_tools.letters_out.message import new_message_id
+from debvote_tools.lines import ballot_file
 from debvote_tools.publish.casting_vote import told_if_it_decides
 from debvote_tools.publish.done import told_acts
 from debvote_tools.publish.doubts import Doubt, sentences_of
@@ -212,7 +213,7 @@ def about_now(about: Sequence[About], came: Sequence[Came]) -> list[Came]:
 def result_of(election: Election, history: History, act: DoneAct) -> tuple[dict[str, object], Mapping[str, str]]:
     """What the letters of a publication say, and the ballots that stood then."""
     language, sealed, words = election.language, election.sealed(), Words(**act.detail["words"])
-    poll, ballots = sealed.counted.as_bytes(), queries.ballots_of(lines_by_act.lines_after(election.book, act.number))
+    poll, ballots = sealed.counted.as_bytes(), ballot_file(lines_by_act.lines_after(election.book, act.number))
     sheet = sheet_in(election.debvote.answer("count", poll, ballots, *casting_words(words.casting)).text)
     chronicle = chronicle_of(election.book, History(history.acts[: act.number]), is_secret=sealed.is_aliased)
     publication = Publication(sealed.public, b"", language=language, casting=words.vote, chronicle=chronicle)

@@ -1,9 +1,10 @@
 """What is printed about lines: the reply to each, what was changed of it, and why debvote refuses it."""
 
 import collections
+import functools
 from collections.abc import Iterable, Iterator, Sequence
 
-from debvote_tools.ballots import ranks_in_words
+from debvote_tools.ballots import BallotWords
 from debvote_tools.election.vote import JudgedLine, Vote
 from debvote_tools.election.entering import LATE
 from debvote_tools.election.reporting import count_of
@@ -20,7 +21,7 @@ class LineWords:
     def __init__(self, vote: Vote) -> None:
         self.vote = vote
         # most ballots have one of a few orders
-        self.in_words: dict[str, str] = {}
+        self.ranks = functools.cache(BallotWords(vote.option_names).of)
 
     def report(
         self, lines: Sequence[JudgedLine], numbers: Iterable[int], replies: Sequence[str], *, is_entered: bool
@@ -51,11 +52,6 @@ class LineWords:
         """A valid ballot in words."""
         voter, _, ranks = ballot.partition(" ")
         return f"{voter}: {self.ranks(ranks)}"
-
-    def ranks(self, ranks: str) -> str:
-        if ranks not in self.in_words:
-            self.in_words[ranks] = ranks_in_words(ranks, self.vote.option_names)
-        return self.in_words[ranks]
 
     def more(self, line: JudgedLine) -> str:
         """All other names that fit if debvote offers one, so that nobody takes one elector for another; and that a line has a code."""

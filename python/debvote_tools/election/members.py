@@ -1,9 +1,9 @@
 """The list of members: a table as spreadsheets save it. It is read, and never written."""
 
-import dataclasses
 import pathlib
 import re
 import unicodedata
+from typing import NamedTuple
 
 from debvote_tools.addresses import ADDRESS, address_key
 from debvote_tools.book.queries import Elector
@@ -30,8 +30,7 @@ IN_BRACKETS = re.compile(r"<([^<>]*)>")
 BETWEEN_ADDRESSES = re.compile(r"[\s,;]+")
 
 
-@dataclasses.dataclass(frozen=True)
-class Member:
+class Member(NamedTuple):
     """A row of the list. A cell that is empty or missing is an empty text."""
 
     line: int
@@ -68,8 +67,7 @@ class Member:
         return {what: pair for what, pair in pairs.items() if pair[0] != pair[1]}
 
 
-@dataclasses.dataclass(frozen=True)
-class Members:
+class Members(NamedTuple):
     """The rows of a list in its order, and all that is wrong with it."""
 
     file: object

@@ -2,14 +2,13 @@
 
 import dataclasses
 import datetime
-from collections.abc import Iterable, Mapping
+from collections.abc import Mapping
 from typing import Final
 
 from debvote_tools.ballots import in_normal_form
 from debvote_tools.book import letters, lines_by_act, queries
 from debvote_tools.book.acts import Detail
 from debvote_tools.book.book import Book, DoneAct, as_text, from_text
-from debvote_tools.book.queries import Elector
 from debvote_tools.debvote import casting_words
 from debvote_tools.election import closing_letter
 from debvote_tools.election.election import Election, Sealed
@@ -18,6 +17,7 @@ from debvote_tools.faults import Fault
 from debvote_tools.files import sha256_of
 from debvote_tools.language import language_of
 from debvote_tools.letters.parse import from_json
+from debvote_tools.lines import ballot_file
 from debvote_tools.publish import inputs
 from debvote_tools.publish.doubts import Doubt, Kind
 from debvote_tools.publish.inputs import Act, CastingVote, Chronicle, Publication, SecretVote
@@ -57,15 +57,15 @@ def publication_of(election: Election, words: Words) -> Publication:
     """What is published, by the book as it is now."""
     with election.book.snapshot():
         history, sealed, book = election.history(), election.sealed(), election.book
-        lines, late = queries.lines_in_time(book), queries.ballots_of(queries.late_lines(book))
+        lines, late = queries.lines_in_time(book), ballot_file(queries.late_lines(book))
         electors = queries.electors(book)
         chronicle = chronicle_of(book, history, is_secret=sealed.counted.secret)
         doubts = doubts_of(book, history, sealed.public, words.casting)
-    ballots, secret = queries.ballots_of(lines), None
+    ballots, secret = ballot_file(lines), None
     if sealed.counted.secret:
         private_ballots, poll_bytes = ballots, sealed.counted.as_bytes()
         standing = election.debvote.standing(poll_bytes, ballots)
-        ballots = ballots_in_secret(standing, electors)
+        ballots = aliased_ballots(standing, queries.public_names(electors))
         secret = SecretVote(
             codes=frozenset(elector.code for elector in electors if elector.code),
             seal=history.closes[-1].detail["seal"],
@@ -92,11 +92,6 @@ def publication_of(election: Election, words: Words) -> Publication:
     )
 
 
-def ballots_in_secret(standing: Mapping[str, str], electors: Iterable[Elector]) -> bytes:
-    """The ballots of a secret vote as they are published: those that stand, under aliases, or under the codes of the roll."""
-    return aliased_ballots(standing, {elector.name: elector.alias or elector.name for elector in electors})
-
-
 def demand_as_closed(history: History, ballots: bytes) -> None:
     """Stops if the ballots are not those that the close has fixed."""
     if not history.is_closed:
@@ -116,7 +111,7 @@ def shown_by_comparison(
     if not earlier or earlier[-1].detail["checksums"][BALLOTS] == sha256_of(ballots):
         return []
     lines = lines_by_act.lines_after(election.book, earlier[-1].number)
-    before = election.debvote.standing(sealed.counted.as_bytes(), queries.ballots_of(lines))
+    before = election.debvote.standing(sealed.counted.as_bytes(), ballot_file(lines))
     then, now = ({name: in_normal_form(ranks) for name, ranks in votes.items()} for votes in (before, standing))
     return [name for name in sealed.counted.roll if then.get(name) != now.get(name)]
 

@@ -102,7 +102,7 @@ class Vote:
 
     def without_codes(self, finding: Finding) -> Finding:
         """A finding that offers no name if the roll has codes."""
-        return dataclasses.replace(finding, hint=OFFER.sub("", finding.hint)) if self.has_codes else finding
+        return finding._replace(hint=OFFER.sub("", finding.hint)) if self.has_codes else finding
 
     def other_names(self, finding: Finding | None) -> tuple[str, ...]:
         """All names that fit as well as the one that debvote offers, as `anna-meier-2` beside `anna-meier`."""
@@ -118,18 +118,18 @@ class Vote:
         return by_bare_name
 
     # ------------------------------------------------------------ lines that are in the book
-    def replies(self, lines: Sequence[tuple[int, bytes]]) -> dict[int, str]:
-        """The reply to each of these lines, as if they were all, by the number of its envelope. Without lines debvote is not asked."""
-        if not lines:
-            return {}
-        replies = self.debvote.replies(self.poll_bytes, ballot_file(line for _, line in lines))
-        if len(replies) != len(lines):
+    def replies(self, before: Sequence[bytes], new: Sequence[bytes]) -> list[str]:
+        """The reply to each new line, after the lines before. Without new ones debvote is not asked."""
+        if not new:
+            return []
+        replies = self.debvote.replies(self.poll_bytes, ballot_file([*before, *new]))
+        if len(replies) != len(before) + len(new):
             raise other_format("what this debvote replies")
-        return {number: reply for (number, _), reply in zip(lines, replies)}
+        return replies[len(before) :]
 
-    def standing(self, lines: Sequence[tuple[int, bytes]]) -> dict[str, str]:
+    def standing(self, lines: Sequence[bytes]) -> dict[str, str]:
         """The ranks of the ballots that stand if these lines are all, by elector. Without lines debvote is not asked."""
-        return self.debvote.standing(self.poll_bytes, ballot_file(line for _, line in lines)) if lines else {}
+        return self.debvote.standing(self.poll_bytes, ballot_file(lines)) if lines else {}
 
 
 def bare_name(name: str) -> str:

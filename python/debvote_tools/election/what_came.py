@@ -1,9 +1,9 @@
 """All that came of each elector, and what became of it: what receipts and reminders are about."""
 
 import collections
-import dataclasses
 import datetime
 from collections.abc import Mapping, Sequence
+from typing import NamedTuple
 
 from debvote_tools.addresses import address_key
 from debvote_tools.book import letters, queries
@@ -17,8 +17,7 @@ from debvote_tools.letters.judge import Outcome
 from debvote_tools.letters_out.compose import Became, Came
 
 
-@dataclasses.dataclass(frozen=True)
-class WhatCame:
+class WhatCame(NamedTuple):
     """All that came of each elector, in the order of its times, and the electors whose ballot stands."""
 
     by_elector: Mapping[int, Sequence[Came]]
@@ -62,7 +61,7 @@ class LinesNow:
     def __init__(self, vote: Vote, history: History, envelopes: Sequence[Envelope], *, is_over: bool) -> None:
         self.history, self.is_over = history, is_over
         self.answers = vote.answers([envelope.line for envelope in envelopes])
-        self.standing = vote.standing([(one.number, one.line) for one in envelopes if one.struck is None and not one.is_late])
+        self.standing = vote.standing([one.line for one in envelopes if one.struck is None and not one.is_late])
         # the last valid line of each elector stands
         self.last = {one.elector: one.number for one in envelopes if self.is_counted(one)}
 

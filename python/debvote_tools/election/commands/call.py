@@ -78,7 +78,7 @@ def call(election: Election, arguments: Arguments) -> None:
     stop_at(faults)
     public = poll
     if poll.secret and not history.has_codes_on_roll:
-        public = aliased_poll(poll, {elector.name: elector.alias for elector in queries.electors(book)})
+        public = aliased_poll(poll, queries.public_names(queries.electors(book)))
     detail = said.copy()
     detail.update(
         {

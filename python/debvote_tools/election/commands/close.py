@@ -12,12 +12,12 @@ from debvote_tools.election import acting, closing_letter
 from debvote_tools.election.election import LETTERS, Election, Sealed
 from debvote_tools.election.history import History
 from debvote_tools.election.made_files import OWN, write_made
-from debvote_tools.election.publication import ballots_in_secret
 from debvote_tools.election.reporting import act_time, count_of
 from debvote_tools.election.waiting import waiting_letters
 from debvote_tools.faults import Fault, Status, stop_at
 from debvote_tools.files import sha256_of
-from debvote_tools.secret.aliases import seal_line, sealed_checksum
+from debvote_tools.lines import ballot_file
+from debvote_tools.secret.aliases import aliased_ballots, seal_line, sealed_checksum
 
 HELP = "End the vote: lines that are entered later are late"
 
@@ -68,11 +68,11 @@ def fixed(election: Election, sealed: Sealed) -> Detail:
     """What the close fixes: the number of lines, and the checksum of the ballots; in a secret vote of a random line and those that
     are published."""
     lines = queries.lines_in_time(election.book)
-    ballots = queries.ballots_of(lines)
+    ballots = ballot_file(lines)
     if not sealed.counted.secret:
         return {"lines": len(lines), "checksum": sha256_of(ballots)}
     standing = election.debvote.standing(sealed.counted.as_bytes(), ballots)
-    public, seal = ballots_in_secret(standing, queries.electors(election.book)), seal_line()
+    public, seal = aliased_ballots(standing, queries.public_names(queries.electors(election.book))), seal_line()
     return {"lines": len(lines), "checksum": sealed_checksum(seal, public), "seal": seal}
 
 

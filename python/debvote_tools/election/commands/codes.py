@@ -67,14 +67,12 @@ def make_codes(election: Election, arguments: Arguments) -> tuple[SealedPoll, in
     detail: Detail = {"codes": len(without), "on_roll": True} if arguments.on_roll else {"codes": len(without)}
     with book.act("codes", detail, seen=history.last.number) as act:
         if arguments.on_roll:
-            for elector in electors:
-                queries.put_elector(act, dataclasses.replace(elector, position=None))
-            for position, code in enumerate(sorted(new_code() for _ in electors), start=1):
-                queries.put_elector(act, dataclasses.replace(queries.new_elector(act, code), position=position))
+            on_roll = (queries.new_elector(act, code) for code in sorted(new_code() for _ in electors))
+            queries.put_electors(act, (elector._replace(position=None) for elector in electors))
+            queries.put_electors(act, (elector._replace(position=number) for number, elector in enumerate(on_roll, start=1)))
         else:
-            for elector in without:
-                code = new_code(elector.name)
-                queries.put_elector(act, dataclasses.replace(elector, code=code, alias=alias_of(code, elector.name)))
+            codes = ((elector, new_code(elector.name)) for elector in without)
+            queries.put_electors(act, (elector._replace(code=code, alias=alias_of(code, elector.name)) for elector, code in codes))
     return poll, len(without)
 
 

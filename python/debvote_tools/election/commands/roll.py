@@ -71,16 +71,15 @@ def keep(book: Book, roll: Roll, seen: int) -> None:
     before = {elector.number: elector for elector in queries.all_electors(book)}
     by_name = {elector.name: elector for elector in before.values()}
     with book.act("roll", {"electors": len(roll.electors)}, seen=seen) as act:
-        after = {number: dataclasses.replace(elector, position=None) for number, elector in before.items()}
+        after = {number: elector._replace(position=None) for number, elector in before.items()}
         for position, elector in enumerate(roll.electors, start=1):
             known = by_name.get(elector.name) or queries.new_elector(act, elector.name)
-            # a code that somebody else got shows this person nothing
-            kept = {} if alike(known.who) == alike(elector.who) else {"code": "", "alias": ""}
-            details = {"who": elector.who, "addresses": elector.addresses, "key": elector.key}
-            after[known.number] = dataclasses.replace(known, position=position, **details, **kept)
-        for number, now in after.items():
-            if before.get(number) != now:
-                queries.put_elector(act, now)
+            if alike(known.who) != alike(elector.who):
+                # a code that somebody else got shows this person nothing
+                known = known._replace(code="", alias="")
+            now = known._replace(position=position, who=elector.who, addresses=elector.addresses, key=elector.key)
+            after[known.number] = now
+        queries.put_electors(act, (now for number, now in after.items() if before.get(number) != now))
 
 
 # ---------------------------------------------------------------- what is printed
@@ -119,9 +118,8 @@ def change_addresses(election: Election, book: Book, roll: Roll, seen: int, *, i
     changed = [elector for elector in roll.electors if elector.changes and (is_agreed or agreed(elector))]
     if changed:
         with book.act("addresses", {"electors": len(changed)}, seen=seen) as act:
-            for elector in changed:
-                assert elector.known is not None
-                queries.put_elector(act, dataclasses.replace(elector.known, addresses=elector.addresses, key=elector.key))
+            pairs = ((elector, elector.known) for elector in changed if elector.known)
+            queries.put_electors(act, (known._replace(addresses=now.addresses, key=now.key) for now, known in pairs))
         tell(*(f"{elector.name}: {changes_in_words(elector)}" for elector in changed))
         tell(f"{count_of(len(changed), 'elector')} changed; the page of the result tells how many.")
     else:

@@ -69,7 +69,7 @@ def tell_ballots(election: Election, vote: Vote, history: History, elector: Elec
     """Shows the lines that came of an elector, and what stands."""
     envelopes, words = queries.envelopes(election.book, "elector = ?", elector.number), LineWords(vote)
     read = vote.read([Line("", "", envelope.line, envelope.line, envelope.line) for envelope in envelopes])
-    counted = [(envelope.number, envelope.line) for envelope in envelopes if envelope.struck is None and not envelope.is_late]
+    counted = [envelope.line for envelope in envelopes if envelope.struck is None and not envelope.is_late]
     ranks = vote.standing(counted).get(elector.name)
     tell(*(ballot_words(words, history, envelope, line) for envelope, line in zip(envelopes, read)))
     tell(f"The ballot that stands: {'none' if ranks is None else words.ranks(ranks)}")

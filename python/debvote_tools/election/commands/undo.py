@@ -97,9 +97,9 @@ def what_is_taken_back(election: Election, book: Book, vote: Vote) -> TakenBack:
         envelopes = tuple(queries.envelopes(book, f"envelope.act = ? AND {queries.NOT_STRUCK}", number))
         electors = {envelope.elector for envelope in envelopes if envelope.elector is not None}
         lines = lines_by_act.lines_of_electors(book, electors)
-    gone = {envelope.number for envelope in envelopes}
-    before, after = vote.standing(lines), vote.standing([line for line in lines if line[0] not in gone])
-    told = {("envelope", number, False) for number in gone}
+        lines_without = lines_by_act.lines_of_electors(book, electors, without=number)
+    before, after = vote.standing(lines), vote.standing(lines_without)
+    told = {("envelope", envelope.number, False) for envelope in envelopes}
     receipts = [letter.elector for letter in sent_letters(book, Kind.RECEIPTS) if told & set(letter.about)]
     names = [elector.name for elector in queries.electors(book) if elector.number in receipts]
     return TakenBack(history.last.number, history.act(number), envelopes, before, after, tuple(names))
