@@ -130,9 +130,9 @@ def lines_in_time(book: Book) -> list[bytes]:
     return lines(book, IN_TIME)
 
 
-def numbers_in_time(book: Book) -> list[int]:
-    """The numbers of these envelopes."""
-    return [number for number, in book.rows(f"SELECT envelope FROM {ENVELOPES} WHERE {IN_TIME} ORDER BY envelope")]
+def numbered_lines_in_time(book: Book) -> list[tuple[int, bytes]]:
+    """The same lines, each with the number of its envelope."""
+    return book.rows(f"SELECT envelope, line FROM {ENVELOPES} WHERE {IN_TIME} ORDER BY envelope")
 
 
 def late_lines(book: Book) -> list[bytes]:

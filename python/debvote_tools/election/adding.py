@@ -8,7 +8,6 @@
 import collections
 import contextlib
 import dataclasses
-import gc
 import re
 from collections.abc import Iterator, Sequence
 from typing import NamedTuple
@@ -25,7 +24,7 @@ from debvote_tools.election.line_words import LineWords, summary
 from debvote_tools.election.came import NOTHING_ADDED, CameFile
 from debvote_tools.election.came_before import NewAndRepeated, sorted_out
 from debvote_tools.election.csv_ballots import Columns, lines_of_table
-from debvote_tools.election.election import KEYRING, Election
+from debvote_tools.election.election import Election, is_signed
 from debvote_tools.election.entering import LATE, entered, is_too_long, long_words
 from debvote_tools.election.history import History
 from debvote_tools.election.in_time import Openness, openness_of
@@ -108,8 +107,6 @@ def doubt(where: object, words: str, cure: str) -> Fault:
 # ---------------------------------------------------------------- reading
 def read_lines(vote: Vote, files: Sequence[CameFile], columns: Columns | None, arguments: Arguments) -> list[FileLines]:
     """The lines of the files, with what debvote says of them."""
-    # the many lines have no cycles, and to look for some again and again takes a while
-    gc.disable()
     lists = [lines_in(file.data, file.name) if columns is None else lines_of_table(file.data, file.name, columns) for file in files]
     what = "it has empty lines alone" if columns is None else "it has no row of a ballot"
     empty = [file for file, lines in zip(files, lists) if all(line.is_empty for line in lines)]
@@ -133,8 +130,8 @@ def plan_of(book: Book, vote: Vote, files: Sequence[FileLines], arguments: Argum
     if openness.call != vote.call:
         raise doubt(None, "the vote was called anew meanwhile", "run the command again")
     found = sorted_out(book, [file.lines for file in files], takes_again=arguments.again, is_reopened=openness.is_reopened)
-    is_signed = queries.last_act_that_sealed(book, KEYRING) >= vote.call
-    return Plan(history.last.number, openness, is_signed, bool(history.announced("form")), tuple(zip(files, found)))
+    has_form, signed = bool(history.announced("form")), is_signed(book, vote.call)
+    return Plan(history.last.number, openness, signed, has_form, tuple(zip(files, found)))
 
 
 def demand_nothing_against(vote: Vote, plan: Plan, arguments: Arguments) -> None:

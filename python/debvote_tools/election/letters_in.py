@@ -18,9 +18,10 @@ from debvote_tools.book.letters import KeptLetter
 from debvote_tools.book.queries import NewEnvelope
 from debvote_tools.election.vote import Vote, vote_of
 from debvote_tools.election.came import NOTHING_ADDED, CameFile, safe
-from debvote_tools.election.election import KEYRING, Election
+from debvote_tools.election.election import KEYRING, Election, is_signed
 from debvote_tools.election.entering import Entered, entered
 from debvote_tools.election.history import History
+from debvote_tools.election.in_time import openness_of
 from debvote_tools.faults import Fault, Status
 from debvote_tools.files import sha256_of
 from debvote_tools.letters.judge import Ballot, Circumstances, Decision, JudgedLetter, Outcome, judge_all
@@ -73,7 +74,7 @@ def parsed(election: Election, raws: Sequence[RawLetter]) -> list[ParsedLetter]:
 def keyring_of(election: Election) -> bytes | None:
     """The keyring that holds; None if letters need no signature."""
     call = election.history().call
-    if call is None or queries.last_act_that_sealed(election.book, KEYRING) < call.number:
+    if call is None or not is_signed(election.book, call.number):
         return None
     return queries.sealed(election.book, KEYRING)
 
@@ -243,7 +244,6 @@ def new_envelope(kept: KeptLetter, ballot: str, judged_letter: JudgedLetter) -> 
 
 def is_late(history: History, letter: JudgedLetter) -> bool:
     """Whether what is entered of a letter now is late: the vote is closed, or was reopened for what had arrived before the first close."""
-    arrived = letter.letter.arrived
-    if history.is_reopened and (arrived is None or arrived > history.closes[0].time):
-        return True
-    return history.is_closed
+    arrived, openness = letter.letter.arrived, openness_of(history)
+    first_close = openness.first_close
+    return openness.is_late(arrived is not None and first_close is not None and arrived <= first_close)

@@ -15,7 +15,7 @@ from debvote_tools.console import is_yes, tell, typed
 from debvote_tools.election import acting, in_time
 from debvote_tools.election.vote import JudgedLine, Vote, vote_of
 from debvote_tools.election.line_words import LineWords, change_words, summary, would_words
-from debvote_tools.election.election import KEYRING, Election
+from debvote_tools.election.election import Election, is_signed
 from debvote_tools.election.entering import electors_of, entered, is_too_long, long_words
 from debvote_tools.election.history import History
 from debvote_tools.election.in_time import Openness, openness_of
@@ -121,7 +121,7 @@ def run(election: Election, arguments: Arguments) -> int:
     desk = Desk(election, book, arguments.came_before_close)
     openness = desk.now().openness
     tell(*in_time.notes(election, openness, "what is cast"))
-    if queries.last_act_that_sealed(book, KEYRING) >= desk.vote.call:
+    if is_signed(book, desk.vote.call):
         words = "letters have to be signed in this vote, and a desk asks for no signature"
         tell(f"Note: {words}: enter what comes on paper, or is spoken.")
     try:

@@ -16,7 +16,7 @@ from debvote_tools.election.history import History, Stage
 from debvote_tools.election.reporting import act_time, count_of, quorum_words, wrapped
 from debvote_tools.election.waiting import waiting_letters
 from debvote_tools.faults import Status
-from debvote_tools.lines import ballot_file, name_in
+from debvote_tools.lines import ballot_file
 from debvote_tools.terminal_text import shown_line
 
 HELP = "Say how far the election is: lines, ballots, who has none yet, what was refused"
@@ -85,17 +85,19 @@ def state_of(election: Election, history: History) -> tuple[State, list[Refused]
 
     With codes on the roll these are all refused lines.
     """
-    lines: list[bytes] = []
+    lines: list[tuple[int, bytes]] = []
     findings, waiting = NO_FINDINGS, 0
     if history.call is None:
         roll = tuple(elector.name for elector in queries.electors(election.book))
     else:
-        poll, lines = election.sealed().counted, queries.lines_in_time(election.book)
-        findings, roll = election.debvote.findings(poll.as_bytes(), ballot_file(lines)), poll.roll
+        poll, lines = election.sealed().counted, queries.numbered_lines_in_time(election.book)
+        findings, roll = election.debvote.findings(poll.as_bytes(), ballot_file(line for _, line in lines)), poll.roll
         waiting = len(waiting_letters(election, history))
-    at = {finding.envelope for finding in findings.refused}
+    refused = [Refused(*lines[finding.envelope - 1], finding) for finding in findings.refused]
+    refused_numbers = {one.envelope for one in refused}
     # who has a line that debvote does not refuse has a ballot that stands
-    voters = {name_in(line).decode("ascii") for number, line in enumerate(lines, start=1) if number not in at}
+    names = {line.partition(b" ")[0] for number, line in lines if number not in refused_numbers}
+    voters = {name.decode("ascii") for name in names}
     state = State(
         stage=history.stage,
         electors=len(roll),
@@ -109,8 +111,6 @@ def state_of(election: Election, history: History) -> tuple[State, list[Refused]
         act=history.last.number,
         digest=history.last.digest,
     )
-    numbers = queries.numbers_in_time(election.book) if at else []
-    refused = [Refused(numbers[one.envelope - 1], lines[one.envelope - 1], one) for one in findings.refused]
     return state, refused if history.has_codes_on_roll else [one for one in refused if one.name not in voters]
 
 
