@@ -137,7 +137,7 @@ def plan_of(book: Book, vote: Vote, files: Sequence[FileLines], arguments: Argum
 def demand_nothing_against(vote: Vote, plan: Plan, arguments: Arguments) -> None:
     """Stops at what a person has to look at first; all of it is said at once."""
     faults = list(orders_missing(plan)) if is_unsorted(arguments) else []
-    if plan.new_lines and plan.is_signed and not (arguments.force and (arguments.because or "").strip()):
+    if plan.new_lines and plan.is_signed and not (arguments.force and acting.has_reason(arguments.because)):
         words = "letters have to be signed in this vote, and nothing says who has sent a line of a file"
         cure = "add the letters themselves; or, if you know by other means who has sent each line, give --force --because TEXT"
         faults.append(doubt(plan.files[0][0].came.name, words, cure))

@@ -48,17 +48,16 @@ def close(election: Election, sealed: Sealed, arguments: Arguments) -> None:
     letters = waiting_letters(election, history)
     in_time = [number for number, came_in_time in letters.items() if came_in_time]
     is_early = history.until is not None and now < history.until
-    because = (arguments.because or "").strip()
     faults = []
     if is_early and not arguments.early:
         faults.append(still_open(election, history))
-    if in_time and not (arguments.force and because):
+    if in_time and not (arguments.force and acting.has_reason(arguments.because)):
         faults.append(letters_wait(election, in_time))
     stop_at(faults)
     detail = fixed(election, sealed)
     detail.update({"waiting": len(in_time), "after_end": len(letters) - len(in_time)})
     if in_time:
-        detail["because"] = because
+        detail["because"] = acting.demand_reason(arguments.because, "--force")
     detail["early"] = is_early
     with book.act("close", detail, seen=history.last.number):
         pass

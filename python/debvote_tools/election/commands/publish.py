@@ -22,7 +22,7 @@ from debvote_tools.publish import result_folder
 from debvote_tools.publish.casting_vote import casting_vote_of
 from debvote_tools.publish.counting import Counted
 from debvote_tools.publish.inputs import Publication
-from debvote_tools.publish.texts import reason_in, text_in
+from debvote_tools.publish.texts import text_in
 
 HELP = "Make the folder of the result for a web site; without options, make the last one again"
 
@@ -106,13 +106,14 @@ def words_of(arguments: Arguments) -> Words:
     elif arguments.cast_by is not None or arguments.cast_on is not None:
         words = "they say whose the casting vote of --casting was"
         raise Fault("--cast-by, --cast-on", words, "give --casting too", Status.BAD_WORDS, "nothing was published")
+    reason = arguments.because if arguments.force else None
     return Words(
         casting=arguments.casting,
         cast_by=vote.by if vote else None,
         cast_on=vote.on.isoformat() if vote and vote.on else None,
         about=None if arguments.about is None else text_in(arguments.about, "about"),
         is_forced=arguments.force,
-        because=reason_in(arguments.because) if arguments.force and arguments.because is not None else None,
+        because=None if reason is None else acting.demand_reason(reason, "--force", has_paragraphs=True),
         language=arguments.language,
     )
 
