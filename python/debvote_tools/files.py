@@ -55,7 +55,7 @@ def read_whole(file: pathlib.Path | str, limit: int, unread: str, then: str = ""
     return data
 
 
-def plain_text(data: bytes, file: pathlib.Path | str, empty: str, then: str = "", refused: str = "") -> str:
+def file_text(data: bytes, file: pathlib.Path | str, empty: str, then: str = "", refused: str = "") -> str:
     """The text of a file in UTF-8, without its byte-order mark and with a line feed at the end of each line.
 
     `empty` is the cure of an empty one; `then` follows each cure. Refused are characters that no plain text has, and these.

@@ -18,10 +18,10 @@ MARK = codecs.BOM_UTF8
 BLANKS = b" \t"
 
 # in bytes; a longer line is no ballot, and nothing of it is repaired
-LONGEST = 1_000
+LONGEST_REPAIRED = 1_000
 
 # a line in which there is nothing to repair
-PLAIN = re.compile(rb"[a-z0-9.-]+ [0-9,-]+")
+NOTHING_TO_REPAIR = re.compile(rb"[a-z0-9.-]+ [0-9,-]+")
 
 # what can be a name on a roll, at the start of a line
 NAME = re.compile(rb"[a-z0-9.-]+")
@@ -129,9 +129,9 @@ def name_in(line: bytes) -> bytes:
 
 def changed(line: bytes) -> bytes:
     """The line after the changes that are allowed."""
-    if PLAIN.fullmatch(line):
+    if NOTHING_TO_REPAIR.fullmatch(line):
         return line
-    if len(line) > LONGEST or b"\r" in line or b"\n" in line:
+    if len(line) > LONGEST_REPAIRED or b"\r" in line or b"\n" in line:
         return spaced(line)
     try:
         text = line.decode("utf-8")

@@ -45,7 +45,7 @@ class Show(CalledTest):
     def test_the_time_is_that_of_the_ballot(self) -> None:
         with self.book.act("add") as act:
             time = act.time.replace(year=2020)
-            queries.enter(act, [queries.NewEnvelope(f"ada {RANKS}".encode(), time=time)], [self.elector("ada")], is_late=False)
+            queries.add_envelopes(act, [queries.NewEnvelope(f"ada {RANKS}".encode(), time=time)], [self.elector("ada")], is_late=False)
         self.assertIn(f"  envelope 1, {time:%Y-%m-%d %H:%M:%S} UTC: {LAKE}\n", self.told("show", "ada"))
 
     def test_by_the_real_name_and_in_capitals(self) -> None:

@@ -66,10 +66,10 @@ class Strike(CalledTest):
 
     def test_a_letter_is_set_aside(self) -> None:
         with self.book.act("add") as act:
-            source = queries.keep(act, "inbox", b"letter")
+            source = queries.keep_source(act, "inbox", b"letter")
             letter = act.insert("letter", source=source, identity="1", known="{}")
             new = [queries.NewEnvelope(b"cleo 1,2,3,4", "", source, letter)]
-            queries.enter(act, new, [self.elector("cleo")], is_late=False)
+            queries.add_envelopes(act, new, [self.elector("cleo")], is_late=False)
             letters.decide(act, letter, letters.ENTERED)
         self.told("strike", 5, *WHY)
         self.assertEqual(self.book.rows("SELECT letter, state FROM letter_state WHERE act = ?", self.last_act()), [(1, "struck")])

@@ -69,18 +69,18 @@ class Undo(CalledTest):
     def test_lines_that_reopen_offered(self) -> None:
         """An act that enters lines is known by its envelopes, whatever its name is."""
         with self.book.act("offer") as act:
-            queries.enter(act, [queries.NewEnvelope(f"ada {RANKS}".encode())], [self.elector("ada")], is_late=False)
+            queries.add_envelopes(act, [queries.NewEnvelope(f"ada {RANKS}".encode())], [self.elector("ada")], is_late=False)
         self.assertIn("Took back 1 line (act 4: offer, ".replace("4", str(self.first_act)), self.told("undo"))
         self.assertEqual(self.lines(), [])
 
     def test_letters_wait_as_taken_back(self) -> None:
         with self.book.act("add") as act:
             for name in ("ada", "ben"):
-                source = queries.keep(act, "inbox", b"letter")
+                source = queries.keep_source(act, "inbox", b"letter")
                 letter = act.insert("letter", source=source, identity=name, known="{}")
                 act.insert("letter_state", letter=letter, state="entered")
                 line = f"{name} {RANKS}".encode()
-                queries.enter(act, [queries.NewEnvelope(line, "", source, letter)], [self.elector(name)], is_late=False)
+                queries.add_envelopes(act, [queries.NewEnvelope(line, "", source, letter)], [self.elector(name)], is_late=False)
         self.assertIn("2 letters then wait as taken back: 1, 2\n", self.told("undo"))
         states = "SELECT letter, state FROM letter_state WHERE act = ? ORDER BY letter"
         self.assertEqual(self.book.rows(states, self.last_act()), [(1, "taken back"), (2, "taken back")])

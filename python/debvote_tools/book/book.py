@@ -313,7 +313,7 @@ def create(path: pathlib.Path, detail: Detail, final_path: pathlib.Path) -> None
         schema = pathlib.Path(__file__).with_name("schema.sql").read_text()
         for statement in schema.split(";\n"):
             connection.execute(statement)
-        for table in (*chain.COLUMNS, "act"):
+        for table in (*chain.TABLES, "act"):
             for verb in ("UPDATE", "DELETE"):
                 connection.execute(REFUSE.format(table=table, verb=verb))
         book = Book(path, connection)

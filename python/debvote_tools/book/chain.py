@@ -12,7 +12,7 @@ from collections.abc import Sequence
 BEGINNING = ""
 
 # the columns of the tables whose rows belong to an act, in the order of the schema; those that have bytes end with a star
-COLUMNS = {
+TABLES = {
     "elector": "elector act name",
     "elector_state": "act elector position who mail key code alias",
     "sealed": "act name data*",
@@ -25,14 +25,14 @@ COLUMNS = {
 }
 
 
-def as_json(table: str, columns: str) -> str:
+def row_as_json(table: str, columns: str) -> str:
     """The expression for a row of a table as JSON."""
     parts = [f"sha256({name[:-1]})" if name.endswith("*") else name for name in columns.split()]
     return f"json_array('{table}', {', '.join(parts)})"
 
 
-ACT = as_json("act", "act time name detail salt*")
-ROWS = [f"SELECT act, {as_json(table, columns)} FROM {table}" for table, columns in COLUMNS.items()]
+ACT_AS_JSON = row_as_json("act", "act time name detail salt*")
+ROWS = [f"SELECT act, {row_as_json(table, columns)} FROM {table}" for table, columns in TABLES.items()]
 
 
 def prepare(connection: sqlite3.Connection) -> None:
@@ -43,7 +43,7 @@ def prepare(connection: sqlite3.Connection) -> None:
 def digest_of(connection: sqlite3.Connection, before: str, act: tuple[object, ...]) -> str:
     """The digest of an act (number, time, name, detail, salt) by the rows that the book has of it."""
     columns = "SELECT ? AS act, ? AS time, ? AS name, ? AS detail, ? AS salt"
-    lines = [before, *connection.execute(f"SELECT {ACT} FROM ({columns})", act).fetchone()]
+    lines = [before, *connection.execute(f"SELECT {ACT_AS_JSON} FROM ({columns})", act).fetchone()]
     for rows in ROWS:
         lines += [json for _, json in connection.execute(f"{rows} WHERE act = ? ORDER BY rowid", (act[0],))]
     return digest_of_lines(lines)
@@ -58,7 +58,9 @@ def broken_act(connection: sqlite3.Connection) -> int | None:
     tables = [iter(connection.execute(f"{rows} ORDER BY act, rowid")) for rows in ROWS]
     waiting = [next(rows, (0, "")) for rows in tables]
     before, number = BEGINNING, 0
-    for number, (act, line, digest) in enumerate(connection.execute(f"SELECT act, {ACT}, digest FROM act ORDER BY act"), start=1):
+    for number, (act, line, digest) in enumerate(
+        connection.execute(f"SELECT act, {ACT_AS_JSON}, digest FROM act ORDER BY act"), start=1
+    ):
         lines = [before, line]
         for index, rows in enumerate(tables):
             owner, json = waiting[index]

@@ -24,7 +24,7 @@ class KeptLetter(NamedTuple):
     state: str
 
 
-LETTERS = """
+KEPT_LETTERS = """
 SELECT letter, act, source, identity, known, coalesce(
   (SELECT state FROM letter_state WHERE letter_state.letter = letter.letter ORDER BY act DESC LIMIT 1), 'waits')
 FROM letter ORDER BY letter
@@ -33,7 +33,7 @@ FROM letter ORDER BY letter
 
 def letters(book: Book) -> list[KeptLetter]:
     """All letters that came, in the order of their numbers."""
-    return [KeptLetter(*row) for row in book.rows(LETTERS)]
+    return [KeptLetter(*row) for row in book.rows(KEPT_LETTERS)]
 
 
 def have_come(book: Book) -> bool:
@@ -59,7 +59,7 @@ def undecided(kept: list[KeptLetter]) -> list[KeptLetter]:
 
 def keep_letter(act: NewAct, where: str, data: bytes, identity: str, known: str) -> int:
     """Keeps a letter, byte for byte, and returns its number."""
-    return act.insert("letter", source=queries.keep(act, where, data), identity=identity, known=known)
+    return act.insert("letter", source=queries.keep_source(act, where, data), identity=identity, known=known)
 
 
 def decide(act: NewAct, letter: int, state: str) -> None:

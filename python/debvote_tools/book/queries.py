@@ -108,12 +108,12 @@ ENVELOPES = "envelope LEFT JOIN struck USING (envelope)"
 NOT_STRUCK = "struck.act IS NULL"
 IN_TIME, LATE = f"late = 0 AND {NOT_STRUCK}", f"late = 1 AND {NOT_STRUCK}"
 
-COLUMNS = "envelope, envelope.act, elector, line, source, letter, place, time, late, struck.act"
+ENVELOPE_COLUMNS = "envelope, envelope.act, elector, line, source, letter, place, time, late, struck.act"
 
 
 def envelopes(book: Book, condition: str = "1", *values: object) -> list[Envelope]:
     """The envelopes that meet a condition, in their order."""
-    rows = book.rows(f"SELECT {COLUMNS} FROM {ENVELOPES} WHERE {condition} ORDER BY envelope", *values)
+    rows = book.rows(f"SELECT {ENVELOPE_COLUMNS} FROM {ENVELOPES} WHERE {condition} ORDER BY envelope", *values)
     return [
         Envelope(number, act, elector, line, source, letter, place, from_text(time), bool(late), struck)
         for number, act, elector, line, source, letter, place, time, late, struck in rows
@@ -146,7 +146,7 @@ def has_come(book: Book, since: int) -> bool:
     return bool(book.rows(words, since, since)[0][0])
 
 
-def strike(act: NewAct, numbers: Iterable[int]) -> None:
+def strike_envelopes(act: NewAct, numbers: Iterable[int]) -> None:
     """Strikes envelopes."""
     act.insert_all("struck", ["envelope"], ((number,) for number in numbers))
 
@@ -161,7 +161,7 @@ class NewEnvelope(NamedTuple):
     time: datetime.datetime | None = None
 
 
-def enter(act: NewAct, new: Iterable[NewEnvelope], electors: Iterable[int | None], *, is_late: bool) -> None:
+def add_envelopes(act: NewAct, new: Iterable[NewEnvelope], electors: Iterable[int | None], *, is_late: bool) -> None:
     """Enters lines, each with the elector with whose name it begins."""
     for (source, letter, time), group in itertools.groupby(zip(electors, new), key=shared):
         rows = ((elector, envelope.line, envelope.place) for elector, envelope in group)
@@ -187,7 +187,7 @@ def elector_numbers(book: Book, names: Collection[str]) -> dict[str, int]:
 
 
 # ---------------------------------------------------------------- sources
-def keep(act: NewAct, name: str, data: bytes) -> int:
+def keep_source(act: NewAct, name: str, data: bytes) -> int:
     """Keeps what came, byte for byte."""
     return act.insert("source", name=name, data=data)
 

@@ -25,7 +25,7 @@ from debvote_tools.election.came import NOTHING_ADDED, CameFile
 from debvote_tools.election.came_before import NewAndRepeated, sorted_out
 from debvote_tools.election.csv_ballots import Columns, lines_of_table
 from debvote_tools.election.election import Election, is_signed
-from debvote_tools.election.entering import LATE, entered, is_too_long, long_words
+from debvote_tools.election.entering import LATE_REPLY, entered, is_too_long, long_words
 from debvote_tools.election.history import History
 from debvote_tools.election.in_time import Openness, openness_of
 from debvote_tools.election.reporting import count_of
@@ -94,7 +94,7 @@ class Plan:
     def envelopes(self, act: NewAct) -> Iterator[NewEnvelope]:
         """What goes in, while the act is written: each file is kept whole before its lines."""
         for file, found in self.files:
-            source = queries.keep(act, file.came.kept_name, file.came.data)
+            source = queries.keep_source(act, file.came.kept_name, file.came.data)
             for line in found.new:
                 yield NewEnvelope(line.as_entered, line.line.place, source)
 
@@ -324,7 +324,7 @@ def look(election: Election, vote: Vote, files: Sequence[FileLines], arguments: 
         lines = queries.lines_in_time(book)
         first = queries.last_envelope(book) + 1
     numbers = range(first, first + len(plan.new_lines))
-    replies = [LATE] * len(numbers)
+    replies = [LATE_REPLY] * len(numbers)
     if numbers and not plan.openness.is_late(arguments.came_before_close != "no"):
         replies = vote.replies(lines, [line.as_entered for line in plan.new_lines])
     if plan.openness.is_reopened and arguments.came_before_close is None:

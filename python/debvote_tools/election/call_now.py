@@ -15,7 +15,7 @@ def current_data(election: Election, history: History | None = None, said: Detai
     assert history.call is not None
     detail = history.call.detail.copy()
     detail.update({"to": said.get("to") or history.announced("to"), "at": said.get("at") or history.announced("at")})
-    return call_data(election, election.sealed(), detail, time_of(said) or history.until)
+    return call_data(election, election.sealed(), detail, until_of(said) or history.until)
 
 
 def call_data(election: Election, sealed: Sealed, detail: Detail, until: datetime.datetime | None) -> CallData:
@@ -36,6 +36,6 @@ def call_data(election: Election, sealed: Sealed, detail: Detail, until: datetim
     )
 
 
-def time_of(said: Detail) -> datetime.datetime | None:
+def until_of(said: Detail) -> datetime.datetime | None:
     """The end that the command line names."""
     return datetime.datetime.fromisoformat(said["until"]) if "until" in said else None

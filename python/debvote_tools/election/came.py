@@ -69,7 +69,7 @@ def are_all_letters(files: Mapping[str, CameFile | None]) -> bool:
 
 
 # ---------------------------------------------------------------- reading
-def read(election: Election, paths: Sequence[str], *, is_table: bool) -> dict[str, CameFile | None]:
+def read_files(election: Election, paths: Sequence[str], *, is_table: bool) -> dict[str, CameFile | None]:
     """Reads what these paths name, standard input if there is none, each whole; a folder is None. Stops at what has neither ballots nor
     letters; all that is wrong is said at once.
     """

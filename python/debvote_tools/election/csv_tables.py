@@ -83,7 +83,7 @@ def read_table(data: bytes, wanted_heads: Collection[str], *, skips_spaces: bool
 
     Spaces before a cell may be skipped: then quotation marks after them count as such. Raises `BadTable`.
     """
-    text = text_of(data)
+    text = decoded(data)
     head_line = next((line for line in re.split(r"[\r\n]+", text) if line.strip(' \t,;"')), "")
     wanted = {head_form(head) for head in wanted_heads}
 
@@ -99,7 +99,7 @@ def read_table(data: bytes, wanted_heads: Collection[str], *, skips_spaces: bool
     return Table(head, rows[head.number :])
 
 
-def text_of(data: bytes) -> str:
+def decoded(data: bytes) -> str:
     """The text of a file, by its mark; without one it is in UTF-8."""
     kind = kind_of(data)
     if kind is not None:

@@ -20,7 +20,7 @@ from debvote_tools.faults import Fault, Status
 from debvote_tools.files import BALLOTS_LIMIT, LINES_LIMIT, uninterrupted
 from debvote_tools.lines import Line, name_in
 
-LATE = "late"
+LATE_REPLY = "late"
 
 # in bytes; no ballot has half as many
 LONGEST_LINE = 500
@@ -40,7 +40,7 @@ class Entered(NamedTuple):
     def replies(self) -> list[str]:
         """The reply to each line, by all lines as the act left them: those of its electors, on whom alone it depends."""
         if self.is_late:
-            return [LATE] * len(self.numbers)
+            return [LATE_REPLY] * len(self.numbers)
         before = lines_by_act.lines_after(self.book, self.act - 1, self.electors)
         try:
             return self.vote.replies(before, self.lines)
@@ -77,7 +77,7 @@ def entered(
             first = queries.last_envelope(book) + 1
             new_lines = [envelope.line for envelope in new]
             electors = electors_of(book, vote, new_lines)
-            queries.enter(act, new, electors, is_late=is_late)
+            queries.add_envelopes(act, new, electors, is_late=is_late)
         numbers = range(first, first + len(new))
         try:
             yield Entered(book, vote, act.number, numbers, new_lines, frozenset(filter(None, electors)), is_late)

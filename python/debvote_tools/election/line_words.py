@@ -6,7 +6,7 @@ from collections.abc import Iterable, Iterator, Sequence
 
 from debvote_tools.ballots import BallotWords
 from debvote_tools.election.vote import JudgedLine, Vote
-from debvote_tools.election.entering import LATE
+from debvote_tools.election.entering import LATE_REPLY
 from debvote_tools.election.reporting import count_of
 from debvote_tools.language import ENGLISH
 from debvote_tools.lines import CODE_WITHIN, Line, differences
@@ -38,8 +38,8 @@ class LineWords:
                 yield from cause_words(line, is_entered=is_entered)
         if not all(line.finding is None for line in lines):
             yield self.right_words()
-        if LATE in replies:
-            yield f"{count_of(replies.count(LATE), 'line')} came after the close, and late ones count for nothing."
+        if LATE_REPLY in replies:
+            yield f"{count_of(replies.count(LATE_REPLY), 'line')} came after the close, and late ones count for nothing."
 
     def of(self, line: JudgedLine, reply: str = "") -> str:
         """A ballot in words, or the line and why debvote refuses it."""

@@ -1,6 +1,6 @@
 """Texts of those who publish, for the page: plain, in UTF-8."""
 
-from debvote_tools.files import plain_text, read_whole
+from debvote_tools.files import file_text, read_whole
 
 # in bytes
 LIMIT = 65_536
@@ -9,7 +9,7 @@ LIMIT = 65_536
 def text_in(file: str, what: str) -> str:
     """The text of a file; `what` is the name of the option that was given it."""
     data = read_whole(file, LIMIT, f"give a file that you may read with --{what}")
-    return plain_text(data, file, f"write it, or leave --{what} out")
+    return file_text(data, file, f"write it, or leave --{what} out")
 
 
 def paragraphs_of(text: str) -> list[str]:

@@ -19,7 +19,7 @@ HELP = "Enter ballots from letters, files, tables or standard input, and print t
 def run(election: Election, arguments: Arguments) -> int:
     demand_words(arguments)
     vote = vote_of(election, election.history())
-    found = came.read(election, arguments.files, is_table=arguments.csv)
+    found = came.read_files(election, arguments.files, is_table=arguments.csv)
     if came.are_all_letters(found):
         # what reads letters takes a while to be imported
         from debvote_tools.election.adding_letters import take_letters

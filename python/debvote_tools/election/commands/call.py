@@ -12,7 +12,7 @@ from debvote_tools.call.data import CallData, demand_mail_address, demand_web_ad
 from debvote_tools.call.files import call_files, extension_letter
 from debvote_tools.console import tell
 from debvote_tools.election import acting
-from debvote_tools.election.call_now import call_data, current_data, time_of
+from debvote_tools.election.call_now import call_data, current_data, until_of
 from debvote_tools.election.commands.codes import SLIPS, write_slips
 from debvote_tools.election.commands.roll import demand_read
 from debvote_tools.election.election import CALL, KEYRING, LETTERS, POLL, POLL_WITH_NAMES, PRIVATE, Election, Sealed
@@ -90,7 +90,7 @@ def call(election: Election, arguments: Arguments) -> None:
         }
     )
     keyring = keyring_in(election, arguments.keyring)
-    data = call_data(election, Sealed(public, poll), detail, time_of(said))
+    data = call_data(election, Sealed(public, poll), detail, until_of(said))
     with book.act("call", detail, seen=history.last.number) as act:
         act.insert("sealed", name=POLL, data=public.as_bytes())
         if public != poll:
@@ -188,7 +188,7 @@ def add_to_call(election: Election, book: Book, history: History, said: Detail, 
     """The act that extends the vote or adds to the call. No end counts after a close, nor one before that which electors know."""
     if history.is_closed:
         raise Fault(None, "the vote is closed", f"see {election.command('status')}")
-    until = time_of(said)
+    until = until_of(said)
     if until is not None and history.closes:
         words = f"the vote was closed at {act_time(history.closes[0].time)}, and only what had come before that counts"
         raise Fault("--until", words, f"leave it out; ballots that had come in time go in by {election.command('add')}")

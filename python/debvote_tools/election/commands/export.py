@@ -18,7 +18,7 @@ HELP = "Write the poll, the ballots and all that came into a new folder, which o
 
 # what a file name keeps of the name under which something came
 UNSAFE = re.compile(r"[^A-Za-z0-9._-]+")
-LONGEST_NAME = 100
+LONGEST_FILE_NAME = 100
 
 
 @dataclasses.dataclass(frozen=True)
@@ -54,4 +54,4 @@ def files_of(election: Election) -> dict[str, bytes]:
 
 def safe_name(name: str) -> str:
     """A name that is no path and has no characters that a shell reads."""
-    return UNSAFE.sub("-", name.rpartition("/")[2])[-LONGEST_NAME:].strip(".") or "file"
+    return UNSAFE.sub("-", name.rpartition("/")[2])[-LONGEST_FILE_NAME:].strip(".") or "file"

@@ -38,7 +38,7 @@ def run(election: Election, arguments: Arguments) -> int:
     if history.call is not None:
         change_addresses(election, book, roll, history.last.number, is_agreed=arguments.yes)
     else:
-        keep(book, roll, history.last.number)
+        keep_electors(book, roll, history.last.number)
         report(election, roll, has_all=arguments.all)
     return Status.DONE
 
@@ -64,7 +64,7 @@ def is_kept(book: Book, roll: Roll) -> bool:
     return now == [(elector.name, elector.who, elector.addresses, elector.key) for elector in queries.electors(book)]
 
 
-def keep(book: Book, roll: Roll, seen: int) -> None:
+def keep_electors(book: Book, roll: Roll, seen: int) -> None:
     """The act: the electors are those of the list. If they are already, it is no act."""
     if is_kept(book, roll):
         return

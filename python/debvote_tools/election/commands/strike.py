@@ -55,7 +55,7 @@ def strike(election: Election, book: Book, number: int, because: str) -> tuple[E
         envelope = demand_envelope(election, book, number)
         with contextlib.suppress(Overtaken):
             with book.act("strike", {"envelope": number, "because": because}, seen=seen) as act:
-                queries.strike(act, [number])
+                queries.strike_envelopes(act, [number])
                 if envelope.letter is not None and is_done(book, envelope.letter):
                     letters.decide(act, envelope.letter, letters.STRUCK)
             return envelope, act.number

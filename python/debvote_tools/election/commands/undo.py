@@ -27,7 +27,7 @@ class Arguments(acting.Arguments):
 
 
 @dataclasses.dataclass(frozen=True)
-class TakenBack:
+class UndoPlan:
     """What an `undo` takes back, or would, and what it changes."""
 
     decided_at: int = dataclasses.field(compare=False)
@@ -67,9 +67,9 @@ def run(election: Election, arguments: Arguments) -> int:
 
 
 # ---------------------------------------------------------------- the act
-def undo(election: Election, book: Book, words: LineWords, *, is_asked: bool) -> TakenBack:
+def undo(election: Election, book: Book, words: LineWords, *, is_asked: bool) -> UndoPlan:
     """Takes back the last act. If another act changes what was shown, it is shown and asked anew."""
-    agreed: TakenBack | None = None
+    agreed: UndoPlan | None = None
     while True:
         found = what_is_taken_back(election, book, words.vote)
         if is_asked and found != agreed:
@@ -77,7 +77,7 @@ def undo(election: Election, book: Book, words: LineWords, *, is_asked: bool) ->
             agreed = found
         try:
             with book.act("undo", {"act": found.act.number}, seen=found.decided_at) as act:
-                queries.strike(act, (envelope.number for envelope in found.envelopes))
+                queries.strike_envelopes(act, (envelope.number for envelope in found.envelopes))
                 for letter in found.letters:
                     letters.decide(act, letter, letters.TAKEN_BACK)
             return found
@@ -85,7 +85,7 @@ def undo(election: Election, book: Book, words: LineWords, *, is_asked: bool) ->
             continue
 
 
-def what_is_taken_back(election: Election, book: Book, vote: Vote) -> TakenBack:
+def what_is_taken_back(election: Election, book: Book, vote: Vote) -> UndoPlan:
     """The last act that entered lines, and what it changes to take it back. Stops if there is none, or if the vote is closed."""
     with book.snapshot():
         history = History(book.acts())
@@ -102,7 +102,7 @@ def what_is_taken_back(election: Election, book: Book, vote: Vote) -> TakenBack:
     told = {("envelope", envelope.number, False) for envelope in envelopes}
     receipts = [letter.elector for letter in sent_letters(book, Kind.RECEIPTS) if told & set(letter.about)]
     names = [elector.name for elector in queries.electors(book) if elector.number in receipts]
-    return TakenBack(history.last.number, history.act(number), envelopes, before, after, tuple(names))
+    return UndoPlan(history.last.number, history.act(number), envelopes, before, after, tuple(names))
 
 
 def demand_open(election: Election, history: History) -> None:
@@ -114,14 +114,14 @@ def demand_open(election: Election, history: History) -> None:
 
 
 # ---------------------------------------------------------------- what is printed
-def ask(words: LineWords, found: TakenBack) -> None:
+def ask(words: LineWords, found: UndoPlan) -> None:
     """Shows what would be taken back, and asks. Stops unless the answer is yes."""
     tell(*standing_words(words, found.before, found.after, "no ballot would stand"), *waiting_words(found), *receipt_words(found))
     if not is_yes(f"Take back {found.what}?"):
         raise Fault("undo", "you did not say yes", "run the command again when you want to take it back")
 
 
-def waiting_words(found: TakenBack) -> list[str]:
+def waiting_words(found: UndoPlan) -> list[str]:
     """The letters whose ballots are taken back: they wait again."""
     if not found.letters:
         return []
@@ -129,6 +129,6 @@ def waiting_words(found: TakenBack) -> list[str]:
     return [f"{count_of(len(found.letters), 'letter')} then {verb} as taken back: {', '.join(map(str, found.letters))}"]
 
 
-def receipt_words(found: TakenBack) -> list[str]:
+def receipt_words(found: UndoPlan) -> list[str]:
     """Whose receipts say that a ballot counts which no longer does."""
     return [f"These have receipts that no longer hold: {', '.join(found.receipts)}"] if found.receipts else []
