@@ -36,11 +36,11 @@ class Show(CalledTest):
                 "  envelope 6, TIME: At the lake, In the town hall, Sell the house and meet there and Further discussion equally "
                 "(struck by undo at TIME)",
                 f"  envelope 7, TIME: {LAKE} (late)",
-                f"The ballot that stands: {HALL}",
+                f"The current ballot: {HALL}",
             ],
         )
-        self.assertEqual(self.shown("ben")[1:], [f"  envelope 2, TIME: {LAKE}", f"The ballot that stands: {LAKE}"])
-        self.assertEqual(self.shown("cleo"), ["cleo: Cleo cleo@club.example", "The ballot that stands: none"])
+        self.assertEqual(self.shown("ben")[1:], [f"  envelope 2, TIME: {LAKE}", f"The current ballot: {LAKE}"])
+        self.assertEqual(self.shown("cleo"), ["cleo: Cleo cleo@club.example", "The current ballot: none"])
 
     def test_the_time_is_that_of_the_ballot(self) -> None:
         with self.book.act("add") as act:

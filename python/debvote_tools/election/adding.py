@@ -354,9 +354,9 @@ def repeated_words(file: FileLines, found: NewAndRepeated) -> Iterator[str]:
     """The lines of a file that came before, in words."""
     if not found.repeated:
         return
-    passed = "came before, and is passed over" if len(found.repeated) == 1 else "came before, and are passed over"
+    ignored = "is ignored, since it came before" if len(found.repeated) == 1 else "are ignored, since they came before"
     new = f"{len(found.new)} {'is' if len(found.new) == 1 else 'are'} new"
-    yield f"{file.came.name}: {count_of(len(found.repeated), 'line')} {passed}; {new}"
+    yield f"{file.came.name}: {count_of(len(found.repeated), 'line')} {ignored}; {new}"
     changed = [repeated for repeated in found.repeated if repeated.change is not None]
     for repeated in changed[:MAX_REPEATED]:
         line = repeated.line

@@ -39,7 +39,7 @@ class LineWords:
         if not all(line.finding is None for line in lines):
             yield self.right_words()
         if LATE_REPLY in replies:
-            yield f"{count_of(replies.count(LATE_REPLY), 'line')} came after the close, and late ones count for nothing."
+            yield f"{count_of(replies.count(LATE_REPLY), 'line')} came after the close, and late lines do not count."
 
     def of(self, line: JudgedLine, reply: str = "") -> str:
         """A ballot in words, or the line and why debvote refuses it."""

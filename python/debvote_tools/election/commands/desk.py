@@ -242,10 +242,10 @@ def show(desk: Desk, line: JudgedLine, shown: Shown, elector: int | None) -> str
     tell(*change_words(line))
     if not line.is_ballot:
         tell(f"It would be refused: {would_words(line)}", desk.words.right_words())
-        return "It would count for nothing. Cast it all the same?"
+        return "It would not count. Cast it anyway?"
     tell(desk.words.of(line))
     if shown.openness.is_late(desk.came_before_close):
-        tell("It is late, and will count for nothing.")
+        tell("It is late, and will not count.")
     elif elector is not None:
         earlier = desk.vote.standing(lines_by_act.lines_of_electors(desk.book, {elector})).get(line.voter)
         if earlier is not None:

@@ -19,7 +19,7 @@ from debvote_tools.letters.reasons import for_secretary
 from debvote_tools.lines import Line
 from debvote_tools.terminal_text import shown_text
 
-HELP = "Show one elector: the ballots and letters that came, what stands, and what was sent"
+HELP = "Show one elector: the ballots and letters that came, the current ballot, and what was sent"
 
 
 @dataclasses.dataclass(frozen=True)
@@ -72,7 +72,7 @@ def tell_ballots(election: Election, vote: Vote, history: History, elector: Elec
     counted = [envelope.line for envelope in envelopes if envelope.struck is None and not envelope.is_late]
     ranks = vote.standing(counted).get(elector.name)
     tell(*(ballot_words(words, history, envelope, line) for envelope, line in zip(envelopes, read)))
-    tell(f"The ballot that stands: {'none' if ranks is None else words.ranks(ranks)}")
+    tell(f"The current ballot: {'none' if ranks is None else words.ranks(ranks)}")
 
 
 def ballot_words(words: LineWords, history: History, envelope: Envelope, line: JudgedLine) -> str:

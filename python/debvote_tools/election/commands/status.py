@@ -121,8 +121,8 @@ def report(election: Election, history: History, state: State, refused: list[Ref
     tell_stage(election, history)
     tell(f"Lines: {state.lines} ({state.valid} valid, {state.refused} refused)")
     if state.late:
-        tell(f"Late, so that they count for nothing: {state.late}")
-    tell(f"Electors with a ballot that stands: {state.voters} of {state.electors}")
+        tell(f"Late, and not counted: {state.late}")
+    tell(f"Electors with a valid ballot: {state.voters} of {state.electors}")
     if shows() and state.electors:
         tell(f"  {bar_of(state.voters, state.electors)}")
     if state.without_ballot:

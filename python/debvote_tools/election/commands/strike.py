@@ -43,7 +43,7 @@ def run(election: Election, arguments: Arguments) -> int:
         elector = name_in(envelope.line).decode("ascii")
         ranks = vote.standing(lines_by_act.lines_after(book, act, {envelope.elector})).get(elector)
         whose = "that code" if vote.has_codes else elector
-        tell(f"What stands now of {whose}: {'no ballot' if ranks is None else LineWords(vote).ranks(ranks)}")
+        tell(f"The current ballot of {whose}: {'none' if ranks is None else LineWords(vote).ranks(ranks)}")
     tell("A strike cannot be undone: if it was a mistake, enter the line again.", f"Next: {election.command('status')}")
     return Status.DONE
 

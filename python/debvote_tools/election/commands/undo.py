@@ -60,7 +60,7 @@ def run(election: Election, arguments: Arguments) -> int:
     words = LineWords(vote)
     is_asked = is_terminal() and not arguments.yes
     undone = undo(election, book, words, is_asked=is_asked)
-    ballots = [] if is_asked else standing_words(words, undone.before, undone.after, "no ballot stands now")
+    ballots = [] if is_asked else standing_words(words, undone.before, undone.after, "no ballot is left")
     tell(f"Took back {undone.what}.", *ballots, *waiting_words(undone), *receipt_words(undone))
     tell(f"Next: {election.command('status')}; once more {election.command('undo')} takes back the act before")
     return Status.DONE
@@ -116,7 +116,7 @@ def demand_open(election: Election, history: History) -> None:
 # ---------------------------------------------------------------- what is printed
 def ask(words: LineWords, found: UndoPlan) -> None:
     """Shows what would be taken back, and asks. Stops unless the answer is yes."""
-    tell(*standing_words(words, found.before, found.after, "no ballot would stand"), *waiting_words(found), *receipt_words(found))
+    tell(*standing_words(words, found.before, found.after, "no ballot would be left"), *waiting_words(found), *receipt_words(found))
     if not is_yes(f"Take back {found.what}?"):
         raise Fault("undo", "you did not say yes", "run the command again when you want to take it back")
 
