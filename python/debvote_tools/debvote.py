@@ -84,7 +84,7 @@ class Debvote:
 
     def replies(self, poll_bytes: bytes, ballots_bytes: bytes) -> list[str]:
         """The reply of the box to each line, that to line i at index i - 1."""
-        return replies_in(self.answer("steps", poll_bytes, ballots_bytes).text)
+        return [line.partition(" ")[2] for line in self.answer("steps", poll_bytes, ballots_bytes).text.splitlines()]
 
     def findings(self, poll_bytes: bytes, ballots_bytes: bytes) -> Findings:
         """What `explain` says of a poll in order and these ballots."""
@@ -130,11 +130,6 @@ def findings_in(text: str) -> Findings:
         raise other_format("what this debvote explains")
     refused = [Finding(int(parts[1]), parts[2], parts[3]) for parts in map(FINDING.fullmatch, lines) if parts]
     return Findings(refused, Totals(*map(int, totals.groups())))
-
-
-def replies_in(text: str) -> list[str]:
-    """The replies that `steps` wrote, that of envelope i at i - 1."""
-    return [line.partition(" ")[2] for line in text.splitlines()]
 
 
 def standing_in(text: str) -> dict[str, str]:

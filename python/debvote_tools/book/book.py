@@ -109,7 +109,6 @@ class Book:
 
     # ------------------------------------------------------------ reading
     def rows(self, words: str, *values: object) -> list[Any]:
-        """The rows that a query finds."""
         with told_as_faults(self.path):
             return self.connection.execute(words, values).fetchall()
 
@@ -125,7 +124,6 @@ class Book:
         return self.acts()[-1]
 
     def last_number(self) -> int:
-        """The number of the last act."""
         return self.last_act().number
 
     def size(self) -> int:
@@ -204,15 +202,11 @@ class Book:
         with contextlib.suppress(Fault, OSError):
             note, last = self.note(), self.last_act()
             noted = note.read()
-            if noted is not None and noted.act < last.number and self.digest_at(noted.act) == noted.digest:
+            if noted is not None and noted.act < last.number and self.strangeness(noted) is None:
                 note.write(Note(last.number, last.digest))
 
-    def strangeness(self) -> str | None:
-        """Why this is not the book that this machine knows; None if it is."""
-        try:
-            noted = self.note().read()
-        except Fault as fault:
-            return str(fault.reason)
+    def strangeness(self, noted: Note | None) -> str | None:
+        """Why this is not the book of the note; None if it is."""
         if noted is None:
             return "this computer has never seen this election in this folder"
         digest = self.digest_at(noted.act)
@@ -226,9 +220,8 @@ class Book:
 
     def demand_noted(self, note: MachineNote) -> None:
         """Stops if this is not the book that this machine knows."""
-        noted = note.read()
-        if noted is None or self.digest_at(noted.act) != noted.digest:
-            why = self.strangeness()
+        why = self.strangeness(note.read())
+        if why is not None:
             cure = (
                 "find out how that came; if it is the right book, as after a move to this computer or folder, give the command "
                 "--moved --because TEXT, and the page tells it"
@@ -238,7 +231,7 @@ class Book:
     def accept(self, because: str) -> None:
         """The act `moved`: from now on this machine takes this book for the right one."""
         noted, last = self.note().read(), self.last_act()
-        why = self.strangeness()
+        why = self.strangeness(noted)
         if why is None:
             raise Fault("--moved", "this is the book that this computer knows", "leave it out", Status.BAD_WORDS)
         there = {"act": last.number, "digest": last.digest}
@@ -277,7 +270,6 @@ class Book:
                 raise Fault(file, words, cure)
 
     def back_up(self, target: pathlib.Path) -> None:
-        """Writes a copy of the book into a new file."""
         with told_as_faults(target):
             os.close(os.open(target, os.O_WRONLY | os.O_CREAT | os.O_EXCL, 0o600))
             with contextlib.closing(sqlite3.connect(target)) as copy:

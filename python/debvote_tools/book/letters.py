@@ -47,7 +47,6 @@ def known_digests(book: Book) -> set[tuple[str, bool]]:
 
 
 def source_of(book: Book, source: int) -> bytes:
-    """The bytes of a letter."""
     return bytes(book.rows("SELECT data FROM source WHERE source = ?", source)[0][0])
 
 

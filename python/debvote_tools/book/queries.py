@@ -147,7 +147,6 @@ def has_come(book: Book, since: int) -> bool:
 
 
 def strike_envelopes(act: NewAct, numbers: Iterable[int]) -> None:
-    """Strikes envelopes."""
     act.insert_all("struck", ["envelope"], ((number,) for number in numbers))
 
 
@@ -188,7 +187,6 @@ def elector_numbers(book: Book, names: Collection[str]) -> dict[str, int]:
 
 # ---------------------------------------------------------------- sources
 def keep_source(act: NewAct, name: str, data: bytes) -> int:
-    """Keeps what came, byte for byte."""
     return act.insert("source", name=name, data=data)
 
 

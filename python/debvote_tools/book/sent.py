@@ -58,7 +58,6 @@ def sent_to(book: Book, elector: int) -> list[SentLetter]:
 
 
 def note_written(act: NewAct, letters: Iterable[SentLetter]) -> None:
-    """Notes letters that are written."""
     act.insert_all("sent", COLUMNS, ((letter.elector, letter.kind, WRITTEN, written_detail(letter)) for letter in letters))
 
 
@@ -74,7 +73,6 @@ def written_detail(letter: SentLetter) -> str:
 
 
 def note_state(act: NewAct, letter: SentLetter) -> None:
-    """Notes the state of a letter that was written before."""
     detail = {"message_id": letter.message_id, **({"reply": letter.reply} if letter.reply else {})}
     text = json.dumps(detail, ensure_ascii=False)
     act.insert("sent", elector=letter.elector, kind=letter.kind, state=letter.state, detail=text)

@@ -47,7 +47,10 @@ def demand_whole(book: Book) -> None:
 
 def tell_strangeness(book: Book) -> None:
     """Says why this may not be the book that this machine worked on last."""
-    why = book.strangeness()
+    try:
+        why = book.strangeness(book.note().read())
+    except Fault as fault:
+        why = str(fault.reason)
     if why is not None:
         tell(f"Note: {book.path}: {why}.")
 

@@ -301,7 +301,6 @@ def add(election: Election, book: Book, vote: Vote, files: Sequence[FileLines], 
 
 
 def detail_of(plan: Plan, arguments: Arguments, came_before_close: bool | None) -> Detail:
-    """What the log keeps of it."""
     detail: Detail = {
         "files": [file.came.kept_name for file, _ in plan.files],
         "lines": len(plan.new_lines),

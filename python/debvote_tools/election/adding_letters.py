@@ -20,7 +20,6 @@ from debvote_tools.letters.sources import PassedOver, RawLetter
 
 
 def take_letters(election: Election, vote: Vote, files: Mapping[str, CameFile | None], arguments: Arguments) -> None:
-    """Adds letters, or looks at them."""
     if of_lines := given(arguments, "csv", "again", "force"):
         words = "it is about lines and tables, and these are letters"
         raise Fault(", ".join(of_lines), words, "leave it out", Status.BAD_WORDS, NOTHING_ADDED)
@@ -85,7 +84,6 @@ def agreed(plan: LettersPlan) -> bool:
 
 
 def tell_plan(vote: Vote, plan: LettersPlan) -> None:
-    """What goes in, and what waits."""
     words = LineWords(vote)
     for letter in plan.letters:
         if letter.judged.outcome is Outcome.GOES_IN:

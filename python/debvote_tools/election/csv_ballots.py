@@ -108,6 +108,5 @@ def line_of(row: Row, indices: Sequence[int], file_name: str, *, is_blank_unrank
 
 
 def line_from(cells: Sequence[bytes]) -> bytes:
-    """A line of a name and ranks."""
     elector, *ranks = cells
     return elector + b" " + b",".join(ranks)

@@ -29,7 +29,6 @@ class BadTable(Exception):
         self.reason, self.cure, self.line = reason, cure, line
 
     def where(self, file: object) -> str:
-        """The file, with the line if there is one."""
         return f"{file}" if self.line is None else f"{file}:{self.line}"
 
 

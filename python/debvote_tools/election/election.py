@@ -7,7 +7,7 @@ import shlex
 from typing import NamedTuple
 
 from debvote_tools.book import queries
-from debvote_tools.book.book import NAME, Book, open_book
+from debvote_tools.book.book import NAME, Book, DoneAct, open_book
 from debvote_tools.debvote import Debvote
 from debvote_tools.election.history import History
 from debvote_tools.faults import Fault, Status
@@ -49,7 +49,6 @@ class Election:
         self.is_named, self.folder, self.program_folder = folder is not None, folder or pathlib.Path(), program_folder
 
     def path(self, name: str) -> pathlib.Path:
-        """Where a file or folder of the election is."""
         return self.folder / name
 
     @functools.cached_property
@@ -75,9 +74,7 @@ class Election:
 
     def sealed(self) -> Sealed:
         """The poll as it was called. Stops before the call."""
-        call = self.history().call
-        if call is None:
-            raise self.not_called()
+        call = self.called(self.history())
         public = queries.sealed_at(self.book, POLL, call.number) or b""
         counted = queries.sealed_at(self.book, POLL_WITH_NAMES, call.number) or public
         return Sealed(read_plain(public), read_plain(counted))
@@ -90,9 +87,11 @@ class Election:
                 words = f"it would be in the folder {name}, which is made from the book and goes elsewhere"
                 raise Fault(target, words, "name a place outside of it", Status.BAD_WORDS, "nothing was written")
 
-    def not_called(self) -> Fault:
-        """The fault of a command that comes after the call."""
-        return Fault(None, "the election is not called yet", f"run {self.command('call')} first")
+    def called(self, history: History) -> DoneAct:
+        """The act of the call. Stops before it."""
+        if history.call is None:
+            raise Fault(None, "the election is not called yet", f"run {self.command('call')} first")
+        return history.call
 
     def command(self, *words: str) -> str:
         """A command on this election, as a user types it."""

@@ -39,8 +39,7 @@ class LettersDue:
     def __init__(self, election: Election, kind: Kind, sender: str, *, is_sending: bool) -> None:
         self.election, self.kind, self.sender, self.is_sending = election, kind, sender, is_sending
         self.history, self.time = election.history(), now()
-        if self.history.call is None:
-            raise election.not_called()
+        election.called(self.history)
         if self.history.has_codes_on_roll:
             words = "codes are on the roll, and nobody knows whose each is, so no letter can be written to an elector"
             cure = "send call/call.txt, letters/closed.txt and result/letter.txt to all with your mail program"

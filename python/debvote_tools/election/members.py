@@ -138,7 +138,6 @@ def member_of(row: Row, indices: dict[str, int]) -> Member:
 
 
 def faults_of_row(row: Row, member: Member, table: Table, file: object) -> list[Fault]:
-    """All that is wrong with a row by itself."""
     found: list[tuple[str, str]] = []
     beyond = row.cells_after(table.width)
     if beyond:

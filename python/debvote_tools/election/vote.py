@@ -36,12 +36,10 @@ class JudgedLine(NamedTuple):
 
     @property
     def voter(self) -> str:
-        """The elector of a ballot."""
         return self.as_entered.partition(b" ")[0].decode("ascii")
 
     @property
     def ranks(self) -> str:
-        """The ranks of a ballot."""
         return self.as_entered.partition(b" ")[2].decode("ascii")
 
 
@@ -139,8 +137,5 @@ def bare_name(name: str) -> str:
 
 def vote_of(election: Election, history: History) -> Vote:
     """The vote as it was called. Stops before the call."""
-    call = history.call
-    if call is None:
-        raise election.not_called()
-    poll = election.sealed().counted
+    call, poll = election.called(history), election.sealed().counted
     return Vote(election.debvote, call.number, poll.as_bytes(), poll.names, poll.roll, bool(history.announced("codes_on_roll")))

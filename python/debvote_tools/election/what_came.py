@@ -70,7 +70,6 @@ class LinesNow:
         return envelope.struck is None and not envelope.is_late and self.answers[envelope.line] is None
 
     def came_of(self, envelope: Envelope) -> Came:
-        """What became of a line."""
         answer, became = self.answers[envelope.line], self.became(envelope)
         key = ("envelope", envelope.number, envelope.struck is not None)
         ranks = "" if answer is not None else envelope.line.decode("ascii").partition(" ")[2]
@@ -105,5 +104,4 @@ def came_of_letter(letter: LetterNow, elector: Elector, kept: datetime.datetime)
 
 
 def waits_of(came: Sequence[Came]) -> list[Came]:
-    """The letters of an elector that wait."""
     return [one for one in came if one.became in (Became.WAITS, Became.ELSEWHERE)]

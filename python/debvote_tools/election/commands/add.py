@@ -48,7 +48,6 @@ def demand_words(arguments: Arguments) -> None:
 
 # ---------------------------------------------------------------- lines and tables
 def take_lines(election: Election, vote: Vote, came_files: Sequence[CameFile], arguments: Arguments) -> None:
-    """Adds lines, or looks at them."""
     columns = columns_in(vote, arguments)
     if arguments.look:
         files = adding.read_lines(vote, came_files, columns, arguments)

@@ -146,7 +146,6 @@ def seal(act: NewAct, data: CallData, keyring: bytes | None) -> None:
 
 
 def make_folders(election: Election) -> None:
-    """Makes the folders of the call from the book."""
     history = election.history()
     files = {name: queries.sealed(election.book, f"{CALL}/{name}") for name in FILES}
     write_made(election.path(CALL), {name: data for name, data in files.items() if data is not None}, PUBLIC, FILES)
@@ -207,18 +206,16 @@ def add_to_call(election: Election, book: Book, history: History, said: Detail, 
 
 # ---------------------------------------------------------------- taking back
 def take_back(election: Election, arguments: Arguments) -> None:
-    """Takes the call back, as long as nothing has come."""
     book = acting.book_for_act(election, arguments)
     history = election.history()
-    if history.call is None:
-        raise election.not_called()
+    call_act = election.called(history)
     if history.closes:
         words = f"the vote was closed at {act_time(history.closes[0].time)}, and electors rely on the close"
         raise Fault(None, words, "hold the vote anew in another folder")
-    if queries.has_come(election.book, history.call.number):
+    if queries.has_come(election.book, call_act.number):
         words = "ballots or letters have come, and electors rely on the call"
         raise Fault(None, words, "hold the vote to its end, or anew in another folder")
-    with book.act("take back", {"call": history.call.number}, seen=history.last.number):
+    with book.act("take back", {"call": call_act.number}, seen=history.last.number):
         pass
     write_made(election.path(CALL), {}, PUBLIC, FILES)
     tell("Took the call back: if anybody has seen it, tell them that it does not hold.")
@@ -227,7 +224,6 @@ def take_back(election: Election, arguments: Arguments) -> None:
 
 # ---------------------------------------------------------------- what is printed
 def report(election: Election, data: CallData) -> None:
-    """Says what was made, and what comes next."""
     folder = election.path(CALL)
     tell(f"Made the folder {folder} with the page index.html and the letter call.txt.")
     if data.has_aliases:

@@ -98,7 +98,6 @@ def write_slips(election: Election, history: History, poll: SealedPoll) -> None:
 
 
 def report(election: Election, history: History, poll: SealedPoll) -> None:
-    """Says what was made, and what comes next."""
     private = election.path(PRIVATE)
     when = "The call writes into them until when one can vote and where to, so print them after it."
     tell(f"The slips: {private / SLIPS}. {when}")

@@ -114,8 +114,7 @@ def announce(election: Election, book: Book, address: str) -> None:
     """The act that says where the page of the vote is, if it is not known already."""
     demand_web_address(address)
     history = election.history()
-    if history.call is None:
-        raise election.not_called()
+    election.called(history)
     if history.announced("at") != address:
         with book.act("announce", {"at": address}, seen=history.last.number):
             pass

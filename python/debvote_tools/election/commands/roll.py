@@ -84,7 +84,6 @@ def keep_electors(book: Book, roll: Roll, seen: int) -> None:
 
 # ---------------------------------------------------------------- what is printed
 def report(election: Election, roll: Roll, *, has_all: bool) -> None:
-    """Prints the electors, and what the secretary has to look at."""
     electors = roll.electors
     shown = electors if has_all else electors[:MAX_SHOWN]
     tell(f"{count_of(len(electors), 'elector')}, each with the name on the roll:")

@@ -116,7 +116,6 @@ def state_of(election: Election, history: History) -> tuple[State, list[Refused]
 
 # ---------------------------------------------------------------- what is printed
 def report(election: Election, history: History, state: State, refused: list[Refused]) -> None:
-    """Tells all of it, and what comes next."""
     acting.tell_strangeness(election.book)
     tell_stage(election, history)
     tell(f"Lines: {state.lines} ({state.valid} valid, {state.refused} refused)")
@@ -163,7 +162,6 @@ def tell_stage(election: Election, history: History) -> None:
 
 
 def what_next(election: Election, state: State) -> str:
-    """The command that the election needs next."""
     if state.stage is Stage.NEW:
         return f"{election.command('roll')}, then {election.command('check')}, then {election.command('call')}"
     if state.stage is Stage.CALLED:

@@ -42,12 +42,10 @@ class UndoPlan:
 
     @property
     def letters(self) -> list[int]:
-        """The letters whose ballots they are."""
         return sorted({envelope.letter for envelope in self.envelopes if envelope.letter is not None})
 
     @property
     def what(self) -> str:
-        """What is taken back, in words."""
         files = f" of {', '.join(self.act.detail['files'])}" if self.act.detail.get("files") else ""
         numbers = [envelope.number for envelope in self.envelopes]
         which = f"{act_time(self.act.time)}, {envelope_words(numbers)}" if numbers else act_time(self.act.time)
@@ -106,7 +104,6 @@ def what_is_taken_back(election: Election, book: Book, vote: Vote) -> UndoPlan:
 
 
 def demand_open(election: Election, history: History) -> None:
-    """Stops if the vote is closed."""
     if history.is_closed:
         words = f"the vote was closed at {act_time(history.closes[-1].time)}, and its ballots stay"
         cure = f"if they are wrong, see {election.command('reopen')}"
