@@ -140,22 +140,14 @@ def write_public(file: pathlib.Path, data: bytes) -> None:
 
 
 @contextlib.contextmanager
-def locked(file: pathlib.Path) -> Iterator[None]:
-    """Holds the lock of a file, and waits for it. The lock of a process that is killed is free."""
-    handle = os.open(file, os.O_RDWR | os.O_CREAT | os.O_CLOEXEC, 0o644)
-    try:
-        fcntl.flock(handle, fcntl.LOCK_EX)
-        yield
-    finally:
-        os.close(handle)
+def locked(place: pathlib.Path, *, waits: bool = True) -> Iterator[None]:
+    """Holds the lock of a folder, or of a file that is made for it. If another process has it, this waits, or raises BlockingIOError.
 
-
-@contextlib.contextmanager
-def locked_folder(folder: pathlib.Path) -> Iterator[None]:
-    """Holds the lock of a folder alone. Raises BlockingIOError if another process has it."""
-    handle = os.open(folder, os.O_RDONLY | os.O_DIRECTORY | os.O_CLOEXEC)
+    The lock of a process that is killed is free.
+    """
+    handle = os.open(place, (os.O_RDONLY if place.is_dir() else os.O_RDWR | os.O_CREAT) | os.O_CLOEXEC, 0o644)
     try:
-        fcntl.flock(handle, fcntl.LOCK_EX | fcntl.LOCK_NB)
+        fcntl.flock(handle, fcntl.LOCK_EX if waits else fcntl.LOCK_EX | fcntl.LOCK_NB)
         yield
     finally:
         os.close(handle)

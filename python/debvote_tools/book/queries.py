@@ -68,15 +68,9 @@ def put_electors(act: NewAct, electors: Iterable[Elector]) -> None:
 
 
 # ---------------------------------------------------------------- what is sealed
-def sealed(book: Book, name: str) -> bytes | None:
-    """What was sealed last under a name."""
-    rows = book.rows("SELECT data FROM sealed WHERE name = ? ORDER BY act DESC LIMIT 1", name)
-    return rows[0][0] if rows else None
-
-
-def sealed_at(book: Book, name: str, act: int) -> bytes | None:
-    """What an act sealed under a name."""
-    rows = book.rows("SELECT data FROM sealed WHERE name = ? AND act = ?", name, act)
+def sealed(book: Book, name: str, act: int | None = None) -> bytes | None:
+    """What an act sealed under a name; of all acts the last that did."""
+    rows = book.rows("SELECT data FROM sealed WHERE name = ?1 AND act = coalesce(?2, act) ORDER BY act DESC LIMIT 1", name, act)
     return rows[0][0] if rows else None
 
 

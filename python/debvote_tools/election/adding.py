@@ -280,10 +280,6 @@ def add(election: Election, book: Book, vote: Vote, files: Sequence[FileLines], 
             tell(*report(election, vote, plan, (), ()), "Nothing is new. Nothing was added.")
             return plan
         came_before_close = in_time.came_before_close(plan.openness, arguments.came_before_close, NOTHING_ADDED)
-
-        def is_same() -> bool:
-            return plan_of(book, vote, files, arguments) == plan
-
         with contextlib.suppress(Overtaken):
             with entered(
                 book,
@@ -293,7 +289,7 @@ def add(election: Election, book: Book, vote: Vote, files: Sequence[FileLines], 
                 plan.envelopes,
                 decided_at=plan.decided_at,
                 is_late=plan.openness.is_late(came_before_close),
-                is_same=is_same,
+                is_same=lambda: plan_of(book, vote, files, arguments) == plan,
             ) as done:
                 replies = done.replies()
                 tell(*report(election, vote, plan, done.numbers, replies), f"Added {summary(replies)}.")

@@ -75,8 +75,8 @@ class Election:
     def sealed(self) -> Sealed:
         """The poll as it was called. Stops before the call."""
         call = self.called(self.history())
-        public = queries.sealed_at(self.book, POLL, call.number) or b""
-        counted = queries.sealed_at(self.book, POLL_WITH_NAMES, call.number) or public
+        public = queries.sealed(self.book, POLL, call.number) or b""
+        counted = queries.sealed(self.book, POLL_WITH_NAMES, call.number) or public
         return Sealed(read_plain(public), read_plain(counted))
 
     def demand_private(self, target: pathlib.Path) -> None:

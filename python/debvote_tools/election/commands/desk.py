@@ -9,7 +9,7 @@ from collections.abc import Iterator
 from debvote_tools.book import lines_by_act
 from debvote_tools.book import queries
 from debvote_tools.book.acts import Detail
-from debvote_tools.book.book import Book, NewAct, Overtaken
+from debvote_tools.book.book import Book, Overtaken
 from debvote_tools.book.queries import NewEnvelope
 from debvote_tools.console import is_yes, tell, typed
 from debvote_tools.election import acting, in_time
@@ -19,6 +19,7 @@ from debvote_tools.election.election import Election, is_signed
 from debvote_tools.election.entering import electors_of, entered, is_too_long, long_words
 from debvote_tools.election.history import History
 from debvote_tools.election.in_time import Openness, openness_of
+from debvote_tools.election.reporting import listed
 from debvote_tools.faults import Fault, Status
 from debvote_tools.files import BALLOTS_LIMIT
 from debvote_tools.lines import Line, lines_in, name_in
@@ -87,13 +88,6 @@ class Desk:
 
     def cast(self, lines: list[JudgedLine], shown: Shown, elector: int | None = None) -> None:
         """The act, and the replies to it. If it is not as it was shown, this raises `Overtaken`."""
-
-        def is_same() -> bool:
-            return self.now(elector) == shown
-
-        def envelopes(_: NewAct) -> Iterator[NewEnvelope]:
-            yield from (NewEnvelope(line.as_entered, line.line.place) for line in lines)
-
         detail: Detail = {"lines": len(lines)}
         if shown.openness.is_reopened:
             detail["came_before_close"] = self.came_before_close
@@ -102,10 +96,10 @@ class Desk:
             self.vote,
             "desk",
             detail,
-            envelopes,
+            lambda _: [NewEnvelope(line.as_entered, line.line.place) for line in lines],
             decided_at=shown.decided_at,
             is_late=shown.openness.is_late(self.came_before_close),
-            is_same=is_same,
+            is_same=lambda: self.now(elector) == shown,
             done="what was to be told is cast",
         ) as now:
             replies = now.replies()
@@ -228,8 +222,7 @@ def completed(vote: Vote, line: Line) -> Line:
         return line
     names = [other for other in vote.roll if other.startswith(name)]
     if len(names) > 1:
-        more = f" and {len(names) - MAX_NAMES} more" if len(names) > MAX_NAMES else ""
-        tell(f"These names begin so: {', '.join(names[:MAX_NAMES])}{more}")
+        tell(f"These names begin so: {listed(names, MAX_NAMES)}")
     if len(names) != 1:
         return line
     tell(f"`{name}` was completed to `{names[0]}`")

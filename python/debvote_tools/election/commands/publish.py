@@ -16,7 +16,7 @@ from debvote_tools.election.election import RESULT, Election
 from debvote_tools.election.publication import ACT, Words, detail_of, last_publication, publication_of
 from debvote_tools.election.reporting import act_time
 from debvote_tools.faults import Fault, Status
-from debvote_tools.files import locked_folder
+from debvote_tools.files import locked
 from debvote_tools.language import LANGUAGES
 from debvote_tools.publish import result_folder
 from debvote_tools.publish.casting_vote import casting_vote_of
@@ -90,7 +90,7 @@ def publish(election: Election, arguments: Arguments, target_folder: pathlib.Pat
 def alone(election: Election) -> Iterator[None]:
     """No other publication comes between the act and the folder that takes its place."""
     try:
-        with locked_folder(election.folder):
+        with locked(election.folder, waits=False):
             yield
     except BlockingIOError:
         words = "another command publishes this election at the moment"

@@ -2,13 +2,13 @@
 
 import dataclasses
 import datetime
-from collections.abc import Iterator, Sequence
+from collections.abc import Sequence
 
 from debvote_tools.arguments import flag, option
 from debvote_tools.book import lines_by_act
 from debvote_tools.book import queries
 from debvote_tools.book.acts import Detail
-from debvote_tools.book.book import Book, NewAct
+from debvote_tools.book.book import Book
 from debvote_tools.book.queries import Envelope, NewEnvelope
 from debvote_tools.console import is_terminal, tell, typed
 from debvote_tools.election import acting
@@ -48,11 +48,8 @@ def run(election: Election, arguments: Arguments) -> int:
     detail: Detail = {"because": because, "in_time": [envelope.number for envelope in offered]}
     if older:
         detail["force"] = True
-
-    def envelopes(_: NewAct) -> Iterator[NewEnvelope]:
-        yield from (NewEnvelope(late.line, late.place, late.source, late.letter, late.time) for late in offered)
-
-    with entered(book, vote, "reopen", detail, envelopes, decided_at=history.last.number, is_late=False) as now:
+    again = [NewEnvelope(late.line, late.place, late.source, late.letter, late.time) for late in offered]
+    with entered(book, vote, "reopen", detail, lambda _: again, decided_at=history.last.number, is_late=False) as now:
         tell(f"The vote is open again; the close at {act_time(history.closes[-1].time)} stays in the log, and the page tells it.")
         for number, envelope in zip(now.numbers, offered):
             tell(f"{number} entered, which was late as {envelope.number}: {without_code(envelope.line, has_codes=vote.has_codes)}")

@@ -12,7 +12,7 @@ from debvote_tools.election.election import MEMBERS_FILE, Election
 from debvote_tools.election.electors import Roll, roll_of
 from debvote_tools.election.history import History
 from debvote_tools.election.members import Member, members_in
-from debvote_tools.election.reporting import count_of
+from debvote_tools.election.reporting import count_of, listed
 from debvote_tools.faults import Fault, Status, stop_at
 from debvote_tools.plain_names import alike
 from debvote_tools.terminal_text import shown_text
@@ -106,9 +106,7 @@ def report(election: Election, roll: Roll, *, has_all: bool) -> None:
 
 
 def names_of(electors: Sequence[Member]) -> str:
-    """Names of electors in a sentence; of many the first."""
-    more = f" and {len(electors) - MAX_SHOWN} more" if len(electors) > MAX_SHOWN else ""
-    return ", ".join(elector.name for elector in electors[:MAX_SHOWN]) + more
+    return listed([elector.name for elector in electors], MAX_SHOWN)
 
 
 # ---------------------------------------------------------------- after the call

@@ -32,7 +32,9 @@ def run(election: Election, arguments: Arguments) -> int:
     vote = vote_of(election, history)
     acting.tell_strangeness(election.book)
     elector = elector_named(election, vote, arguments.name)
-    tell_elector(elector, vote)
+    who = f": {shown_text(elector.who)} {', '.join(map(shown_text, elector.addresses))}".rstrip(": ")
+    # of a code nobody knows whose it is
+    tell(elector.name if vote.has_codes else f"{elector.name}{who}")
     tell_ballots(election, vote, history, elector)
     for letter in letters_in.judged(election, history, letters.letters(election.book)):
         if elector.name in letter.judged.electors:
@@ -57,12 +59,6 @@ def elector_named(election: Election, vote: Vote, name: str) -> Elector:
     what = "code" if vote.has_codes else "elector"
     cure = "type the code as it was handed out" if vote.has_codes else f"{election.command('status')} and roll tell the names"
     raise Fault("show", f"no {what} on the roll is `{shown_text(name)}`", cure, done=None)
-
-
-def tell_elector(elector: Elector, vote: Vote) -> None:
-    """Says who it is; of a code nobody knows whose it is."""
-    who = f": {shown_text(elector.who)} {', '.join(map(shown_text, elector.addresses))}".rstrip(": ")
-    tell(elector.name if vote.has_codes else f"{elector.name}{who}")
 
 
 def tell_ballots(election: Election, vote: Vote, history: History, elector: Elector) -> None:
