@@ -8,6 +8,7 @@ from debvote_tools.addresses import address_key
 from debvote_tools.book.queries import Elector
 from debvote_tools.election.members import Member, Members, bad_list
 from debvote_tools.faults import Fault
+from debvote_tools.language import ENGLISH
 from debvote_tools.plain_names import ELECTOR_LIMIT, alike, elector_name, made_different
 from debvote_tools.terminal_text import shown_text
 
@@ -176,5 +177,4 @@ def named_in_words(names: Iterable[str]) -> str:
     """Names as they are in a sentence; of many the first."""
     listed = list(names)
     more = [f"{len(listed) - NAMED_LIMIT} more"] if len(listed) > NAMED_LIMIT else []
-    *before, last = [*listed[:NAMED_LIMIT], *more]
-    return f"{', '.join(before)} and {last}" if before else last
+    return ENGLISH.joined([*listed[:NAMED_LIMIT], *more])
