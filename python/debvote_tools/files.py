@@ -140,14 +140,15 @@ def write_public(file: pathlib.Path, data: bytes) -> None:
 
 
 @contextlib.contextmanager
-def locked(place: pathlib.Path, *, waits: bool = True) -> Iterator[None]:
-    """Holds the lock of a folder, or of a file that is made for it. If another process has it, this waits, or raises BlockingIOError.
+def locked(place: pathlib.Path, *, is_folder: bool = False) -> Iterator[None]:
+    """Holds the lock of a file, and waits for it; or of a folder, and raises BlockingIOError if another process has it.
 
     The lock of a process that is killed is free.
     """
-    handle = os.open(place, (os.O_RDONLY if place.is_dir() else os.O_RDWR | os.O_CREAT) | os.O_CLOEXEC, 0o644)
+    flags, how = (os.O_DIRECTORY, fcntl.LOCK_EX | fcntl.LOCK_NB) if is_folder else (os.O_RDWR | os.O_CREAT, fcntl.LOCK_EX)
+    handle = os.open(place, flags | os.O_CLOEXEC, 0o644)
     try:
-        fcntl.flock(handle, fcntl.LOCK_EX if waits else fcntl.LOCK_EX | fcntl.LOCK_NB)
+        fcntl.flock(handle, how)
         yield
     finally:
         os.close(handle)
