@@ -362,11 +362,11 @@ def repeated_words(file: FileLines, found: NewAndRepeated) -> Iterator[str]:
 
 def duplicate_words(file: FileLines, lines: Sequence[JudgedLine]) -> Iterator[str]:
     """The electors of whom a file has several new ballots, in words."""
-    by_voter: dict[str, list[str]] = {}
+    by_name: dict[bytes, list[str]] = collections.defaultdict(list)
     for line in lines:
-        if line.is_ballot:
-            by_voter.setdefault(line.voter, []).append(line.line.place)
-    for voter, places in by_voter.items():
+        if line.finding is None:
+            by_name[line.as_entered.partition(b" ")[0]].append(line.line.place)
+    for name, places in by_name.items():
         if len(places) > 1:
             listed = ", ".join(place.lstrip(": ") for place in places[:5]) + (", .." if places[5:] else "")
-            yield f"Note: {file.came.name} has {len(places)} ballots of {voter} ({listed}); the last one counts."
+            yield f"Note: {file.came.name} has {len(places)} ballots of {name.decode()} ({listed}); the last one counts."

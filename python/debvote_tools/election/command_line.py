@@ -55,8 +55,8 @@ def main(program_folder: pathlib.Path, words: Sequence[str] | None = None) -> in
     if not console.has_output():
         return console.failed(PROGRAM, "standard output is closed; nothing was changed", Status.BAD_OUTPUT)
     console.prepare()
-    # lines are kept to the end, and have no cycles: to look for some again and again takes a seventh of the time of `add`
-    gc.set_threshold(50_000, 1_000)
+    # lines and letters have no cycles: to look for some again and again takes a seventh of the time of `add`
+    gc.disable()
     words = sys.argv[1:] if words is None else words
     namespace = parser(words).parse_args(words)
     signal.signal(signal.SIGINT, signal.default_int_handler)
