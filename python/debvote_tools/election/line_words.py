@@ -21,7 +21,7 @@ class LineWords:
     def __init__(self, vote: Vote) -> None:
         self.vote = vote
         # most ballots have one of a few orders
-        self.ranks = functools.cache(BallotWords(vote.option_names).of)
+        self.ranks = functools.lru_cache(4096)(BallotWords(vote.option_names).of)
 
     def report(
         self, lines: Sequence[JudgedLine], numbers: Iterable[int], replies: Sequence[str], *, is_entered: bool
