@@ -140,12 +140,12 @@ def write_public(file: pathlib.Path, data: bytes) -> None:
 
 
 @contextlib.contextmanager
-def locked(place: pathlib.Path, *, is_folder: bool = False) -> Iterator[None]:
+def locked(place: pathlib.Path, *, is_directory: bool = False) -> Iterator[None]:
     """Holds the lock of a file, and waits for it; or of a folder, and raises BlockingIOError if another process has it.
 
     The lock of a process that is killed is free.
     """
-    flags, how = (os.O_DIRECTORY, fcntl.LOCK_EX | fcntl.LOCK_NB) if is_folder else (os.O_RDWR | os.O_CREAT, fcntl.LOCK_EX)
+    flags, how = (os.O_DIRECTORY, fcntl.LOCK_EX | fcntl.LOCK_NB) if is_directory else (os.O_RDWR | os.O_CREAT, fcntl.LOCK_EX)
     handle = os.open(place, flags | os.O_CLOEXEC, 0o644)
     try:
         fcntl.flock(handle, how)

@@ -90,7 +90,7 @@ def publish(election: Election, arguments: Arguments, target_folder: pathlib.Pat
 def alone(election: Election) -> Iterator[None]:
     """No other publication comes between the act and the folder that takes its place."""
     try:
-        with locked(election.folder, is_folder=True):
+        with locked(election.folder, is_directory=True):
             yield
     except BlockingIOError:
         words = "another command publishes this election at the moment"
