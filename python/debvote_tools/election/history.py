@@ -6,6 +6,7 @@ import enum
 from collections.abc import Sequence
 from typing import Any
 
+from debvote_tools.book.acts import ActName
 from debvote_tools.book.book import DoneAct, from_text
 
 
@@ -24,10 +25,10 @@ class History:
 
     acts: Sequence[DoneAct]
 
-    def named(self, *names: str) -> list[DoneAct]:
+    def named(self, *names: ActName) -> list[DoneAct]:
         return [act for act in self.acts if act.name in names]
 
-    def since_call(self, *names: str) -> list[DoneAct]:
+    def since_call(self, *names: ActName) -> list[DoneAct]:
         """The acts of these names from the call that holds on, itself among them; none before it."""
         call = self.call
         return [] if call is None else [act for act in self.named(*names) if act.number >= call.number]
