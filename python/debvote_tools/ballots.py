@@ -8,8 +8,8 @@ from debvote_tools.language import ENGLISH, Language
 
 UNRANKED = "-"
 
-# the ranks, as numbers that can be compared
-NUMBERS = {str(rank): rank for rank in range(1, 100)}
+# what can be in the place of an option, in the order of preference
+NUMBERS = {str(rank): rank for rank in range(1, 100)} | {UNRANKED: 100}
 
 
 class Preferences(NamedTuple):
