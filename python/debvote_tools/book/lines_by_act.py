@@ -66,7 +66,7 @@ def lines_that_came(book: Book) -> collections.Counter[bytes]:
 
 
 def came_in_files(book: Book) -> dict[bytes, list[EnvelopeOfFile]]:
-    """The envelopes that came in files of lines and tables and that no `undo` took back, by their line; those that are struck or late come last."""
+    """The envelopes that came in files and that no `undo` took back, by their line; those that are struck or late come last."""
     words = f"""
     SELECT line, envelope, elector, struck.act IS NOT NULL, late FROM {ENVELOPES}
     WHERE {CAME_IN_FILES} ORDER BY late OR struck.act IS NOT NULL, envelope

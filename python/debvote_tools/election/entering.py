@@ -61,9 +61,10 @@ def entered(
     is_same: Callable[[], bool] | None = None,
     done: str = "the lines were entered",
 ) -> Iterator[Entered]:
-    """The act of this name: `envelopes` gives what goes in, and may write rows of its own. Interrupts wait until what was entered is told, which is done within.
+    """The act of this name: `envelopes` gives what goes in, and may write rows of its own.
 
-    `decided_at` was the last act when this was decided. If others came since, `is_same` says whether it would be decided so again.
+    Interrupts wait until what was entered is told, which is done within. `decided_at` was the last act when this was decided. If others
+    came since, `is_same` says whether it would be decided so again.
     """
     with contextlib.ExitStack() as stack:
         with book.act(name, detail) as act:

@@ -1,4 +1,4 @@
-"""Lines before they are entered: what debvote says of each, and how it goes in."""
+"""The vote, as debvote is asked about its lines: what it says of each before it is entered, what it replies, and what stands."""
 
 import collections
 import dataclasses

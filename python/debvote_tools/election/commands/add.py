@@ -1,4 +1,4 @@
-"""`add`: ballots from letters, files of lines, tables or standard input, all that are new or none; of letters those that plainly are ballots."""
+"""`add`: ballots from files of lines, tables or standard input, all that are new or none; and letters that plainly are ballots."""
 
 import os
 from collections.abc import Sequence
