@@ -17,7 +17,7 @@ from debvote_tools.book import queries
 from debvote_tools.book.acts import Detail
 from debvote_tools.book.book import Book, NewAct, Overtaken
 from debvote_tools.book.queries import NewEnvelope
-from debvote_tools.console import tell
+from debvote_tools.console import tell, tell_many
 from debvote_tools.election import acting, in_time
 from debvote_tools.election.vote import JudgedLine, Vote
 from debvote_tools.election.line_words import LineWords, summary
@@ -292,7 +292,8 @@ def add(election: Election, book: Book, vote: Vote, files: Sequence[FileLines], 
                 is_same=lambda: plan_of(book, vote, files, arguments) == plan,
             ) as done:
                 replies = done.replies()
-                tell(*report(election, vote, plan, done.numbers, replies), f"Added {summary(replies)}.")
+                tell_many(report(election, vote, plan, done.numbers, replies))
+                tell(f"Added {summary(replies)}.")
             return plan
 
 
@@ -324,7 +325,7 @@ def look(election: Election, vote: Vote, files: Sequence[FileLines], arguments: 
         replies = vote.replies(lines, [line.as_entered for line in plan.new_lines])
     if plan.openness.is_reopened and arguments.came_before_close is None:
         tell("Note: add will ask whether they came before the close; here they are taken to.")
-    tell(*report(election, vote, plan, numbers, replies, is_entered=False))
+    tell_many(report(election, vote, plan, numbers, replies, is_entered=False))
     demand_nothing_against(vote, plan, arguments)
     tell(f"These would be {summary(replies)}. Nothing was changed.")
 
