@@ -42,25 +42,32 @@ def ranks_in_words(ranks: str, names: Sequence[str], language: Language = ENGLIS
 
     The names are those of the options in the order of their numbers, the default option last.
     """
-    # `add` says 100,000 ballots in words: `preferences` would take a quarter more time
-    numbers = [NUMBERS[rank] for rank in ranks.split(",")]
-    steps: dict[int, tuple[str, ...]] = {}
-    for option in sorted(range(len(numbers)), key=numbers.__getitem__):
-        number = numbers[option]
-        steps[number] = (*steps[number], names[option]) if number in steps else (names[option],)
-    unranked = steps.pop(NUMBERS[UNRANKED], ())
-    if not steps:
-        return language.say("no option is ranked, so nothing is preferred")
-    listed = [step[0] if len(step) == 1 else equally(step, language) for step in steps.values()]
-    said = language.between("{before}, then {step}").join(listed)
-    if not unranked:
-        return said
-    others = language.joined(unranked)
-    return language.say("{ranked}; not ranked, and so behind all others: {unranked}", ranked=said, unranked=others)
+    return BallotWords(names, language).of(ranks)
 
 
-# many ballots have few groups of options that are equal
-@functools.lru_cache(4096)
-def equally(names: tuple[str, ...], language: Language) -> str:
-    """The options that have one rank."""
-    return language.say("{options} equally", options=language.joined(names))
+class BallotWords:
+    """The same for many ballots: `add` prints 100,000."""
+
+    def __init__(self, names: Sequence[str], language: Language = ENGLISH) -> None:
+        self.language = language
+        self.names = [(name,) for name in names]
+        self.then = language.between("{before}, then {step}")
+        # many ballots have few groups of options that are equal
+        self.step = functools.cache(self.step_in_words)
+
+    def of(self, ranks: str) -> str:
+        steps: dict[str, tuple[str, ...]] = {}
+        for rank, name in zip(ranks.split(","), self.names):
+            steps[rank] = steps[rank] + name if rank in steps else name
+        unranked = steps.pop(UNRANKED, ())
+        if not steps:
+            return self.language.say("no option is ranked, so nothing is preferred")
+        said = self.then.join(map(self.step, map(steps.__getitem__, sorted(steps, key=NUMBERS.__getitem__))))
+        if not unranked:
+            return said
+        others = self.language.joined(unranked)
+        return self.language.say("{ranked}; not ranked, and so behind all others: {unranked}", ranked=said, unranked=others)
+
+    def step_in_words(self, names: tuple[str, ...]) -> str:
+        """The options that have one rank."""
+        return names[0] if len(names) == 1 else self.language.say("{options} equally", options=self.language.joined(names))

@@ -4,12 +4,16 @@ No text that is told has a character that steers a terminal (`terminal_text.writ
 """
 
 import io
+import itertools
 import os
 import sys
+from collections.abc import Iterable
 from typing import TextIO
 
 from debvote_tools.faults import Fault, Status
 from debvote_tools.terminal_text import written
+
+LINES_AT_ONCE = 1_000
 
 # what is said to any other answer
 YES_OR_NO = "Type y for yes, or n for no."
@@ -48,6 +52,13 @@ def shows() -> bool:
 def tell(*lines: str) -> None:
     """Writes lines to standard output, at once. Raises `OutputFailed`."""
     tell_as_it_is("".join(f"{written(line)}\n" for line in lines))
+
+
+def tell_many(lines: Iterable[str]) -> None:
+    """The same with many lines, in parts, so that they are not all in memory."""
+    waiting = iter(lines)
+    while part := list(itertools.islice(waiting, LINES_AT_ONCE)):
+        tell(*part)
 
 
 def tell_as_it_is(text: str) -> None:

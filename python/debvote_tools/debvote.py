@@ -1,19 +1,17 @@
 """The program debvote: where it is, and what it writes."""
 
-import dataclasses
 import os
 import pathlib
 import re
 import shutil
 import subprocess
+from typing import NamedTuple
 
 from debvote_tools.faults import Fault, Status, other_format
 from debvote_tools.files import BALLOTS_LIMIT, LINES_LIMIT, OWN_FILES, POLL_LIMIT, in_memory
-from debvote_tools.sheet import Sheet, sheet_in
 
 
-@dataclasses.dataclass(frozen=True)
-class Answer:
+class Answer(NamedTuple):
     """What a run of debvote wrote on standard output and on standard error, and its exit status."""
 
     text: str
@@ -21,8 +19,7 @@ class Answer:
     status: int
 
 
-@dataclasses.dataclass(frozen=True)
-class Finding:
+class Finding(NamedTuple):
     """What `explain` says of a line: the number of its envelope, the word of `steps`, and the hint."""
 
     envelope: int
@@ -30,8 +27,7 @@ class Finding:
     hint: str
 
 
-@dataclasses.dataclass(frozen=True)
-class Totals:
+class Totals(NamedTuple):
     """The last line of `explain`. Late lines are among the refused ones."""
 
     lines: int
@@ -42,8 +38,7 @@ class Totals:
     electors: int
 
 
-@dataclasses.dataclass(frozen=True)
-class Findings:
+class Findings(NamedTuple):
     """What `explain` says of a poll in order and its ballots."""
 
     refused: list[Finding]
@@ -89,19 +84,15 @@ class Debvote:
 
     def replies(self, poll_bytes: bytes, ballots_bytes: bytes) -> list[str]:
         """The reply of the box to each line, that to line i at index i - 1."""
-        return replies_in(self.answer("steps", poll_bytes, ballots_bytes).text)
+        return [line.partition(" ")[2] for line in self.answer("steps", poll_bytes, ballots_bytes).text.splitlines()]
 
-    def findings(self, poll_bytes: bytes, ballots_bytes: bytes) -> "Findings":
+    def findings(self, poll_bytes: bytes, ballots_bytes: bytes) -> Findings:
         """What `explain` says of a poll in order and these ballots."""
         return findings_in(self.answer("explain", poll_bytes, ballots_bytes).text)
 
     def standing(self, poll_bytes: bytes, ballots_bytes: bytes) -> dict[str, str]:
         """The ranks of the ballot that stands, by the name of its elector, in the order of the roll."""
         return standing_in(self.answer("standing", poll_bytes, ballots_bytes).text)
-
-    def sheet(self, poll_bytes: bytes, ballots_bytes: bytes = b"") -> Sheet:
-        """The result sheet without a casting vote."""
-        return sheet_in(self.answer("count", poll_bytes, ballots_bytes).text)
 
     def version(self) -> str:
         """The line of `--version`, as `debvote 1.1.0`."""
@@ -139,11 +130,6 @@ def findings_in(text: str) -> Findings:
         raise other_format("what this debvote explains")
     refused = [Finding(int(parts[1]), parts[2], parts[3]) for parts in map(FINDING.fullmatch, lines) if parts]
     return Findings(refused, Totals(*map(int, totals.groups())))
-
-
-def replies_in(text: str) -> list[str]:
-    """The replies that `steps` wrote, that of envelope i at i - 1."""
-    return [line.partition(" ")[2] for line in text.splitlines()]
 
 
 def standing_in(text: str) -> dict[str, str]:

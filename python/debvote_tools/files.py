@@ -55,7 +55,7 @@ def read_whole(file: pathlib.Path | str, limit: int, unread: str, then: str = ""
     return data
 
 
-def plain_text(data: bytes, file: pathlib.Path | str, empty: str, then: str = "", refused: str = "") -> str:
+def file_text(data: bytes, file: pathlib.Path | str, empty: str, then: str = "", refused: str = "") -> str:
     """The text of a file in UTF-8, without its byte-order mark and with a line feed at the end of each line.
 
     `empty` is the cure of an empty one; `then` follows each cure. Refused are characters that no plain text has, and these.
@@ -140,22 +140,15 @@ def write_public(file: pathlib.Path, data: bytes) -> None:
 
 
 @contextlib.contextmanager
-def locked(file: pathlib.Path) -> Iterator[None]:
-    """Holds the lock of a file, and waits for it. The lock of a process that is killed is free."""
-    handle = os.open(file, os.O_RDWR | os.O_CREAT | os.O_CLOEXEC, 0o644)
-    try:
-        fcntl.flock(handle, fcntl.LOCK_EX)
-        yield
-    finally:
-        os.close(handle)
+def locked(place: pathlib.Path, *, is_directory: bool = False) -> Iterator[None]:
+    """Holds the lock of a file, and waits for it; or of a folder, and raises BlockingIOError if another process has it.
 
-
-@contextlib.contextmanager
-def locked_folder(folder: pathlib.Path) -> Iterator[None]:
-    """Holds the lock of a folder alone. Raises BlockingIOError if another process has it."""
-    handle = os.open(folder, os.O_RDONLY | os.O_DIRECTORY | os.O_CLOEXEC)
+    The lock of a process that is killed is free.
+    """
+    flags, how = (os.O_DIRECTORY, fcntl.LOCK_EX | fcntl.LOCK_NB) if is_directory else (os.O_RDWR | os.O_CREAT, fcntl.LOCK_EX)
+    handle = os.open(place, flags | os.O_CLOEXEC, 0o644)
     try:
-        fcntl.flock(handle, fcntl.LOCK_EX | fcntl.LOCK_NB)
+        fcntl.flock(handle, how)
         yield
     finally:
         os.close(handle)

@@ -18,13 +18,16 @@ MARK = codecs.BOM_UTF8
 BLANKS = b" \t"
 
 # in bytes; a longer line is no ballot, and nothing of it is repaired
-LONGEST = 1_000
+LONGEST_REPAIRED = 1_000
 
 # a line in which there is nothing to repair
-PLAIN = re.compile(rb"[a-z0-9.-]+ (?:-|[1-9][0-9]?)(?:,(?:-|[1-9][0-9]?))*")
+NOTHING_TO_REPAIR = re.compile(rb"[a-z0-9.-]+ [0-9-][0-9,-]*")
 
 # what can be a name on a roll, at the start of a line
 NAME = re.compile(rb"[a-z0-9.-]+")
+
+# the code or the alias of a secret vote, within other text
+CODE_WITHIN = re.compile(rb"(?<![0-9a-f])[0-9a-f]{32}(?![0-9a-f])")
 
 NO_BREAK = "\u00a0\u202f"
 DASHES = "\u2010\u2011\u2012\u2013\u2014\u2212"
@@ -104,7 +107,7 @@ def lines_in(data: bytes, name: str, first: int = 1) -> list[Line]:
         came = line.removesuffix(b"\n")
         unframed = came.removesuffix(b"\r")
         unframed = unframed.removeprefix(MARK) if number == 1 else unframed
-        lines.append(Line(name, f":{number}", came, unframed, unframed if PLAIN.fullmatch(unframed) else changed(unframed)))
+        lines.append(Line(name, f":{number}", came, unframed, changed(unframed)))
     return lines
 
 
@@ -126,9 +129,9 @@ def name_in(line: bytes) -> bytes:
 
 def changed(line: bytes) -> bytes:
     """The line after the changes that are allowed."""
-    if PLAIN.fullmatch(line):
+    if NOTHING_TO_REPAIR.fullmatch(line):
         return line
-    if len(line) > LONGEST or b"\r" in line or b"\n" in line:
+    if len(line) > LONGEST_REPAIRED or b"\r" in line or b"\n" in line:
         return spaced(line)
     try:
         text = line.decode("utf-8")

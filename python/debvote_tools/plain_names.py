@@ -1,11 +1,11 @@
 """Plain names, by which debvote counts: made from names in any language. And which names people can't tell apart."""
 
 import collections
-import dataclasses
 import itertools
 import re
 import unicodedata
 from collections.abc import Collection, Mapping, Sequence
+from typing import NamedTuple
 
 from debvote_tools.terminal_text import LINE_ENDS, number_of, odd_sign, shown_text
 
@@ -13,14 +13,14 @@ from debvote_tools.terminal_text import LINE_ENDS, number_of, odd_sign, shown_te
 TITLE_LIMIT, OPTION_LIMIT, ELECTOR_LIMIT = 80, 40, 32
 SHOWN_LIMIT = 200
 
-PLAIN = re.compile(r"[!-~](?:[ -~]*[!-~])?")
-ELECTOR = re.compile(r"[a-z0-9.-]{1,%d}" % ELECTOR_LIMIT)
+PLAIN_NAME = re.compile(r"[!-~](?:[ -~]*[!-~])?")
+ELECTOR_NAME = re.compile(r"[a-z0-9.-]{1,%d}" % ELECTOR_LIMIT)
 
 # how each language spells letters that it has no accents on
 SPELLINGS: Mapping[str, Mapping[str, str]] = {"de": {"ä": "ae", "ö": "oe", "ü": "ue"}}
 
 # letters that Unicode does not take apart into a letter and its accent
-LETTERS = {"ß": "ss", "ø": "o", "ł": "l", "đ": "d", "ð": "d", "þ": "th", "æ": "ae", "œ": "oe", "ı": "i", "ħ": "h", "ŧ": "t"}
+PLAIN_LETTERS = {"ß": "ss", "ø": "o", "ł": "l", "đ": "d", "ð": "d", "þ": "th", "æ": "ae", "œ": "oe", "ı": "i", "ħ": "h", "ŧ": "t"}
 
 # punctuation that ASCII has in another form
 PUNCTUATION = {
@@ -38,7 +38,7 @@ UNSEEN |= {chr(number) for number in (*range(0xFE00, 0xFE10), *range(0xE0100, 0x
 VOICED = "\u3099\u309a"
 
 # what turns the text around it, beside the characters that no plain text has
-REFUSED = f"{LINE_ENDS}\ufff9\ufffa\ufffb"
+REFUSED_IN_NAMES = f"{LINE_ENDS}\ufff9\ufffa\ufffb"
 
 
 # ---------------------------------------------------------------- plain text
@@ -49,7 +49,7 @@ def without_accents(text: str, language: str) -> str:
     """
     if text.isascii():
         return text
-    table = {**PUNCTUATION, **LETTERS, **SPELLINGS.get(language, {})}
+    table = {**PUNCTUATION, **PLAIN_LETTERS, **SPELLINGS.get(language, {})}
     parts = unicodedata.normalize("NFKD", spelled_by(table, unicodedata.normalize("NFC", text)))
     return spelled_by(table, "".join(part for part in parts if not unicodedata.category(part).startswith("M")))
 
@@ -71,7 +71,7 @@ def spelling(table: Mapping[str, str], before: str, letter: str, after: str) -> 
 
 def is_plain(text: str, limit: int) -> bool:
     """Whether debvote takes a text as a name of at most this many bytes."""
-    return len(text) <= limit and PLAIN.fullmatch(text) is not None
+    return len(text) <= limit and PLAIN_NAME.fullmatch(text) is not None
 
 
 def plain_text(text: str, language: str, limit: int) -> str:
@@ -129,12 +129,11 @@ def elector_name(text: str, language: str) -> str:
 
 
 def is_elector_name(name: str) -> bool:
-    return ELECTOR.fullmatch(name) is not None
+    return ELECTOR_NAME.fullmatch(name) is not None
 
 
 # ---------------------------------------------------------------- names that people read
-@dataclasses.dataclass(frozen=True)
-class BadName:
+class BadName(NamedTuple):
     """Why a name is refused as people would read it. Options are numbered from 1; the title is 0."""
 
     number: int
@@ -176,7 +175,7 @@ def bad_options(names: Sequence[str], plain_names: Sequence[str]) -> list[BadNam
 def bad_characters(name: str) -> list[str]:
     """What is wrong with a name by itself, in words."""
     reasons = []
-    odd = odd_sign(name, refused=REFUSED)
+    odd = odd_sign(name, refused=REFUSED_IN_NAMES)
     if odd is not None:
         reasons.append(f"it has the character {number_of(odd)}, which steers a terminal or turns the direction of a text")
     if len(name) > SHOWN_LIMIT:

@@ -19,7 +19,7 @@ TURNING = "\u202a\u202b\u202c\u202d\u202e\u2066\u2067\u2068\u2069"
 LINE_ENDS = "\u2028\u2029"
 
 # how many characters are shown of a line that came, and of a short text
-LONGEST_LINE, LONGEST_TEXT = 100, 60
+SHOWN_OF_LINE, SHOWN_OF_TEXT = 100, 60
 
 # how characters are shown that people know by a name
 KNOWN = {"\r": "\\r", "\n": "\\n", "\t": "\\t"}
@@ -52,12 +52,12 @@ def number_of(character: str) -> str:
 def shown_line(line: bytes) -> str:
     """Of a long line the beginning."""
     text = line.decode("utf-8", "backslashreplace")
-    return "".join(KNOWN.get(character) or seen(character) for character in cut(text, LONGEST_LINE))
+    return "".join(KNOWN.get(character) or seen(character) for character in cut(text, SHOWN_OF_LINE))
 
 
 def shown_text(text: str) -> str:
     """Of a long text the beginning."""
-    return "".join(map(seen, cut(" ".join(text.split()), LONGEST_TEXT)))
+    return "".join(map(seen, cut(" ".join(text.split()), SHOWN_OF_TEXT)))
 
 
 def seen(character: str) -> str:

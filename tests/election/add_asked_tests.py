@@ -61,7 +61,7 @@ class AfterReopen(CalledTest):
         # another number of lines is asked about anew
         terminal.until(ASKED)
         output = self.answer(terminal, "n\n")
-        self.assertIn("monday: 1 line came before, and is passed over; 1 is new\n", output)
+        self.assertIn("monday: 1 line is ignored, since it came before; 1 is new\n", output)
         self.assertIn("2 late  ben: ", output)
         self.assertEqual((self.lines(), self.late_lines()), ([f"ada {RANKS}"], [f"ben {RANKS}"]))
 

@@ -138,7 +138,7 @@ class AfterTheEnd(CalledTest):
         hint = "a cross is a choice, and ranks are an order: ask the elector for a rank of each option"
         self.assertIn(f'3 late  ben x: bad shape: column 5: "x"; {hint}\n', output)
         self.assertIn(
-            "2 lines came after the close, and late ones count for nothing.\nAdded 2 lines (2 late).\nNext: debvote-election count\n",
+            "2 lines came after the close, and late lines do not count.\nAdded 2 lines (2 late).\nNext: debvote-election count\n",
             output,
         )
         self.assertEqual((self.lines(), self.late_lines()), (["ada 1,2,4,3"], ["ada 2,1,4,3", "ben x"]))
@@ -440,9 +440,9 @@ class CodesOnRoll(CalledTest):
         self.told("add", given=f"{first} {RANKS}\n{second} {RANKS}\n")
         self.told("add", given=f"{first} {OTHER_RANKS}\n{third} {RANKS}\n")
         output = self.told("undo")
-        self.assertIn("\n  1 elector: no ballot stands now; 1 elector: an earlier ballot\n", output)
+        self.assertIn("\n  1 elector: no ballot is left; 1 elector: an earlier ballot\n", output)
         output += self.told("strike", 2, "--because", "a test")
-        self.assertIn(f"Struck envelope 2: `CODE {RANKS}`, because: a test\nWhat stands now of that code: no ballot\n", output)
+        self.assertIn(f"Struck envelope 2: `CODE {RANKS}`, because: a test\nThe current ballot of that code: none\n", output)
         for code in self.names:
             self.assertNotIn(code, output)
         shown = self.told("show", first)
@@ -485,7 +485,7 @@ class Tables(CalledTest):
         said = "form: it has two ballots of ada that differ (row 2 and row 4), and the last one that is entered counts; nothing was added: "
         self.assert_stops(self.election("add", *self.WORDS, "form"), self.last_act(), 9, said, "--oldest-first or --newest-first")
         output = self.told("add", *self.WORDS, "--newest-first", "form")
-        self.assertIn("form: 2 lines came before, and are passed over; 1 is new\n3 replaced  ada: ", output)
+        self.assertIn("form: 2 lines are ignored, since they came before; 1 is new\n3 replaced  ada: ", output)
         self.assertNotIn("--again", output)
         self.assertEqual(self.lines()[-1], "ada 2,1,4,3")
 

@@ -47,11 +47,11 @@ class CalledTest(support.ElectionTest):
 
     def lines(self) -> list[str]:
         """The lines that are counted."""
-        return [line.decode("utf-8", "replace") for _, line in queries.lines_in_time(self.book)]
+        return [line.decode("utf-8", "replace") for line in queries.lines_in_time(self.book)]
 
     def late_lines(self) -> list[str]:
         """The lines that came late."""
-        return [line.decode("utf-8", "replace") for _, line in queries.late_lines(self.book)]
+        return [line.decode("utf-8", "replace") for line in queries.late_lines(self.book)]
 
     def envelopes(self) -> list[queries.Envelope]:
         """All envelopes."""

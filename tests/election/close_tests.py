@@ -157,7 +157,7 @@ class Told(CloseTest):
         for part in (
             "Title: Where we meet in spring\n",
             "Lines: 4 (2 valid, 2 refused)\n",
-            "Electors with a ballot that stands: 1 of 9\n",
+            "Electors with a valid ballot: 1 of 9\n",
             "Electors without one (8):\n  ben cleo dan eve fay gus hal ida\n",
             "Refused lines of electors without a ballot (1):\n  envelope 2: ben 1,2\n",
             "Refused lines of which no elector is known (1):\n  envelope 3: zoe 1,2,3,4\n",

@@ -11,7 +11,7 @@ from called import HALL, LAKE, OTHER_RANKS, RANKS, CalledTest
 from terminal import Terminal
 
 CAST = "Cast it? [y/n] "
-CAST_REFUSED = "It would count for nothing. Cast it all the same? [y/n] "
+CAST_REFUSED = "It would not count. Cast it anyway? [y/n] "
 
 
 class AtATerminal(CalledTest):
@@ -139,7 +139,7 @@ class AtATerminal(CalledTest):
         self.assertNotIn("late", desk.until(CAST))
         self.act("close", {"lines": 0, "checksum": "", "early": False})
         desk.type("y\n")
-        self.assertIn("It is late, and will count for nothing.\n", desk.until(CAST))
+        self.assertIn("It is late, and will not count.\n", desk.until(CAST))
         self.assertEqual(self.late_lines(), [])
         desk.type("y\n")
         self.assertIn("1 late  ada: ", desk.until("Ballot: "))
@@ -155,7 +155,7 @@ class AtATerminal(CalledTest):
         desk.until("Ballot: ")
         desk.type(f"ada {OTHER_RANKS}\n")
         shown = desk.until(CAST)
-        self.assertIn("It is late, and will count for nothing.\n", shown)
+        self.assertIn("It is late, and will not count.\n", shown)
         self.assertNotIn("replaced", shown)
         desk.type("y\n")
         self.assertIn("2 late  ada: ", desk.until("Ballot: "))
@@ -186,7 +186,7 @@ class AtATerminal(CalledTest):
         desk.type(f"ada {RANKS}\n")
         desk.until("Did this come before that close? [y/n] ")
         desk.type("n\n")
-        self.assertIn("It is late, and will count for nothing.\n", desk.until(CAST))
+        self.assertIn("It is late, and will not count.\n", desk.until(CAST))
         desk.type("y\nq\n")
         self.assertIn("1 late  ada: ", self.end(desk))
 

@@ -36,16 +36,16 @@ class Show(CalledTest):
                 "  envelope 6, TIME: At the lake, In the town hall, Sell the house and meet there and Further discussion equally "
                 "(struck by undo at TIME)",
                 f"  envelope 7, TIME: {LAKE} (late)",
-                f"The ballot that stands: {HALL}",
+                f"The current ballot: {HALL}",
             ],
         )
-        self.assertEqual(self.shown("ben")[1:], [f"  envelope 2, TIME: {LAKE}", f"The ballot that stands: {LAKE}"])
-        self.assertEqual(self.shown("cleo"), ["cleo: Cleo cleo@club.example", "The ballot that stands: none"])
+        self.assertEqual(self.shown("ben")[1:], [f"  envelope 2, TIME: {LAKE}", f"The current ballot: {LAKE}"])
+        self.assertEqual(self.shown("cleo"), ["cleo: Cleo cleo@club.example", "The current ballot: none"])
 
     def test_the_time_is_that_of_the_ballot(self) -> None:
         with self.book.act("add") as act:
             time = act.time.replace(year=2020)
-            queries.enter(act, [queries.NewEnvelope(f"ada {RANKS}".encode(), time=time)], [self.elector("ada")], is_late=False)
+            queries.add_envelopes(act, [queries.NewEnvelope(f"ada {RANKS}".encode(), time=time)], [self.elector("ada")], is_late=False)
         self.assertIn(f"  envelope 1, {time:%Y-%m-%d %H:%M:%S} UTC: {LAKE}\n", self.told("show", "ada"))
 
     def test_by_the_real_name_and_in_capitals(self) -> None:
@@ -60,6 +60,6 @@ class Show(CalledTest):
     def test_several_have_this_real_name(self) -> None:
         with self.book.act("addresses") as act:
             for elector in queries.electors(self.book)[:2]:
-                queries.put_elector(act, queries.Elector(elector.number, elector.name, elector.position, "Kim Kim", ()))
+                queries.put_electors(act, [queries.Elector(elector.number, elector.name, elector.position, "Kim Kim", ())])
         self.assert_fault(self.election("show", "kim kim"), 9, "several electors have the real name kim kim; name one of ada, ben")
         self.assertEqual(self.shown()[0], "ada: Kim Kim")

@@ -16,12 +16,12 @@ class Strike(CalledTest):
         output = self.told("strike", 3, *WHY)
         self.assertEqual(
             output,
-            f"Struck envelope 3: `ada {OTHER_RANKS}`, because: it was pencil\nWhat stands now of ada: {LAKE}\n"
+            f"Struck envelope 3: `ada {OTHER_RANKS}`, because: it was pencil\nThe current ballot of ada: {LAKE}\n"
             "A strike cannot be undone: if it was a mistake, enter the line again.\nNext: debvote-election status\n",
         )
         self.assertEqual(self.lines(), [f"ada {RANKS}", f"ben {RANKS}", "x"])
         self.assertEqual(self.acts()[-1], ("strike", {"envelope": 3, "because": "it was pencil"}))
-        self.assertIn("What stands now of ada: no ballot\n", self.told("strike", 1, *WHY))
+        self.assertIn("The current ballot of ada: none\n", self.told("strike", 1, *WHY))
         self.assertIn("Struck envelope 4: `x`, because: it was pencil\nA strike cannot be undone", self.told("strike", 4, *WHY))
         self.assertEqual(self.lines(), [f"ben {RANKS}"])
         # the envelopes are still there, and keep their numbers
@@ -61,15 +61,15 @@ class Strike(CalledTest):
         self.assertIn("Struck envelope 2: ", self.told("strike", 2, *WHY))
         output = self.told("strike", 5, *WHY)
         self.assertIn(
-            f"Struck envelope 5 (late): `cleo {RANKS}`, because: it was pencil\nWhat stands now of cleo: no ballot\n", output
+            f"Struck envelope 5 (late): `cleo {RANKS}`, because: it was pencil\nThe current ballot of cleo: none\n", output
         )
 
     def test_a_letter_is_set_aside(self) -> None:
         with self.book.act("add") as act:
-            source = queries.keep(act, "inbox", b"letter")
+            source = queries.keep_source(act, "inbox", b"letter")
             letter = act.insert("letter", source=source, identity="1", known="{}")
             new = [queries.NewEnvelope(b"cleo 1,2,3,4", "", source, letter)]
-            queries.enter(act, new, [self.elector("cleo")], is_late=False)
+            queries.add_envelopes(act, new, [self.elector("cleo")], is_late=False)
             letters.decide(act, letter, letters.ENTERED)
         self.told("strike", 5, *WHY)
         self.assertEqual(self.book.rows("SELECT letter, state FROM letter_state WHERE act = ?", self.last_act()), [(1, "struck")])

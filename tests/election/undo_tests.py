@@ -15,11 +15,11 @@ class Undo(CalledTest):
         output = self.told("undo")
         self.assertRegex(
             output,
-            rf"^Took back 1 line \(act {first + 2}: desk, [-\d]+ [:\d]+ UTC, envelope 6\)\.\n  dan: no ballot stands now\nNext: ",
+            rf"^Took back 1 line \(act {first + 2}: desk, [-\d]+ [:\d]+ UTC, envelope 6\)\.\n  dan: no ballot is left\nNext: ",
         )
         output = self.told("undo")
         self.assertRegex(output, rf"^Took back 3 lines \(act {first + 1}: add of standard input, .* UTC, envelopes 3-5\)\.\n")
-        self.assertIn(f"\n  ada: {LAKE}, as before\n  cleo: no ballot stands now\n", output)
+        self.assertIn(f"\n  ada: {LAKE}, as before\n  cleo: no ballot is left\n", output)
         self.assertEqual(self.lines(), [f"ada {RANKS}", f"ben {RANKS}"])
         self.told("undo")
         self.assertEqual(self.lines(), [])
@@ -42,7 +42,7 @@ class Undo(CalledTest):
         self.assertIn("6 counted  dan: ", self.told("add", given=f"dan {RANKS}\n"))
         # the one before, which is not taken back yet
         self.told("undo")
-        self.assertIn("  ada: no ballot stands now\n", self.told("undo"))
+        self.assertIn("  ada: no ballot is left\n", self.told("undo"))
         self.assertEqual(self.lines(), [])
 
     def test_an_envelope_that_was_struck_already(self) -> None:
@@ -69,18 +69,18 @@ class Undo(CalledTest):
     def test_lines_that_reopen_offered(self) -> None:
         """An act that enters lines is known by its envelopes, whatever its name is."""
         with self.book.act("offer") as act:
-            queries.enter(act, [queries.NewEnvelope(f"ada {RANKS}".encode())], [self.elector("ada")], is_late=False)
+            queries.add_envelopes(act, [queries.NewEnvelope(f"ada {RANKS}".encode())], [self.elector("ada")], is_late=False)
         self.assertIn("Took back 1 line (act 4: offer, ".replace("4", str(self.first_act)), self.told("undo"))
         self.assertEqual(self.lines(), [])
 
     def test_letters_wait_as_taken_back(self) -> None:
         with self.book.act("add") as act:
             for name in ("ada", "ben"):
-                source = queries.keep(act, "inbox", b"letter")
+                source = queries.keep_source(act, "inbox", b"letter")
                 letter = act.insert("letter", source=source, identity=name, known="{}")
                 act.insert("letter_state", letter=letter, state="entered")
                 line = f"{name} {RANKS}".encode()
-                queries.enter(act, [queries.NewEnvelope(line, "", source, letter)], [self.elector(name)], is_late=False)
+                queries.add_envelopes(act, [queries.NewEnvelope(line, "", source, letter)], [self.elector(name)], is_late=False)
         self.assertIn("2 letters then wait as taken back: 1, 2\n", self.told("undo"))
         states = "SELECT letter, state FROM letter_state WHERE act = ? ORDER BY letter"
         self.assertEqual(self.book.rows(states, self.last_act()), [(1, "taken back"), (2, "taken back")])
@@ -97,7 +97,7 @@ class AtATerminal(CalledTest):
         terminal = Terminal(self, "undo")
         shown = terminal.until("? [y/n] ")
         self.assertRegex(
-            shown, rf"^  ada: {LAKE}, as before\n  ben: no ballot would stand\nTake back 3 lines \(.*, envelopes 2-4\)\? "
+            shown, rf"^  ada: {LAKE}, as before\n  ben: no ballot would be left\nTake back 3 lines \(.*, envelopes 2-4\)\? "
         )
         return terminal
 
@@ -118,7 +118,7 @@ class AtATerminal(CalledTest):
     def test_without_a_question(self) -> None:
         output, status = Terminal(self, "undo", "--yes").end()
         self.assertNotIn("[y/n]", output)
-        self.assertIn("  ben: no ballot stands now\n", output)
+        self.assertIn("  ben: no ballot is left\n", output)
         self.assertEqual((status, self.lines()), (0, [f"ada {RANKS}"]))
 
     def test_what_was_shown_is_what_is_taken_back(self) -> None:
@@ -128,7 +128,7 @@ class AtATerminal(CalledTest):
         before = self.last_act()
         terminal.type("y\n")
         shown = terminal.until("? [y/n] ")
-        self.assertIn("  cleo: no ballot would stand\nTake back 1 line (", shown)
+        self.assertIn("  cleo: no ballot would be left\nTake back 1 line (", shown)
         self.assertEqual(self.last_act(), before)
         # another undo takes this one, and the one before is asked about again
         self.told("undo")

@@ -196,7 +196,7 @@ class Bytes(unittest.TestCase):
             self.assertRegex(one, r"\A<[0-9a-f]{32}@club\.example>\Z")
 
     def test_a_name_is_one_line(self) -> None:
-        elector = dataclasses.replace(ADA, who="Ada\r\nBcc: x@y.example\n\nada 1,2,3\u2028" + "x" * 500)
+        elector = ADA._replace(who="Ada\r\nBcc: x@y.example\n\nada 1,2,3\u2028" + "x" * 500)
         text = vote().text(Kind.CLOSED, elector, letter="CLOSED\n")
         self.assertEqual(len(text.split("\n\n")), 2)
         self.assertEqual(one_line(parsed(self.message(text)))[:9], "Dear Ada ")

@@ -351,7 +351,7 @@ class OfOpenVotes(OfElections):
                 known = parse.as_json(parse.parse(RawLetter("letter.eml", data)))
                 letter = letters.keep_letter(act, "letter.eml", data, "", known)
                 letters.decide(act, letter, "entered")
-                queries.enter(act, [queries.NewEnvelope(line, letter=letter, time=time)], [None], is_late=True)
+                queries.add_envelopes(act, [queries.NewEnvelope(line, letter=letter, time=time)], [None], is_late=True)
         self.stops("publish", said=["the ballot of letter 1 is late", "the ballot of letter 3 is late"])
         self.say("publish", "--force", "--because", "so be it", "--language", "en")
         self.expect("doubts", [text.partition("before")[0].partition("at ")[0] for text in self.doubts()], ["A letter arrived "] * 2)

@@ -15,10 +15,11 @@ import pathlib
 import sqlite3
 import urllib.parse
 from collections.abc import Iterable, Iterator, Sequence
-from typing import Any
+from typing import Any, Final
 
 from debvote_tools import times
 from debvote_tools.book import chain
+from debvote_tools.book.acts import ActName, Detail
 from debvote_tools.book.machine_note import MachineNote, Note
 from debvote_tools.faults import Fault, Status
 from debvote_tools.files import uninterrupted
@@ -26,7 +27,7 @@ from debvote_tools.files import uninterrupted
 NAME = "election.db"
 
 # the act that takes another book than that of the note
-MOVED = "moved"
+MOVED: Final = "moved"
 
 # "dbvt": what tells a book from other databases of SQLite, and the version of its schema
 APPLICATION_ID, VERSION = 0x64627674, 2
@@ -37,7 +38,7 @@ PATIENCE = 120
 SETTINGS = ("foreign_keys = ON", "recursive_triggers = ON", "journal_mode = DELETE", "synchronous = EXTRA", "trusted_schema = OFF")
 
 # how many rows one statement adds: one for each row takes twice the time
-ROWS_AT_ONCE = 20
+ROWS_AT_ONCE = 400
 
 # the byte of the file that SQLite locks for an act
 RESERVED_BYTE = 0x40000001
@@ -55,20 +56,25 @@ class DoneAct:
 
     number: int
     time: datetime.datetime
-    name: str
-    detail: dict[str, Any]
+    name: ActName
+    detail_as_json: str
     digest: str
+
+    @functools.cached_property
+    def detail(self) -> Detail:
+        found: Detail = json.loads(self.detail_as_json)
+        return found
 
 
 @dataclasses.dataclass
-class Act:
+class NewAct:
     """An act while it is written. Its rows are in the book when it is committed, all or none."""
 
     connection: sqlite3.Connection
     number: int
     time: datetime.datetime
-    name: str
-    detail: dict[str, Any]
+    name: ActName
+    detail: Detail
 
     def insert_all(self, table: str, columns: Sequence[str], rows: Iterable[Sequence[object]], **same: object) -> None:
         """Adds many rows of this act, each with its own values in these columns, and all with the same in others."""
@@ -99,30 +105,26 @@ class Book:
 
     def __init__(self, path: pathlib.Path, connection: sqlite3.Connection, *, is_read_only: bool = False) -> None:
         self.path, self.connection, self.is_read_only = path, connection, is_read_only
+        self.read_acts: list[DoneAct] = []
 
     # ------------------------------------------------------------ reading
     def rows(self, words: str, *values: object) -> list[Any]:
-        """The rows that a query finds."""
         with told_as_faults(self.path):
             return self.connection.execute(words, values).fetchall()
 
-    def acts(self) -> list[DoneAct]:
-        """All acts, in their order."""
-        return [done(row) for row in self.rows("SELECT act, time, name, detail, digest FROM act ORDER BY act")]
-
-    def first_act(self) -> DoneAct:
-        """The act `new`."""
-        [row] = self.rows("SELECT act, time, name, detail, digest FROM act WHERE act = 1")
-        return done(row)
+    def acts(self) -> Sequence[DoneAct]:
+        """All acts, in their order. An act never changes, so only those are read that came since they were asked for last."""
+        words = "SELECT act, time, name, detail, digest FROM act WHERE act > ? ORDER BY act"
+        for number, time, name, detail, digest in self.rows(words, self.read_acts[-1].number if self.read_acts else 0):
+            self.read_acts.append(DoneAct(number, from_text(time), name, detail, digest))
+        return tuple(self.read_acts)
 
     def last_act(self) -> DoneAct:
         """The last act. There always is one: that of `new`."""
-        [row] = self.rows("SELECT act, time, name, detail, digest FROM act ORDER BY act DESC LIMIT 1")
-        return done(row)
+        return self.acts()[-1]
 
     def last_number(self) -> int:
-        """The number of the last act."""
-        return int(self.rows("SELECT max(act) FROM act")[0][0])
+        return self.last_act().number
 
     def size(self) -> int:
         """How many bytes its file has."""
@@ -131,7 +133,7 @@ class Book:
 
     def digest_at(self, act: int) -> str | None:
         """The digest of an act; None if the book has no such act."""
-        return next((str(digest) for digest, in self.rows("SELECT digest FROM act WHERE act = ?", act)), None)
+        return next((done.digest for done in self.acts() if done.number == act), None)
 
     def broken_act(self) -> int | None:
         """The first act that is not as its digest says; None if the chain of digests is whole."""
@@ -151,7 +153,7 @@ class Book:
 
     # ------------------------------------------------------------ acts
     @contextlib.contextmanager
-    def act(self, name: str, detail: dict[str, Any] | None = None, *, seen: int | None = None) -> Iterator[Act]:
+    def act(self, name: ActName, detail: Detail | None = None, *, seen: int | None = None) -> Iterator[NewAct]:
         """One act: what is inserted within is committed at its end, and an exception leaves the book as it was.
 
         `seen` is the last act when this one was decided; if others came since, `Overtaken` is raised. Nobody is asked and no program runs
@@ -167,7 +169,7 @@ class Book:
                     raise Overtaken
                 if name != MOVED:
                     self.demand_noted(note)
-                act = Act(self.connection, before.number + 1, times.now(), name, detail or {})
+                act = NewAct(self.connection, before.number + 1, times.now(), name, detail or {})
                 yield act
                 with uninterrupted():
                     digest = self.finish(act, before)
@@ -179,7 +181,7 @@ class Book:
         with contextlib.suppress(Fault, OSError):
             note.write(Note(act.number, digest), is_moved=name == MOVED)
 
-    def finish(self, act: Act, before: DoneAct | None) -> str:
+    def finish(self, act: NewAct, before: DoneAct | None) -> str:
         """Adds the row of the act, with its digest, and commits."""
         detail = json.dumps(act.detail, ensure_ascii=False)
         row = (act.number, as_text(act.time), act.name, detail, os.urandom(16))
@@ -200,20 +202,16 @@ class Book:
         with contextlib.suppress(Fault, OSError):
             note, last = self.note(), self.last_act()
             noted = note.read()
-            if noted is not None and noted.act < last.number and self.digest_at(noted.act) == noted.digest:
+            if noted is not None and noted.act < last.number and self.strangeness(noted) is None:
                 note.write(Note(last.number, last.digest))
 
-    def strangeness(self) -> str | None:
-        """Why this is not the book that this machine knows; None if it is."""
-        try:
-            noted = self.note().read()
-        except Fault as fault:
-            return str(fault.reason)
+    def strangeness(self, noted: Note | None) -> str | None:
+        """Why this is not the book of the note; None if it is."""
         if noted is None:
             return "this computer has never seen this election in this folder"
         digest = self.digest_at(noted.act)
         if digest is None:
-            return f"it ends with act {self.last_number()}, and this computer saw act {noted.act} already: it is an older copy"
+            return f"it ends with act {self.last_act().number}, and this computer saw act {noted.act} already: it is an older copy"
         if digest != noted.digest:
             return (
                 f"its act {noted.act} is not the one that this computer saw: somebody went on from a copy, or wrote the book anew"
@@ -222,9 +220,8 @@ class Book:
 
     def demand_noted(self, note: MachineNote) -> None:
         """Stops if this is not the book that this machine knows."""
-        noted = note.read()
-        if noted is None or self.digest_at(noted.act) != noted.digest:
-            why = self.strangeness()
+        why = self.strangeness(note.read())
+        if why is not None:
             cure = (
                 "find out how that came; if it is the right book, as after a move to this computer or folder, give the command "
                 "--moved --because TEXT, and the page tells it"
@@ -234,12 +231,12 @@ class Book:
     def accept(self, because: str) -> None:
         """The act `moved`: from now on this machine takes this book for the right one."""
         noted, last = self.note().read(), self.last_act()
-        why = self.strangeness()
+        why = self.strangeness(noted)
         if why is None:
             raise Fault("--moved", "this is the book that this computer knows", "leave it out", Status.BAD_WORDS)
         there = {"act": last.number, "digest": last.digest}
-        detail = {"why": why, "noted": dataclasses.asdict(noted) if noted else None, "there": there, "because": because}
-        with self.act(MOVED, detail):
+        noted_detail = noted._asdict() if noted else None
+        with self.act(MOVED, {"why": why, "noted": noted_detail, "there": there, "because": because}):
             pass
 
     # ------------------------------------------------------------ the file
@@ -273,7 +270,6 @@ class Book:
                 raise Fault(file, words, cure)
 
     def back_up(self, target: pathlib.Path) -> None:
-        """Writes a copy of the book into a new file."""
         with told_as_faults(target):
             os.close(os.open(target, os.O_WRONLY | os.O_CREAT | os.O_EXCL, 0o600))
             with contextlib.closing(sqlite3.connect(target)) as copy:
@@ -298,7 +294,7 @@ def is_locked_for_others(path: pathlib.Path) -> bool:
 
 
 # ---------------------------------------------------------------- making and opening
-def create(path: pathlib.Path, detail: dict[str, Any], final_path: pathlib.Path) -> None:
+def create(path: pathlib.Path, detail: Detail, final_path: pathlib.Path) -> None:
     """Makes a new book with the act `new`. The folder is moved afterwards: `final_path` is where the book will lie."""
     os.close(os.open(path, os.O_RDWR | os.O_CREAT | os.O_EXCL, 0o600))
     connection = connected(path, "rw")
@@ -309,11 +305,11 @@ def create(path: pathlib.Path, detail: dict[str, Any], final_path: pathlib.Path)
         schema = pathlib.Path(__file__).with_name("schema.sql").read_text()
         for statement in schema.split(";\n"):
             connection.execute(statement)
-        for table in (*chain.COLUMNS, "act"):
+        for table in (*chain.TABLES, "act"):
             for verb in ("UPDATE", "DELETE"):
                 connection.execute(REFUSE.format(table=table, verb=verb))
         book = Book(path, connection)
-        digest = book.finish(Act(connection, 1, times.now(), "new", detail), None)
+        digest = book.finish(NewAct(connection, 1, times.now(), "new", detail), None)
         book.demand_locks()
     # before the folder is moved: a kill between both leaves a note of nothing
     MachineNote(final_path, digest).write(Note(1, digest))
@@ -409,11 +405,6 @@ def last_digest_of(file: pathlib.Path) -> tuple[int | None, str | None]:
 
 
 # ---------------------------------------------------------------- values
-def done(row: tuple[Any, ...]) -> DoneAct:
-    number, time, name, detail, digest = row
-    return DoneAct(number, from_text(time), name, json.loads(detail), digest)
-
-
 def as_text(time: datetime.datetime) -> str:
     """A time as the book has it."""
     return time.astimezone(datetime.UTC).strftime("%Y-%m-%dT%H:%M:%SZ")

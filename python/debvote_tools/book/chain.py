@@ -5,14 +5,18 @@ table's name and the columns, bytes by their SHA-256.
 """
 
 import hashlib
+import itertools
 import sqlite3
-from collections.abc import Sequence
+from collections.abc import Iterable, Iterator
+
+# so many lines of an act are in memory at once
+LINES_AT_ONCE = 1_000
 
 # what is in the place of the digest before the first act
 BEGINNING = ""
 
 # the columns of the tables whose rows belong to an act, in the order of the schema; those that have bytes end with a star
-COLUMNS = {
+TABLES = {
     "elector": "elector act name",
     "elector_state": "act elector position who mail key code alias",
     "sealed": "act name data*",
@@ -25,14 +29,14 @@ COLUMNS = {
 }
 
 
-def as_json(table: str, columns: str) -> str:
+def row_as_json(table: str, columns: str) -> str:
     """The expression for a row of a table as JSON."""
     parts = [f"sha256({name[:-1]})" if name.endswith("*") else name for name in columns.split()]
     return f"json_array('{table}', {', '.join(parts)})"
 
 
-ACT = as_json("act", "act time name detail salt*")
-ROWS = [f"SELECT act, {as_json(table, columns)} FROM {table}" for table, columns in COLUMNS.items()]
+ACT_AS_JSON = row_as_json("act", "act time name detail salt*")
+ROWS = [f"SELECT act, {row_as_json(table, columns)} FROM {table}" for table, columns in TABLES.items()]
 
 
 def prepare(connection: sqlite3.Connection) -> None:
@@ -43,30 +47,35 @@ def prepare(connection: sqlite3.Connection) -> None:
 def digest_of(connection: sqlite3.Connection, before: str, act: tuple[object, ...]) -> str:
     """The digest of an act (number, time, name, detail, salt) by the rows that the book has of it."""
     columns = "SELECT ? AS act, ? AS time, ? AS name, ? AS detail, ? AS salt"
-    lines = [before, *connection.execute(f"SELECT {ACT} FROM ({columns})", act).fetchone()]
-    for rows in ROWS:
-        lines += [json for _, json in connection.execute(f"{rows} WHERE act = ? ORDER BY rowid", (act[0],))]
-    return digest_of_lines(lines)
+    line = connection.execute(f"SELECT {ACT_AS_JSON} FROM ({columns})", act).fetchone()
+    found = (connection.execute(f"{rows} WHERE act = ? ORDER BY rowid", act[:1]) for rows in ROWS)
+    return digest_of_lines(itertools.chain([before, *line], (json for rows in found for _, json in rows)))
 
 
-def digest_of_lines(lines: Sequence[str]) -> str:
-    return hashlib.sha256("\n".join(lines).encode()).hexdigest()
+def digest_of_lines(lines: Iterable[str]) -> str:
+    digest, waiting, between = hashlib.sha256(), iter(lines), ""
+    while part := list(itertools.islice(waiting, LINES_AT_ONCE)):
+        digest.update((between + "\n".join(part)).encode())
+        between = "\n"
+    return digest.hexdigest()
 
 
 def broken_act(connection: sqlite3.Connection) -> int | None:
     """The first act whose digest is not that of its rows, or that rows name and the book lacks; None if the chain is whole."""
     tables = [iter(connection.execute(f"{rows} ORDER BY act, rowid")) for rows in ROWS]
     waiting = [next(rows, (0, "")) for rows in tables]
-    before, number = BEGINNING, 0
-    for number, (act, line, digest) in enumerate(connection.execute(f"SELECT act, {ACT}, digest FROM act ORDER BY act"), start=1):
-        lines = [before, line]
+
+    def lines_of(act: int) -> Iterator[str]:
+        """The lines of the rows of an act, which come next in each table."""
         for index, rows in enumerate(tables):
-            owner, json = waiting[index]
-            while owner == act:
-                lines.append(json)
-                owner, json = next(rows, (0, ""))
-            waiting[index] = owner, json
-        if act != number or digest != digest_of_lines(lines):
+            while waiting[index][0] == act:
+                yield waiting[index][1]
+                waiting[index] = next(rows, (0, ""))
+
+    before, number = BEGINNING, 0
+    acts = connection.execute(f"SELECT act, {ACT_AS_JSON}, digest FROM act ORDER BY act")
+    for number, (act, line, digest) in enumerate(acts, start=1):
+        if act != number or digest != digest_of_lines(itertools.chain([before, line], lines_of(act))):
             return number
         before = digest
     return number + 1 if any(owner for owner, _ in waiting) else None

@@ -1,15 +1,17 @@
 """What is asked of the book about letters: what came, what acts decided of it, and what was written to electors."""
 
-import dataclasses
+from typing import Final, NamedTuple
 
 from debvote_tools.book import queries
-from debvote_tools.book.book import Act, Book
+from debvote_tools.book.book import Book, NewAct
 
-WAITS, ENTERED, SET_ASIDE, PUT_BACK, TAKEN_BACK, STRUCK = "waits", "entered", "set aside", "put back", "taken back", "struck"
+WAITS, ENTERED, TAKEN_BACK, STRUCK = "waits", "entered", "taken back", "struck"
+# acts have these names, too
+SET_ASIDE: Final = "set aside"
+PUT_BACK: Final = "put back"
 
 
-@dataclasses.dataclass(frozen=True)
-class KeptLetter:
+class KeptLetter(NamedTuple):
     """A letter that came. Its number is its own, which it keeps; `state` is what the last act decided."""
 
     number: int
@@ -22,7 +24,7 @@ class KeptLetter:
     state: str
 
 
-LETTERS = """
+KEPT_LETTERS = """
 SELECT letter, act, source, identity, known, coalesce(
   (SELECT state FROM letter_state WHERE letter_state.letter = letter.letter ORDER BY act DESC LIMIT 1), 'waits')
 FROM letter ORDER BY letter
@@ -31,7 +33,7 @@ FROM letter ORDER BY letter
 
 def letters(book: Book) -> list[KeptLetter]:
     """All letters that came, in the order of their numbers."""
-    return [KeptLetter(*row) for row in book.rows(LETTERS)]
+    return [KeptLetter(*row) for row in book.rows(KEPT_LETTERS)]
 
 
 def have_come(book: Book) -> bool:
@@ -45,7 +47,6 @@ def known_digests(book: Book) -> set[tuple[str, bool]]:
 
 
 def source_of(book: Book, source: int) -> bytes:
-    """The bytes of a letter."""
     return bytes(book.rows("SELECT data FROM source WHERE source = ?", source)[0][0])
 
 
@@ -55,12 +56,12 @@ def undecided(kept: list[KeptLetter]) -> list[KeptLetter]:
     return [letter for letter in kept if letter.identity in identities]
 
 
-def keep_letter(act: Act, where: str, data: bytes, identity: str, known: str) -> int:
+def keep_letter(act: NewAct, where: str, data: bytes, identity: str, known: str) -> int:
     """Keeps a letter, byte for byte, and returns its number."""
-    return act.insert("letter", source=queries.keep(act, where, data), identity=identity, known=known)
+    return act.insert("letter", source=queries.keep_source(act, where, data), identity=identity, known=known)
 
 
-def decide(act: Act, letter: int, state: str) -> None:
+def decide(act: NewAct, letter: int, state: str) -> None:
     """Notes what an act decided of a letter."""
     act.insert("letter_state", letter=letter, state=state)
 

@@ -6,19 +6,18 @@ the same book, never at one that the book lacks.
 """
 
 import contextlib
-import dataclasses
 import hashlib
 import json
 import os
 import pathlib
 from collections.abc import Iterator
+from typing import NamedTuple
 
 from debvote_tools.faults import Fault, Status
 from debvote_tools.files import locked, write_whole
 
 
-@dataclasses.dataclass(frozen=True)
-class Note:
+class Note(NamedTuple):
     """An act of a book."""
 
     act: int
@@ -56,7 +55,7 @@ class MachineNote:
         with self.under_lock():
             before = None if is_moved else self.read()
             if before is None or before.act < note.act:
-                write_whole(self.file, json.dumps({"path": self.path, **dataclasses.asdict(note)}).encode(), 0o600)
+                write_whole(self.file, json.dumps({"path": self.path, **note._asdict()}).encode(), 0o600)
 
     @contextlib.contextmanager
     def under_lock(self) -> Iterator[None]:

@@ -1,14 +1,12 @@
 """What is asked of the book, by subject."""
 
-import dataclasses
 import datetime
 import itertools
 import json
 from collections.abc import Collection, Iterable
 from typing import NamedTuple
 
-from debvote_tools.book.book import Act, Book, as_text, from_text
-from debvote_tools.lines import ballot_file
+from debvote_tools.book.book import Book, NewAct, as_text, from_text
 
 
 # more names than a query takes are looked for among all
@@ -16,8 +14,7 @@ MOST_NAMES = 200
 
 
 # ---------------------------------------------------------------- electors
-@dataclasses.dataclass(frozen=True)
-class Elector:
+class Elector(NamedTuple):
     """An elector as the book has them now. `position` is the place in the list of members; None if they are no longer on it."""
 
     number: int
@@ -51,29 +48,29 @@ def electors(book: Book) -> list[Elector]:
     return [elector for elector in all_electors(book) if elector.position is not None]
 
 
-def new_elector(act: Act, name: str) -> Elector:
+def public_names(electors: Iterable[Elector]) -> dict[str, str]:
+    """What the public of a secret vote sees in place of each name: the alias; a code of the roll is a name that it sees."""
+    return {elector.name: elector.alias or elector.name for elector in electors}
+
+
+def new_elector(act: NewAct, name: str) -> Elector:
     """An elector whom the book did not know, not yet on the list."""
     return Elector(act.insert("elector", name=name), name, None, "", ())
 
 
-def put_elector(act: Act, elector: Elector) -> None:
-    """Notes what an elector is now."""
-    values = dataclasses.asdict(elector) | {"elector": elector.number, "mail": json.dumps(elector.addresses, ensure_ascii=False)}
-    for name in ("number", "name", "addresses"):
-        del values[name]
-    act.insert("elector_state", **values)
+def put_electors(act: NewAct, electors: Iterable[Elector]) -> None:
+    """Notes what electors are now."""
+    rows = (
+        (one.number, one.position, one.who, json.dumps(one.addresses, ensure_ascii=False), one.key, one.code, one.alias)
+        for one in electors
+    )
+    act.insert_all("elector_state", ["elector", "position", "who", "mail", "key", "code", "alias"], rows)
 
 
 # ---------------------------------------------------------------- what is sealed
-def sealed(book: Book, name: str) -> bytes | None:
-    """What was sealed last under a name."""
-    rows = book.rows("SELECT data FROM sealed WHERE name = ? ORDER BY act DESC LIMIT 1", name)
-    return rows[0][0] if rows else None
-
-
-def sealed_at(book: Book, name: str, act: int) -> bytes | None:
-    """What an act sealed under a name."""
-    rows = book.rows("SELECT data FROM sealed WHERE name = ? AND act = ?", name, act)
+def sealed(book: Book, name: str, act: int | None = None) -> bytes | None:
+    """What an act sealed under a name; of all acts the last that did."""
+    rows = book.rows("SELECT data FROM sealed WHERE name = ?1 AND act = coalesce(?2, act) ORDER BY act DESC LIMIT 1", name, act)
     return rows[0][0] if rows else None
 
 
@@ -83,8 +80,7 @@ def last_act_that_sealed(book: Book, name: str) -> int:
 
 
 # ---------------------------------------------------------------- envelopes
-@dataclasses.dataclass(frozen=True)
-class Envelope:
+class Envelope(NamedTuple):
     """A line that was entered, in its envelope. The number is the envelope's, which it keeps."""
 
     number: int
@@ -106,35 +102,35 @@ ENVELOPES = "envelope LEFT JOIN struck USING (envelope)"
 NOT_STRUCK = "struck.act IS NULL"
 IN_TIME, LATE = f"late = 0 AND {NOT_STRUCK}", f"late = 1 AND {NOT_STRUCK}"
 
-COLUMNS = "envelope, envelope.act, elector, line, source, letter, place, time, late, struck.act"
+ENVELOPE_COLUMNS = "envelope, envelope.act, elector, line, source, letter, place, time, late, struck.act"
 
 
 def envelopes(book: Book, condition: str = "1", *values: object) -> list[Envelope]:
     """The envelopes that meet a condition, in their order."""
-    rows = book.rows(f"SELECT {COLUMNS} FROM {ENVELOPES} WHERE {condition} ORDER BY envelope", *values)
+    rows = book.rows(f"SELECT {ENVELOPE_COLUMNS} FROM {ENVELOPES} WHERE {condition} ORDER BY envelope", *values)
     return [
         Envelope(number, act, elector, line, source, letter, place, from_text(time), bool(late), struck)
         for number, act, elector, line, source, letter, place, time, late, struck in rows
     ]
 
 
-def lines(book: Book, condition: str, *values: object) -> list[tuple[int, bytes]]:
-    """Number and line of each envelope that meets a condition, in their order."""
-    return book.rows(f"SELECT envelope, line FROM {ENVELOPES} WHERE {condition} ORDER BY envelope", *values)
+def lines(book: Book, condition: str, *values: object) -> list[bytes]:
+    """The line of each envelope that meets a condition, in their order."""
+    return [line for line, in book.rows(f"SELECT line FROM {ENVELOPES} WHERE {condition} ORDER BY envelope", *values)]
 
 
-def lines_in_time(book: Book) -> list[tuple[int, bytes]]:
-    """Number and line of each envelope that came in time and is not struck: the ballots that are counted, in their order."""
+def lines_in_time(book: Book) -> list[bytes]:
+    """The line of each envelope that came in time and is not struck: the ballots that are counted, in their order."""
     return lines(book, IN_TIME)
 
 
-def ballots_of(lines: Iterable[tuple[int, bytes]]) -> bytes:
-    """The ballot file of numbered lines."""
-    return ballot_file(line for _, line in lines)
+def numbered_lines_in_time(book: Book) -> list[tuple[int, bytes]]:
+    """The same lines, each with the number of its envelope."""
+    return book.rows(f"SELECT envelope, line FROM {ENVELOPES} WHERE {IN_TIME} ORDER BY envelope")
 
 
-def late_lines(book: Book) -> list[tuple[int, bytes]]:
-    """Number and line of each envelope that was entered while the vote was closed, and is not struck."""
+def late_lines(book: Book) -> list[bytes]:
+    """The line of each envelope that was entered while the vote was closed, and is not struck."""
     return lines(book, LATE)
 
 
@@ -144,8 +140,7 @@ def has_come(book: Book, since: int) -> bool:
     return bool(book.rows(words, since, since)[0][0])
 
 
-def strike(act: Act, numbers: Iterable[int]) -> None:
-    """Strikes envelopes."""
+def strike_envelopes(act: NewAct, numbers: Iterable[int]) -> None:
     act.insert_all("struck", ["envelope"], ((number,) for number in numbers))
 
 
@@ -159,7 +154,7 @@ class NewEnvelope(NamedTuple):
     time: datetime.datetime | None = None
 
 
-def enter(act: Act, new: Iterable[NewEnvelope], electors: Iterable[int | None], *, is_late: bool) -> None:
+def add_envelopes(act: NewAct, new: Iterable[NewEnvelope], electors: Iterable[int | None], *, is_late: bool) -> None:
     """Enters lines, each with the elector with whose name it begins."""
     for (source, letter, time), group in itertools.groupby(zip(electors, new), key=shared):
         rows = ((elector, envelope.line, envelope.place) for elector, envelope in group)
@@ -185,8 +180,7 @@ def elector_numbers(book: Book, names: Collection[str]) -> dict[str, int]:
 
 
 # ---------------------------------------------------------------- sources
-def keep(act: Act, name: str, data: bytes) -> int:
-    """Keeps what came, byte for byte."""
+def keep_source(act: NewAct, name: str, data: bytes) -> int:
     return act.insert("source", name=name, data=data)
 
 

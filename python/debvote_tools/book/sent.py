@@ -6,7 +6,7 @@ import json
 from collections.abc import Iterable
 from typing import Any
 
-from debvote_tools.book.book import Act, Book, from_text
+from debvote_tools.book.book import Book, NewAct, from_text
 
 # it is written; the server may have it; the server has taken it; it takes it never, or not now
 WRITTEN, BEGUN, TAKEN, REFUSED, POSTPONED = "written", "begun", "taken", "refused", "postponed"
@@ -57,8 +57,7 @@ def sent_to(book: Book, elector: int) -> list[SentLetter]:
     return sorted(found, key=lambda letter: letter.time)
 
 
-def note_written(act: Act, letters: Iterable[SentLetter]) -> None:
-    """Notes letters that are written."""
+def note_written(act: NewAct, letters: Iterable[SentLetter]) -> None:
     act.insert_all("sent", COLUMNS, ((letter.elector, letter.kind, WRITTEN, written_detail(letter)) for letter in letters))
 
 
@@ -73,8 +72,7 @@ def written_detail(letter: SentLetter) -> str:
     return json.dumps(detail, ensure_ascii=False)
 
 
-def note_state(act: Act, letter: SentLetter) -> None:
-    """Notes the state of a letter that was written before."""
+def note_state(act: NewAct, letter: SentLetter) -> None:
     detail = {"message_id": letter.message_id, **({"reply": letter.reply} if letter.reply else {})}
     text = json.dumps(detail, ensure_ascii=False)
     act.insert("sent", elector=letter.elector, kind=letter.kind, state=letter.state, detail=text)

@@ -9,6 +9,9 @@ from debvote_tools.election.election import Election
 from debvote_tools.faults import Fault, Status
 from debvote_tools.terminal_text import LINE_ENDS, number_of, odd_sign
 
+# in characters; a reason is a sentence or some
+LONGEST_REASON = 2_000
+
 
 @dataclasses.dataclass(frozen=True)
 class Arguments:
@@ -44,18 +47,29 @@ def demand_whole(book: Book) -> None:
 
 def tell_strangeness(book: Book) -> None:
     """Says why this may not be the book that this machine worked on last."""
-    why = book.strangeness()
+    try:
+        why = book.strangeness(book.note().read())
+    except Fault as fault:
+        why = str(fault.reason)
     if why is not None:
         tell(f"Note: {book.path}: {why}.")
 
 
-def demand_reason(because: str | None, option: str) -> str:
-    """The reason that an option needs: one line of plain text."""
-    if because is None or not because.strip():
+def has_reason(because: str | None) -> bool:
+    return bool(because and because.strip())
+
+
+def demand_reason(because: str | None, option: str, *, has_paragraphs: bool = False) -> str:
+    """The reason that an option needs: one line of plain text, or several."""
+    text = (because or "").strip()
+    if not text:
         cure = 'write it: --because "TEXT"'
         raise Fault(option, "it needs a reason, which the log keeps", cure, Status.BAD_WORDS)
-    character = odd_sign(because.strip(), refused=LINE_ENDS)
-    if character is not None:
-        words = f"the text has the character {number_of(character)}, which no plain text has"
+    odd = odd_sign(text, allowed="\t\n") if has_paragraphs else odd_sign(text, refused=LINE_ENDS)
+    if odd is not None:
+        words = f"the text has the character {number_of(odd)}, which no plain text has"
         raise Fault("--because", words, "take it out", Status.BAD_WORDS)
-    return because.strip()
+    if len(text) > LONGEST_REASON:
+        words = f"the text has {len(text)} characters, {LONGEST_REASON} are the most"
+        raise Fault("--because", words, "shorten it", Status.BAD_WORDS)
+    return text

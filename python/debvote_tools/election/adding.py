@@ -8,24 +8,24 @@
 import collections
 import contextlib
 import dataclasses
-import gc
 import re
 from collections.abc import Iterator, Sequence
-from typing import Any
+from typing import NamedTuple
 
 from debvote_tools.arguments import flag, option, positional
 from debvote_tools.book import queries
-from debvote_tools.book.book import Act, Book, Overtaken
+from debvote_tools.book.acts import Detail
+from debvote_tools.book.book import Book, NewAct, Overtaken
 from debvote_tools.book.queries import NewEnvelope
-from debvote_tools.console import tell
+from debvote_tools.console import tell, tell_many
 from debvote_tools.election import acting, in_time
-from debvote_tools.election.batch import BatchLine, Vote
-from debvote_tools.election.batch_words import LineWords, summary
+from debvote_tools.election.vote import JudgedLine, Vote
+from debvote_tools.election.line_words import LineWords, summary
 from debvote_tools.election.came import NOTHING_ADDED, CameFile
 from debvote_tools.election.came_before import NewAndRepeated, sorted_out
 from debvote_tools.election.csv_ballots import Columns, lines_of_table
-from debvote_tools.election.election import KEYRING, Election
-from debvote_tools.election.entering import LATE, entered, is_too_long, long_words
+from debvote_tools.election.election import Election, is_signed
+from debvote_tools.election.entering import LATE_REPLY, entered, is_too_long, long_words
 from debvote_tools.election.history import History
 from debvote_tools.election.in_time import Openness, openness_of
 from debvote_tools.election.reporting import count_of
@@ -67,12 +67,11 @@ class Arguments(in_time.Arguments):
     force: bool = flag("Add them although few lines are ballots, one is very long, or an older ballot would replace a later one")
 
 
-@dataclasses.dataclass(frozen=True)
-class FileLines:
+class FileLines(NamedTuple):
     """A file and its lines, in the order in which they are entered."""
 
     came: CameFile
-    lines: tuple[BatchLine, ...]
+    lines: tuple[JudgedLine, ...]
     empty: tuple[Line, ...]
 
 
@@ -88,14 +87,14 @@ class Plan:
     files: tuple[tuple[FileLines, NewAndRepeated], ...]
 
     @property
-    def new_lines(self) -> list[BatchLine]:
+    def new_lines(self) -> list[JudgedLine]:
         """The lines of all files that go in."""
         return [line for _, found in self.files for line in found.new]
 
-    def envelopes(self, act: Act) -> Iterator[NewEnvelope]:
+    def envelopes(self, act: NewAct) -> Iterator[NewEnvelope]:
         """What goes in, while the act is written: each file is kept whole before its lines."""
         for file, found in self.files:
-            source = queries.keep(act, file.came.kept_name, file.came.data)
+            source = queries.keep_source(act, file.came.kept_name, file.came.data)
             for line in found.new:
                 yield NewEnvelope(line.as_entered, line.line.place, source)
 
@@ -108,8 +107,6 @@ def doubt(where: object, words: str, cure: str) -> Fault:
 # ---------------------------------------------------------------- reading
 def read_lines(vote: Vote, files: Sequence[CameFile], columns: Columns | None, arguments: Arguments) -> list[FileLines]:
     """The lines of the files, with what debvote says of them."""
-    # the many lines have no cycles, and to look for some again and again takes a while
-    gc.disable()
     lists = [lines_in(file.data, file.name) if columns is None else lines_of_table(file.data, file.name, columns) for file in files]
     what = "it has empty lines alone" if columns is None else "it has no row of a ballot"
     empty = [file for file, lines in zip(files, lists) if all(line.is_empty for line in lines)]
@@ -133,14 +130,14 @@ def plan_of(book: Book, vote: Vote, files: Sequence[FileLines], arguments: Argum
     if openness.call != vote.call:
         raise doubt(None, "the vote was called anew meanwhile", "run the command again")
     found = sorted_out(book, [file.lines for file in files], takes_again=arguments.again, is_reopened=openness.is_reopened)
-    is_signed = queries.last_act_that_sealed(book, KEYRING) >= vote.call
-    return Plan(history.last.number, openness, is_signed, bool(history.announced("form")), tuple(zip(files, found)))
+    has_form, signed = bool(history.announced("form")), is_signed(book, vote.call)
+    return Plan(history.last.number, openness, signed, has_form, tuple(zip(files, found)))
 
 
 def demand_nothing_against(vote: Vote, plan: Plan, arguments: Arguments) -> None:
     """Stops at what a person has to look at first; all of it is said at once."""
     faults = list(orders_missing(plan)) if is_unsorted(arguments) else []
-    if plan.new_lines and plan.is_signed and not (arguments.force and (arguments.because or "").strip()):
+    if plan.new_lines and plan.is_signed and not (arguments.force and acting.has_reason(arguments.because)):
         words = "letters have to be signed in this vote, and nothing says who has sent a line of a file"
         cure = "add the letters themselves; or, if you know by other means who has sent each line, give --force --because TEXT"
         faults.append(doubt(plan.files[0][0].came.name, words, cure))
@@ -165,19 +162,19 @@ def orders_missing(plan: Plan) -> Iterator[Fault]:
             yield doubt(file.came.name, words, "say how its rows are sorted: --oldest-first or --newest-first")
 
 
-def pairs_that_differ(file: FileLines) -> Iterator[tuple[BatchLine, BatchLine]]:
+def pairs_that_differ(file: FileLines) -> Iterator[tuple[JudgedLine, JudgedLine]]:
     """Two ballots of one elector that differ, one above the other."""
-    above: dict[str, list[BatchLine]] = collections.defaultdict(list)
+    above: dict[str, list[JudgedLine]] = collections.defaultdict(list)
     for line in file.lines:
         if line.is_ballot:
             yield from ((other, line) for other in above[line.voter] if other.ranks != line.ranks)
             above[line.voter].append(line)
 
 
-def new_one_above(file: FileLines, found: NewAndRepeated) -> tuple[BatchLine, BatchLine] | None:
+def new_one_above(file: FileLines, found: NewAndRepeated) -> tuple[JudgedLine, JudgedLine] | None:
     """A new ballot and one below it that came before, of one elector, which differ. By this order the new one is older, and would count."""
     new = {line.line.place for line in found.new} if found.repeated else set()
-    above: dict[str, BatchLine] = {}
+    above: dict[str, JudgedLine] = {}
     for line in file.lines if new else ():
         if line.is_ballot and line.line.place in new:
             above[line.voter] = line
@@ -186,7 +183,7 @@ def new_one_above(file: FileLines, found: NewAndRepeated) -> tuple[BatchLine, Ba
     return None
 
 
-def place_in(line: BatchLine) -> str:
+def place_in(line: JudgedLine) -> str:
     """Where a line is in its file, as `line 3` or `row 3`."""
     place = line.line.place.lstrip(": ")
     return f"line {place}" if place.isdigit() else place
@@ -213,7 +210,7 @@ def doubts(vote: Vote, plan: Plan, arguments: Arguments) -> Iterator[Fault]:
 
 
 # ---------------------------------------------------------------- a file that has other lines than ballots
-def has_few_ballots(lines: Sequence[BatchLine]) -> bool:
+def has_few_ballots(lines: Sequence[JudgedLine]) -> bool:
     """Whether fewer than half of several lines are ballots. One line alone is looked at by whoever adds it."""
     return len(lines) > 1 and sum(line.is_ballot for line in lines) * 2 < len(lines)
 
@@ -223,7 +220,7 @@ def with_few_ballots(files: Sequence[FileLines]) -> list[FileLines]:
     few = [file for file in files if has_few_ballots(file.lines)]
     all_lines = tuple(line for file in files for line in file.lines)
     if not few and len(files) > 1 and has_few_ballots(all_lines):
-        return [dataclasses.replace(files[0], lines=all_lines)]
+        return [files[0]._replace(lines=all_lines)]
     return few
 
 
@@ -246,7 +243,7 @@ def few_ballots(file: FileLines, arguments: Arguments) -> Fault:
     return doubt(file.came.name, words, f"{cure_of(file, refused[0], arguments)}, or {FORCE}")
 
 
-def cure_of(file: FileLines, refused: BatchLine, arguments: Arguments) -> str:
+def cure_of(file: FileLines, refused: JudgedLine, arguments: Arguments) -> str:
     """What to do, by what the file looks like."""
     if arguments.csv:
         return "look whether --name and --ranks name the right columns, the ranks in the order of the options"
@@ -265,7 +262,7 @@ def looks_like_members(data: bytes) -> bool:
     return MEMBERS_HEADS <= {cell.strip(' \t\r"').casefold() for cell in re.split("[,;\t]", head)}
 
 
-def looks_like_table(lines: Sequence[BatchLine]) -> bool:
+def looks_like_table(lines: Sequence[JudgedLine]) -> bool:
     """Whether all lines have as many delimiters, and most have no shape of a ballot."""
     if sum(line.finding is not None and line.finding.word == "bad shape" for line in lines) * 2 <= len(lines):
         return False
@@ -283,10 +280,6 @@ def add(election: Election, book: Book, vote: Vote, files: Sequence[FileLines], 
             tell(*report(election, vote, plan, (), ()), "Nothing is new. Nothing was added.")
             return plan
         came_before_close = in_time.came_before_close(plan.openness, arguments.came_before_close, NOTHING_ADDED)
-
-        def is_same() -> bool:
-            return plan_of(book, vote, files, arguments) == plan
-
         with contextlib.suppress(Overtaken):
             with entered(
                 book,
@@ -296,16 +289,16 @@ def add(election: Election, book: Book, vote: Vote, files: Sequence[FileLines], 
                 plan.envelopes,
                 decided_at=plan.decided_at,
                 is_late=plan.openness.is_late(came_before_close),
-                is_same=is_same,
+                is_same=lambda: plan_of(book, vote, files, arguments) == plan,
             ) as done:
                 replies = done.replies()
-                tell(*report(election, vote, plan, done.numbers, replies), f"Added {summary(replies)}.")
+                tell_many(report(election, vote, plan, done.numbers, replies))
+                tell(f"Added {summary(replies)}.")
             return plan
 
 
-def detail_of(plan: Plan, arguments: Arguments, came_before_close: bool | None) -> dict[str, Any]:
-    """What the log keeps of it."""
-    detail: dict[str, Any] = {
+def detail_of(plan: Plan, arguments: Arguments, came_before_close: bool | None) -> Detail:
+    detail: Detail = {
         "files": [file.came.kept_name for file, _ in plan.files],
         "lines": len(plan.new_lines),
         "passed_over": sum(len(found.repeated) for _, found in plan.files),
@@ -315,7 +308,7 @@ def detail_of(plan: Plan, arguments: Arguments, came_before_close: bool | None) 
     if came_before_close is not None:
         detail["came_before_close"] = came_before_close
     if plan.is_signed:
-        detail |= {"unsigned": True, "because": acting.demand_reason(arguments.because, "--force")}
+        detail.update({"unsigned": True, "because": acting.demand_reason(arguments.because, "--force")})
     return detail
 
 
@@ -327,13 +320,12 @@ def look(election: Election, vote: Vote, files: Sequence[FileLines], arguments: 
         lines = queries.lines_in_time(book)
         first = queries.last_envelope(book) + 1
     numbers = range(first, first + len(plan.new_lines))
-    replies = [LATE] * len(numbers)
+    replies = [LATE_REPLY] * len(numbers)
     if numbers and not plan.openness.is_late(arguments.came_before_close != "no"):
-        all_replies = vote.replies([*lines, *zip(numbers, (line.as_entered for line in plan.new_lines))])
-        replies = [all_replies[number] for number in numbers]
+        replies = vote.replies(lines, [line.as_entered for line in plan.new_lines])
     if plan.openness.is_reopened and arguments.came_before_close is None:
         tell("Note: add will ask whether they came before the close; here they are taken to.")
-    tell(*report(election, vote, plan, numbers, replies, is_entered=False))
+    tell_many(report(election, vote, plan, numbers, replies, is_entered=False))
     demand_nothing_against(vote, plan, arguments)
     tell(f"These would be {summary(replies)}. Nothing was changed.")
 
@@ -358,9 +350,9 @@ def repeated_words(file: FileLines, found: NewAndRepeated) -> Iterator[str]:
     """The lines of a file that came before, in words."""
     if not found.repeated:
         return
-    passed = "came before, and is passed over" if len(found.repeated) == 1 else "came before, and are passed over"
+    ignored = "is ignored, since it came before" if len(found.repeated) == 1 else "are ignored, since they came before"
     new = f"{len(found.new)} {'is' if len(found.new) == 1 else 'are'} new"
-    yield f"{file.came.name}: {count_of(len(found.repeated), 'line')} {passed}; {new}"
+    yield f"{file.came.name}: {count_of(len(found.repeated), 'line')} {ignored}; {new}"
     changed = [repeated for repeated in found.repeated if repeated.change is not None]
     for repeated in changed[:MAX_REPEATED]:
         line = repeated.line
@@ -369,13 +361,13 @@ def repeated_words(file: FileLines, found: NewAndRepeated) -> Iterator[str]:
         yield f"  and {len(changed) - MAX_REPEATED} more that --again enters again"
 
 
-def duplicate_words(file: FileLines, lines: Sequence[BatchLine]) -> Iterator[str]:
+def duplicate_words(file: FileLines, lines: Sequence[JudgedLine]) -> Iterator[str]:
     """The electors of whom a file has several new ballots, in words."""
-    by_voter: dict[str, list[str]] = {}
+    by_name: dict[bytes, list[str]] = collections.defaultdict(list)
     for line in lines:
-        if line.is_ballot:
-            by_voter.setdefault(line.voter, []).append(line.line.place)
-    for voter, places in by_voter.items():
+        if line.finding is None:
+            by_name[line.as_entered.partition(b" ")[0]].append(line.line.place)
+    for name, places in by_name.items():
         if len(places) > 1:
             listed = ", ".join(place.lstrip(": ") for place in places[:5]) + (", .." if places[5:] else "")
-            yield f"Note: {file.came.name} has {len(places)} ballots of {voter} ({listed}); the last one counts."
+            yield f"Note: {file.came.name} has {len(places)} ballots of {name.decode()} ({listed}); the last one counts."

@@ -1,23 +1,24 @@
 """What the call of an election says, by the book."""
 
 import datetime
-from typing import Any
 
 from debvote_tools.book import queries
+from debvote_tools.book.acts import Detail
 from debvote_tools.call.data import CallData
 from debvote_tools.election.election import Election, Sealed
 from debvote_tools.election.history import History
 
 
-def current_data(election: Election, history: History | None = None, said: dict[str, Any] | None = None) -> CallData:
+def current_data(election: Election, history: History | None = None, said: Detail | None = None) -> CallData:
     """What the call says as it is now, and with what would be said by a further act."""
     history, said = history or election.history(), said or {}
     assert history.call is not None
-    so_far = {key: said.get(key) or history.announced(key) for key in ("to", "at")}
-    return call_data(election, election.sealed(), history.call.detail | so_far, time_of(said) or history.until)
+    detail = history.call.detail.copy()
+    detail.update({"to": said.get("to") or history.announced("to"), "at": said.get("at") or history.announced("at")})
+    return call_data(election, election.sealed(), detail, until_of(said) or history.until)
 
 
-def call_data(election: Election, sealed: Sealed, detail: dict[str, Any], until: datetime.datetime | None) -> CallData:
+def call_data(election: Election, sealed: Sealed, detail: Detail, until: datetime.datetime | None) -> CallData:
     """What the page and the letter say."""
     electors = queries.electors(election.book)
     return CallData(
@@ -35,6 +36,6 @@ def call_data(election: Election, sealed: Sealed, detail: dict[str, Any], until:
     )
 
 
-def time_of(said: dict[str, Any]) -> datetime.datetime | None:
+def until_of(said: Detail) -> datetime.datetime | None:
     """The end that the command line names."""
     return datetime.datetime.fromisoformat(said["until"]) if "until" in said else None

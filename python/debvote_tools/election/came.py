@@ -1,12 +1,12 @@
 """What came for an election, as `add` reads it: files of lines, tables, and standard input."""
 
 import codecs
-import dataclasses
 import os
 import pathlib
 import re
 import sys
 from collections.abc import Mapping, Sequence
+from typing import NamedTuple
 
 from debvote_tools.console import tell
 from debvote_tools.election.election import Election
@@ -32,8 +32,7 @@ CURES = {
 POLL_KEY = re.compile(rb"(?m)^[ \t]*\"?(%b)\"?[ \t]*=" % "|".join(REQUIRED).encode())
 
 
-@dataclasses.dataclass(frozen=True)
-class CameFile:
+class CameFile(NamedTuple):
     """A file as it came: its name as the user gave it, and its bytes."""
 
     name: str
@@ -70,7 +69,7 @@ def are_all_letters(files: Mapping[str, CameFile | None]) -> bool:
 
 
 # ---------------------------------------------------------------- reading
-def read(election: Election, paths: Sequence[str], *, is_table: bool) -> dict[str, CameFile | None]:
+def read_files(election: Election, paths: Sequence[str], *, is_table: bool) -> dict[str, CameFile | None]:
     """Reads what these paths name, standard input if there is none, each whole; a folder is None. Stops at what has neither ballots nor
     letters; all that is wrong is said at once.
     """

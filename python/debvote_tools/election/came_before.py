@@ -4,36 +4,34 @@ A line is known as it is entered. The k-th of equal lines in a file came before 
 back: counted, refused, struck or late. So a form that is exported again with more rows adds the new ones.
 """
 
-import dataclasses
 from collections.abc import Iterable, Sequence
+from typing import NamedTuple
 
-from debvote_tools.book import entered
+from debvote_tools.book import lines_by_act
 from debvote_tools.book.book import Book
-from debvote_tools.book.entered import EnvelopeOfFile
-from debvote_tools.election.batch import BatchLine
+from debvote_tools.book.lines_by_act import EnvelopeOfFile
+from debvote_tools.election.vote import JudgedLine
 
 
-@dataclasses.dataclass(frozen=True)
-class Repeated:
+class Repeated(NamedTuple):
     """A line that came before. `change` says what has happened since, if it no longer counts: then `--again` takes it."""
 
-    line: BatchLine
+    line: JudgedLine
     change: str | None
 
 
-@dataclasses.dataclass(frozen=True)
-class NewAndRepeated:
+class NewAndRepeated(NamedTuple):
     """The lines of a file: those that go in, and those that came before, in the order in which they stand."""
 
-    new: tuple[BatchLine, ...]
+    new: tuple[JudgedLine, ...]
     repeated: tuple[Repeated, ...] = ()
     # the envelopes of lines that go in again: from then on such a line is known by its new envelope
     again: tuple[int, ...] = ()
 
 
-def sorted_out(book: Book, files: Sequence[Sequence[BatchLine]], *, takes_again: bool, is_reopened: bool) -> list[NewAndRepeated]:
+def sorted_out(book: Book, files: Sequence[Sequence[JudgedLine]], *, takes_again: bool, is_reopened: bool) -> list[NewAndRepeated]:
     """The lines of each file. A file that goes in counts as an earlier one of those after it."""
-    counts = entered.lines_that_came(book)
+    counts = lines_by_act.lines_that_came(book)
     if len(files) == 1 and not any(line.as_entered in counts for line in files[0]):
         return [NewAndRepeated(tuple(files[0]))]
     kth = [list(with_occurrence(lines)) for lines in files]
@@ -58,7 +56,7 @@ def sorted_out(book: Book, files: Sequence[Sequence[BatchLine]], *, takes_again:
     return found
 
 
-def with_occurrence(lines: Iterable[BatchLine]) -> Iterable[tuple[int, BatchLine]]:
+def with_occurrence(lines: Iterable[JudgedLine]) -> Iterable[tuple[int, JudgedLine]]:
     """Each line with its number among those that are equal to it."""
     counts: dict[bytes, int] = {}
     for line in lines:
@@ -69,22 +67,22 @@ def with_occurrence(lines: Iterable[BatchLine]) -> Iterable[tuple[int, BatchLine
 class Earlier:
     """The envelopes of lines that came before."""
 
-    def __init__(self, book: Book, lines: Iterable[tuple[int, BatchLine]], *, is_reopened: bool) -> None:
+    def __init__(self, book: Book, lines: Iterable[tuple[int, JudgedLine]], *, is_reopened: bool) -> None:
         self.is_reopened = is_reopened
-        self.by_line = entered.came_in_files(book)
+        self.by_line = lines_by_act.came_in_files(book)
         # the lines of the files before, which go in together with these
         self.going_in: set[bytes] = set()
-        self.last = entered.last_numbers(book)
+        self.last = lines_by_act.last_numbers(book)
         # the envelopes that the lines of the files are: a later row of the same file is nothing that came since
         matched = (self.envelope(nth, line) for nth, line in lines)
         self.matched = {envelope.number for envelope in matched if envelope is not None}
 
-    def envelope(self, nth: int, line: BatchLine) -> EnvelopeOfFile | None:
+    def envelope(self, nth: int, line: JudgedLine) -> EnvelopeOfFile | None:
         """The envelope of a line that came before; None if it comes first now."""
         envelopes = self.by_line.get(line.as_entered, [])
         return envelopes[nth - 1] if nth <= len(envelopes) else None
 
-    def change_since(self, nth: int, line: BatchLine) -> str | None:
+    def change_since(self, nth: int, line: JudgedLine) -> str | None:
         """Why a line that came no longer counts: it was struck, its elector has sent another ballot, or it was late before a reopen."""
         envelope = self.envelope(nth, line)
         if envelope is None or line.as_entered in self.going_in:

@@ -1,6 +1,7 @@
 """The command line of debvote-election."""
 
 import argparse
+import gc
 import importlib
 import pathlib
 import signal
@@ -25,14 +26,8 @@ COMMANDS = (
 QUIET = ("check", "show", "status", "count", "log")
 
 
-def modules_for(words: Sequence[str]) -> set[str]:
-    """The commands whose modules these words need: each takes a while to be read, and most runs need one of them."""
-    named = {name for name in COMMANDS if name in words}
-    return named if named and not {"-h", "--help"} & set(words) else set(COMMANDS)
-
-
-def parser(words: Sequence[str] = COMMANDS) -> argparse.ArgumentParser:
-    """The command line: each command, and its options if it may be the one that these words ask for."""
+def parser(words: Sequence[str] = ()) -> argparse.ArgumentParser:
+    """The command line. If these words begin with a command, that one alone: the module of each takes a while to be read."""
     # --folder may come before the command and after it
     folder = argparse.ArgumentParser(add_help=False)
     folder.add_argument(
@@ -45,11 +40,7 @@ def parser(words: Sequence[str] = COMMANDS) -> argparse.ArgumentParser:
         description="Holds an election in one folder, from the list of members to the published result, by debvote.",
     )
     commands = top.add_subparsers(dest="command", metavar="COMMAND", required=True)
-    needed = modules_for(words)
-    for name in COMMANDS:
-        if name not in needed:
-            commands.add_parser(name)
-            continue
+    for name in words[:1] if words and words[0] in COMMANDS else COMMANDS:
         module = importlib.import_module(f"debvote_tools.election.commands.{name}")
         command = commands.add_parser(name, help=module.HELP, description=f"{module.HELP}.", allow_abbrev=False, parents=[folder])
         arguments.add_arguments(command, module.Arguments)
@@ -64,6 +55,8 @@ def main(program_folder: pathlib.Path, words: Sequence[str] | None = None) -> in
     if not console.has_output():
         return console.failed(PROGRAM, "standard output is closed; nothing was changed", Status.BAD_OUTPUT)
     console.prepare()
+    # lines and letters have no cycles: to look for some again and again takes a seventh of the time of `add`
+    gc.disable()
     words = sys.argv[1:] if words is None else words
     namespace = parser(words).parse_args(words)
     signal.signal(signal.SIGINT, signal.default_int_handler)

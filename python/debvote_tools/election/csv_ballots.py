@@ -1,9 +1,9 @@
 """The rows of a web form, as a spreadsheet or the form saves them: a row is a ballot, with one column a rank."""
 
 import csv
-import dataclasses
 import re
 from collections.abc import Collection, Sequence
+from typing import NamedTuple
 
 from debvote_tools.ballots import UNRANKED
 from debvote_tools.election.csv_tables import BadTable, Row, Table, head_form, read_table
@@ -12,8 +12,7 @@ from debvote_tools.faults import Fault, Status
 from debvote_tools.lines import BLANKS, Line
 
 
-@dataclasses.dataclass(frozen=True)
-class Columns:
+class Columns(NamedTuple):
     """The heads of the columns that are read: that of the names, and that of each rank in the order of the options."""
 
     name: str
@@ -109,6 +108,5 @@ def line_of(row: Row, indices: Sequence[int], file_name: str, *, is_blank_unrank
 
 
 def line_from(cells: Sequence[bytes]) -> bytes:
-    """A line of a name and ranks."""
     elector, *ranks = cells
     return elector + b" " + b",".join(ranks)

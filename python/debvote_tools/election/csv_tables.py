@@ -2,10 +2,10 @@
 
 import codecs
 import csv
-import dataclasses
 import io
 import re
 from collections.abc import Collection
+from typing import NamedTuple
 
 from debvote_tools.file_kinds import kind_of
 from debvote_tools.terminal_text import shown_text
@@ -29,12 +29,10 @@ class BadTable(Exception):
         self.reason, self.cure, self.line = reason, cure, line
 
     def where(self, file: object) -> str:
-        """The file, with the line if there is one."""
         return f"{file}" if self.line is None else f"{file}:{self.line}"
 
 
-@dataclasses.dataclass(frozen=True)
-class Row:
+class Row(NamedTuple):
     """A row with the line of the file where it begins, both counted from 1."""
 
     number: int
@@ -54,8 +52,7 @@ class Row:
         return [cell.strip() for cell in self.cells[width:] if cell.strip()]
 
 
-@dataclasses.dataclass(frozen=True)
-class Table:
+class Table(NamedTuple):
     """The rows below the head line, blank ones too, and the heads in a form to be compared."""
 
     head: Row
@@ -85,7 +82,7 @@ def read_table(data: bytes, wanted_heads: Collection[str], *, skips_spaces: bool
 
     Spaces before a cell may be skipped: then quotation marks after them count as such. Raises `BadTable`.
     """
-    text = text_of(data)
+    text = decoded(data)
     head_line = next((line for line in re.split(r"[\r\n]+", text) if line.strip(' \t,;"')), "")
     wanted = {head_form(head) for head in wanted_heads}
 
@@ -101,7 +98,7 @@ def read_table(data: bytes, wanted_heads: Collection[str], *, skips_spaces: bool
     return Table(head, rows[head.number :])
 
 
-def text_of(data: bytes) -> str:
+def decoded(data: bytes) -> str:
     """The text of a file, by its mark; without one it is in UTF-8."""
     kind = kind_of(data)
     if kind is not None:

@@ -11,7 +11,7 @@ from typing import Any
 
 from debvote_tools.election.election import POLL_FILE, TEXTS
 from debvote_tools.faults import Fault, Status
-from debvote_tools.files import POLL_LIMIT, plain_text, read_whole
+from debvote_tools.files import POLL_LIMIT, file_text, read_whole
 from debvote_tools.plain_names import bad_options, bad_title, plain_options, plain_title, without_accents
 from debvote_tools.sealed_poll import KEYS, is_set, plain_form
 from debvote_tools.terminal_text import LINE_ENDS, shown_text
@@ -44,7 +44,7 @@ SET_ELSEWHERE = {
 
 RANK = "(?:-|[1-9][0-9]?)"
 # how accents may be taken off a name in a letter, and how long a real name may be, in characters
-FOLDINGS, LONGEST_NAME = ("en", "de"), 200
+FOLDINGS, LONGEST_REAL_NAME = ("en", "de"), 200
 BRACKETS = "([{<"
 
 
@@ -88,13 +88,13 @@ def read_name(value: object) -> str:
 def draft_in(folder: pathlib.Path) -> DraftPoll:
     """Reads the poll of a folder, and the texts beside it. Raises `Fault` if the poll can't be read at all, as `BadToml`."""
     file = folder / POLL_FILE
-    values = parsed(read_whole(file, POLL_LIMIT, "write it", THEN), file)
+    values = parsed_toml(read_whole(file, POLL_LIMIT, "write it", THEN), file)
     draft = DraftPoll(values, {}, (), folder)
     texts, faults = texts_in(folder / TEXTS, len(draft.options))
     return dataclasses.replace(draft, texts=texts, faults=(*faults_of_keys(values, file), *faults))
 
 
-def parsed(data: bytes, file: pathlib.Path) -> dict[str, Any]:
+def parsed_toml(data: bytes, file: pathlib.Path) -> dict[str, Any]:
     """The keys of a poll and their values."""
     try:
         return tomllib.loads(data.removeprefix(b"\xef\xbb\xbf").decode("utf-8"))
@@ -159,7 +159,7 @@ def texts_in(folder: pathlib.Path, option_count: int) -> tuple[dict[int, str], l
             number = number_of_text(file, option_count)
             data = read_whole(file, TEXTS_LIMIT, "put a file there that you may read", THEN)
             size += len(data)
-            texts[number] = plain_text(data, file, "write it, or take the file away", THEN, refused=LINE_ENDS)
+            texts[number] = file_text(data, file, "write it, or take the file away", THEN, refused=LINE_ENDS)
         except Fault as fault:
             faults.append(fault)
     if size > TEXTS_LIMIT:
@@ -208,7 +208,7 @@ def ballots_of_text(text: str, names_by_last_word: Mapping[str, Collection[str]]
     found: dict[str, None] = {}
     for repaired in {as_repaired(text, language): None for language in FOLDINGS}:
         for match in ranks.finditer(repaired):
-            before = f" {repaired[max(0, match.start() - LONGEST_NAME) : match.start()]}".rstrip(": ")
+            before = f" {repaired[max(0, match.start() - LONGEST_REAL_NAME) : match.start()]}".rstrip(": ")
             last_word = before.rpartition(" ")[2].lstrip(BRACKETS)
             for name in names_by_last_word.get(last_word, ()):
                 if before.endswith(name) and before.removesuffix(name)[-1] in f" {BRACKETS}":

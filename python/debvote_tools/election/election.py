@@ -1,13 +1,13 @@
 """An election in its folder: the book, and debvote."""
 
-import dataclasses
 import functools
 import os
 import pathlib
 import shlex
+from typing import NamedTuple
 
 from debvote_tools.book import queries
-from debvote_tools.book.book import NAME, Book, open_book
+from debvote_tools.book.book import NAME, Book, DoneAct, open_book
 from debvote_tools.debvote import Debvote
 from debvote_tools.election.history import History
 from debvote_tools.faults import Fault, Status
@@ -25,8 +25,7 @@ POLL, POLL_WITH_NAMES, KEYRING = "poll", "poll with names", "keyring"
 OF_VERSION_1 = ("journal", "ballots", "received")
 
 
-@dataclasses.dataclass(frozen=True)
-class Sealed:
+class Sealed(NamedTuple):
     """The poll as it was called: what everybody sees, and what ballots are counted by. They differ if the public sees aliases."""
 
     public: SealedPoll
@@ -37,6 +36,11 @@ class Sealed:
         return self.public != self.counted
 
 
+def is_signed(book: Book, call: int) -> bool:
+    """Whether letters have to be signed: the act of the call, or a later one, has sealed a keyring."""
+    return queries.last_act_that_sealed(book, KEYRING) >= call
+
+
 class Election:
     """An election in a folder. What it says of the book is read anew each time, since others may work on it."""
 
@@ -45,7 +49,6 @@ class Election:
         self.is_named, self.folder, self.program_folder = folder is not None, folder or pathlib.Path(), program_folder
 
     def path(self, name: str) -> pathlib.Path:
-        """Where a file or folder of the election is."""
         return self.folder / name
 
     @functools.cached_property
@@ -63,7 +66,7 @@ class Election:
 
     @functools.cached_property
     def language(self) -> Language:
-        return language_of(str(self.book.first_act().detail["language"]))
+        return language_of(self.book.acts()[0].detail["language"])
 
     def history(self) -> History:
         """The acts as they are now."""
@@ -71,11 +74,9 @@ class Election:
 
     def sealed(self) -> Sealed:
         """The poll as it was called. Stops before the call."""
-        call = self.history().call
-        if call is None:
-            raise self.not_called()
-        public = queries.sealed_at(self.book, POLL, call.number) or b""
-        counted = queries.sealed_at(self.book, POLL_WITH_NAMES, call.number) or public
+        call = self.called(self.history())
+        public = queries.sealed(self.book, POLL, call.number) or b""
+        counted = queries.sealed(self.book, POLL_WITH_NAMES, call.number) or public
         return Sealed(read_plain(public), read_plain(counted))
 
     def demand_private(self, target: pathlib.Path) -> None:
@@ -86,9 +87,11 @@ class Election:
                 words = f"it would be in the folder {name}, which is made from the book and goes elsewhere"
                 raise Fault(target, words, "name a place outside of it", Status.BAD_WORDS, "nothing was written")
 
-    def not_called(self) -> Fault:
-        """The fault of a command that comes after the call."""
-        return Fault(None, "the election is not called yet", f"run {self.command('call')} first")
+    def called(self, history: History) -> DoneAct:
+        """The act of the call. Stops before it."""
+        if history.call is None:
+            raise Fault(None, "the election is not called yet", f"run {self.command('call')} first")
+        return history.call
 
     def command(self, *words: str) -> str:
         """A command on this election, as a user types it."""

@@ -1,14 +1,14 @@
 """The electors: from the list of members, and from those whom the book knows already, to the roll."""
 
 import collections
-import dataclasses
 from collections.abc import Callable, Hashable, Iterable, Sequence
-from typing import TypeVar
+from typing import NamedTuple, TypeVar
 
 from debvote_tools.addresses import address_key
 from debvote_tools.book.queries import Elector
 from debvote_tools.election.members import Member, Members, bad_list
 from debvote_tools.faults import Fault
+from debvote_tools.language import ENGLISH
 from debvote_tools.plain_names import ELECTOR_LIMIT, alike, elector_name, made_different
 from debvote_tools.terminal_text import shown_text
 
@@ -28,8 +28,7 @@ SAME_PERSON: tuple[Callable[[Member | Elector], str], ...] = (
 )
 
 
-@dataclasses.dataclass(frozen=True)
-class Roll:
+class Roll(NamedTuple):
     """The electors in the order of the list, after the call in that of the sealed poll; and all that is wrong with them."""
 
     electors: tuple[Member, ...]
@@ -87,7 +86,7 @@ def with_known(rows: Sequence[Member], known: Sequence[Elector]) -> list[Member]
                 if text and len(fitting) == len(electors) == 1:
                     found[fitting[0].line] = electors[0]
     named = ((row, found.get(row.line)) for row in rows)
-    return [dataclasses.replace(row, name=row.name or (elector.name if elector else ""), known=elector) for row, elector in named]
+    return [row._replace(name=row.name or (elector.name if elector else ""), known=elector) for row, elector in named]
 
 
 def grouped(entries: Iterable[Entry], form: Callable[[Entry], Hashable]) -> dict[Hashable, list[Entry]]:
@@ -110,8 +109,7 @@ def with_proposals(electors: Sequence[Member], known: Sequence[Elector], languag
     taken = [*(elector.name for elector in electors if elector.name), *(elector.name for elector in known)]
     names = dict(zip(bases, made_different(list(bases.values()), taken, ELECTOR_LIMIT, "-")))
     return [
-        dataclasses.replace(elector, name=names[elector.line], is_proposed=True) if elector.line in names else elector
-        for elector in electors
+        elector._replace(name=names[elector.line], is_proposed=True) if elector.line in names else elector for elector in electors
     ]
 
 
@@ -179,5 +177,4 @@ def named_in_words(names: Iterable[str]) -> str:
     """Names as they are in a sentence; of many the first."""
     listed = list(names)
     more = [f"{len(listed) - NAMED_LIMIT} more"] if len(listed) > NAMED_LIMIT else []
-    *before, last = [*listed[:NAMED_LIMIT], *more]
-    return f"{', '.join(before)} and {last}" if before else last
+    return ENGLISH.joined([*listed[:NAMED_LIMIT], *more])

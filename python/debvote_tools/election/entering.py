@@ -5,29 +5,28 @@ act came between, it raises `Overtaken`, unless what was decided is the same. Af
 """
 
 import contextlib
-import dataclasses
 from collections.abc import Callable, Collection, Iterable, Iterator, Sequence
-from typing import Any
+from typing import NamedTuple
 
-from debvote_tools.book import entered as book_lines
+from debvote_tools.book import lines_by_act
 from debvote_tools.book import queries
-from debvote_tools.book.book import Act, Book, Overtaken
+from debvote_tools.book.acts import ActName, Detail
+from debvote_tools.book.book import Book, NewAct, Overtaken
 from debvote_tools.book.queries import NewEnvelope
 from debvote_tools.console import OutputFailed
-from debvote_tools.election.batch import Vote
+from debvote_tools.election.vote import Vote
 from debvote_tools.election.reporting import count_of
 from debvote_tools.faults import Fault, Status
 from debvote_tools.files import BALLOTS_LIMIT, LINES_LIMIT, uninterrupted
 from debvote_tools.lines import Line, name_in
 
-LATE = "late"
+LATE_REPLY = "late"
 
 # in bytes; no ballot has half as many
 LONGEST_LINE = 500
 
 
-@dataclasses.dataclass(frozen=True)
-class Entered:
+class Entered(NamedTuple):
     """What an act entered."""
 
     book: Book
@@ -41,31 +40,31 @@ class Entered:
     def replies(self) -> list[str]:
         """The reply to each line, by all lines as the act left them: those of its electors, on whom alone it depends."""
         if self.is_late:
-            return [LATE] * len(self.numbers)
-        before = book_lines.lines_after(self.book, self.act - 1, self.electors)
+            return [LATE_REPLY] * len(self.numbers)
+        before = lines_by_act.lines_after(self.book, self.act - 1, self.electors)
         try:
-            replies = self.vote.replies([*before, *zip(self.numbers, self.lines)])
+            return self.vote.replies(before, self.lines)
         except Fault as fault:
             raise fault.with_done(f"all the same the lines were entered ({envelope_words(self.numbers)})") from None
-        return [replies[number] for number in self.numbers]
 
 
 @contextlib.contextmanager
 def entered(
     book: Book,
     vote: Vote,
-    name: str,
-    detail: dict[str, Any],
-    envelopes: Callable[[Act], Iterable[NewEnvelope]],
+    name: ActName,
+    detail: Detail,
+    envelopes: Callable[[NewAct], Iterable[NewEnvelope]],
     *,
     decided_at: int,
     is_late: bool,
     is_same: Callable[[], bool] | None = None,
     done: str = "the lines were entered",
 ) -> Iterator[Entered]:
-    """The act of this name: `envelopes` gives what goes in, and may write rows of its own. Interrupts wait until what was entered is told, which is done within.
+    """The act of this name: `envelopes` gives what goes in, and may write rows of its own.
 
-    `decided_at` was the last act when this was decided. If others came since, `is_same` says whether it would be decided so again.
+    Interrupts wait until what was entered is told, which is done within. `decided_at` was the last act when this was decided. If others
+    came since, `is_same` says whether it would be decided so again.
     """
     with contextlib.ExitStack() as stack:
         with book.act(name, detail) as act:
@@ -79,7 +78,7 @@ def entered(
             first = queries.last_envelope(book) + 1
             new_lines = [envelope.line for envelope in new]
             electors = electors_of(book, vote, new_lines)
-            queries.enter(act, new, electors, is_late=is_late)
+            queries.add_envelopes(act, new, electors, is_late=is_late)
         numbers = range(first, first + len(new))
         try:
             yield Entered(book, vote, act.number, numbers, new_lines, frozenset(filter(None, electors)), is_late)
@@ -90,9 +89,9 @@ def entered(
 
 def electors_of(book: Book, vote: Vote, lines: Sequence[bytes]) -> list[int | None]:
     """The elector of the roll with whose name each line begins."""
-    names = [name_in(line).decode("ascii") for line in lines]
-    numbers = queries.elector_numbers(book, vote.names_on_roll.intersection(names))
-    return [numbers.get(name) for name in names]
+    names = list(map(name_in, lines))
+    numbers = queries.elector_numbers(book, vote.names_on_roll & {name.decode("ascii") for name in set(names)})
+    return list(map({name.encode(): number for name, number in numbers.items()}.get, names))
 
 
 def demand_room(book: Book, new: Sequence[NewEnvelope]) -> None:
@@ -101,7 +100,7 @@ def demand_room(book: Book, new: Sequence[NewEnvelope]) -> None:
     # the file of the book is longer than all lines in it, so they are counted only if there may be too many
     if queries.last_envelope(book) + len(new) <= LINES_LIMIT and book.size() + added <= BALLOTS_LIMIT:
         return
-    line_count, size = book_lines.size_in_time(book)
+    line_count, size = lines_by_act.size_in_time(book)
     if line_count + len(new) > LINES_LIMIT or size + added > BALLOTS_LIMIT:
         words = f"with it there would be {count_of(line_count + len(new), 'line')} and {size + added} bytes of ballots"
         cure = f"debvote takes {LINES_LIMIT} lines and {BALLOTS_LIMIT} bytes at most: add less of it"

@@ -6,6 +6,7 @@ import enum
 from collections.abc import Sequence
 from typing import Any
 
+from debvote_tools.book.acts import ActName
 from debvote_tools.book.book import DoneAct, from_text
 
 
@@ -24,13 +25,17 @@ class History:
 
     acts: Sequence[DoneAct]
 
-    def named(self, *names: str) -> list[DoneAct]:
+    def named(self, *names: ActName) -> list[DoneAct]:
         return [act for act in self.acts if act.name in names]
 
-    def since_call(self, *names: str) -> list[DoneAct]:
+    def since_call(self, *names: ActName) -> list[DoneAct]:
         """The acts of these names from the call that holds on, itself among them; none before it."""
         call = self.call
         return [] if call is None else [act for act in self.named(*names) if act.number >= call.number]
+
+    def act(self, number: int) -> DoneAct:
+        """The act of a number."""
+        return self.acts[number - 1]
 
     @property
     def last(self) -> DoneAct:
@@ -45,10 +50,8 @@ class History:
 
     def announced(self, key: str) -> Any:
         """What the call, or a later act that adds to it, says last of something, as `address`; None if it does not say it."""
-        said = (
-            act.detail[key] for act in reversed(self.since_call("call", "extend", "announce")) if act.detail.get(key) is not None
-        )
-        return next(said, None)
+        said = (act.detail.get(key) for act in reversed(self.since_call("call", "extend", "announce")))
+        return next((value for value in said if value is not None), None)
 
     @property
     def has_codes_on_roll(self) -> bool:

@@ -2,6 +2,7 @@
 
 import dataclasses
 import datetime
+from typing import NamedTuple
 
 from debvote_tools import times
 from debvote_tools.arguments import option
@@ -12,7 +13,7 @@ from debvote_tools.election.history import History
 from debvote_tools.election.reporting import act_time
 from debvote_tools.faults import Fault, Status
 
-OPTION = "--came-before-close"
+CAME_BEFORE_CLOSE = "--came-before-close"
 
 
 @dataclasses.dataclass(frozen=True)
@@ -24,8 +25,7 @@ class Arguments(acting.Arguments):
     )
 
 
-@dataclasses.dataclass(frozen=True)
-class Openness:
+class Openness(NamedTuple):
     """Whether the vote is open."""
 
     # the number of the act that called the vote
@@ -72,15 +72,15 @@ def came_before_close(openness: Openness, answer: str | None, not_done: str) -> 
     """
     if not openness.is_reopened:
         if answer is not None and not openness.is_closed:
-            raise Fault(OPTION, "the vote was never closed", "leave it out", Status.BAD_WORDS, not_done)
+            raise Fault(CAME_BEFORE_CLOSE, "the vote was never closed", "leave it out", Status.BAD_WORDS, not_done)
         return None
     if answer is not None:
         return answer == "yes"
     assert openness.first_close is not None
     closed = f"vote was closed at {act_time(openness.first_close)} and opened again"
     if not is_terminal():
-        cure = f"say whether this came before that close: {OPTION} yes, or {OPTION} no, and then it is late"
-        raise Fault(OPTION, f"the {closed}, and only what came before counts", cure, Status.DOUBT, not_done)
+        cure = f"say whether this came before that close: {CAME_BEFORE_CLOSE} yes, or {CAME_BEFORE_CLOSE} no, and then it is late"
+        raise Fault(CAME_BEFORE_CLOSE, f"the {closed}, and only what came before counts", cure, Status.DOUBT, not_done)
     said = is_yes(f"The {closed}. Did this come before that close?")
     if said is None:
         raise Fault(None, "nobody said whether it came before the close", "run the command again", Status.DOUBT, not_done)

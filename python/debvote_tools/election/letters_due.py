@@ -2,7 +2,7 @@
 
 from collections.abc import Callable, Iterable, Mapping, Sequence
 
-from debvote_tools.book import entered, queries, sent
+from debvote_tools.book import lines_by_act, queries, sent
 from debvote_tools.book.book import DoneAct
 from debvote_tools.book.queries import Elector
 from debvote_tools.book.sent import BEGUN, POSTPONED, REFUSED, TAKEN, WRITTEN, About, SentLetter
@@ -18,6 +18,7 @@ from debvote_tools.election.what_came import waits_of, what_came
 from debvote_tools.faults import Fault, Status
 from debvote_tools.letters_out.compose import Came, Composer, Kind
 from debvote_tools.letters_out.message import new_message_id
+from debvote_tools.lines import ballot_file
 from debvote_tools.publish.casting_vote import told_if_it_decides
 from debvote_tools.publish.done import told_acts
 from debvote_tools.publish.doubts import Doubt, sentences_of
@@ -38,8 +39,7 @@ class LettersDue:
     def __init__(self, election: Election, kind: Kind, sender: str, *, is_sending: bool) -> None:
         self.election, self.kind, self.sender, self.is_sending = election, kind, sender, is_sending
         self.history, self.time = election.history(), now()
-        if self.history.call is None:
-            raise election.not_called()
+        election.called(self.history)
         if self.history.has_codes_on_roll:
             words = "codes are on the roll, and nobody knows whose each is, so no letter can be written to an elector"
             cure = "send call/call.txt, letters/closed.txt and result/letter.txt to all with your mail program"
@@ -224,12 +224,12 @@ def about_now(about: Sequence[About], came: Sequence[Came]) -> list[Came]:
 def result_of(election: Election, history: History, act: DoneAct) -> tuple[dict[str, object], Mapping[str, str]]:
     """What the letters of a publication say, and the ballots that stood then."""
     language, sealed, words = election.language, election.sealed(), Words(**act.detail["words"])
-    poll, ballots = sealed.counted.as_bytes(), queries.ballots_of(entered.lines_after(election.book, act.number))
+    poll, ballots = sealed.counted.as_bytes(), ballot_file(lines_by_act.lines_after(election.book, act.number))
     sheet = sheet_in(election.debvote.answer("count", poll, ballots, *casting_words(words.casting)).text)
     chronicle = chronicle_of(election.book, History(history.acts[: act.number]), is_secret=sealed.is_aliased)
     publication = Publication(sealed.public, b"", language=language, casting=words.vote, chronicle=chronicle)
     doubts = [Doubt.from_data(doubt) for doubt in act.detail["doubts"]]
-    values = {
+    values: dict[str, object] = {
         "ended": outcome_in_words(publication, sheet),
         "casting": told_if_it_decides(publication, sheet),
         "checksums": act.detail["checksums"],

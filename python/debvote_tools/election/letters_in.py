@@ -12,14 +12,16 @@ from collections.abc import Collection, Iterator, Mapping, Sequence
 
 from debvote_tools import times
 from debvote_tools.book import letters, queries
-from debvote_tools.book.book import Act, Book
+from debvote_tools.book.acts import Detail
+from debvote_tools.book.book import Book, NewAct
 from debvote_tools.book.letters import KeptLetter
 from debvote_tools.book.queries import NewEnvelope
-from debvote_tools.election.batch import Vote, vote_of
+from debvote_tools.election.vote import Vote, vote_of
 from debvote_tools.election.came import NOTHING_ADDED, CameFile, safe
-from debvote_tools.election.election import KEYRING, Election
+from debvote_tools.election.election import KEYRING, Election, is_signed
 from debvote_tools.election.entering import Entered, entered
 from debvote_tools.election.history import History
+from debvote_tools.election.in_time import openness_of
 from debvote_tools.faults import Fault, Status
 from debvote_tools.files import sha256_of
 from debvote_tools.letters.judge import Ballot, Circumstances, Decision, JudgedLetter, Outcome, judge_all
@@ -28,7 +30,8 @@ from debvote_tools.letters.readings import BallotLine
 from debvote_tools.letters.reasons import Reason
 from debvote_tools.letters.signatures import find_gpgv, verified
 from debvote_tools.letters.sources import PassedOver, RawLetter, letters_of_file, letters_of_folder
-from debvote_tools.secret.codes import CODE_WITHIN, looks_like_code
+from debvote_tools.lines import CODE_WITHIN
+from debvote_tools.secret.codes import looks_like_code
 
 SLOW = Reason.SLOW_SIGNATURE()
 
@@ -57,7 +60,7 @@ def parsed(election: Election, raws: Sequence[RawLetter]) -> list[ParsedLetter]:
 def keyring_of(election: Election) -> bytes | None:
     """The keyring that holds; None if letters need no signature."""
     call = election.history().call
-    if call is None or queries.last_act_that_sealed(election.book, KEYRING) < call.number:
+    if call is None or not is_signed(election.book, call.number):
         return None
     return queries.sealed(election.book, KEYRING)
 
@@ -195,13 +198,13 @@ def plan_of(election: Election, looked_at: Sequence[ParsedLetter] = ()) -> Lette
 def enter(election: Election, vote: Vote, plan: LettersPlan) -> contextlib.AbstractContextManager[Entered]:
     """The act: the ballots go in."""
 
-    def envelopes(act: Act) -> Iterator[NewEnvelope]:
+    def envelopes(act: NewAct) -> Iterator[NewEnvelope]:
         for letter in plan.letters:
             if letter.outcome is Outcome.GOES_IN:
                 letters.decide(act, letter.number, letters.ENTERED)
                 yield new_envelope(letter, letter.ballots[0])
 
-    detail = {"letters": len(plan.going_in), "lines": len(plan.going_in)}
+    detail: Detail = {"letters": len(plan.going_in), "lines": len(plan.going_in)}
     return entered(election.book, vote, "add", detail, envelopes, decided_at=plan.decided_at, is_late=plan.is_late)
 
 
@@ -212,7 +215,6 @@ def new_envelope(letter: JudgedLetter, line: BallotLine) -> NewEnvelope:
 
 def is_late(history: History, letter: JudgedLetter) -> bool:
     """Whether what is entered of a letter now is late: the vote is closed, or was reopened for what had arrived before the first close."""
-    arrived = letter.parsed.arrived
-    if history.is_reopened and (arrived is None or arrived > history.closes[0].time):
-        return True
-    return history.is_closed
+    arrived, openness = letter.parsed.arrived, openness_of(history)
+    first_close = openness.first_close
+    return openness.is_late(arrived is not None and first_close is not None and arrived <= first_close)

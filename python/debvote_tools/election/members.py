@@ -1,9 +1,9 @@
 """The list of members: a table as spreadsheets save it. It is read, and never written."""
 
-import dataclasses
 import pathlib
 import re
 import unicodedata
+from typing import NamedTuple
 
 from debvote_tools.addresses import ADDRESS, address_key
 from debvote_tools.book.queries import Elector
@@ -30,8 +30,7 @@ IN_BRACKETS = re.compile(r"<([^<>]*)>")
 BETWEEN_ADDRESSES = re.compile(r"[\s,;]+")
 
 
-@dataclasses.dataclass(frozen=True)
-class Member:
+class Member(NamedTuple):
     """A row of the list. A cell that is empty or missing is an empty text."""
 
     line: int
@@ -68,8 +67,7 @@ class Member:
         return {what: pair for what, pair in pairs.items() if pair[0] != pair[1]}
 
 
-@dataclasses.dataclass(frozen=True)
-class Members:
+class Members(NamedTuple):
     """The rows of a list in its order, and all that is wrong with it."""
 
     file: object
@@ -101,11 +99,11 @@ def members_of(data: bytes, file: object = "members.csv") -> Members:
     if faults:
         return Members(file, (), tuple(faults))
     indices = {column: table.heads.index(column) for column in COLUMNS if column in table.heads}
-    rows = []
+    rows, width = [], table.width
     for row in table.rows:
         if not row.is_blank:
             rows.append(member_of(row, indices))
-            faults += faults_of_row(row, rows[-1], table, file)
+            faults += faults_of_row(row, rows[-1], width, file)
     if not rows:
         faults.append(bad_list(file, "there is nobody on it", "write a line for each member below the head line"))
     return Members(file, tuple(rows), tuple(faults))
@@ -139,10 +137,9 @@ def member_of(row: Row, indices: dict[str, int]) -> Member:
     return Member(row.line, cells.get("name", ""), cells["who"], tuple(each_once), key)
 
 
-def faults_of_row(row: Row, member: Member, table: Table, file: object) -> list[Fault]:
-    """All that is wrong with a row by itself."""
+def faults_of_row(row: Row, member: Member, width: int, file: object) -> list[Fault]:
     found: list[tuple[str, str]] = []
-    beyond = row.cells_after(table.width)
+    beyond = row.cells_after(width)
     if beyond:
         reason = f"`{shown_text(beyond[0])}` is after the last column of the head line"
         found.append((reason, "put a cell that has the delimiter in it into quotation marks"))

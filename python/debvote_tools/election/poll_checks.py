@@ -8,7 +8,7 @@ from debvote_tools.election.history import History
 from debvote_tools.election.reporting import count_of
 from debvote_tools.faults import Fault, Status, stop_at
 from debvote_tools.sealed_poll import SealedPoll, read_plain
-from debvote_tools.sheet import Sheet
+from debvote_tools.sheet import Sheet, sheet_in
 
 
 def checked_poll(election: Election, *, deadline: str | None = None, address: str | None = None) -> tuple[SealedPoll, Sheet]:
@@ -26,7 +26,7 @@ def checked_poll(election: Election, *, deadline: str | None = None, address: st
         faults.append(Fault(None, "there are no electors yet", f"run {election.command('roll')} first", done=None))
     data = sealed_form(draft, roll or ["nobody"], language, deadline=deadline, address=address)
     stop_at([*faults, *faults_by_debvote(election, data)])
-    return read_plain(data), election.debvote.sheet(data)
+    return read_plain(data), sheet_in(election.debvote.answer("count", data).text)
 
 
 def faults_by_debvote(election: Election, poll_bytes: bytes) -> list[Fault]:

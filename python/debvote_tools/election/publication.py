@@ -3,13 +3,13 @@
 import dataclasses
 import datetime
 import json
-from collections.abc import Iterable, Mapping
-from typing import Any
+from collections.abc import Mapping
+from typing import Final
 
 from debvote_tools.ballots import in_normal_form
-from debvote_tools.book import entered, letters, queries
+from debvote_tools.book import letters, lines_by_act, queries
+from debvote_tools.book.acts import Detail
 from debvote_tools.book.book import Book, DoneAct, as_text, from_text
-from debvote_tools.book.queries import Elector
 from debvote_tools.debvote import casting_words
 from debvote_tools.election import closing_letter
 from debvote_tools.election.election import Election, Sealed
@@ -17,13 +17,14 @@ from debvote_tools.election.history import History
 from debvote_tools.faults import Fault
 from debvote_tools.files import sha256_of
 from debvote_tools.language import language_of
+from debvote_tools.lines import ballot_file
 from debvote_tools.publish.doubts import Doubt, Kind
 from debvote_tools.publish.inputs import Act, CastingVote, Chronicle, Closed, Done, Publication, SecretVote
 from debvote_tools.publish.names import BALLOTS, PAGE, POLL
 from debvote_tools.sealed_poll import SealedPoll
 from debvote_tools.secret.aliases import aliased_ballots, sealed_checksum
 
-ACT = "publish"
+ACT: Final = "publish"
 
 
 @dataclasses.dataclass(frozen=True)
@@ -55,7 +56,7 @@ def publication_of(election: Election, words: Words) -> Publication:
     """What is published, by the book as it is now."""
     with election.book.snapshot():
         history, sealed, book = election.history(), election.sealed(), election.book
-        ballots, late = (queries.ballots_of(lines(book)) for lines in (queries.lines_in_time, queries.late_lines))
+        ballots, late = (ballot_file(lines(book)) for lines in (queries.lines_in_time, queries.late_lines))
         has_names = history.announced("names")
         electors = queries.electors(book) if has_names or sealed.counted.secret else []
         chronicle = chronicle_of(book, history, is_secret=sealed.counted.secret)
@@ -64,7 +65,7 @@ def publication_of(election: Election, words: Words) -> Publication:
     if sealed.counted.secret:
         private_ballots, poll_bytes = ballots, sealed.counted.as_bytes()
         standing = election.debvote.standing(poll_bytes, ballots)
-        ballots = ballots_in_secret(standing, electors)
+        ballots = aliased_ballots(standing, queries.public_names(electors))
         secret = SecretVote(
             codes=frozenset(elector.code for elector in electors if elector.code),
             seal=history.closes[-1].detail["seal"],
@@ -91,11 +92,6 @@ def publication_of(election: Election, words: Words) -> Publication:
     )
 
 
-def ballots_in_secret(standing: Mapping[str, str], electors: Iterable[Elector]) -> bytes:
-    """The ballots of a secret vote as they are published: those that stand, under aliases, or under the codes of the roll."""
-    return aliased_ballots(standing, {elector.name: elector.alias or elector.name for elector in electors})
-
-
 def demand_as_closed(history: History, ballots: bytes) -> None:
     """Stops if the ballots are not those that the close has fixed."""
     if not history.is_closed:
@@ -114,13 +110,13 @@ def shown_by_comparison(
     earlier = history.named(ACT)
     if not earlier or earlier[-1].detail["checksums"][BALLOTS] == sha256_of(ballots):
         return []
-    lines = entered.lines_after(election.book, earlier[-1].number)
-    before = election.debvote.standing(sealed.counted.as_bytes(), queries.ballots_of(lines))
+    lines = lines_by_act.lines_after(election.book, earlier[-1].number)
+    before = election.debvote.standing(sealed.counted.as_bytes(), ballot_file(lines))
     then, now = ({name: in_normal_form(ranks) for name, ranks in votes.items()} for votes in (before, standing))
     return [name for name in sealed.counted.roll if then.get(name) != now.get(name)]
 
 
-def detail_of(words: Words, checksums: Mapping[str, str], doubts: list[Doubt], *, decides: bool) -> dict[str, Any]:
+def detail_of(words: Words, checksums: Mapping[str, str], doubts: list[Doubt], *, decides: bool) -> Detail:
     """The detail of the act, with the checksums that the letter of the result names. `decides` says whether the casting vote does."""
     return {
         "words": dataclasses.asdict(words),
@@ -192,8 +188,8 @@ def told_of(act: DoneAct, book: Book, history: History, *, is_secret: bool) -> l
             told = [Act(time, Done.ROLL_CHANGED, {"number": detail["electors"]})]
         case "strike":
             done = Done.STRUCK_IN_SECRET if is_secret else Done.STRUCK
-            struck = queries.lines(book, "struck.act = ?", act.number)
-            told = [Act(time, done, {"envelope": envelope}, reason) for envelope, _ in struck]
+            struck = queries.envelopes(book, "struck.act = ?", act.number)
+            told = [Act(time, done, {"envelope": envelope.number}, reason) for envelope in struck]
         case "close":
             told = [close_of(act, book, history)]
         case "reopen":

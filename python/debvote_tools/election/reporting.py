@@ -2,7 +2,7 @@
 
 import datetime
 import textwrap
-from collections.abc import Iterable
+from collections.abc import Iterable, Sequence
 
 # how wide a terminal is taken to be
 WIDTH = 100
@@ -11,6 +11,11 @@ WIDTH = 100
 def count_of(number: int, noun: str, plural: str | None = None) -> str:
     """A number with its noun, as `1 line` or `2 lines`."""
     return f"{number} {noun if number == 1 else plural or noun + 's'}"
+
+
+def listed(names: Sequence[str], most: int) -> str:
+    """Names in a sentence; of many the first."""
+    return ", ".join(names[:most]) + (f" and {len(names) - most} more" if len(names) > most else "")
 
 
 def act_time(time: datetime.datetime) -> str:

@@ -1,23 +1,22 @@
 """All that came of each elector, and what became of it: what receipts and reminders are about."""
 
 import collections
-import dataclasses
 import datetime
 from collections.abc import Mapping, Sequence
+from typing import NamedTuple
 
 from debvote_tools.addresses import address_key
 from debvote_tools.book import letters, queries
 from debvote_tools.book.queries import Elector, Envelope
 from debvote_tools.election import letters_in
-from debvote_tools.election.batch import Vote, vote_of
+from debvote_tools.election.vote import Vote, vote_of
 from debvote_tools.election.election import Election
 from debvote_tools.election.history import History
 from debvote_tools.letters.judge import JudgedLetter, Outcome
 from debvote_tools.letters_out.compose import Became, Came
 
 
-@dataclasses.dataclass(frozen=True)
-class WhatCame:
+class WhatCame(NamedTuple):
     """All that came of each elector, in the order of its times, and the electors whose ballot stands."""
 
     by_elector: Mapping[int, Sequence[Came]]
@@ -40,7 +39,7 @@ def what_came(election: Election, history: History, *, is_over: bool) -> WhatCam
         if number in came:
             came[number].append(lines.came_of(envelope))
     entered_of = {(envelope.letter, envelope.elector) for envelope in envelopes}
-    kept_at = {letter.number: history.acts[letter.act - 1].time for letter in kept}
+    kept_at = {letter.number: history.act(letter.act).time for letter in kept}
     for letter in found:
         # whoever sent it gets to know, too, if its ballot is in another's name
         sender = by_number.get(senders[letter.number] or 0)
@@ -65,7 +64,7 @@ class LinesNow:
     def __init__(self, vote: Vote, history: History, envelopes: Sequence[Envelope], *, is_over: bool) -> None:
         self.history, self.is_over = history, is_over
         self.answers = vote.answers([envelope.line for envelope in envelopes])
-        self.standing = vote.standing([(one.number, one.line) for one in envelopes if one.struck is None and not one.is_late])
+        self.standing = vote.standing([one.line for one in envelopes if one.struck is None and not one.is_late])
         # the last valid line of each elector stands
         self.last = {one.elector: one.number for one in envelopes if self.is_counted(one)}
 
@@ -74,7 +73,6 @@ class LinesNow:
         return envelope.struck is None and not envelope.is_late and self.answers[envelope.line] is None
 
     def came_of(self, envelope: Envelope) -> Came:
-        """What became of a line."""
         answer, became = self.answers[envelope.line], self.became(envelope)
         key = ("envelope", envelope.number, envelope.struck is not None)
         ranks = "" if answer is not None else envelope.line.decode("ascii").partition(" ")[2]
@@ -82,7 +80,7 @@ class LinesNow:
 
     def became(self, envelope: Envelope) -> Became:
         if envelope.struck is not None:
-            return Became.TAKEN_BACK if self.history.acts[envelope.struck - 1].name == "undo" else Became.STRUCK
+            return Became.TAKEN_BACK if self.history.act(envelope.struck).name == "undo" else Became.STRUCK
         if envelope.is_late:
             return Became.LATE
         if self.answers[envelope.line] is not None:
@@ -108,5 +106,4 @@ def came_of_letter(letter: JudgedLetter, elector: Elector, kept: datetime.dateti
 
 
 def waits_of(came: Sequence[Came]) -> list[Came]:
-    """The letters of an elector that wait."""
     return [one for one in came if one.became in (Became.WAITS, Became.ELSEWHERE)]

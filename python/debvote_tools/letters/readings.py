@@ -8,7 +8,7 @@ from typing import Protocol
 
 from debvote_tools.letters.greeting import above_end, is_quoted
 from debvote_tools.letters.parse import ParsedLetter, may_be_ballot
-from debvote_tools.lines import DASHES, LONGEST, changed
+from debvote_tools.lines import DASHES, LONGEST_REPAIRED, changed
 from debvote_tools.plain_names import without_accents
 
 # the grammar of a ballot line, and ranks alone
@@ -192,7 +192,7 @@ def folded(name: str, language: str) -> str:
 def repaired(line: str) -> str:
     """A line after the changes that are allowed. Of one that is too long for them the blanks are taken together first."""
     data = line.encode("utf-8", "replace")
-    data = data if len(data) <= LONGEST else " ".join(line.split()).encode("utf-8", "replace")
+    data = data if len(data) <= LONGEST_REPAIRED else " ".join(line.split()).encode("utf-8", "replace")
     return changed(data).decode("utf-8", "replace").replace("\n", " ")
 
 

@@ -11,6 +11,7 @@ from debvote_tools.console import tell_aside
 from debvote_tools.debvote import Debvote
 from debvote_tools.faults import Fault, Status
 from debvote_tools.files import sha256_of, sync_folder, temporary_folder, write_public
+from debvote_tools.lines import CODE_WITHIN
 from debvote_tools.publish import names, recounting
 from debvote_tools.publish.counting import Counted, ask_the_rest, count_files, demand_all_count, demand_left, demand_same_votes
 from debvote_tools.publish.doubts import Doubt, doubts_about, stop
@@ -18,7 +19,6 @@ from debvote_tools.publish.inputs import Publication
 from debvote_tools.publish.page import page_of
 from debvote_tools.publish.result_letter import letter_of
 from debvote_tools.publish.sheet_data import result_json, votes_csv
-from debvote_tools.secret.codes import CODE_WITHIN
 from debvote_tools.sheet import Sheet, sheet_in
 
 

@@ -10,7 +10,7 @@ from markupsafe import Markup
 
 from debvote_tools.call.data import OPTION
 from debvote_tools.language import Language
-from debvote_tools.plain_names import LETTERS, PUNCTUATION, SPELLINGS
+from debvote_tools.plain_names import PLAIN_LETTERS, PUNCTUATION, SPELLINGS
 from debvote_tools.publish.ballots import script_words
 from debvote_tools.publish.inputs import Publication
 from debvote_tools.publish.options import PLAIN_NAME
@@ -102,7 +102,7 @@ def find_words(publication: Publication) -> str:
 
 def find_letters(language: Language) -> str:
     """How letters are spelled in the name that the roll makes of a real name, as JSON."""
-    return json.dumps({**PUNCTUATION, **LETTERS, **SPELLINGS.get(language.code, {})}, ensure_ascii=False)
+    return json.dumps({**PUNCTUATION, **PLAIN_LETTERS, **SPELLINGS.get(language.code, {})}, ensure_ascii=False)
 
 
 def again_words(language: Language) -> str:

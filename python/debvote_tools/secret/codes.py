@@ -9,9 +9,8 @@ from collections.abc import Iterable
 
 from debvote_tools.secret.aliases import alias_of
 
-# what a code and an alias look like, alone and within other text
+# what a code and an alias look like
 CODE = re.compile(r"[0-9a-f]{32}")
-CODE_WITHIN = re.compile(rb"(?<![0-9a-f])[0-9a-f]{32}(?![0-9a-f])")
 
 # a spreadsheet takes such a text for a number, and writes it in another way
 NUMBER = re.compile(r"\d*e?\d*")

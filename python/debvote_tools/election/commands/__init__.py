@@ -1,1 +1,1 @@
-"""The commands of debvote-election, a module each: `HELP`, `add_arguments(parser)`, and `run(election, namespace)`, which gives the status."""
+"""The commands of debvote-election, a module each: `HELP`, `Arguments`, and `run(election, arguments)`, which gives the exit status."""

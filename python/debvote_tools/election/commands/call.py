@@ -2,17 +2,17 @@
 
 import dataclasses
 import pathlib
-from typing import Any
 
 from debvote_tools import times
 from debvote_tools.arguments import flag, option
 from debvote_tools.book import queries
-from debvote_tools.book.book import Act, Book
+from debvote_tools.book.acts import Detail
+from debvote_tools.book.book import Book, NewAct
 from debvote_tools.call.data import CallData, demand_mail_address, demand_web_address
 from debvote_tools.call.files import call_files, extension_letter
 from debvote_tools.console import tell
 from debvote_tools.election import acting
-from debvote_tools.election.call_now import call_data, current_data, time_of
+from debvote_tools.election.call_now import call_data, current_data, until_of
 from debvote_tools.election.commands.codes import SLIPS, write_slips
 from debvote_tools.election.commands.roll import demand_read
 from debvote_tools.election.election import CALL, KEYRING, LETTERS, POLL, POLL_WITH_NAMES, PRIVATE, Election, Sealed
@@ -20,6 +20,7 @@ from debvote_tools.election.history import History
 from debvote_tools.election.made_files import OWN, PUBLIC, write_made
 from debvote_tools.election.poll_checks import checked_poll, lacks_codes, tell_poll
 from debvote_tools.election.reporting import act_time
+from debvote_tools.election.until import demand_future, parse_until
 from debvote_tools.faults import Fault, Status, stop_at
 from debvote_tools.files import read_at_most
 from debvote_tools.letters.signatures import read_keyring
@@ -77,16 +78,19 @@ def call(election: Election, arguments: Arguments) -> None:
     stop_at(faults)
     public = poll
     if poll.secret and not history.has_codes_on_roll:
-        public = aliased_poll(poll, {elector.name: elector.alias for elector in queries.electors(book)})
-    detail = said | {
-        "form": arguments.form,
-        "names": arguments.names,
-        "codes_on_roll": history.has_codes_on_roll,
-        "quorum_votes": sheet.quorum,
-        "signed": arguments.keyring is not None,
-    }
+        public = aliased_poll(poll, queries.public_names(queries.electors(book)))
+    detail = said.copy()
+    detail.update(
+        {
+            "form": arguments.form,
+            "names": arguments.names,
+            "codes_on_roll": history.has_codes_on_roll,
+            "quorum_votes": sheet.quorum,
+            "signed": arguments.keyring is not None,
+        }
+    )
     keyring = keyring_in(election, arguments.keyring)
-    data = call_data(election, Sealed(public, poll), detail, time_of(said))
+    data = call_data(election, Sealed(public, poll), detail, until_of(said))
     with book.act("call", detail, seen=history.last.number) as act:
         act.insert("sealed", name=POLL, data=public.as_bytes())
         if public != poll:
@@ -97,18 +101,20 @@ def call(election: Election, arguments: Arguments) -> None:
     report(election, data)
 
 
-def announced(arguments: Arguments) -> dict[str, Any]:
+def announced(arguments: Arguments) -> Detail:
     """What the act keeps of the words of the command line, looked through."""
+    said: Detail = {}
+    if arguments.until is not None:
+        until = parse_until(arguments.until, arguments.zone)
+        demand_future(until, times.now())
+        said["until"] = until.isoformat()
     if arguments.to is not None:
         demand_mail_address(arguments.to)
+        said["to"] = arguments.to
     if arguments.at is not None:
         demand_web_address(arguments.at)
-    until = None
-    if arguments.until is not None:
-        until = times.parse_until(arguments.until, arguments.zone)
-        times.demand_future(until, times.now())
-    said = {"until": until.isoformat() if until else None, "to": arguments.to, "at": arguments.at}
-    return {key: value for key, value in said.items() if value is not None}
+        said["at"] = arguments.at
+    return said
 
 
 def keyring_in(election: Election, file: str | None) -> bytes | None:
@@ -131,7 +137,7 @@ def keyring_in(election: Election, file: str | None) -> bytes | None:
 
 
 # ---------------------------------------------------------------- the folder
-def seal(act: Act, data: CallData, keyring: bytes | None) -> None:
+def seal(act: NewAct, data: CallData, keyring: bytes | None) -> None:
     """Keeps the keyring, and the files of the call, so that they can be made again with the same bytes."""
     if keyring is not None:
         act.insert("sealed", name=KEYRING, data=keyring)
@@ -140,7 +146,6 @@ def seal(act: Act, data: CallData, keyring: bytes | None) -> None:
 
 
 def make_folders(election: Election) -> None:
-    """Makes the folders of the call from the book."""
     history = election.history()
     files = {name: queries.sealed(election.book, f"{CALL}/{name}") for name in FILES}
     write_made(election.path(CALL), {name: data for name, data in files.items() if data is not None}, PUBLIC, FILES)
@@ -178,11 +183,11 @@ def demand_no_change(election: Election, history: History, arguments: Arguments)
         raise Fault(", ".join(changed), words, cure)
 
 
-def add_to_call(election: Election, book: Book, history: History, said: dict[str, Any], keyring_file: str | None) -> None:
+def add_to_call(election: Election, book: Book, history: History, said: Detail, keyring_file: str | None) -> None:
     """The act that extends the vote or adds to the call. No end counts after a close, nor one before that which electors know."""
     if history.is_closed:
         raise Fault(None, "the vote is closed", f"see {election.command('status')}")
-    until = time_of(said)
+    until = until_of(said)
     if until is not None and history.closes:
         words = f"the vote was closed at {act_time(history.closes[0].time)}, and only what had come before that counts"
         raise Fault("--until", words, f"leave it out; ballots that had come in time go in by {election.command('add')}")
@@ -191,8 +196,9 @@ def add_to_call(election: Election, book: Book, history: History, said: dict[str
         raise Fault("--until", words, "name a later time", Status.BAD_WORDS)
     keyring = keyring_in(election, keyring_file)
     data = current_data(election, history, said)
-    detail = said if keyring is None else said | {"keyring": True}
-    with book.act("announce" if until is None else "extend", detail, seen=history.last.number) as act:
+    if keyring is not None:
+        said["keyring"] = True
+    with book.act("announce" if until is None else "extend", said, seen=history.last.number) as act:
         seal(act, data, keyring)
         if until is not None:
             act.insert("sealed", name=f"{LETTERS}/{EXTENSION}", data=extension_letter(data).encode())
@@ -200,18 +206,16 @@ def add_to_call(election: Election, book: Book, history: History, said: dict[str
 
 # ---------------------------------------------------------------- taking back
 def take_back(election: Election, arguments: Arguments) -> None:
-    """Takes the call back, as long as nothing has come."""
     book = acting.book_for_act(election, arguments)
     history = election.history()
-    if history.call is None:
-        raise election.not_called()
+    call_act = election.called(history)
     if history.closes:
         words = f"the vote was closed at {act_time(history.closes[0].time)}, and electors rely on the close"
         raise Fault(None, words, "hold the vote anew in another folder")
-    if queries.has_come(election.book, history.call.number):
+    if queries.has_come(election.book, call_act.number):
         words = "ballots or letters have come, and electors rely on the call"
         raise Fault(None, words, "hold the vote to its end, or anew in another folder")
-    with book.act("take back", {"call": history.call.number}, seen=history.last.number):
+    with book.act("take back", {"call": call_act.number}, seen=history.last.number):
         pass
     write_made(election.path(CALL), {}, PUBLIC, FILES)
     tell("Took the call back: if anybody has seen it, tell them that it does not hold.")
@@ -220,7 +224,6 @@ def take_back(election: Election, arguments: Arguments) -> None:
 
 # ---------------------------------------------------------------- what is printed
 def report(election: Election, data: CallData) -> None:
-    """Says what was made, and what comes next."""
     folder = election.path(CALL)
     tell(f"Made the folder {folder} with the page index.html and the letter call.txt.")
     if data.has_aliases:

@@ -42,7 +42,6 @@ def run(election: Election, arguments: Arguments) -> int:
 
 
 def what_next(election: Election, history: History, poll: SealedPoll) -> str:
-    """The command that the election needs next."""
     if lacks_codes(election, history, poll):
         return f"{election.command('codes')}, since the vote is secret and electors have no codes yet"
     call = election.command("call", "--until", "YYYY-MM-DD HH:MM", "--to", "ADDRESS")

@@ -6,18 +6,19 @@ import dataclasses
 from debvote_tools import times
 from debvote_tools.arguments import flag
 from debvote_tools.book import queries
+from debvote_tools.book.acts import Detail
 from debvote_tools.book.book import DoneAct
 from debvote_tools.console import tell
 from debvote_tools.election import acting, closing_letter
 from debvote_tools.election.election import LETTERS, Election, Sealed
 from debvote_tools.election.history import History
 from debvote_tools.election.made_files import OWN, write_made
-from debvote_tools.election.publication import ballots_in_secret
 from debvote_tools.election.reporting import act_time, count_of
 from debvote_tools.election.waiting import Arrived, waiting_letters
 from debvote_tools.faults import Fault, Status, stop_at
 from debvote_tools.files import sha256_of
-from debvote_tools.secret.aliases import seal_line, sealed_checksum
+from debvote_tools.lines import ballot_file
+from debvote_tools.secret.aliases import aliased_ballots, seal_line, sealed_checksum
 
 HELP = "End the vote: lines that are entered later are late"
 
@@ -49,28 +50,30 @@ def close(election: Election, sealed: Sealed, arguments: Arguments) -> None:
     in_time = [number for number, arrived in letters.items() if arrived is Arrived.IN_TIME]
     counts = collections.Counter(letters.values())
     is_early = history.until is not None and now < history.until
-    because = (arguments.because or "").strip()
     faults = []
     if is_early and not arguments.early:
         faults.append(still_open(election, history))
-    if in_time and not (arguments.force and because):
+    if in_time and not (arguments.force and acting.has_reason(arguments.because)):
         faults.append(letters_wait(election, in_time))
     stop_at(faults)
-    waiting = {"waiting": len(in_time), "after_end": counts[Arrived.LATE], "before_call": counts[Arrived.BEFORE_THE_CALL]}
-    why = {"because": because} if in_time else {}
-    with book.act("close", fixed(election, sealed) | waiting | why | {"early": is_early}, seen=history.last.number):
+    detail = fixed(election, sealed)
+    detail.update({"waiting": len(in_time), "after_end": counts[Arrived.LATE], "before_call": counts[Arrived.BEFORE_THE_CALL]})
+    if in_time:
+        detail["because"] = acting.demand_reason(arguments.because, "--force")
+    detail["early"] = is_early
+    with book.act("close", detail, seen=history.last.number):
         pass
 
 
-def fixed(election: Election, sealed: Sealed) -> dict[str, object]:
+def fixed(election: Election, sealed: Sealed) -> Detail:
     """What the close fixes: the number of lines, and the checksum of the ballots; in a secret vote of a random line and those that
     are published."""
     lines = queries.lines_in_time(election.book)
-    ballots = queries.ballots_of(lines)
+    ballots = ballot_file(lines)
     if not sealed.counted.secret:
         return {"lines": len(lines), "checksum": sha256_of(ballots)}
     standing = election.debvote.standing(sealed.counted.as_bytes(), ballots)
-    public, seal = ballots_in_secret(standing, queries.electors(election.book)), seal_line()
+    public, seal = aliased_ballots(standing, queries.public_names(queries.electors(election.book))), seal_line()
     return {"lines": len(lines), "checksum": sealed_checksum(seal, public), "seal": seal}
 
 

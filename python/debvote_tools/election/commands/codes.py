@@ -4,6 +4,7 @@ import dataclasses
 
 from debvote_tools.arguments import flag
 from debvote_tools.book import queries
+from debvote_tools.book.acts import Detail
 from debvote_tools.console import tell
 from debvote_tools.election import acting
 from debvote_tools.election.commands.check import what_next
@@ -63,17 +64,15 @@ def make_codes(election: Election, arguments: Arguments) -> tuple[SealedPoll, in
         raise Fault("--on-roll", "electors have codes beside their names already", "begin anew in another folder")
     if not without:
         return poll, 0
-    detail = {"codes": len(without), "on_roll": True} if arguments.on_roll else {"codes": len(without)}
+    detail: Detail = {"codes": len(without), "on_roll": True} if arguments.on_roll else {"codes": len(without)}
     with book.act("codes", detail, seen=history.last.number) as act:
         if arguments.on_roll:
-            for elector in electors:
-                queries.put_elector(act, dataclasses.replace(elector, position=None))
-            for position, code in enumerate(sorted(new_code() for _ in electors), start=1):
-                queries.put_elector(act, dataclasses.replace(queries.new_elector(act, code), position=position))
+            on_roll = (queries.new_elector(act, code) for code in sorted(new_code() for _ in electors))
+            queries.put_electors(act, (elector._replace(position=None) for elector in electors))
+            queries.put_electors(act, (elector._replace(position=number) for number, elector in enumerate(on_roll, start=1)))
         else:
-            for elector in without:
-                code = new_code(elector.name)
-                queries.put_elector(act, dataclasses.replace(elector, code=code, alias=alias_of(code, elector.name)))
+            codes = ((elector, new_code(elector.name)) for elector in without)
+            queries.put_electors(act, (elector._replace(code=code, alias=alias_of(code, elector.name)) for elector, code in codes))
     return poll, len(without)
 
 
@@ -99,7 +98,6 @@ def write_slips(election: Election, history: History, poll: SealedPoll) -> None:
 
 
 def report(election: Election, history: History, poll: SealedPoll) -> None:
-    """Says what was made, and what comes next."""
     private = election.path(PRIVATE)
     when = "The call writes into them until when one can vote and where to, so print them after it."
     tell(f"The slips: {private / SLIPS}. {when}")

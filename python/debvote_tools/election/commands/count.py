@@ -11,6 +11,7 @@ from debvote_tools.debvote import casting_words
 from debvote_tools.election.election import Election, Sealed
 from debvote_tools.election.history import History
 from debvote_tools.faults import Fault, Status
+from debvote_tools.lines import ballot_file
 from debvote_tools.sealed_poll import SealedPoll
 from debvote_tools.sheet import Sheet, sheet_in
 
@@ -31,7 +32,7 @@ def run(election: Election, arguments: Arguments) -> int:
     sealed, history = election.sealed(), election.history()
     demand_countable(election, history, sealed)
     demand_option(sealed.counted, arguments.casting)
-    ballots = queries.ballots_of(queries.lines_in_time(election.book))
+    ballots = ballot_file(queries.lines_in_time(election.book))
     answer = election.debvote.answer("count", sealed.counted.as_bytes(), ballots, *casting_words(arguments.casting))
     # the sheet alone, so that it can go into a file
     tell_as_it_is(answer.text)

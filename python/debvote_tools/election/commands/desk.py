@@ -6,18 +6,20 @@ import os
 import sys
 from collections.abc import Iterator
 
-from debvote_tools.book import entered as book_lines
+from debvote_tools.book import lines_by_act
 from debvote_tools.book import queries
-from debvote_tools.book.book import Act, Book, Overtaken
+from debvote_tools.book.acts import Detail
+from debvote_tools.book.book import Book, Overtaken
 from debvote_tools.book.queries import NewEnvelope
 from debvote_tools.console import is_yes, tell, typed
 from debvote_tools.election import acting, in_time
-from debvote_tools.election.batch import BatchLine, Vote, vote_of
-from debvote_tools.election.batch_words import LineWords, change_words, summary, would_words
-from debvote_tools.election.election import KEYRING, Election
+from debvote_tools.election.vote import JudgedLine, Vote, vote_of
+from debvote_tools.election.line_words import LineWords, change_words, summary, would_words
+from debvote_tools.election.election import Election, is_signed
 from debvote_tools.election.entering import electors_of, entered, is_too_long, long_words
 from debvote_tools.election.history import History
 from debvote_tools.election.in_time import Openness, openness_of
+from debvote_tools.election.reporting import listed
 from debvote_tools.faults import Fault, Status
 from debvote_tools.files import BALLOTS_LIMIT
 from debvote_tools.lines import Line, lines_in, name_in
@@ -84,16 +86,9 @@ class Desk:
         self.next_line += len(lines)
         return lines
 
-    def cast(self, lines: list[BatchLine], shown: Shown, elector: int | None = None) -> None:
+    def cast(self, lines: list[JudgedLine], shown: Shown, elector: int | None = None) -> None:
         """The act, and the replies to it. If it is not as it was shown, this raises `Overtaken`."""
-
-        def is_same() -> bool:
-            return self.now(elector) == shown
-
-        def envelopes(_: Act) -> Iterator[NewEnvelope]:
-            yield from (NewEnvelope(line.as_entered, line.line.place) for line in lines)
-
-        detail: dict[str, object] = {"lines": len(lines)}
+        detail: Detail = {"lines": len(lines)}
         if shown.openness.is_reopened:
             detail["came_before_close"] = self.came_before_close
         with entered(
@@ -101,10 +96,10 @@ class Desk:
             self.vote,
             "desk",
             detail,
-            envelopes,
+            lambda _: [NewEnvelope(line.as_entered, line.line.place) for line in lines],
             decided_at=shown.decided_at,
             is_late=shown.openness.is_late(self.came_before_close),
-            is_same=is_same,
+            is_same=lambda: self.now(elector) == shown,
             done="what was to be told is cast",
         ) as now:
             replies = now.replies()
@@ -120,7 +115,7 @@ def run(election: Election, arguments: Arguments) -> int:
     desk = Desk(election, book, arguments.came_before_close)
     openness = desk.now().openness
     tell(*in_time.notes(election, openness, "what is cast"))
-    if queries.last_act_that_sealed(book, KEYRING) >= desk.vote.call:
+    if is_signed(book, desk.vote.call):
         words = "letters have to be signed in this vote, and a desk asks for no signature"
         tell(f"Note: {words}: enter what comes on paper, or is spoken.")
     try:
@@ -227,8 +222,7 @@ def completed(vote: Vote, line: Line) -> Line:
         return line
     names = [other for other in vote.roll if other.startswith(name)]
     if len(names) > 1:
-        more = f" and {len(names) - MAX_NAMES} more" if len(names) > MAX_NAMES else ""
-        tell(f"These names begin so: {', '.join(names[:MAX_NAMES])}{more}")
+        tell(f"These names begin so: {listed(names, MAX_NAMES)}")
     if len(names) != 1:
         return line
     tell(f"`{name}` was completed to `{names[0]}`")
@@ -236,17 +230,17 @@ def completed(vote: Vote, line: Line) -> Line:
     return Line(line.source, line.place, full, full, full)
 
 
-def show(desk: Desk, line: BatchLine, shown: Shown, elector: int | None) -> str:
+def show(desk: Desk, line: JudgedLine, shown: Shown, elector: int | None) -> str:
     """Shows what a ballot would be, in words, or why debvote would refuse it. Returns the question whether to cast it."""
     tell(*change_words(line))
     if not line.is_ballot:
         tell(f"It would be refused: {would_words(line)}", desk.words.right_words())
-        return "It would count for nothing. Cast it all the same?"
+        return "It would not count. Cast it anyway?"
     tell(desk.words.of(line))
     if shown.openness.is_late(desk.came_before_close):
-        tell("It is late, and will count for nothing.")
+        tell("It is late, and will not count.")
     elif elector is not None:
-        earlier = desk.vote.standing(book_lines.lines_of_electors(desk.book, {elector})).get(line.voter)
+        earlier = desk.vote.standing(lines_by_act.lines_of_electors(desk.book, {elector})).get(line.voter)
         if earlier is not None:
             tell(f"{line.voter} has a ballot: {desk.words.ranks(earlier)}. It will be replaced.")
     return "Cast it?"

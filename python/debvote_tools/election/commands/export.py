@@ -12,12 +12,13 @@ from debvote_tools.election import acting
 from debvote_tools.election.election import Election
 from debvote_tools.faults import Fault, Status
 from debvote_tools.files import whole_folder, write_whole
+from debvote_tools.lines import ballot_file
 
 HELP = "Write the poll, the ballots and all that came into a new folder, which only you can read"
 
 # what a file name keeps of the name under which something came
 UNSAFE = re.compile(r"[^A-Za-z0-9._-]+")
-LONGEST_NAME = 100
+LONGEST_FILE_NAME = 100
 
 
 @dataclasses.dataclass(frozen=True)
@@ -46,11 +47,11 @@ def files_of(election: Election) -> dict[str, bytes]:
     """The files of the folder, by their names; what came has its number before its name."""
     book = election.book
     files = {"poll.toml": election.sealed().counted.as_bytes()}
-    files["ballots.txt"] = queries.ballots_of(queries.lines_in_time(book))
-    files["late.txt"] = queries.ballots_of(queries.late_lines(book))
+    files["ballots.txt"] = ballot_file(queries.lines_in_time(book))
+    files["late.txt"] = ballot_file(queries.late_lines(book))
     return files | {f"came/{number:05}-{safe_name(name)}": data for number, name, data in queries.sources(book)}
 
 
 def safe_name(name: str) -> str:
     """A name that is no path and has no characters that a shell reads."""
-    return UNSAFE.sub("-", name.rpartition("/")[2])[-LONGEST_NAME:].strip(".") or "file"
+    return UNSAFE.sub("-", name.rpartition("/")[2])[-LONGEST_FILE_NAME:].strip(".") or "file"

@@ -6,13 +6,14 @@ from collections.abc import Iterator, Sequence
 
 from debvote_tools.arguments import flag, given, option, positional
 from debvote_tools.book import letters, queries
-from debvote_tools.book.book import Act
-from debvote_tools.book.entered import NOT_UNDONE
+from debvote_tools.book.acts import ActName, Detail
+from debvote_tools.book.book import NewAct
+from debvote_tools.book.lines_by_act import NOT_UNDONE
 from debvote_tools.book.queries import NewEnvelope
 from debvote_tools.console import tell
 from debvote_tools.election import acting, letter_words, letters_in
-from debvote_tools.election.batch import vote_of
-from debvote_tools.election.batch_words import LineWords
+from debvote_tools.election.vote import vote_of
+from debvote_tools.election.line_words import LineWords
 from debvote_tools.election.election import Election
 from debvote_tools.election.entering import entered
 from debvote_tools.faults import Fault, Status
@@ -114,7 +115,7 @@ def decide(election: Election, arguments: Arguments) -> None:
         if letter.outcome is Outcome.ENTERED:
             cure = "strike takes an envelope out, undo the last act"
             raise Fault(f"letter {letter.number}", "its ballot was entered", cure)
-    state = letters.SET_ASIDE if arguments.set_aside else letters.PUT_BACK
+    state: ActName = letters.SET_ASIDE if arguments.set_aside else letters.PUT_BACK
     with book.act(state, {"letters": arguments.numbers}, seen=decided_at) as act:
         for number in dict.fromkeys(arguments.numbers):
             letters.decide(act, number, state)
@@ -134,12 +135,12 @@ def enter(election: Election, arguments: Arguments, number: int, lines: str) -> 
     done = {name_in(envelope.line).decode("ascii") for envelope in before} | {line.elector for line in ballots}
     is_done = all(line.elector in done for line in letter.ballots)
 
-    def envelopes(act: Act) -> Iterator[NewEnvelope]:
+    def envelopes(act: NewAct) -> Iterator[NewEnvelope]:
         yield from (letters_in.new_envelope(letter, line) for line in ballots)
         if is_done:
             letters.decide(act, number, letters.ENTERED)
 
-    detail = {"letter": number, "lines": [line.number for line in ballots]}
+    detail: Detail = {"letter": number, "lines": [line.number for line in ballots]}
     is_late = letters_in.is_late(history, letter)
     with entered(book, vote, "enter", detail, envelopes, decided_at=history.last.number, is_late=is_late) as now:
         tell(*letter_words.reply_words(LineWords(vote), now, [line.ballot for line in ballots]))

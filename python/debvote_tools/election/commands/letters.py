@@ -15,7 +15,7 @@ from debvote_tools.console import tell
 from debvote_tools.election import acting, letter_files
 from debvote_tools.election.election import LETTERS, Election
 from debvote_tools.election.letters_due import LettersDue
-from debvote_tools.election.reporting import count_of
+from debvote_tools.election.reporting import count_of, listed
 from debvote_tools.faults import Fault, Status
 from debvote_tools.files import locked, uninterrupted
 from debvote_tools.letters_out import send
@@ -114,8 +114,7 @@ def announce(election: Election, book: Book, address: str) -> None:
     """The act that says where the page of the vote is, if it is not known already."""
     demand_web_address(address)
     history = election.history()
-    if history.call is None:
-        raise election.not_called()
+    election.called(history)
     if history.announced("at") != address:
         with book.act("announce", {"at": address}, seen=history.last.number):
             pass
@@ -181,8 +180,7 @@ def report_paper(due: LettersDue, place: pathlib.Path) -> None:
     """Says who has no address."""
     names = [due.elector(letter).name for letter in (*due.written, *due.new) if not letter.address]
     if names:
-        more = f" and {len(names) - MOST} more" if len(names) > MOST else ""
-        tell(f"Without an address: {', '.join(names[:MOST])}{more}. Print {place}/{letter_files.TO_PRINT}.")
+        tell(f"Without an address: {listed(names, MOST)}. Print {place}/{letter_files.TO_PRINT}.")
 
 
 def report_written(election: Election, due: LettersDue, place: pathlib.Path, files: int) -> None:

@@ -16,13 +16,13 @@ from debvote_tools.election.election import RESULT, Election
 from debvote_tools.election.publication import ACT, Words, detail_of, last_publication, publication_of
 from debvote_tools.election.reporting import act_time
 from debvote_tools.faults import Fault, Status
-from debvote_tools.files import locked_folder
+from debvote_tools.files import locked
 from debvote_tools.language import LANGUAGES
 from debvote_tools.publish import result_folder
 from debvote_tools.publish.casting_vote import casting_vote_of
 from debvote_tools.publish.counting import Counted
 from debvote_tools.publish.inputs import Publication
-from debvote_tools.publish.texts import reason_in, text_in
+from debvote_tools.publish.texts import text_in
 
 HELP = "Make the folder of the result for a web site; without options, make the last one again"
 
@@ -88,7 +88,7 @@ def publish(election: Election, arguments: Arguments, target_folder: pathlib.Pat
 def alone(election: Election) -> Iterator[None]:
     """No other publication comes between the act and the folder that takes its place."""
     try:
-        with locked_folder(election.folder):
+        with locked(election.folder, is_directory=True):
             yield
     except BlockingIOError:
         words = "another command publishes this election at the moment"
@@ -104,13 +104,14 @@ def words_of(arguments: Arguments) -> Words:
     elif arguments.cast_by is not None or arguments.cast_on is not None:
         words = "they say whose the casting vote of --casting was"
         raise Fault("--cast-by, --cast-on", words, "give --casting too", Status.BAD_WORDS, "nothing was published")
+    reason = arguments.because if arguments.force else None
     return Words(
         casting=arguments.casting,
         cast_by=vote.by if vote else None,
         cast_on=vote.on.isoformat() if vote and vote.on else None,
         about=None if arguments.about is None else text_in(arguments.about),
         is_forced=arguments.force,
-        because=reason_in(arguments.because) if arguments.force and arguments.because is not None else None,
+        because=None if reason is None else acting.demand_reason(reason, "--force", has_paragraphs=True),
         language=arguments.language,
     )
 

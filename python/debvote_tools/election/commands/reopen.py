@@ -2,17 +2,18 @@
 
 import dataclasses
 import datetime
-from collections.abc import Iterator, Sequence
+from collections.abc import Sequence
 
 from debvote_tools.arguments import flag, option
-from debvote_tools.book import entered as book_lines
+from debvote_tools.book import lines_by_act
 from debvote_tools.book import queries
-from debvote_tools.book.book import Act, Book
+from debvote_tools.book.acts import Detail
+from debvote_tools.book.book import Book
 from debvote_tools.book.queries import Envelope, NewEnvelope
 from debvote_tools.console import is_terminal, tell, typed
 from debvote_tools.election import acting
 from debvote_tools.election.commands.strike import without_code
-from debvote_tools.election.batch import vote_of
+from debvote_tools.election.vote import vote_of
 from debvote_tools.election.election import Election
 from debvote_tools.election.entering import entered
 from debvote_tools.election.history import History
@@ -44,12 +45,11 @@ def run(election: Election, arguments: Arguments) -> int:
     older = faults_of_older(book, offered)
     if not arguments.force:
         stop_at(older)
-    detail = {"because": because, "in_time": [envelope.number for envelope in offered]} | ({"force": True} if older else {})
-
-    def envelopes(_: Act) -> Iterator[NewEnvelope]:
-        yield from (NewEnvelope(late.line, late.place, late.source, late.letter, late.time) for late in offered)
-
-    with entered(book, vote, "reopen", detail, envelopes, decided_at=history.last.number, is_late=False) as now:
+    detail: Detail = {"because": because, "in_time": [envelope.number for envelope in offered]}
+    if older:
+        detail["force"] = True
+    again = [NewEnvelope(late.line, late.place, late.source, late.letter, late.time) for late in offered]
+    with entered(book, vote, "reopen", detail, lambda _: again, decided_at=history.last.number, is_late=False) as now:
         tell(f"The vote is open again; the close at {act_time(history.closes[-1].time)} stays in the log, and the page tells it.")
         for number, envelope in zip(now.numbers, offered):
             tell(f"{number} entered, which was late as {envelope.number}: {without_code(envelope.line, has_codes=vote.has_codes)}")
@@ -70,7 +70,7 @@ def demand_closed(election: Election, history: History) -> None:
 def chosen(book: Book, in_time: list[int] | None, *, has_codes: bool) -> list[Envelope]:
     """The late envelopes that had come in time, as the secretary says, in the order of their times."""
     late = {envelope.number: envelope for envelope in queries.envelopes(book, queries.LATE)}
-    entered_before = book_lines.entered_anew(book)
+    entered_before = lines_by_act.entered_anew(book)
     if in_time is None and is_terminal():
         in_time = asked([envelope for number, envelope in late.items() if number not in entered_before], has_codes=has_codes)
     numbers = in_time or []

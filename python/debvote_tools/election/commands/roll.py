@@ -12,7 +12,7 @@ from debvote_tools.election.election import MEMBERS_FILE, Election
 from debvote_tools.election.electors import Roll, roll_of
 from debvote_tools.election.history import History
 from debvote_tools.election.members import Member, members_in
-from debvote_tools.election.reporting import count_of
+from debvote_tools.election.reporting import count_of, listed
 from debvote_tools.faults import Fault, Status, stop_at
 from debvote_tools.plain_names import alike
 from debvote_tools.terminal_text import shown_text
@@ -38,7 +38,7 @@ def run(election: Election, arguments: Arguments) -> int:
     if history.call is not None:
         change_addresses(election, book, roll, history.last.number, is_agreed=arguments.yes)
     else:
-        keep(book, roll, history.last.number)
+        keep_electors(book, roll, history.last.number)
         report(election, roll, has_all=arguments.all)
     return Status.DONE
 
@@ -64,28 +64,26 @@ def is_kept(book: Book, roll: Roll) -> bool:
     return now == [(elector.name, elector.who, elector.addresses, elector.key) for elector in queries.electors(book)]
 
 
-def keep(book: Book, roll: Roll, seen: int) -> None:
+def keep_electors(book: Book, roll: Roll, seen: int) -> None:
     """The act: the electors are those of the list. If they are already, it is no act."""
     if is_kept(book, roll):
         return
     before = {elector.number: elector for elector in queries.all_electors(book)}
     by_name = {elector.name: elector for elector in before.values()}
     with book.act("roll", {"electors": len(roll.electors)}, seen=seen) as act:
-        after = {number: dataclasses.replace(elector, position=None) for number, elector in before.items()}
+        after = {number: elector._replace(position=None) for number, elector in before.items()}
         for position, elector in enumerate(roll.electors, start=1):
             known = by_name.get(elector.name) or queries.new_elector(act, elector.name)
-            # a code that somebody else got shows this person nothing
-            kept = {} if alike(known.who) == alike(elector.who) else {"code": "", "alias": ""}
-            details = {"who": elector.who, "addresses": elector.addresses, "key": elector.key}
-            after[known.number] = dataclasses.replace(known, position=position, **details, **kept)
-        for number, now in after.items():
-            if before.get(number) != now:
-                queries.put_elector(act, now)
+            if alike(known.who) != alike(elector.who):
+                # a code that somebody else got shows this person nothing
+                known = known._replace(code="", alias="")
+            now = known._replace(position=position, who=elector.who, addresses=elector.addresses, key=elector.key)
+            after[known.number] = now
+        queries.put_electors(act, (now for number, now in after.items() if before.get(number) != now))
 
 
 # ---------------------------------------------------------------- what is printed
 def report(election: Election, roll: Roll, *, has_all: bool) -> None:
-    """Prints the electors, and what the secretary has to look at."""
     electors = roll.electors
     shown = electors if has_all else electors[:MAX_SHOWN]
     tell(f"{count_of(len(electors), 'elector')}, each with the name on the roll:")
@@ -108,9 +106,7 @@ def report(election: Election, roll: Roll, *, has_all: bool) -> None:
 
 
 def names_of(electors: Sequence[Member]) -> str:
-    """Names of electors in a sentence; of many the first."""
-    more = f" and {len(electors) - MAX_SHOWN} more" if len(electors) > MAX_SHOWN else ""
-    return ", ".join(elector.name for elector in electors[:MAX_SHOWN]) + more
+    return listed([elector.name for elector in electors], MAX_SHOWN)
 
 
 # ---------------------------------------------------------------- after the call
@@ -119,9 +115,8 @@ def change_addresses(election: Election, book: Book, roll: Roll, seen: int, *, i
     changed = [elector for elector in roll.electors if elector.changes and (is_agreed or agreed(elector))]
     if changed:
         with book.act("addresses", {"electors": len(changed)}, seen=seen) as act:
-            for elector in changed:
-                assert elector.known is not None
-                queries.put_elector(act, dataclasses.replace(elector.known, addresses=elector.addresses, key=elector.key))
+            pairs = ((elector, elector.known) for elector in changed if elector.known)
+            queries.put_electors(act, (known._replace(addresses=now.addresses, key=now.key) for now, known in pairs))
         tell(*(f"{elector.name}: {changes_in_words(elector)}" for elector in changed))
         tell(f"{count_of(len(changed), 'elector')} changed; the page of the result tells how many.")
     else:

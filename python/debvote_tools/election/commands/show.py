@@ -8,8 +8,8 @@ from debvote_tools.book.queries import Elector, Envelope
 from debvote_tools.book.sent import sent_to
 from debvote_tools.console import tell
 from debvote_tools.election import acting, letter_words, letters_in
-from debvote_tools.election.batch import BatchLine, Vote, vote_of
-from debvote_tools.election.batch_words import LineWords
+from debvote_tools.election.vote import JudgedLine, Vote, vote_of
+from debvote_tools.election.line_words import LineWords
 from debvote_tools.election.election import Election
 from debvote_tools.election.history import History
 from debvote_tools.election.reporting import act_time
@@ -19,7 +19,7 @@ from debvote_tools.letters.reasons import for_secretary
 from debvote_tools.lines import Line
 from debvote_tools.terminal_text import shown_text
 
-HELP = "Show one elector: the ballots and letters that came, what stands, and what was sent"
+HELP = "Show one elector: the ballots and letters that came, the current ballot, and what was sent"
 
 
 @dataclasses.dataclass(frozen=True)
@@ -32,7 +32,9 @@ def run(election: Election, arguments: Arguments) -> int:
     vote = vote_of(election, history)
     acting.tell_strangeness(election.book)
     elector = elector_named(election, vote, arguments.name)
-    tell_elector(elector, vote)
+    who = f": {shown_text(elector.who)} {', '.join(map(shown_text, elector.addresses))}".rstrip(": ")
+    # of a code nobody knows whose it is
+    tell(elector.name if vote.has_codes else f"{elector.name}{who}")
     tell_ballots(election, vote, history, elector)
     for letter in letters_in.judged(election, history, letters.letters(election.book)):
         if elector.name in letter.electors:
@@ -59,28 +61,22 @@ def elector_named(election: Election, vote: Vote, name: str) -> Elector:
     raise Fault("show", f"no {what} on the roll is `{shown_text(name)}`", cure, done=None)
 
 
-def tell_elector(elector: Elector, vote: Vote) -> None:
-    """Says who it is; of a code nobody knows whose it is."""
-    who = f": {shown_text(elector.who)} {', '.join(map(shown_text, elector.addresses))}".rstrip(": ")
-    tell(elector.name if vote.has_codes else f"{elector.name}{who}")
-
-
 def tell_ballots(election: Election, vote: Vote, history: History, elector: Elector) -> None:
     """Shows the lines that came of an elector, and what stands."""
     envelopes, words = queries.envelopes(election.book, "elector = ?", elector.number), LineWords(vote)
     read = vote.read([Line("", "", envelope.line, envelope.line, envelope.line) for envelope in envelopes])
-    counted = [(envelope.number, envelope.line) for envelope in envelopes if envelope.struck is None and not envelope.is_late]
+    counted = [envelope.line for envelope in envelopes if envelope.struck is None and not envelope.is_late]
     ranks = vote.standing(counted).get(elector.name)
     tell(*(ballot_words(words, history, envelope, line) for envelope, line in zip(envelopes, read)))
-    tell(f"The ballot that stands: {'none' if ranks is None else words.ranks(ranks)}")
+    tell(f"The current ballot: {'none' if ranks is None else words.ranks(ranks)}")
 
 
-def ballot_words(words: LineWords, history: History, envelope: Envelope, line: BatchLine) -> str:
+def ballot_words(words: LineWords, history: History, envelope: Envelope, line: JudgedLine) -> str:
     """A ballot that came: its envelope, its time, what it says, and whether it counts."""
     said = words.ranks(line.ranks) if line.is_ballot else words.of(line)
     marks = ["late"] if envelope.is_late else []
     if envelope.struck is not None:
-        act = history.acts[envelope.struck - 1]
+        act = history.act(envelope.struck)
         because = f": {shown_text(str(act.detail['because']))}" if act.detail.get("because") else ""
         marks.append(f"struck by {act.name} at {act_time(act.time)}{because}")
     marked = f" ({'; '.join(marks)})" if marks else ""

@@ -3,6 +3,7 @@
 import dataclasses
 import json
 import re
+from typing import NamedTuple
 
 from debvote_tools import times
 from debvote_tools.arguments import flag
@@ -15,6 +16,7 @@ from debvote_tools.election.history import History, Stage
 from debvote_tools.election.reporting import act_time, count_of, quorum_words, wrapped
 from debvote_tools.election.waiting import waiting_letters
 from debvote_tools.faults import Status
+from debvote_tools.lines import ballot_file
 from debvote_tools.terminal_text import shown_line
 
 HELP = "Say how far the election is: lines, ballots, who has none yet, what was refused"
@@ -33,8 +35,7 @@ class Arguments:
     json: bool = flag("Print the numbers as JSON, for programs")
 
 
-@dataclasses.dataclass(frozen=True)
-class State:
+class State(NamedTuple):
     """How an election is, in numbers. In a vote whose roll has codes nobody is named."""
 
     stage: Stage
@@ -54,8 +55,7 @@ class State:
     digest: str
 
 
-@dataclasses.dataclass(frozen=True)
-class Refused:
+class Refused(NamedTuple):
     """A line that debvote refuses, in its envelope."""
 
     envelope: int
@@ -74,7 +74,7 @@ def run(election: Election, arguments: Arguments) -> int:
         history = election.history()
         state, refused = state_of(election, history)
     if arguments.json:
-        tell(json.dumps(dataclasses.asdict(state), ensure_ascii=False))
+        tell(json.dumps(state._asdict(), ensure_ascii=False))
     else:
         report(election, history, state, refused)
     return Status.DONE
@@ -86,15 +86,18 @@ def state_of(election: Election, history: History) -> tuple[State, list[Refused]
     With codes on the roll these are all refused lines.
     """
     lines: list[tuple[int, bytes]] = []
-    standing: dict[str, str] = {}
     findings, waiting = NO_FINDINGS, 0
     if history.call is None:
         roll = tuple(elector.name for elector in queries.electors(election.book))
     else:
-        poll, lines = election.sealed().counted, queries.lines_in_time(election.book)
-        poll_bytes, ballots, roll = poll.as_bytes(), queries.ballots_of(lines), poll.roll
-        findings, standing = election.debvote.findings(poll_bytes, ballots), election.debvote.standing(poll_bytes, ballots)
+        poll, lines = election.sealed().counted, queries.numbered_lines_in_time(election.book)
+        findings, roll = election.debvote.findings(poll.as_bytes(), ballot_file(line for _, line in lines)), poll.roll
         waiting = len(waiting_letters(election, history))
+    refused = [Refused(*lines[finding.envelope - 1], finding) for finding in findings.refused]
+    refused_numbers = {one.envelope for one in refused}
+    # who has a line that debvote does not refuse has a ballot that stands
+    names = {line.partition(b" ")[0] for number, line in lines if number not in refused_numbers}
+    voters = {name.decode("ascii") for name in names}
     state = State(
         stage=history.stage,
         electors=len(roll),
@@ -104,23 +107,21 @@ def state_of(election: Election, history: History) -> tuple[State, list[Refused]
         late=len(queries.late_lines(election.book)),
         voters=findings.totals.voters,
         waiting=waiting,
-        without_ballot=None if history.has_codes_on_roll else [name for name in roll if name not in standing],
+        without_ballot=None if history.has_codes_on_roll else [name for name in roll if name not in voters],
         act=history.last.number,
         digest=history.last.digest,
     )
-    refused = [Refused(*lines[finding.envelope - 1], finding) for finding in findings.refused]
-    return state, refused if history.has_codes_on_roll else [one for one in refused if one.name not in standing]
+    return state, refused if history.has_codes_on_roll else [one for one in refused if one.name not in voters]
 
 
 # ---------------------------------------------------------------- what is printed
 def report(election: Election, history: History, state: State, refused: list[Refused]) -> None:
-    """Tells all of it, and what comes next."""
     acting.tell_strangeness(election.book)
     tell_stage(election, history)
     tell(f"Lines: {state.lines} ({state.valid} valid, {state.refused} refused)")
     if state.late:
-        tell(f"Late, so that they count for nothing: {state.late}")
-    tell(f"Electors with a ballot that stands: {state.voters} of {state.electors}")
+        tell(f"Late, and not counted: {state.late}")
+    tell(f"Electors with a valid ballot: {state.voters} of {state.electors}")
     if shows() and state.electors:
         tell(f"  {bar_of(state.voters, state.electors)}")
     if state.without_ballot:
@@ -161,7 +162,6 @@ def tell_stage(election: Election, history: History) -> None:
 
 
 def what_next(election: Election, state: State) -> str:
-    """The command that the election needs next."""
     if state.stage is Stage.NEW:
         return f"{election.command('roll')}, then {election.command('check')}, then {election.command('call')}"
     if state.stage is Stage.CALLED:

@@ -1,20 +1,18 @@
 """`strike`: takes one envelope out of the ballots, before the close."""
 
-import contextlib
 import dataclasses
 import re
 
 from debvote_tools.arguments import positional
-from debvote_tools.book import entered, letters, queries
-from debvote_tools.book.book import Book, Overtaken
+from debvote_tools.book import letters, lines_by_act, queries
+from debvote_tools.book.book import Book
 from debvote_tools.book.queries import Envelope
 from debvote_tools.console import tell
 from debvote_tools.election import acting
-from debvote_tools.election.batch import vote_of
-from debvote_tools.election.batch_words import LineWords
+from debvote_tools.election.vote import vote_of
+from debvote_tools.election.line_words import LineWords
 from debvote_tools.election.commands.undo import demand_open
 from debvote_tools.election.election import Election
-from debvote_tools.election.history import History
 from debvote_tools.election.reporting import act_time
 from debvote_tools.faults import Fault, Status
 from debvote_tools.lines import name_in
@@ -41,24 +39,21 @@ def run(election: Election, arguments: Arguments) -> int:
     tell(f"Struck envelope {envelope.number}{late}: `{without_code(envelope.line, has_codes=vote.has_codes)}`, because: {because}")
     if envelope.elector is not None:
         elector = name_in(envelope.line).decode("ascii")
-        ranks = vote.standing(entered.lines_after(book, act, {envelope.elector})).get(elector)
+        ranks = vote.standing(lines_by_act.lines_after(book, act, {envelope.elector})).get(elector)
         whose = "that code" if vote.has_codes else elector
-        tell(f"What stands now of {whose}: {'no ballot' if ranks is None else LineWords(vote).ranks(ranks)}")
+        tell(f"The current ballot of {whose}: {'none' if ranks is None else LineWords(vote).ranks(ranks)}")
     tell("A strike cannot be undone: if it was a mistake, enter the line again.", f"Next: {election.command('status')}")
     return Status.DONE
 
 
 def strike(election: Election, book: Book, number: int, because: str) -> tuple[Envelope, int]:
     """The act: the envelope, and the number of the act."""
-    while True:
-        seen = book.last_number()
+    with book.act("strike", {"envelope": number, "because": because}) as act:
         envelope = demand_envelope(election, book, number)
-        with contextlib.suppress(Overtaken):
-            with book.act("strike", {"envelope": number, "because": because}, seen=seen) as act:
-                queries.strike(act, [number])
-                if envelope.letter is not None and is_done(book, envelope.letter):
-                    letters.decide(act, envelope.letter, letters.STRUCK)
-            return envelope, act.number
+        queries.strike_envelopes(act, [number])
+        if envelope.letter is not None and is_done(book, envelope.letter):
+            letters.decide(act, envelope.letter, letters.STRUCK)
+    return envelope, act.number
 
 
 def is_done(book: Book, number: int) -> bool:
@@ -69,7 +64,8 @@ def is_done(book: Book, number: int) -> bool:
 
 def demand_envelope(election: Election, book: Book, number: int) -> Envelope:
     """The envelope of a number. Stops if there is none, if it is struck, or if the vote is closed."""
-    demand_open(election, History(book.acts()))
+    history = election.history()
+    demand_open(election, history)
     found = queries.envelopes(book, "envelope = ?", number)
     if not found:
         last = queries.last_envelope(book)
@@ -77,7 +73,7 @@ def demand_envelope(election: Election, book: Book, number: int) -> Envelope:
         raise Fault(None, f"there is no envelope {number}; {there}", "see show NAME for the numbers of one elector")
     [envelope] = found
     if envelope.struck is not None:
-        time = act_time(book.acts()[envelope.struck - 1].time)
+        time = act_time(history.act(envelope.struck).time)
         words = f"envelope {number} is struck already, by act {envelope.struck} at {time}"
         raise Fault(None, words, f"see {election.command('log')}")
     return envelope

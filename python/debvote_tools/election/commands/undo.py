@@ -3,14 +3,14 @@
 import dataclasses
 
 from debvote_tools.arguments import flag
-from debvote_tools.book import entered, letters, queries
+from debvote_tools.book import letters, lines_by_act, queries
 from debvote_tools.book.sent import sent_letters
 from debvote_tools.book.book import Book, DoneAct, Overtaken
 from debvote_tools.book.queries import Envelope
 from debvote_tools.console import is_terminal, is_yes, tell
 from debvote_tools.election import acting
-from debvote_tools.election.batch import Vote, vote_of
-from debvote_tools.election.batch_words import LineWords, standing_words
+from debvote_tools.election.vote import Vote, vote_of
+from debvote_tools.election.line_words import LineWords, standing_words
 from debvote_tools.election.election import Election
 from debvote_tools.election.entering import envelope_words
 from debvote_tools.election.history import History
@@ -27,7 +27,7 @@ class Arguments(acting.Arguments):
 
 
 @dataclasses.dataclass(frozen=True)
-class TakenBack:
+class UndoPlan:
     """What an `undo` takes back, or would, and what it changes."""
 
     decided_at: int = dataclasses.field(compare=False)
@@ -42,12 +42,10 @@ class TakenBack:
 
     @property
     def letters(self) -> list[int]:
-        """The letters whose ballots they are."""
         return sorted({envelope.letter for envelope in self.envelopes if envelope.letter is not None})
 
     @property
     def what(self) -> str:
-        """What is taken back, in words."""
         files = f" of {', '.join(self.act.detail['files'])}" if self.act.detail.get("files") else ""
         numbers = [envelope.number for envelope in self.envelopes]
         which = f"{act_time(self.act.time)}, {envelope_words(numbers)}" if numbers else act_time(self.act.time)
@@ -60,16 +58,16 @@ def run(election: Election, arguments: Arguments) -> int:
     words = LineWords(vote)
     is_asked = is_terminal() and not arguments.yes
     undone = undo(election, book, words, is_asked=is_asked)
-    ballots = [] if is_asked else standing_words(words, undone.before, undone.after, "no ballot stands now")
+    ballots = [] if is_asked else standing_words(words, undone.before, undone.after, "no ballot is left")
     tell(f"Took back {undone.what}.", *ballots, *waiting_words(undone), *receipt_words(undone))
     tell(f"Next: {election.command('status')}; once more {election.command('undo')} takes back the act before")
     return Status.DONE
 
 
 # ---------------------------------------------------------------- the act
-def undo(election: Election, book: Book, words: LineWords, *, is_asked: bool) -> TakenBack:
+def undo(election: Election, book: Book, words: LineWords, *, is_asked: bool) -> UndoPlan:
     """Takes back the last act. If another act changes what was shown, it is shown and asked anew."""
-    agreed: TakenBack | None = None
+    agreed: UndoPlan | None = None
     while True:
         found = what_is_taken_back(election, book, words.vote)
         if is_asked and found != agreed:
@@ -77,7 +75,7 @@ def undo(election: Election, book: Book, words: LineWords, *, is_asked: bool) ->
             agreed = found
         try:
             with book.act("undo", {"act": found.act.number}, seen=found.decided_at) as act:
-                queries.strike(act, (envelope.number for envelope in found.envelopes))
+                queries.strike_envelopes(act, (envelope.number for envelope in found.envelopes))
                 for letter in found.letters:
                     letters.decide(act, letter, letters.TAKEN_BACK)
             return found
@@ -85,28 +83,27 @@ def undo(election: Election, book: Book, words: LineWords, *, is_asked: bool) ->
             continue
 
 
-def what_is_taken_back(election: Election, book: Book, vote: Vote) -> TakenBack:
+def what_is_taken_back(election: Election, book: Book, vote: Vote) -> UndoPlan:
     """The last act that entered lines, and what it changes to take it back. Stops if there is none, or if the vote is closed."""
     with book.snapshot():
         history = History(book.acts())
         demand_open(election, history)
-        number = entered.last_entering_act(book)
+        number = lines_by_act.last_entering_act(book)
         if number is None:
             words = "nothing was entered that could be taken back"
             raise Fault("undo", words, f"see {election.command('status')}")
         envelopes = tuple(queries.envelopes(book, f"envelope.act = ? AND {queries.NOT_STRUCK}", number))
         electors = {envelope.elector for envelope in envelopes if envelope.elector is not None}
-        lines = entered.lines_of_electors(book, electors)
-    gone = {envelope.number for envelope in envelopes}
-    before, after = vote.standing(lines), vote.standing([line for line in lines if line[0] not in gone])
-    told = {("envelope", number, False) for number in gone}
+        lines = lines_by_act.lines_of_electors(book, electors)
+        lines_without = lines_by_act.lines_of_electors(book, electors, without=number)
+    before, after = vote.standing(lines), vote.standing(lines_without)
+    told = {("envelope", envelope.number, False) for envelope in envelopes}
     receipts = [letter.elector for letter in sent_letters(book, Kind.RECEIPTS) if told & set(letter.about)]
     names = [elector.name for elector in queries.electors(book) if elector.number in receipts]
-    return TakenBack(history.last.number, history.acts[number - 1], envelopes, before, after, tuple(names))
+    return UndoPlan(history.last.number, history.act(number), envelopes, before, after, tuple(names))
 
 
 def demand_open(election: Election, history: History) -> None:
-    """Stops if the vote is closed."""
     if history.is_closed:
         words = f"the vote was closed at {act_time(history.closes[-1].time)}, and its ballots stay"
         cure = f"if they are wrong, see {election.command('reopen')}"
@@ -114,14 +111,14 @@ def demand_open(election: Election, history: History) -> None:
 
 
 # ---------------------------------------------------------------- what is printed
-def ask(words: LineWords, found: TakenBack) -> None:
+def ask(words: LineWords, found: UndoPlan) -> None:
     """Shows what would be taken back, and asks. Stops unless the answer is yes."""
-    tell(*standing_words(words, found.before, found.after, "no ballot would stand"), *waiting_words(found), *receipt_words(found))
+    tell(*standing_words(words, found.before, found.after, "no ballot would be left"), *waiting_words(found), *receipt_words(found))
     if not is_yes(f"Take back {found.what}?"):
         raise Fault("undo", "you did not say yes", "run the command again when you want to take it back")
 
 
-def waiting_words(found: TakenBack) -> list[str]:
+def waiting_words(found: UndoPlan) -> list[str]:
     """The letters whose ballots are taken back: they wait again."""
     if not found.letters:
         return []
@@ -129,6 +126,6 @@ def waiting_words(found: TakenBack) -> list[str]:
     return [f"{count_of(len(found.letters), 'letter')} then {verb} as taken back: {', '.join(map(str, found.letters))}"]
 
 
-def receipt_words(found: TakenBack) -> list[str]:
+def receipt_words(found: UndoPlan) -> list[str]:
     """Whose receipts say that a ballot counts which no longer does."""
     return [f"These have receipts that no longer hold: {', '.join(found.receipts)}"] if found.receipts else []

@@ -1,15 +1,15 @@
 """What is printed about lines: the reply to each, what was changed of it, and why debvote refuses it."""
 
 import collections
+import functools
 from collections.abc import Iterable, Iterator, Sequence
 
-from debvote_tools.ballots import ranks_in_words
-from debvote_tools.election.batch import BatchLine, Vote
-from debvote_tools.election.entering import LATE
+from debvote_tools.ballots import BallotWords
+from debvote_tools.election.vote import JudgedLine, Vote
+from debvote_tools.election.entering import LATE_REPLY
 from debvote_tools.election.reporting import count_of
 from debvote_tools.language import ENGLISH
-from debvote_tools.lines import Line, differences
-from debvote_tools.secret.codes import CODE_WITHIN
+from debvote_tools.lines import CODE_WITHIN, Line, differences
 from debvote_tools.terminal_text import shown_line
 
 IS_CODE = " (it has 32 digits, as codes and aliases have: a ballot has the elector's name alone, and a code is shown to nobody)"
@@ -21,10 +21,10 @@ class LineWords:
     def __init__(self, vote: Vote) -> None:
         self.vote = vote
         # most ballots have one of a few orders
-        self.in_words: dict[str, str] = {}
+        self.ranks = functools.lru_cache(4096)(BallotWords(vote.option_names).of)
 
     def report(
-        self, lines: Sequence[BatchLine], numbers: Iterable[int], replies: Sequence[str], *, is_entered: bool
+        self, lines: Sequence[JudgedLine], numbers: Iterable[int], replies: Sequence[str], *, is_entered: bool
     ) -> Iterator[str]:
         """What is printed about lines that were entered, or that would be."""
         yield from frame_words(line.line for line in lines)
@@ -38,10 +38,10 @@ class LineWords:
                 yield from cause_words(line, is_entered=is_entered)
         if not all(line.finding is None for line in lines):
             yield self.right_words()
-        if LATE in replies:
-            yield f"{count_of(replies.count(LATE), 'line')} came after the close, and late ones count for nothing."
+        if LATE_REPLY in replies:
+            yield f"{count_of(replies.count(LATE_REPLY), 'line')} came after the close, and late lines do not count."
 
-    def of(self, line: BatchLine, reply: str = "") -> str:
+    def of(self, line: JudgedLine, reply: str = "") -> str:
         """A ballot in words, or the line and why debvote refuses it."""
         if line.finding is None:
             return self.ballot(line.as_entered.decode("ascii"))
@@ -53,12 +53,7 @@ class LineWords:
         voter, _, ranks = ballot.partition(" ")
         return f"{voter}: {self.ranks(ranks)}"
 
-    def ranks(self, ranks: str) -> str:
-        if ranks not in self.in_words:
-            self.in_words[ranks] = ranks_in_words(ranks, self.vote.option_names)
-        return self.in_words[ranks]
-
-    def more(self, line: BatchLine) -> str:
+    def more(self, line: JudgedLine) -> str:
         """All other names that fit if debvote offers one, so that nobody takes one elector for another; and that a line has a code."""
         others = f" (or {ENGLISH.joined(list(line.other_names))})" if line.other_names else ""
         return others if self.vote.has_codes or not CODE_WITHIN.search(line.line.repaired) else others + IS_CODE
@@ -85,7 +80,7 @@ def frame_words(lines: Iterable[Line]) -> Iterator[str]:
             yield f"{name}: {count_of(return_count, 'line')} {verb} as Windows ends {they} (carriage return); that was taken off"
 
 
-def change_words(line: BatchLine) -> Iterator[str]:
+def change_words(line: JudgedLine) -> Iterator[str]:
     """What was changed of a line, before and after."""
     before = line.line.without_frame
     if before != line.as_entered:
@@ -93,7 +88,7 @@ def change_words(line: BatchLine) -> Iterator[str]:
         yield f"{line.line.where}: `{shown_line(before)}` was changed to `{shown_line(line.as_entered)}` ({how})"
 
 
-def cause_words(line: BatchLine, *, is_entered: bool) -> Iterator[str]:
+def cause_words(line: JudgedLine, *, is_entered: bool) -> Iterator[str]:
     """Why debvote refuses the repaired line too, if that is another reason."""
     finding, other = line.finding, line.finding_of_repaired
     if finding and other and (other.word, other.hint) != (finding.word, finding.hint):
@@ -102,7 +97,7 @@ def cause_words(line: BatchLine, *, is_entered: bool) -> Iterator[str]:
         yield f"  {goes} as it came; {written}: {other.word}: {other.hint}"
 
 
-def would_words(line: BatchLine) -> str:
+def would_words(line: JudgedLine) -> str:
     """A line that is not entered yet, and the one reason that stays after the changes that are allowed."""
     finding = line.finding_of_repaired
     why = "" if finding is None else f": {finding.word}: {finding.hint}"

@@ -29,21 +29,21 @@ def last_entering_act(book: Book) -> int | None:
     return None if number is None else int(number)
 
 
-def lines_after(book: Book, act: int, electors: Collection[int] | None = None) -> list[tuple[int, bytes]]:
-    """Number and line of each envelope that was in time and not struck when an act was done, in their order. If electors are named, those of
-    others may be missing.
+def lines_after(book: Book, act: int, electors: Collection[int] | None = None, *, without: int = 0) -> list[bytes]:
+    """The line of each envelope that was in time and not struck when an act was done, in their order, without those of one act. If electors
+    are named, those of others may be missing.
     """
-    condition = "late = 0 AND (struck.act IS NULL OR struck.act > ?) AND envelope.act <= ?"
-    values = [act, act]
+    condition = "late = 0 AND (struck.act IS NULL OR struck.act > ?) AND envelope.act <= ? AND envelope.act <> ?"
+    values = [act, act, without]
     if electors is not None and len(electors) <= MOST_ELECTORS:
         condition += f" AND elector IN ({', '.join('?' * len(electors))})"
         values += electors
     return lines(book, condition, *values)
 
 
-def lines_of_electors(book: Book, electors: Collection[int]) -> list[tuple[int, bytes]]:
-    """Number and line of each envelope of some electors that is in time and not struck, in their order."""
-    return lines_after(book, book.last_number(), electors)
+def lines_of_electors(book: Book, electors: Collection[int], *, without: int = 0) -> list[bytes]:
+    """The same of some electors, as the book is now."""
+    return lines_after(book, book.last_number(), electors, without=without)
 
 
 class EnvelopeOfFile(NamedTuple):
@@ -66,7 +66,7 @@ def lines_that_came(book: Book) -> collections.Counter[bytes]:
 
 
 def came_in_files(book: Book) -> dict[bytes, list[EnvelopeOfFile]]:
-    """The envelopes that came in files of lines and tables and that no `undo` took back, by their line; those that are struck or late come last."""
+    """The envelopes that came in files and that no `undo` took back, by their line; those that are struck or late come last."""
     words = f"""
     SELECT line, envelope, elector, struck.act IS NOT NULL, late FROM {ENVELOPES}
     WHERE {CAME_IN_FILES} ORDER BY late OR struck.act IS NOT NULL, envelope

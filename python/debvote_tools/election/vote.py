@@ -1,4 +1,4 @@
-"""Lines before they are entered: what debvote says of each, and how it goes in."""
+"""The vote, as debvote is asked about its lines: what it says of each before it is entered, what it replies, and what stands."""
 
 import collections
 import dataclasses
@@ -18,7 +18,7 @@ from debvote_tools.lines import Line, ballot_file
 OFFER = re.compile(r"; did you mean (.+)\?\Z")
 
 
-class BatchLine(NamedTuple):
+class JudgedLine(NamedTuple):
     """A line that came, how it is entered, and what debvote says of it, whenever it comes."""
 
     line: Line
@@ -36,12 +36,10 @@ class BatchLine(NamedTuple):
 
     @property
     def voter(self) -> str:
-        """The elector of a ballot."""
         return self.as_entered.partition(b" ")[0].decode("ascii")
 
     @property
     def ranks(self) -> str:
-        """The ranks of a ballot."""
         return self.as_entered.partition(b" ")[2].decode("ascii")
 
 
@@ -69,7 +67,7 @@ class Vote:
         return f"{'CODE' if self.has_codes else self.roll[0]} {','.join(str(rank + 1) for rank in range(len(self.option_names)))}"
 
     # ------------------------------------------------------------ lines that came
-    def read(self, lines: Sequence[Line]) -> list[BatchLine]:
+    def read(self, lines: Sequence[Line]) -> list[JudgedLine]:
         """What debvote says of lines, none of them empty. It is started twice at most.
 
         The lines are the only input, so what is said of one depends on no other. If the changed line is refused, the line goes in as it
@@ -79,10 +77,10 @@ class Vote:
         indices = [index for index in of_repaired if lines[index].unframed != lines[index].repaired]
         of_unframed = self.findings([lines[index].unframed for index in indices])
         of_entered = of_repaired | {indices[at]: finding for at, finding in of_unframed.items()}
-        read = [BatchLine(line, line.repaired) for line in lines]
+        read = [JudgedLine(line, line.repaired) for line in lines]
         for index, finding in of_repaired.items():
             line, entered = lines[index], of_entered.get(index)
-            read[index] = BatchLine(line, line.unframed, entered, finding, self.other_names(entered))
+            read[index] = JudgedLine(line, line.unframed, entered, finding, self.other_names(entered))
         return read
 
     def answers(self, lines: Sequence[bytes]) -> dict[bytes, str | None]:
@@ -102,7 +100,7 @@ class Vote:
 
     def without_codes(self, finding: Finding) -> Finding:
         """A finding that offers no name if the roll has codes."""
-        return dataclasses.replace(finding, hint=OFFER.sub("", finding.hint)) if self.has_codes else finding
+        return finding._replace(hint=OFFER.sub("", finding.hint)) if self.has_codes else finding
 
     def other_names(self, finding: Finding | None) -> tuple[str, ...]:
         """All names that fit as well as the one that debvote offers, as `anna-meier-2` beside `anna-meier`."""
@@ -118,18 +116,18 @@ class Vote:
         return by_bare_name
 
     # ------------------------------------------------------------ lines that are in the book
-    def replies(self, lines: Sequence[tuple[int, bytes]]) -> dict[int, str]:
-        """The reply to each of these lines, as if they were all, by the number of its envelope. Without lines debvote is not asked."""
-        if not lines:
-            return {}
-        replies = self.debvote.replies(self.poll_bytes, ballot_file(line for _, line in lines))
-        if len(replies) != len(lines):
+    def replies(self, before: Sequence[bytes], new: Sequence[bytes]) -> list[str]:
+        """The reply to each new line, after the lines before. Without new ones debvote is not asked."""
+        if not new:
+            return []
+        replies = self.debvote.replies(self.poll_bytes, ballot_file([*before, *new]))
+        if len(replies) != len(before) + len(new):
             raise other_format("what this debvote replies")
-        return {number: reply for (number, _), reply in zip(lines, replies)}
+        return replies[len(before) :]
 
-    def standing(self, lines: Sequence[tuple[int, bytes]]) -> dict[str, str]:
+    def standing(self, lines: Sequence[bytes]) -> dict[str, str]:
         """The ranks of the ballots that stand if these lines are all, by elector. Without lines debvote is not asked."""
-        return self.debvote.standing(self.poll_bytes, ballot_file(line for _, line in lines)) if lines else {}
+        return self.debvote.standing(self.poll_bytes, ballot_file(lines)) if lines else {}
 
 
 def bare_name(name: str) -> str:
@@ -139,8 +137,5 @@ def bare_name(name: str) -> str:
 
 def vote_of(election: Election, history: History) -> Vote:
     """The vote as it was called. Stops before the call."""
-    call = history.call
-    if call is None:
-        raise election.not_called()
-    poll = election.sealed().counted
+    call, poll = election.called(history), election.sealed().counted
     return Vote(election.debvote, call.number, poll.as_bytes(), poll.names, poll.roll, bool(history.announced("codes_on_roll")))

@@ -1,0 +1,72 @@
+"""The names of acts, and what the detail of each has: no other module makes up one of these words."""
+
+from typing import Any, Literal, TypedDict
+
+# `put back` is `held --wait`; `letters` came, `letters out` were written
+ActName = (
+    Literal["new", "roll", "codes", "call", "extend", "announce", "take back", "addresses"]
+    | Literal["letters", "add", "desk", "enter", "set aside", "put back", "undo", "strike"]
+    | Literal["close", "reopen", "publish", "letters out", "letter sent", "moved"]
+)
+
+
+class Detail(TypedDict, total=False):
+    """What the log keeps of an act, beside the rows that it added."""
+
+    # the reason, where one was given
+    because: str
+    # new
+    language: str
+    # roll and addresses: how many there are, how many were changed
+    electors: int
+    # codes: how many, and whether they are on the roll in place of names
+    codes: int
+    on_roll: bool
+    # call, extend and announce; times and addresses as the command line names them
+    until: str
+    to: str
+    at: str
+    form: bool
+    names: bool
+    codes_on_roll: bool
+    quorum_votes: int
+    signed: bool
+    keyring: bool
+    # take back: the act of the call
+    call: int
+    # what comes: how many letters and lines; of set aside, put back and enter their numbers
+    letter: int
+    letters: Any
+    lines: Any
+    # add: the files, how many lines came before, and the envelopes of those that were entered again
+    files: list[str]
+    passed_over: int
+    again: list[int]
+    unsigned: bool
+    # add and desk, after reopen
+    came_before_close: bool | None
+    # undo: the act that it takes back
+    act: int
+    # strike
+    envelope: int
+    # close
+    checksum: str
+    seal: str
+    early: bool
+    waiting: int
+    after_end: int
+    before_call: int
+    # reopen: the late envelopes that were entered anew
+    in_time: list[int]
+    force: bool
+    # publish
+    words: dict[str, Any]
+    casting: str | None
+    checksums: dict[str, str]
+    doubts: list[Any]
+    # letters out, letter sent
+    kind: str
+    # moved: the act that was noted, and the one that is there
+    why: str
+    noted: Any
+    there: dict[str, Any]
