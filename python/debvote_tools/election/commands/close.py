@@ -102,7 +102,7 @@ def report(election: Election, act: DoneAct, *, is_new: bool, has_made_letter: b
         tell(f"Closed: {lines} came in time. What is entered from now on is late, and does not count.")
         if detail["waiting"]:
             tell(f"{count_of(detail['waiting'], 'letter')} that arrived in time did not go in; the page of the result tells it.")
-        if detail["before_call"]:
+        if detail.get("before_call"):
             tell(f"{count_of(detail['before_call'], 'letter')} that arrived before the call did not go in.")
     else:
         tell(f"The vote was closed at {act_time(act.time)}, with {lines} in time. Nothing was changed.")

@@ -19,6 +19,10 @@ from debvote_tools.election.entering import entered
 from debvote_tools.election.history import History
 from debvote_tools.election.reporting import act_time, count_of
 from debvote_tools.faults import Fault, Status, stop_at
+from debvote_tools.terminal_text import shown_line
+
+# of the number of an envelope
+MAX_DIGITS = 9
 
 HELP = "Open the vote again after a close, for ballots that had come in time; the page of the result tells it"
 
@@ -91,7 +95,10 @@ def asked(late: Sequence[Envelope], *, has_codes: bool) -> list[int]:
     lines = (f"  {envelope.number} {without_code(envelope.line, has_codes=has_codes)}" for envelope in late)
     tell(f"{count_of(len(late), 'line')} came late:", *lines)
     answer = typed("Which of them had come before the first close? Their numbers, or Enter for none: ") or b""
-    return [int(number) for number in answer.split() if number.isdigit()]
+    numbers = answer.replace(b",", b" ").split()
+    if wrong := next((number for number in numbers if not number.isdigit() or len(number) > MAX_DIGITS), None):
+        raise Fault(None, f"{shown_line(wrong)} is not the number of an envelope", "run it again, and type numbers with spaces between")
+    return list(map(int, numbers))
 
 
 def order(envelope: Envelope) -> tuple[datetime.datetime, int]:
