@@ -97,7 +97,9 @@ def asked(late: Sequence[Envelope], *, has_codes: bool) -> list[int]:
     answer = typed("Which of them had come before the first close? Their numbers, or Enter for none: ") or b""
     numbers = answer.replace(b",", b" ").split()
     if wrong := next((number for number in numbers if not number.isdigit() or len(number) > MAX_DIGITS), None):
-        raise Fault(None, f"{shown_line(wrong)} is not the number of an envelope", "run it again, and type numbers with spaces between")
+        raise Fault(
+            None, f"{shown_line(wrong)} is not the number of an envelope", "run it again, and type numbers with spaces between"
+        )
     return list(map(int, numbers))
 
 
