@@ -17,15 +17,14 @@
 
 mod answers;
 mod exit_status;
+mod fault_lines;
 mod inputs;
 pub mod laws;
 mod loaded_request;
-mod note;
 mod request_run;
 
 pub use answers::{answer, refuse};
 pub use exit_status::{args_status, report};
 pub use inputs::{Inputs, read_inputs, read_joined};
 pub use loaded_request::with_bytes;
-pub use note::StatusNote;
 pub use request_run::{carry_out, print_joined};
