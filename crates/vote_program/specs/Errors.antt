@@ -10,17 +10,17 @@ use Rattle.vote_commands.specs.declared.Ended.{Ended}
 use Rattle.vote_commands.specs.declared.RunFault.{RunFault}
 use Rattle.vote_commands.specs.declared.RunFault.TheVariants as run
 
--- what standard error holds, if its bytes are known, and how often it has failed
-pub record Held : Type 0 where
+-- what an output holds, if its bytes are known, and how often it has failed
+pub record OutputState : Type 0 where
   pub bytes : Option Text
   pub faults : ℕ
 
--- before and after a run
+-- standard error before and after a run
 pub record Errors : Type 0 where
-  pub old : Held
-  pub new : Held
+  pub old : OutputState
+  pub new : OutputState
 
--- what a sink holds before and after a call
+-- the sink for it before and after a call
 abbrev pub errors_in : {S : Type 0} → (S → Option Text) → (S → ℕ) → S → S → Errors
 errors_in contents faults old new = record { old = record { bytes = contents old; faults = faults old }; new = record { bytes = contents new; faults = faults new } }
 

@@ -1,5 +1,5 @@
 -- The parts of a fault line, after `debvote: `.
-use Rattle.std.specs.Prelude.{◌≤◌, ℕ, List, [], ◌++◌, Option, Some, None, decimal, length}
+use Rattle.std.specs.Prelude.{◌≤◌, ℕ, [], ◌++◌, Option, Some, None, decimal, length}
 use Rattle.std.proofs.Common.{Bor}
 use Rattle.vote_sheet.specs.Texts.{Text}
 

@@ -12,7 +12,7 @@ use Rattle.vote_commands.specs.declared.FinishedRun.{FinishedRun}
 use Rattle.vote_commands.specs.declared.RunFault.TheVariants as run
 use Rattle.vote_program.specs.RequestEnds.{EndsJoined, EndsRequest, Written}
 use Rattle.vote_program.specs.ArgsStatus.{args_status}
-use Rattle.vote_program.specs.Errors.{Errors, Held, Says, SaysEnd, SaysHint, SaysNothing, args_text, fault_line}
+use Rattle.vote_program.specs.Errors.{Errors, OutputState, Says, SaysEnd, SaysHint, SaysNothing, args_text, fault_line}
 
 -- the words that the system gives, without the first, which is the program's name
 abbrev pub words_in : {Z : Type 0} → List (String Z) → List (List ℕ)
@@ -39,5 +39,5 @@ AnswersWorded file_bytes words written errors answered =
 -- without words a joined input ends so, by the bytes known of standard input; at a terminal the hint comes first
 abbrev pub AnswersJoined : Bool → Option (List ℕ) → Written → Errors → ℕ → Type 0
 AnswersJoined at_terminal standard_bytes written errors answered =
-    (finished : FinishedRun) × (hinted : Held) × EndsJoined standard_bytes written finished × (answered ≡ status finished.end)
+    (finished : FinishedRun) × (hinted : OutputState) × EndsJoined standard_bytes written finished × (answered ≡ status finished.end)
     × SaysHint at_terminal (record errors { new = hinted }) × SaysEnd finished.end (record errors { old = hinted })

@@ -11,8 +11,7 @@ ghost use Rattle.vote_program.specs.LineParts.{AreShort, line_text, number_text}
 use itoa::Buffer;
 use std::fmt::InlineText;
 use vote_commands::{InputFault, InputFile, RunFault};
-use vote_desks::VoteFault;
-use vote_desks_box::DeskFault;
+use vote_desks::{DeskFault, VoteFault};
 use vote_poll::PollFault;
 
 /// More bytes than a line has.
